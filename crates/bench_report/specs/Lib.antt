@@ -1,0 +1,4 @@
+pub mod Registers
+pub mod Lines
+pub mod Report
+pub mod Pages

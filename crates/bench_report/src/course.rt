@@ -1,0 +1,200 @@
+ghost use Rattle.std.specs.Prelude.{ℕ, List, ◌≡◌, ◌++◌, [], OnOk, IfOk, Some, string_bytes};
+ghost use Rattle.run_model.specs.Entry.{entries, entry_at, words_at, answer_at, step_at};
+ghost use Rattle.bench_report.specs.Lines.{line_of, end_text};
+ghost use Rattle.bench_report.specs.Report as spec;
+ghost use Rattle.bench_report.specs.Pages as pages;
+
+use crate::frames::{Frames, Purpose, purpose_of};
+use crate::lines::Line;
+use crate::page::Page;
+use mcal_base::{Directive, Move};
+use run_model::{Item, Logged, LoggedAnswer, Span, What};
+use std::alloc::{AllocError, Global};
+use std::marker::Model;
+
+/// A stretch of words.
+fn stretch(words: &[u32], span: Span) -> &[u32]
+    ensures { result.now ≡ words_at words.now span }
+{
+    let at = words.len().min(span.at as usize);
+    let rest = &words[at..];
+    &rest[..rest.len().min(span.count as usize)]
+}
+
+/// A report under way: its lines, what the frames were begun for, and whether the directive printed nothing but steps yet.
+#[derive(Drop)]
+pub struct Course {
+    page: Page,
+    frames: Frames,
+    silent: bool,
+}
+
+impl Model for Course {
+    ghost use Rattle.bench_report.specs.Pages as pages;
+
+    ghost Value = { pages.Course };
+
+    ghost view = { λ c. record { page = c.page; frames = c.frames; silent = c.silent } };
+}
+
+impl Course {
+    /// The beginning of a report.
+    pub fn new(alloc: Global) -> Course
+        ensures { result ≡ pages.beginning }
+    {
+        Course {
+            page: Page::new(alloc),
+            frames: Frames::new(alloc),
+            silent: true,
+        }
+    }
+
+    /// Prints a line.
+    fn say(&mut self, number: u32, line: Line<'_>) -> Result<(), AllocError>
+        ensures { OnOk result (self.new ≡ pages.say self.old number (line_of line.entry)) }
+    {
+        self.silent = self.silent && matches!(line, Line::Makes(..));
+        self.page.put(number, line)
+    }
+
+    /// Prints the line of a step itself, where the report is traced.
+    fn traced(
+        &mut self,
+        traced: bool,
+        number: u32,
+        depth: u32,
+        logged: &Logged,
+    ) -> Result<(), AllocError>
+        ensures { (words : List ℕ) → OnOk result (self.new ≡ pages.say_all self.old number (spec.step_lines traced depth (step_at words logged.now))) }
+    {
+        if traced {
+            self.say(
+                number,
+                Line::Makes(depth, logged.made, logged.value, logged.event),
+            )?;
+        }
+        Ok(())
+    }
+
+    /// Prints the line of a move.
+    fn moved(&mut self, number: u32, made: Move) -> Result<(), AllocError>
+        ensures { OnOk result (self.new ≡ pages.say_all self.old number (spec.move_lines made)) }
+    {
+        match made {
+            Move::Note(notice) => self.say(number, Line::Notes(notice)),
+            Move::Report(found) => self.say(number, Line::Errs(found)),
+            _ => Ok(()),
+        }
+    }
+
+    /// Takes the topmost frame off, and prints the line of its end.
+    fn left(&mut self, number: u32, words: &[u32], answer: LoggedAnswer) -> Result<(), AllocError>
+        ensures { OnOk result (self.new ≡ pages.end_put self.old number (answer_at words.now (Some answer))) }
+    {
+        match self.frames.end() {
+            Some(Purpose::Call(service)) => {
+                let words = stretch(words, answer.words);
+                self.say(number, Line::Returns(service, answer.head, words))
+            }
+            Some(Purpose::Handler(line)) => self.say(number, Line::Leaves(line)),
+            None => Ok(()),
+        }
+    }
+
+    /// Prints the lines of a step.
+    fn step(
+        &mut self,
+        traced: bool,
+        number: u32,
+        depth: u32,
+        words: &[u32],
+        logged: &Logged,
+    ) -> Result<(), AllocError>
+        ensures { OnOk result (self.new ≡ pages.step_put traced self.old number depth (step_at words.now logged.now)) }
+    {
+        self.traced(traced, number, depth, logged)?;
+        self.moved(number, logged.made)?;
+        match logged.ended {
+            Some(answer) => self.left(number, words, answer),
+            None => Ok(()),
+        }
+    }
+
+    /// Prints the lines of an item of a directive.
+    fn entry(
+        &mut self,
+        traced: bool,
+        directive: &Directive,
+        words: &[u32],
+        item: &Item,
+    ) -> Result<(), AllocError>
+        ensures { OnOk result (self.new ≡ pages.entry_put traced directive.now self.old (entry_at words.now item.now)) }
+    {
+        match &item.what {
+            What::Happened(_) => Ok(()),
+            What::Begun => self.frames.begin(purpose_of(&directive.order)),
+            What::Held(cause) => self.say(directive.line, Line::Holds(*cause)),
+            What::Stepped(logged) => self.step(traced, directive.line, item.depth, words, logged),
+            What::Reset(reason, dropped) => {
+                self.frames.clear();
+                self.say(directive.line, Line::Restarts(*reason, *dropped))
+            }
+        }
+    }
+
+    /// Prints the lines of the items that stand next with the line of a directive, and gives those behind them.
+    fn entries<'a>(
+        &mut self,
+        traced: bool,
+        directive: &Directive,
+        words: &[u32],
+        items: &'a [Item],
+    ) -> Result<&'a [Item], AllocError>
+        ensures put { OnOk result (self.new ≡ pages.entries_put traced directive.now self.old (spec.own_entries directive.now.line (entries words.now items.now))) }
+        ensures rest { IfOk result (λ later. entries words.now later.now ≡ spec.later_entries directive.now.line (entries words.now items.now)) }
+    {
+        let mut rest = items;
+        while let [item, after @ ..] = rest {
+            if item.line != directive.line {
+                break;
+            }
+            self.entry(traced, directive, words, item)?;
+            rest = after;
+        }
+        Ok(rest)
+    }
+
+    /// Prints `ok` where the directive printed nothing but steps.
+    fn close(&mut self, number: u32) -> Result<(), AllocError>
+        ensures { OnOk result (self.new ≡ pages.closed number self.old) }
+    {
+        if self.silent {
+            self.say(number, Line::Done)?;
+        }
+        Ok(())
+    }
+
+    /// Prints the lines of a directive, and gives the items behind its own.
+    pub fn chapter<'a>(
+        &mut self,
+        traced: bool,
+        directive: &Directive,
+        words: &[u32],
+        items: &'a [Item],
+    ) -> Result<&'a [Item], AllocError>
+        ensures put { OnOk result (self.new ≡ pages.chapter_put traced directive.now self.old (entries words.now items.now)) }
+        ensures rest { IfOk result (λ later. entries words.now later.now ≡ spec.later_entries directive.now.line (entries words.now items.now)) }
+    {
+        self.silent = true;
+        let rest = self.entries(traced, directive, words, items)?;
+        self.close(directive.line)?;
+        Ok(rest)
+    }
+
+    /// The whole text.
+    pub fn end(self) -> Result<String, AllocError>
+        ensures { IfOk result (λ s. string_bytes s ≡ self.page.text ++ end_text self.page.tally) }
+    {
+        self.page.end()
+    }
+}

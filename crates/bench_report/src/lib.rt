@@ -1,0 +1,21 @@
+//! The text of a report: what a journal says of a script, line by line.
+#![tactic(auto)]
+
+mod course;
+mod frames;
+mod lines;
+mod page;
+mod registers;
+mod tally;
+mod texts;
+mod whole;
+
+pub use frames::Purpose;
+pub use lines::Line;
+pub use registers::RegisterName;
+pub use tally::Tally;
+pub use texts::{Answered, Found, MoveMade, Noticed};
+pub use whole::report;
+
+#[cfg(test)]
+mod tests;

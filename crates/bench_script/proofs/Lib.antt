@@ -1,0 +1,9 @@
+pub mod Choices
+pub mod Cuts
+pub mod Parsed
+pub mod Parts
+pub mod Readings
+pub mod Requests
+pub mod Rest
+pub mod Values
+pub mod Whole

@@ -1,0 +1,10 @@
+pub mod Arguments
+pub mod Faults
+pub mod Lines
+pub mod Numbers
+pub mod Orders
+pub mod Productions
+pub mod Script
+pub mod Steps
+pub mod Tables
+pub mod Words

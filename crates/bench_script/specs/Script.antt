@@ -1,0 +1,60 @@
+-- The directives of a script.
+use Rattle.std.specs.Prelude.{◌≡◌, ℕ, ◌+◌, nat_lt, List, [], ◌∷◌, ◌++◌, length, Option, Some, None, Result, Ok, Err, if◌then◌else◌}
+use Rattle.std.specs.Str.Lines.{lines}
+use Rattle.mcal_base.specs.declared.directive.Directive.{Directive}
+use Rattle.mcal_base.specs.declared.directive.Order.{Order}
+use Rattle.bench_script.specs.Faults.{at_line}
+use Rattle.bench_script.specs.Lines.{before_comment, is_text, words_of}
+use Rattle.bench_script.specs.Orders.{order_of}
+use Rattle.bench_script.specs.Steps.{◌>>=◌, prepended}
+use Rattle.bench_script.specs.declared.fault.LineFault.{LineFault}
+use Rattle.bench_script.specs.declared.fault.LineFault.TheVariants.{NotText}
+use Rattle.bench_script.specs.declared.fault.ScriptFault.{ScriptFault}
+use Rattle.bench_script.specs.declared.fault.ScriptFault.TheVariants.{Long, NoMemory}
+
+-- the order of a line, if it holds one, or the first reason why the line is refused
+abbrev pub read_line : List ℕ → Result (Option Order) LineFault
+read_line line = if is_text (before_comment line) then order_of (words_of (before_comment line)) else Err NotText
+
+-- the same in a script
+abbrev pub numbered : ℕ → Result (Option Order) LineFault → Result (Option Order) ScriptFault
+numbered number (Ok order) = Ok order
+numbered number (Err fault) = Err (at_line fault number)
+
+-- The directives of a line and of those after it, which are given by how many directives come before them.
+-- A directive that is the 50,001st is refused.
+abbrev pub with_rest : ℕ → ℕ → (ℕ → Result (List Directive) ScriptFault) → Option Order → Result (List Directive) ScriptFault
+with_rest number count rest None = rest count
+with_rest number count rest (Some order) =
+    if nat_lt count 50000 then (do
+      directives ← rest (count + 1)
+      Ok (record { line = number; order = order } ∷ directives))
+    else Err (Long number)
+
+-- the directives of lines, the first of which has the number, after so many directives
+abbrev pub directives_from : ℕ → ℕ → List (List ℕ) → Result (List Directive) ScriptFault
+directives_from number count [] = Ok []
+directives_from number count (line ∷ others) = do
+  order ← numbered number (read_line line)
+  with_rest number count (λ n. directives_from (number + 1) n others) order
+
+-- the directives of a script, or its first fault
+abbrev pub script : List ℕ → Result (List Directive) ScriptFault
+script text = directives_from 1 0 (lines text)
+
+-- a reading of a line ends so; it may end for want of memory
+abbrev pub GivesOrder : Result (Option Order) ScriptFault → ℕ → List ℕ → Type 0
+GivesOrder (Err NoMemory) number line = Unit {0}
+GivesOrder result number line = numbered number (read_line line) ≡ result
+
+-- a reading of a line that keeps its directive ends so: what it adds stands before what the lines after it give
+abbrev pub KeepsLine : Result (Unit {0}) ScriptFault → List Directive → List Directive → ℕ → List ℕ → Type 0
+KeepsLine (Err NoMemory) old new number line = Unit {0}
+KeepsLine (Err fault) old new number line = (rest : ℕ → Result (List Directive) ScriptFault) → (numbered number (read_line line) >>= with_rest number (length old) rest) ≡ Err fault
+KeepsLine (Ok done) old new number line = (added : List Directive) × (new ≡ old ++ added) × ((rest : ℕ → Result (List Directive) ScriptFault) → (numbered number (read_line line) >>= with_rest number (length old) rest) ≡ prepended added (rest (length new)))
+
+-- a reading of a script ends so
+abbrev pub GivesScript : {V : Type 0} → (V → List Directive) → Result V ScriptFault → List ℕ → Type 0
+GivesScript items (Err NoMemory) text = Unit {0}
+GivesScript items (Err fault) text = script text ≡ Err fault
+GivesScript items (Ok directives) text = script text ≡ Ok (items directives)

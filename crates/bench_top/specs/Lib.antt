@@ -1,0 +1,7 @@
+pub mod Words
+pub mod Lines
+pub mod Numbers
+pub mod Script
+pub mod Judged
+pub mod Runs
+pub mod Outcomes

@@ -1,0 +1,3 @@
+pub mod Chip
+pub mod Reach
+pub mod Words

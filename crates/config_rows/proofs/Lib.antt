@@ -1,0 +1,4 @@
+pub mod Ids
+pub mod Least
+pub mod Giving
+pub mod Sound

@@ -1,0 +1,11 @@
+use Rattle.std.proofs.Common.{◌≡◌, drop, take}
+use Rattle.config_facts.specs.Ids.{Refer}
+use Rattle.config_rows.specs.Checks.{first}
+use Rattle.config_rows.specs.Rules as spec
+use Rattle.config_rows.proofs.rules.check_references.Given as goal
+
+abbrev pub invariant-loop-index : goal.invariant-loop-index
+invariant-loop-index g l = record {
+  checked : first (spec.references g.E.Element.id_of l.values l.at 0 l.ids) ≡ first (spec.references g.E.Element.id_of l.values l.at l.index (drop l.index l.ids));
+  refer : Refer g.E.Element.id_of l.values (take l.index l.ids);
+}

@@ -1,0 +1,48 @@
+-- A driver that was made of a sound configuration is as it has to be.
+use Rattle.std.proofs.Common.{◌≡◌, ℕ, zero, suc, ◌<◌, ◌^◌, Bool, true, false, ◌==◌, List, [], ◌∷◌, Some, refl, ap, subst, arith}
+use Rattle.std.specs.Prelude.{All, if◌then◌else◌, is_some}
+use Rattle.mcal_base.specs.declared.config.gpt.GptChannel.{GptChannel}
+use Rattle.mcal_base.specs.declared.config.gpt.GptConfig.{GptConfig}
+use Rattle.gpt_driver.specs.GroundLaws.{within}
+use Rattle.gpt_driver.specs.Table.{channel_in, driver_of, channel_of, taken, FitsGpt}
+use Rattle.gpt_driver.specs.declared.driver.Channel.{Channel}
+
+-- the channel counts, and its values fit a register
+pub record IsSound (x : GptChannel) : Type 0 where
+  pub prescaler : 0 < x.prescaler
+  pub small : x.tick_value_max < 2 ^ 32
+
+-- what is known of a channel that was found
+pub record IsFound (c : ℕ) (k : Channel) : Type 0 where
+  pub number : k.number ≡ c
+  pub prescaler : 0 < k.prescaler
+  pub small : k.tick_value_max < 2 ^ 32
+
+found_by : (x : GptChannel) (xs : List GptChannel) (c : ℕ) (k : Channel) (q : Bool) → IsSound x → (channel_in xs c ≡ Some k → IsFound c k) → (if q then Some (taken x c) else channel_in xs c) ≡ Some k → IsFound c k
+found_by x xs c k true sound more e =
+    let at : taken x c ≡ k = cc in
+    subst (λ y. IsFound c y) at (record { number = refl; prescaler = sound.prescaler; small = sound.small })
+found_by x xs c k false sound more e = more e
+
+found : (xs : List GptChannel) (c : ℕ) (k : Channel) → All IsSound xs → channel_in xs c ≡ Some k → IsFound c k
+found [] c k sound e = absurd (cc)
+found (x ∷ xs) c k sound e = found_by x xs c k (x.id == c) (sound 0 x (omega arith)) (λ f. found xs c k (λ i y lt. sound (suc i) y (omega arith)) f) e
+
+table_of : (g : GptConfig) (c : ℕ) (k : Channel) → channel_of (driver_of g) c ≡ Some k → channel_in g.channels c ≡ Some k
+table_of g zero k e = e
+table_of g (suc zero) k e = e
+table_of g (suc (suc zero)) k e = e
+table_of g (suc (suc (suc zero))) k e = e
+table_of g (suc (suc (suc (suc zero)))) k e = e
+table_of g (suc (suc (suc (suc (suc zero))))) k e = e
+table_of g (suc (suc (suc (suc (suc (suc zero)))))) k e = e
+table_of g (suc (suc (suc (suc (suc (suc (suc zero))))))) k e = e
+table_of g (suc (suc (suc (suc (suc (suc (suc (suc c)))))))) k e = absurd (omega (arith, within (driver_of g) (suc (suc (suc (suc (suc (suc (suc (suc c)))))))) (ap (λ x. is_some x) e)))
+
+-- the driver of a configuration with sound channels
+pub fits_of : (g : GptConfig) → All IsSound g.channels → FitsGpt (driver_of g)
+fits_of g sound = record {
+  number = λ c k e. (found g.channels c k sound (table_of g c k e)).number;
+  prescaler = λ c k e. (found g.channels c k sound (table_of g c k e)).prescaler;
+  small = λ c k e. (found g.channels c k sound (table_of g c k e)).small;
+}

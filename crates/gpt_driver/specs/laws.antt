@@ -1,0 +1,13 @@
+pub mod Base
+pub mod Check
+pub mod Count
+pub mod DeInit
+pub mod Init
+pub mod Lawful
+pub mod Looks
+pub mod Mode
+pub mod Passed
+pub mod Serve
+pub mod Start
+pub mod Stop
+pub mod Switch

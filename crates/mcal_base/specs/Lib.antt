@@ -1,0 +1,5 @@
+pub mod Bits
+pub mod Causes
+pub mod Expiry
+pub mod Faults
+pub mod Names

@@ -1,0 +1,39 @@
+use crate::short::Short;
+
+/// `GptChannelMode`.
+#[derive(Clone, Copy, Debug, Default, PartialEq, Eq)]
+pub enum GptChannelMode {
+    /// `GPT_CH_MODE_CONTINUOUS`
+    #[default]
+    Continuous,
+    /// `GPT_CH_MODE_ONESHOT`
+    OneShot,
+}
+
+/// A timer channel.
+#[derive(Debug, Default, Drop, PartialEq)]
+pub struct GptChannel {
+    /// `GptChannelId`, 0 to 7.
+    pub id: u32,
+    /// `GptChannelMode`.
+    pub mode: GptChannelMode,
+    /// `GptChannelTickValueMax`: the largest value of a start.
+    pub tick_value_max: u32,
+    /// `GptEnableWakeup`: whether wakeup may be enabled.
+    pub enable_wakeup: bool,
+    /// Whether `GptNotification` is given.
+    pub notification: bool,
+    /// `Prescaler`: peripheral ticks a count, 1 to 65,535.
+    pub prescaler: u32,
+    /// `Level` of its line, 1 to 7.
+    pub level: u32,
+}
+
+/// The table `Gpt`.
+#[derive(Debug, Drop)]
+pub struct GptConfig {
+    /// `GptDevErrorDetect`.
+    pub dev_error_detect: bool,
+    /// `GptChannelConfiguration`.
+    pub channels: Short<GptChannel, 8>,
+}

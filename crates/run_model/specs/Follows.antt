@@ -1,0 +1,163 @@
+-- When a journal follows a script: directive by directive its items are those that the bench language gives.
+use Rattle.std.specs.Prelude.{◌≡◌, ℕ, zero, suc, ◌+◌, Bool, true, false, ◌||◌, ◌&&◌, ◌==◌, cond, List, [], ◌∷◌, ◌++◌, length, Option, Some, None, is_some, MatchBool}
+use Rattle.chip_model.specs.Chip.{is_pending, is_masked}
+use Rattle.irq_control.specs.declared.held.Held.{Held}
+use Rattle.irq_control.specs.declared.held.Held.TheVariants.{Empty, Frames, Unknown}
+use Rattle.mcal_base.specs.declared.directive.Directive.{Directive}
+use Rattle.mcal_base.specs.declared.directive.Order.{Order}
+use Rattle.mcal_base.specs.declared.directive.Order.TheVariants as orders
+use Rattle.mcal_base.specs.declared.directive.Reason.{Reason}
+use Rattle.mcal_base.specs.declared.directive.Reason.TheVariants.{Software}
+use Rattle.mcal_base.specs.declared.directive.Request.{Request}
+use Rattle.mcal_base.specs.declared.directive.Stop.{Stop}
+use Rattle.mcal_base.specs.declared.directive.Stop.TheVariants as stops
+use Rattle.mcal_base.specs.declared.moves.Event.{Event}
+use Rattle.mcal_base.specs.declared.moves.Event.TheVariants.{Act, Serve, Abort, Start}
+use Rattle.mcal_base.specs.declared.moves.Move.{Move}
+use Rattle.mcal_base.specs.declared.moves.Move.TheVariants.{Read, Write, Load, Store, Mask, Unmask, Note, Report}
+use Rattle.mcal_base.specs.declared.register.Reg.{Reg}
+use Rattle.mcal_base.specs.declared.register.Reg.TheVariants.{ResetRequest}
+use Rattle.run_model.specs.declared.item.Stepped.{Stepped}
+use Rattle.run_model.specs.declared.reach.Reach.{Reach}
+use Rattle.run_model.specs.declared.reach.Reach.TheVariants.{Count, Until, Whole}
+use Rattle.run_model.specs.Causes.{call_cause, line_cause, tags_of, top_noted}
+use Rattle.run_model.specs.Entry as entry
+use Rattle.run_model.specs.Frame.{Open}
+use Rattle.run_model.specs.Moment.{Setting, Moment, Deed, Begins, Enters, Steps, after, after_all}
+use Rattle.run_model.specs.Script.{deed_of}
+
+-- the items are this one alone, with the directive's line and the number of frames before it
+abbrev pub IsOne : {State Call : Type 0} → Moment State Call → (line : ℕ) → entry.Said → List entry.Entry → Type 0
+IsOne m line said items = items ≡ (record { line = line; depth = length m.opens; said = said }) ∷ []
+
+-- ---- steps of the top frame
+
+-- the move resets the chip
+abbrev pub resets_chip : Move → Bool
+resets_chip (Write ResetRequest v) = true
+resets_chip _ = false
+
+-- the step is one at which `upto` stops
+abbrev pub is_act : Option Event → Bool
+is_act (Some Act) = true
+is_act _ = false
+
+abbrev pub is_mask : Move → Bool
+is_mask Mask = true
+is_mask _ = false
+
+abbrev pub is_unmask : Move → Bool
+is_unmask Unmask = true
+is_unmask _ = false
+
+abbrev pub is_notice : Move → Bool
+is_notice (Note n) = true
+is_notice _ = false
+
+abbrev pub stops_at : Stop → Stepped → Bool
+stops_at stops.Act s = is_act s.event
+stops_at stops.Mask s = is_mask s.made
+stops_at stops.Unmask s = is_unmask s.made
+stops_at stops.Note s = is_notice s.made
+
+-- the directive stops after this step, having made so many
+abbrev pub is_reached : Reach → ℕ → Stepped → Bool
+is_reached (Count n) made s = made == n
+is_reached (Until stop) made s = stops_at stop s
+is_reached Whole made s = false
+
+-- what comes after a step: the reset that it makes, or nothing where the frame ended or the directive stops, or more steps
+abbrev pub ThenComes : {State Call : Type 0} → Setting State Call → (line : ℕ) → Reach → (made : ℕ) → Moment State Call → Stepped → (items : List entry.Entry) → (More : Type 0) → Type 0
+ThenComes g line reach made m s items More =
+    MatchBool (resets_chip s.made)
+    (IsOne (after g m (Steps s)) line (entry.Resets Software (length (after g m (Steps s)).opens)) items)
+    (MatchBool (is_some s.ended || is_reached reach (made + 1) s) (items ≡ []) More)
+
+abbrev pub IsStep : {State Call : Type 0} → Setting State Call → (line : ℕ) → Reach → (made : ℕ) → Moment State Call → entry.Entry → (items : List entry.Entry) → entry.Said → (Stepped → Type 0) → Type 0
+IsStep g line reach made m e items (entry.Steps s) More = (e.line ≡ line) × (e.depth ≡ length m.opens) × ThenComes g line reach made m s items (More s)
+IsStep g line reach made m e items (entry.Happens o) More = ⊥
+IsStep g line reach made m e items entry.Begins More = ⊥
+IsStep g line reach made m e items (entry.Stays c) More = ⊥
+IsStep g line reach made m e items (entry.Resets r k) More = ⊥
+
+-- the items are steps of the top frame as far as the directive reaches, or to the frame's end, or to a reset; so many were made before
+abbrev pub GoesOn : {State Call : Type 0} → Setting State Call → (line : ℕ) → Reach → (made : ℕ) → Moment State Call → List entry.Entry → Type 0
+GoesOn g line reach made m [] = ⊥
+GoesOn g line reach made m (e ∷ es) = IsStep g line reach made m e es e.said (λ s. GoesOn g line reach (made + 1) (after g m (Steps s)) es)
+
+-- the items of `run`, `upto` and `finish`: held without a frame, and `run 0` makes no step
+abbrev pub Goes : {State Call : Type 0} → Setting State Call → (line : ℕ) → Reach → Moment State Call → List (Open Call) → List entry.Entry → Type 0
+Goes g line reach m [] items = IsOne m line (entry.Stays Empty) items
+Goes g line (Count zero) m (o ∷ os) items = items ≡ []
+Goes g line (Count (suc n)) m (o ∷ os) items = GoesOn g line (Count (suc n)) 0 m items
+Goes g line (Until stop) m (o ∷ os) items = GoesOn g line (Until stop) 0 m items
+Goes g line Whole m (o ∷ os) items = GoesOn g line Whole 0 m items
+
+-- ---- beginnings
+
+-- the first cause that keeps a call, or the handler of a line, off
+abbrev pub call_held : {State Call : Type 0} → Setting State Call → Moment State Call → Call → (level : ℕ) → Option Held
+call_held g m c level = call_cause (is_masked m.chip) (tags_of m.opens) (top_noted m.opens) (g.class_of c) level
+
+abbrev pub line_held : {State Call : Type 0} → Setting State Call → Moment State Call → (line : ℕ) → Option Held
+line_held g m l = line_cause (is_masked m.chip) (tags_of m.opens) (g.level_of l) (g.used l && is_pending m.chip l)
+
+-- a held beginning gives its cause, and another one `Begun`
+abbrev pub BeginsOnly : {State Call : Type 0} → Moment State Call → (line : ℕ) → Option Held → List entry.Entry → Type 0
+BeginsOnly m line (Some c) items = IsOne m line (entry.Stays c) items
+BeginsOnly m line None items = IsOne m line entry.Begins items
+
+-- the same, and then the frame's steps to its end
+pub record BeginsAndGoes {State Call : Type 0} (g : Setting State Call) (line : ℕ) (m : Moment State Call) (deed : Deed Call) (items : List entry.Entry) : Type 0 where
+  pub steps : List entry.Entry
+  pub is : items ≡ (record { line = line; depth = length m.opens; said = entry.Begins }) ∷ steps
+  pub goes : GoesOn g line Whole 0 (after g m deed) steps
+
+abbrev pub BeginsWhole : {State Call : Type 0} → Setting State Call → Moment State Call → (line : ℕ) → Deed Call → Option Held → List entry.Entry → Type 0
+BeginsWhole g m line deed (Some c) items = IsOne m line (entry.Stays c) items
+BeginsWhole g m line deed None items = BeginsAndGoes g line m deed items
+
+-- ---- a directive, and a script
+
+-- to show needs that no frame is there
+abbrev pub Shows : {State Call : Type 0} → Moment State Call → (line : ℕ) → Order → List (Open Call) → List entry.Entry → Type 0
+Shows m line order [] items = IsOne m line (entry.Happens order) items
+Shows m line order (o ∷ os) items = IsOne m line (entry.Stays Frames) items
+
+-- the items that a directive gives
+abbrev pub Gives : {State Call : Type 0} → Setting State Call → (Request → Call) → Moment State Call → (line : ℕ) → Order → List entry.Entry → Type 0
+Gives g call_of m line (orders.Call level r) items = BeginsOnly m line (call_held g m (call_of r) level) items
+Gives g call_of m line (orders.Do level r) items = BeginsWhole g m line (Begins (call_of r) level) (call_held g m (call_of r) level) items
+Gives g call_of m line (orders.Enter l) items = BeginsOnly m line (line_held g m l) items
+Gives g call_of m line (orders.Serve l) items = BeginsWhole g m line (Enters l) (line_held g m l) items
+Gives g call_of m line (orders.Run n) items = Goes g line (Count n) m m.opens items
+Gives g call_of m line (orders.Upto stop) items = Goes g line (Until stop) m m.opens items
+Gives g call_of m line orders.Finish items = Goes g line Whole m m.opens items
+Gives g call_of m line (orders.Tick n) items = IsOne m line (entry.Happens (orders.Tick n)) items
+Gives g call_of m line (orders.Level p v) items = IsOne m line (entry.Happens (orders.Level p v)) items
+Gives g call_of m line (orders.Analog i v) items = IsOne m line (entry.Happens (orders.Analog i v)) items
+Gives g call_of m line (orders.Trigger i) items = IsOne m line (entry.Happens (orders.Trigger i)) items
+Gives g call_of m line (orders.Miso u ws) items = IsOne m line (entry.Happens (orders.Miso u ws)) items
+Gives g call_of m line (orders.SpiFault u) items = IsOne m line (entry.Happens (orders.SpiFault u)) items
+-- a source array is there for configured serial channels alone
+Gives g call_of m line (orders.Fill c ws) items = IsOne m line (entry.Stays Unknown) items
+Gives g call_of m line (orders.Reset reason) items = IsOne m line (entry.Resets reason (length m.opens)) items
+Gives g call_of m line (orders.Show s) items = Shows m line (orders.Show s) m.opens items
+
+-- the deeds of a directive's items
+abbrev pub deeds_in : {Call : Type 0} → (Request → Call) → Order → List entry.Entry → List (Deed Call)
+deeds_in call_of order [] = []
+deeds_in call_of order (e ∷ es) = deed_of call_of (Some order) e.said ++ deeds_in call_of order es
+
+-- a directive's items, and then those of the others
+pub record FirstThen {State Call : Type 0} (g : Setting State Call) (call_of : Request → Call) (m : Moment State Call) (d : Directive) (items : List entry.Entry) (Later : Moment State Call → List entry.Entry → Type 0) : Type 0 where
+  pub first : List entry.Entry
+  pub later : List entry.Entry
+  pub is : items ≡ first ++ later
+  pub gives : Gives g call_of m d.line d.order first
+  pub rest : Later (after_all g m (deeds_in call_of d.order first)) later
+
+-- the items are those of the directives, in their order
+abbrev pub Follows : {State Call : Type 0} → Setting State Call → (Request → Call) → Moment State Call → List Directive → List entry.Entry → Type 0
+Follows g call_of m [] items = items ≡ []
+Follows g call_of m (d ∷ ds) items = FirstThen g call_of m d items (λ m1 later. Follows g call_of m1 ds later)

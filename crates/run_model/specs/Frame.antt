@@ -1,0 +1,202 @@
+-- A frame under way, by what it has done so far, and what a step adds to that.
+use Rattle.std.specs.Prelude.{ℕ, ◌+◌, Bool, true, false, ◌||◌, not, cond, List, [], ◌∷◌, ◌++◌, Option, Some, None}
+use Rattle.mcal_base.specs.declared.answer.Answer.{Answer}
+use Rattle.mcal_base.specs.declared.error_name.ErrorName.{ErrorName}
+use Rattle.mcal_base.specs.declared.moves.DevError.{DevError}
+use Rattle.mcal_base.specs.declared.moves.Move.{Move}
+use Rattle.mcal_base.specs.declared.moves.Move.TheVariants.{Read, Write, Load, Store, Mask, Unmask, Note, Report}
+use Rattle.mcal_base.specs.declared.moves.Event.{Event}
+use Rattle.mcal_base.specs.declared.moves.Event.TheVariants.{Act, Serve, Abort, Start}
+use Rattle.mcal_base.specs.declared.notice.Notice.{Notice}
+use Rattle.run_model.specs.declared.class.Tag.{Tag}
+use Rattle.run_model.specs.World.{World}
+use Rattle.run_model.specs.Machine.{Happening, Acts, Serves, Starts, Aborts, Told, Outcome, Machine}
+
+-- what a frame was begun for: a call, or a line
+pub data Origin (Call : Type 0) : Type 0 where
+  Called : Call → Origin Call
+  Entered : ℕ → Origin Call
+
+-- A frame under way.
+pub record Open (Call : Type 0) : Type 0 where
+  pub origin : Origin Call
+  -- its level, its module and the class of a call
+  pub tag : Tag
+  -- the answer at its act
+  pub acted : Option Answer
+  -- the lines that it has served
+  pub served : List ℕ
+  -- the lines that weren't ready at one of its own steps
+  pub missed : ℕ → Bool
+  -- the notices that it owes, and the error that it has to report
+  pub owed : List Notice
+  pub report : Option DevError
+  -- whether it holds the mask closed
+  pub inside : Bool
+  -- its steps, and the moves of its present window
+  pub steps : ℕ
+  pub window : ℕ
+  -- whether its last move is a notice
+  pub noted : Bool
+
+-- a frame that has done nothing yet
+abbrev pub opened : {Call : Type 0} → Origin Call → Tag → Open Call
+opened origin tag =
+    record { origin = origin; tag = tag; acted = None; served = []; missed = λ l. false; owed = []; report = None; inside = false; steps = 0; window = 0; noted = false }
+
+-- what an event of a frame is to the machine; a handler doesn't act
+abbrev pub happening_of : {Call : Type 0} → Origin Call → ℕ → Event → Option (Happening Call)
+happening_of (Called c) received Act = Some (Acts c)
+happening_of (Entered l) received Act = None
+happening_of origin received (Serve k) = Some (Serves k received)
+happening_of origin received (Abort u) = Some (Aborts u)
+happening_of origin received (Start u) = Some (Starts u received)
+
+abbrev pub happening_at : {Call : Type 0} → Origin Call → ℕ → Option Event → Option (Happening Call)
+happening_at origin received None = None
+happening_at origin received (Some e) = happening_of origin received e
+
+-- what the machine gives at a step, where an event stands there that it allows
+abbrev pub outcome_of : {State Call : Type 0} → Machine State Call → World → State → Option (Happening Call) → Option (Outcome State)
+outcome_of mac w s None = None
+outcome_of mac w s (Some h) = mac.happens w s h
+
+-- the machine's state, after what it gave
+abbrev pub state_by : {State : Type 0} → State → Option (Outcome State) → State
+state_by s None = s
+state_by s (Some out) = out.state
+
+-- the answer of the act
+abbrev pub acted_by : {State : Type 0} → Option Answer → Option Event → Option (Outcome State) → Option Answer
+acted_by a (Some Act) (Some out) = Some out.told.answer
+acted_by a (Some Act) None = a
+acted_by a (Some (Serve k)) out = a
+acted_by a (Some (Abort u)) out = a
+acted_by a (Some (Start u)) out = a
+acted_by a None out = a
+
+abbrev pub served_by : List ℕ → Option Event → List ℕ
+served_by ls (Some (Serve k)) = k ∷ ls
+served_by ls (Some Act) = ls
+served_by ls (Some (Abort u)) = ls
+served_by ls (Some (Start u)) = ls
+served_by ls None = ls
+
+-- the notices that are owed, with those of this step's event
+abbrev pub owed_by : {State : Type 0} → List Notice → Option (Outcome State) → List Notice
+owed_by ns None = ns
+owed_by ns (Some out) = ns ++ out.told.notices
+
+-- the report of an error that an act found, where the module reports errors
+abbrev pub reported : {State Call : Type 0} → Machine State Call → Call → Option ErrorName → Option DevError
+reported mac c None = None
+reported mac c (Some e) = cond (mac.detects c) (Some (record { service = mac.service_of c; error = e })) None
+
+-- the error that has to be reported, with that of this step's act
+abbrev pub report_by : {State Call : Type 0} → Machine State Call → Origin Call → Option DevError → Option Event → Option (Outcome State) → Option DevError
+report_by mac (Called c) r (Some Act) (Some out) = reported mac c out.told.error
+report_by mac (Called c) r (Some Act) None = r
+report_by mac (Entered l) r (Some Act) out = r
+report_by mac origin r (Some (Serve k)) out = r
+report_by mac origin r (Some (Abort u)) out = r
+report_by mac origin r (Some (Start u)) out = r
+report_by mac origin r None out = r
+
+abbrev pub rest_of : List Notice → List Notice
+rest_of [] = []
+rest_of (n ∷ ns) = ns
+
+-- a notice that is given is owed no longer
+abbrev pub owed_after : List Notice → Move → List Notice
+owed_after ns (Note n) = rest_of ns
+owed_after ns (Report e) = ns
+owed_after ns Mask = ns
+owed_after ns Unmask = ns
+owed_after ns (Read r) = ns
+owed_after ns (Write r v) = ns
+owed_after ns (Load k) = ns
+owed_after ns (Store k v) = ns
+
+-- an error is reported once
+abbrev pub report_after : Option DevError → Move → Option DevError
+report_after r (Report e) = None
+report_after r (Note n) = r
+report_after r Mask = r
+report_after r Unmask = r
+report_after r (Read x) = r
+report_after r (Write x v) = r
+report_after r (Load k) = r
+report_after r (Store k v) = r
+
+abbrev pub inside_after : Bool → Move → Bool
+inside_after b Mask = true
+inside_after b Unmask = false
+inside_after b (Read r) = b
+inside_after b (Write r v) = b
+inside_after b (Load k) = b
+inside_after b (Store k v) = b
+inside_after b (Note n) = b
+inside_after b (Report e) = b
+
+-- the moves of a window, from the one that closes the mask on
+abbrev pub window_after : Bool → ℕ → Move → ℕ
+window_after inside n Mask = 1
+window_after inside n Unmask = n + 1
+window_after inside n (Read r) = cond inside (n + 1) n
+window_after inside n (Write r v) = cond inside (n + 1) n
+window_after inside n (Load k) = cond inside (n + 1) n
+window_after inside n (Store k v) = cond inside (n + 1) n
+window_after inside n (Note m) = cond inside (n + 1) n
+window_after inside n (Report e) = cond inside (n + 1) n
+
+abbrev pub is_note : Move → Bool
+is_note (Note n) = true
+is_note (Report e) = false
+is_note Mask = false
+is_note Unmask = false
+is_note (Read r) = false
+is_note (Write r v) = false
+is_note (Load k) = false
+is_note (Store k v) = false
+
+-- a line that isn't ready in the state before a step is missed at that step
+abbrev pub missed_after : {State Call : Type 0} → Machine State Call → World → State → (ℕ → Bool) → ℕ → Bool
+missed_after mac w s missed l = missed l || not (mac.ready w s l)
+
+-- the machine's state after a step with this event
+abbrev pub state_after : {State Call : Type 0} → Machine State Call → World → State → Open Call → ℕ → Option Event → State
+state_after mac w s o received e = state_by s (outcome_of mac w s (happening_at o.origin received e))
+
+-- what the frame has done after a step
+abbrev pub open_after : {State Call : Type 0} → Machine State Call → World → State → Open Call → Move → ℕ → Option Event → Open Call
+open_after mac w s o made received e =
+    let out = outcome_of mac w s (happening_at o.origin received e) in
+    record {
+      origin = o.origin;
+      tag = o.tag;
+      acted = acted_by o.acted e out;
+      served = served_by o.served e;
+      missed = missed_after mac w s o.missed;
+      owed = owed_after (owed_by o.owed out) made;
+      report = report_after (report_by mac o.origin o.report e out) made;
+      inside = inside_after o.inside made;
+      steps = o.steps + 1;
+      window = window_after o.inside o.window made;
+      noted = is_note made;
+    }
+
+-- what is there after a step of the top one, which may have ended
+abbrev pub top_after : {A : Type 0} → A → Option Answer → List A → List A
+top_after x None rest = x ∷ rest
+top_after x (Some answer) rest = rest
+
+-- a move that names no register and no word
+abbrev pub is_shared : Move → Bool
+is_shared Mask = true
+is_shared Unmask = true
+is_shared (Note n) = true
+is_shared (Report e) = true
+is_shared (Read r) = false
+is_shared (Write r v) = false
+is_shared (Load k) = false
+is_shared (Store k v) = false

@@ -1,0 +1,10 @@
+pub mod Causes
+pub mod Entry
+pub mod Follows
+pub mod Frame
+pub mod Legal
+pub mod Machine
+pub mod Moment
+pub mod Rooms
+pub mod Script
+pub mod World

@@ -1,0 +1,65 @@
+-- A machine of the specifications: what happens to a module, and what comes of it. It knows no register, no mask and no place in a program.
+use Rattle.std.specs.Prelude.{ℕ, List, [], Bool, Option, Some, None}
+use Rattle.mcal_base.specs.declared.answer.Answer.{Answer}
+use Rattle.mcal_base.specs.declared.answer.Head.TheVariants.{Nothing}
+use Rattle.mcal_base.specs.declared.directive.Order.{Order}
+use Rattle.mcal_base.specs.declared.directive.Reason.{Reason}
+use Rattle.mcal_base.specs.declared.error_name.ErrorName.{ErrorName}
+use Rattle.mcal_base.specs.declared.moves.Unit as units
+use Rattle.mcal_base.specs.declared.notice.Notice.{Notice}
+use Rattle.mcal_base.specs.declared.service.Service.{Service}
+use Rattle.run_model.specs.World.{World}
+
+-- what happens to a machine
+pub data Happening (Call : Type 0) : Type 0 where
+  -- a call acts
+  Acts : Call → Happening Call
+  -- a line is served; a serial word that begins there has this incoming word
+  Serves : (line received : ℕ) → Happening Call
+  -- a unit starts its next round or job; its first word has this incoming word
+  Starts : units.Unit → (received : ℕ) → Happening Call
+  -- the running round of a unit is aborted
+  Aborts : units.Unit → Happening Call
+  -- the hardware moves
+  Moves : Order → Happening Call
+  -- the chip is reset
+  Restarts : Reason → Happening Call
+
+-- what the act of a call or a serving tells: an answer, at most one error, and notices
+pub record Told : Type 0 where
+  pub answer : Answer
+  pub error : Option ErrorName
+  pub notices : List Notice
+
+-- the state that comes of it, with what is told
+pub record Outcome (State : Type 0) : Type 0 where
+  pub state : State
+  pub told : Told
+
+-- no answer, no error and no notice
+abbrev pub no_answer : Answer
+no_answer = record { head = Nothing; words = [] }
+
+abbrev pub tells_nothing : Told
+tells_nothing = record { answer = no_answer; error = None; notices = [] }
+
+abbrev pub outcome : {State : Type 0} → State → Told → Outcome State
+outcome s t = record { state = s; told = t }
+
+-- A machine of states and calls.
+pub record Machine (State Call : Type 0) : Type 0 where
+  -- what comes of a happening, where it is allowed
+  pub happens : World → State → Happening Call → Option (Outcome State)
+  -- whether a line may be served
+  pub ready : World → State → ℕ → Bool
+  -- whether a line wants to be served
+  pub due : World → State → ℕ → Bool
+  -- whether a unit may start or abort
+  pub startable : World → State → units.Unit → Bool
+  -- the peripheral ticks of a tick of the oscillator
+  pub rate : State → ℕ
+  -- the service of a call, and whether its module reports errors
+  pub service_of : Call → Service
+  pub detects : Call → Bool
+  -- the lines that a call may serve
+  pub polls : Call → List ℕ

@@ -1,0 +1,99 @@
+-- A moment of a run: the chip, the outside, the machine's state and the frames under way; and what comes after it.
+use Rattle.std.specs.Prelude.{ℕ, Bool, ◌&&◌, List, [], ◌∷◌, Option, Some, None}
+use Rattle.chip_model.specs.Chip.{Chip, chip_after, happened, reset_chip, fresh}
+use Rattle.mcal_base.specs.declared.directive.Order.{Order}
+use Rattle.mcal_base.specs.declared.directive.Reason.{Reason}
+use Rattle.mcal_base.specs.declared.module_name.ModuleName.{ModuleName}
+use Rattle.mcal_base.specs.declared.moves.Move.{Move}
+use Rattle.mcal_base.specs.declared.register.Reg.{Reg}
+use Rattle.run_model.specs.declared.class.Class.{Class}
+use Rattle.run_model.specs.declared.class.Tag.{Tag}
+use Rattle.run_model.specs.declared.item.Stepped.{Stepped}
+use Rattle.run_model.specs.World.{World, world_start, world_after}
+use Rattle.run_model.specs.Machine.{Machine, Moves, Restarts}
+use Rattle.run_model.specs.Frame.{Origin, Called, Entered, Open, opened, state_by, state_after, open_after, top_after}
+
+-- What a run is over: a machine, its calls and lines, and the bounds of its frames.
+pub record Setting (State Call : Type 0) : Type 0 where
+  pub machine : Machine State Call
+  -- the state after power on
+  pub first : State
+  pub class_of : Call → Class
+  -- the level of a line, the module of its handler, and whether a configured object uses it
+  pub level_of : ℕ → ℕ
+  pub owner_of : ℕ → ModuleName
+  pub used : ℕ → Bool
+  -- the most steps of a frame, and the most moves of its windows
+  pub steps_of : Origin Call → ℕ
+  pub window_of : Origin Call → ℕ
+  -- whether a frame's move names a register or a word of its module
+  pub owns : Origin Call → Move → Bool
+  -- the low half at whose read a call acts that reads a counter in halves
+  pub low_half : Call → Option Reg
+
+-- what is done in a run: a call begins at a level, a handler begins, the top frame makes a step, the hardware moves, the chip is reset
+pub data Deed (Call : Type 0) : Type 0 where
+  Begins : Call → (level : ℕ) → Deed Call
+  Enters : (line : ℕ) → Deed Call
+  Steps : Stepped → Deed Call
+  Happens : Order → Deed Call
+  Resets : Reason → Deed Call
+
+-- A moment.
+pub record Moment (State Call : Type 0) : Type 0 where
+  pub chip : Chip
+  pub world : World
+  pub state : State
+  -- the frames under way, the newest first
+  pub opens : List (Open Call)
+
+-- the tag of a call's frame, and of a handler's
+abbrev pub call_tag : {State Call : Type 0} → Setting State Call → Call → ℕ → Tag
+call_tag g c level = record { level = level; owner = (g.class_of c).module; class = Some (g.class_of c) }
+
+abbrev pub line_tag : {State Call : Type 0} → Setting State Call → ℕ → Tag
+line_tag g l = record { level = g.level_of l; owner = g.owner_of l; class = None }
+
+-- at power on
+abbrev pub start_moment : {State Call : Type 0} → Setting State Call → Moment State Call
+start_moment g = record { chip = fresh 0 0; world = world_start; state = g.first; opens = [] }
+
+-- after a step of the top frame
+abbrev pub after_step : {State Call : Type 0} → Setting State Call → Moment State Call → List (Open Call) → Stepped → Moment State Call
+after_step g m [] s = m
+after_step g m (o ∷ os) s = record {
+  chip = chip_after m.chip s.made;
+  world = m.world;
+  state = state_after g.machine m.world m.state o s.received s.event;
+  opens = top_after (open_after g.machine m.world m.state o s.made s.received s.event) s.ended os;
+}
+
+-- after the hardware moved: the machine is told before the time goes on
+abbrev pub after_hardware : {State Call : Type 0} → Setting State Call → Moment State Call → Order → Moment State Call
+after_hardware g m order = record {
+  chip = happened m.chip order;
+  world = world_after m.world (g.machine.rate m.state) order;
+  state = state_by m.state (g.machine.happens m.world m.state (Moves order));
+  opens = m.opens;
+}
+
+-- after a reset: every frame is dropped, and the time goes on
+abbrev pub after_reset : {State Call : Type 0} → Setting State Call → Moment State Call → Reason → Moment State Call
+after_reset g m reason = record {
+  chip = reset_chip m.chip reason;
+  world = m.world;
+  state = state_by m.state (g.machine.happens m.world m.state (Restarts reason));
+  opens = [];
+}
+
+abbrev pub after : {State Call : Type 0} → Setting State Call → Moment State Call → Deed Call → Moment State Call
+after g m (Begins c level) = record m { opens = opened (Called c) (call_tag g c level) ∷ m.opens }
+after g m (Enters l) = record m { opens = opened (Entered l) (line_tag g l) ∷ m.opens }
+after g m (Steps s) = after_step g m m.opens s
+after g m (Happens order) = after_hardware g m order
+after g m (Resets reason) = after_reset g m reason
+
+-- the moment after a list of deeds
+abbrev pub after_all : {State Call : Type 0} → Setting State Call → Moment State Call → List (Deed Call) → Moment State Call
+after_all g m [] = m
+after_all g m (d ∷ ds) = after_all g (after g m d) ds

@@ -1,0 +1,253 @@
+ghost use Rattle.std.specs.Prelude.{ℕ, List, ◌≡◌, ◌<◌, ◌≤◌, ◌+◌, ◌^◌, ◌++◌, [], ◌∷◌, length, IfOk, map};
+ghost use Rattle.mcal_base.specs.declared.directive.Order.TheVariants as orders;
+ghost use Rattle.run_model.specs.Entry.{Begins, Happens, Stays, Steps, Resets, written, said_at, answer_at, entries, words_of_answer, WhatFits, AnswerFits};
+
+use crate::item::{Hardware, Item, Logged, LoggedAnswer, Span, Stepped, What};
+use irq_control::Held;
+use mcal_base::{Answer, Reason};
+use std::alloc::{AllocError, Global};
+use std::marker::Model;
+use std::mem::size_of;
+
+/// The items of a journal, with room that was taken before the run.
+#[derive(Drop)]
+pub struct Items {
+    items: Vec<Item>,
+    room: usize,
+}
+
+impl Model for Items {
+    ghost use Rattle.std.specs.Prelude.{vec_len, vec_capacity, ◌≤◌};
+    ghost use Rattle.run_model.specs.Rooms.{ItemsKept};
+
+    ghost Value = { ItemsKept };
+
+    ghost view = { λ j. record { items = j.items.items; room = j.room } };
+
+    ghost invariant = { λ j. (vec_len j.items ≤ j.room) × (j.room ≤ vec_capacity j.items) };
+}
+
+impl Items {
+    /// No items, and room for so many.
+    pub fn with_room(alloc: Global, room: usize) -> Result<Items, AllocError>
+        ensures { IfOk result (λ j. j ≡ record { items = []; room = room }) }
+    {
+        Ok(Items {
+            items: Vec::with_capacity(alloc, room)?,
+            room,
+        })
+    }
+
+    /// The items.
+    pub fn as_slice(&self) -> &[Item]
+        ensures { result.now ≡ self.now.items }
+    {
+        self.items.as_slice()
+    }
+
+    /// One more item. It takes no memory.
+    pub fn push(&mut self, item: Item)
+        requires { length self.old.items < self.old.room }
+        ensures { self.new ≡ record self.old { items = self.old.items ++ item ∷ [] } }
+    {
+        self.items.push_reserved(item);
+    }
+}
+
+/// The words of a journal's lists, with room that was taken before the run.
+#[derive(Drop)]
+pub struct Pool {
+    words: Vec<u32>,
+    room: usize,
+}
+
+impl Model for Pool {
+    ghost use Rattle.std.specs.Prelude.{vec_len, vec_capacity, ◌≤◌, ◌<◌, ◌^◌};
+    ghost use Rattle.run_model.specs.Rooms.{WordsKept};
+
+    ghost Value = { WordsKept };
+
+    ghost view = { λ p. record { words = p.words.items; room = p.room } };
+
+    ghost invariant = { λ p. (vec_len p.words ≤ p.room) × (p.room ≤ vec_capacity p.words) × (p.room < 2 ^ 32) };
+}
+
+impl Pool {
+    /// No words, and room for so many.
+    pub fn with_room(alloc: Global, room: usize) -> Result<Pool, AllocError>
+        requires { room < 2 ^ 32 }
+        ensures { IfOk result (λ p. p ≡ record { words = []; room = room }) }
+    {
+        Ok(Pool {
+            words: Vec::with_capacity(alloc, room)?,
+            room,
+        })
+    }
+
+    /// The words.
+    pub fn as_slice(&self) -> &[u32]
+        ensures { result.now ≡ self.now.words }
+    {
+        self.words.as_slice()
+    }
+
+    /// Keeps a list of words, and tells where. It takes no memory.
+    pub fn keep(&mut self, words: &[u32]) -> Span
+        requires { length self.old.words + length words.now ≤ self.old.room }
+        ensures words { self.new ≡ record self.old { words = self.old.words ++ words.now } }
+        ensures span { result ≡ record { at = length self.old.words; count = length words.now } }
+    {
+        let span = Span {
+            at: self.words.len() as u32,
+            count: words.len() as u32,
+        };
+        self.words.extend_from_slice(words).unwrap();
+        span
+    }
+}
+
+/// The journal of a run: its items, and the words of their lists. No call after `with_room` takes memory.
+#[derive(Drop)]
+pub struct Journal {
+    items: Items,
+    words: Pool,
+}
+
+impl Model for Journal {
+    ghost use Rattle.std.specs.Prelude.{length};
+    ghost use Rattle.run_model.specs.Entry.{Written, entries, AllFit};
+
+    ghost Value = { Written };
+
+    ghost view = { λ j. record { entries = entries j.words.words j.items.items; room = j.items.room; words = j.words.words; words_room = j.words.room } };
+
+    ghost invariant = { λ j. AllFit (length j.words.words) j.items.items };
+}
+
+impl Journal {
+    /// A journal with no items and no room. It takes no memory.
+    pub fn empty(alloc: Global) -> Journal
+        ensures { result ≡ record { entries = []; room = 0; words = []; words_room = 0 } }
+    {
+        Journal {
+            items: Items {
+                items: Vec::new(alloc),
+                room: 0,
+            },
+            words: Pool {
+                words: Vec::new(alloc),
+                room: 0,
+            },
+        }
+    }
+
+    /// A journal with room for so many items and so many words.
+    pub fn with_room(alloc: Global, items: usize, words: usize) -> Result<Journal, AllocError>
+        requires { words < 2 ^ 32 }
+        ensures { IfOk result (λ j. j ≡ record { entries = []; room = items; words = []; words_room = words }) }
+    {
+        Ok(Journal {
+            items: Items::with_room(alloc, items)?,
+            words: Pool::with_room(alloc, words)?,
+        })
+    }
+
+    /// The items, with the stretches of their lists.
+    pub fn items(&self) -> &[Item]
+        ensures { entries self.now.words result.now ≡ self.now.entries }
+    {
+        self.items.as_slice()
+    }
+
+    /// The words of the lists.
+    pub fn words(&self) -> &[u32]
+        ensures { result.now ≡ self.now.words }
+    {
+        self.words.as_slice()
+    }
+
+    /// One more item, whose lists stand among the words.
+    fn push(&mut self, line: u32, depth: u32, what: What)
+        requires room { length self.old.entries < self.old.room }
+        requires fits { WhatFits (length self.old.words) what }
+        ensures { self.new ≡ written self.old line depth (said_at self.old.words what) [] }
+    {
+        self.items.push(Item { line, depth, what });
+    }
+
+    /// Keeps a list of words.
+    fn keep(&mut self, words: &[u32]) -> Span
+        requires { length self.old.words + length words.now ≤ self.old.words_room }
+        ensures words { self.new ≡ record self.old { words = self.old.words ++ words.now } }
+        ensures span { result ≡ record { at = length self.old.words; count = length words.now } }
+    {
+        self.words.keep(words)
+    }
+
+    /// Keeps the words of an answer.
+    fn keep_answer(&mut self, answer: &Option<Answer>) -> Option<LoggedAnswer>
+        requires { length self.old.words + length (words_of_answer answer.now) ≤ self.old.words_room }
+        ensures words { self.new ≡ record self.old { words = self.old.words ++ words_of_answer answer.now } }
+        ensures fits { AnswerFits (length self.new.words) result }
+        ensures same { answer_at self.new.words result ≡ answer.now }
+    {
+        match answer {
+            None => None,
+            Some(answer) => Some(LoggedAnswer {
+                head: answer.head,
+                words: self.keep(answer.words.as_slice()),
+            }),
+        }
+    }
+
+    /// Notes that a call or a handler began.
+    pub fn begun(&mut self, line: u32, depth: u32)
+        requires { length self.old.entries < self.old.room }
+        ensures { self.new ≡ written self.old line depth Begins [] }
+    {
+        self.push(line, depth, What::Begun);
+    }
+
+    /// Notes that a directive was held.
+    pub fn held(&mut self, line: u32, depth: u32, cause: Held)
+        requires { length self.old.entries < self.old.room }
+        ensures { self.new ≡ written self.old line depth (Stays cause) [] }
+    {
+        self.push(line, depth, What::Held(cause));
+    }
+
+    /// Notes a reset that dropped so many frames.
+    pub fn reset(&mut self, line: u32, depth: u32, reason: Reason, dropped: u32)
+        requires { length self.old.entries < self.old.room }
+        ensures { self.new ≡ written self.old line depth (Resets reason dropped) [] }
+    {
+        self.push(line, depth, What::Reset(reason, dropped));
+    }
+
+    /// Notes ticks of the oscillator.
+    pub fn ticked(&mut self, line: u32, depth: u32, ticks: u32)
+        requires { length self.old.entries < self.old.room }
+        ensures { self.new ≡ written self.old line depth (Happens (orders.Tick ticks)) [] }
+    {
+        self.push(line, depth, What::Happened(Hardware::Tick(ticks)));
+    }
+
+    /// Notes a step.
+    pub fn stepped(&mut self, line: u32, depth: u32, stepped: &Stepped)
+        requires room { length self.old.entries < self.old.room }
+        requires words { length self.old.words + length (words_of_answer stepped.now.ended) ≤ self.old.words_room }
+        ensures { self.new ≡ written self.old line depth (Steps stepped.now) (words_of_answer stepped.now.ended) }
+    {
+        let ended = self.keep_answer(&stepped.ended);
+        let logged = Logged {
+            made: stepped.made,
+            value: stepped.value,
+            received: stepped.received,
+            event: stepped.event,
+            ended,
+        };
+        self.push(line, depth, What::Stepped(logged));
+    }
+}
+
+const _: () = prove!(size_of::<Item>() <= 64);

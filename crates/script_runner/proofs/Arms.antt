@@ -1,0 +1,83 @@
+-- What beginnings and steps make of a directive's items.
+use Rattle.std.proofs.Common.{◌≡◌, ℕ, suc, List, [], ◌∷◌, ◌++◌, length, Option, Some, refl, sym, ◌∙◌, ap, subst, append_assoc, append-nil}
+use Rattle.chip_model.specs.Chip.{Chip}
+use Rattle.irq_control.specs.declared.held.Held.{Held}
+use Rattle.mcal_base.specs.declared.directive.Directive.{Directive}
+use Rattle.mcal_base.specs.declared.directive.Order.{Order}
+use Rattle.mcal_base.specs.declared.directive.Request.{Request}
+use Rattle.run_model.specs.declared.reach.Reach.TheVariants.{Whole}
+use Rattle.run_model.specs.Entry.{Entry, Begins, Stays, Written}
+use Rattle.run_model.specs.Frame as frame
+use Rattle.run_model.specs.Follows.{GoesOn, deeds_in, IsOne, BeginsOnly, BeginsWhole}
+use Rattle.run_model.specs.Moment.{Moment, Deed, after, after_all, start_moment}
+use Rattle.run_model.specs.Script.{deeds_of, deed_of, begun_by, order_at}
+use Rattle.run_model.proofs.Following.{after_all-append, deeds_of-append}
+use Rattle.step_runner.specs.Driver.{Driver}
+use Rattle.step_runner.specs.Kept.{Kept}
+use Rattle.step_runner.specs.Stands.{AreFramesOf}
+use Rattle.step_runner.specs.declared.stack.Under.{Under}
+use Rattle.script_runner.specs.Standing.{moment_of, IsStanding, Adds, Began, StayedOff}
+
+-- the frames of a stack are as many as those of the run
+pub as_many : {State Call Frame : Type 0} (d : Driver State Call Frame) (us : List (Under Frame)) (os : List (frame.Open Call)) → AreFramesOf d us os → length us ≡ length os
+as_many d [] [] h = refl
+as_many d [] (o ∷ os) h = absurd h
+as_many d (u ∷ us) [] h = absurd h
+as_many d (u ∷ us) (o ∷ os) h = ap suc (as_many d us os h.1)
+
+module _ {State Call Frame : Type 0} (d : Driver State Call Frame) (call_of : Request → Call) (script : List Directive) where
+  -- the frames are as many as those of the moment
+  pub depth_is : (chip : Chip) (us : List (Under Frame)) (es : List Entry) → IsStanding d call_of script chip us es → length us ≡ length (moment_of d call_of script es).opens
+  depth_is chip us es h = as_many d us (moment_of d call_of script es).opens h.matches.frames
+
+  -- the deeds with one item more
+  pub deeds_more : (es : List Entry) (e : Entry) (deeds : List (Deed Call)) → deed_of call_of (order_at script e.line) e.said ≡ deeds → deeds_of call_of script (es ++ e ∷ []) ≡ deeds_of call_of script es ++ deeds
+  deeds_more es e deeds h = deeds_of-append call_of script es (e ∷ []) ∙ ap (λ ds. deeds_of call_of script es ++ ds) (append-nil (deed_of call_of (order_at script e.line) e.said) ∙ h)
+
+  -- the moment with one item more
+  pub moment_more : (es : List Entry) (e : Entry) (deeds : List (Deed Call)) → deed_of call_of (order_at script e.line) e.said ≡ deeds → moment_of d call_of script (es ++ e ∷ []) ≡ after_all d.setting (moment_of d call_of script es) deeds
+  moment_more es e deeds h = ap (λ ds. after_all d.setting (start_moment d.setting) ds) (deeds_more es e deeds h) ∙ after_all-append d.setting (start_moment d.setting) (deeds_of call_of script es) deeds
+
+  -- a call or a handler that began, and does no more
+  pub begins_only : (line : ℕ) (order : Order) (deed : Deed Call) (held : Option Held) (chip : Chip) (k : Kept Frame) (before : Written) (k1 : Kept Frame) (after : Written) → begun_by call_of (Some order) ≡ deed ∷ [] → IsStanding d call_of script chip k.frames before.entries → Began d call_of script line deed held chip k before k1 after → Adds d call_of script order before after chip k1.frames (λ m items. BeginsOnly m line held items)
+  begins_only line order deed held chip k before k1 after at stands h =
+      let n = depth_is chip k.frames before.entries stands in
+      record {
+        items = (record { line = line; depth = length k.frames; said = Begins }) ∷ [];
+        is = ap (λ w. w.entries) h.written;
+        right = subst (λ c. BeginsOnly (moment_of d call_of script before.entries) line c ((record { line = line; depth = length k.frames; said = Begins }) ∷ [])) (sym h.free) (ap (λ x. let e : Entry = record { line = line; depth = x; said = Begins } in e ∷ []) n);
+        leads = ap (λ ds. after_all d.setting (moment_of d call_of script before.entries) ds) (append-nil (begun_by call_of (Some order)) ∙ at) ∙ sym h.leads;
+        stands = h.stands;
+      }
+
+  -- one that was held
+  pub stays_off : (line : ℕ) (order : Order) (held : Option Held) (chip : Chip) (k : Kept Frame) (before : Written) (k1 : Kept Frame) (after : Written) (Right : Option Held → Moment State Call → List Entry → Type 0) → ((c : Held) (m : Moment State Call) (items : List Entry) → IsOne m line (Stays c) items → Right (Some c) m items) → IsStanding d call_of script chip k.frames before.entries → StayedOff d call_of script line held chip k before k1 after → Adds d call_of script order before after chip k1.frames (λ m items. Right held m items)
+  stays_off line order held chip k before k1 after Right put stands h =
+      let n = depth_is chip k.frames before.entries stands in
+      let m = moment_of d call_of script before.entries in
+      record {
+        items = (record { line = line; depth = length k.frames; said = Stays h.cause }) ∷ [];
+        is = ap (λ w. w.entries) h.written;
+        right = subst (λ c. Right c m ((record { line = line; depth = length k.frames; said = Stays h.cause }) ∷ [])) (sym h.because) (put h.cause m ((record { line = line; depth = length k.frames; said = Stays h.cause }) ∷ []) (ap (λ x. let e : Entry = record { line = line; depth = x; said = Stays h.cause } in e ∷ []) n));
+        leads = sym (moment_more before.entries (record { line = line; depth = length k.frames; said = Stays h.cause }) [] refl) ∙ ap (λ w. moment_of d call_of script w.entries) (sym h.written);
+        stands = h.stands;
+      }
+
+  -- a call or a handler that began, and was run to its end
+  pub begins_whole : (line : ℕ) (order : Order) (deed : Deed Call) (held : Option Held) (chip : Chip) (k : Kept Frame) (before : Written) (k1 : Kept Frame) (between : Written) (chip2 : Chip) (us2 : List (Under Frame)) (after : Written) → begun_by call_of (Some order) ≡ deed ∷ [] → IsStanding d call_of script chip k.frames before.entries → Began d call_of script line deed held chip k before k1 between → Adds d call_of script order between after chip2 us2 (λ m items. GoesOn d.setting line Whole 0 m items) → Adds d call_of script order before after chip2 us2 (λ m items. BeginsWhole d.setting m line deed held items)
+  begins_whole line order deed held chip k before k1 between chip2 us2 after at stands h steps =
+      let n = depth_is chip k.frames before.entries stands in
+      let m = moment_of d call_of script before.entries in
+      let first : Entry = record { line = line; depth = length k.frames; said = Begins } in
+      let first_at : Entry = record { line = line; depth = length m.opens; said = Begins } in
+      let same : first ≡ first_at = ap (λ x. record { line = line; depth = x; said = Begins }) n in
+      record {
+        items = first ∷ steps.items;
+        is = steps.is ∙ ap (λ w. w.entries ++ steps.items) h.written ∙ append_assoc before.entries (first ∷ []) steps.items;
+        right = subst (λ c. BeginsWhole d.setting m line deed c (first ∷ steps.items)) (sym h.free) (record { steps = steps.items; is = ap (λ e. e ∷ steps.items) same; goes = subst (λ x. GoesOn d.setting line Whole 0 x steps.items) h.leads steps.right });
+        leads =
+            ap (λ ds. after_all d.setting m (ds ++ deeds_in call_of order steps.items)) at
+            ∙ ap (λ x. after_all d.setting x (deeds_in call_of order steps.items)) (sym h.leads)
+            ∙ steps.leads;
+        stands = steps.stands;
+      }

@@ -1,0 +1,47 @@
+-- A script that may be run.
+use Rattle.std.specs.Prelude.{◌≡◌, ℕ, ◌+◌, ◌<◌, ◌≤◌, Bool, true, false, Some, List, [], ◌∷◌, length}
+use Rattle.mcal_base.specs.declared.directive.Directive.{Directive}
+use Rattle.mcal_base.specs.declared.directive.Order.{Order}
+use Rattle.mcal_base.specs.declared.directive.Order.TheVariants as orders
+use Rattle.mcal_base.specs.declared.directive.Request.{Request}
+use Rattle.run_model.specs.Entry.{Entry}
+use Rattle.run_model.specs.Follows.{Follows}
+use Rattle.run_model.specs.Legal.{IsLegal}
+use Rattle.run_model.specs.Moment.{Setting, start_moment}
+use Rattle.run_model.specs.Script.{deeds_of, begun_by}
+use Rattle.step_runner.specs.Driver.{Driver}
+use Rattle.script_runner.specs.Standing.{is_built, bounds_of}
+
+-- the lines rise, from above this one
+abbrev pub LinesRise : ℕ → List Directive → Type 0
+LinesRise low [] = Unit {0}
+LinesRise low (d ∷ ds) = (low < d.line) × LinesRise d.line ds
+
+-- each directive is one that this stage obeys
+abbrev pub AllBuilt : List Directive → Type 0
+AllBuilt [] = Unit {0}
+AllBuilt (d ∷ ds) = (is_built d.order ≡ true) × AllBuilt ds
+
+-- the lines rise, each directive is built, and there are no more than an input can have
+pub record IsScript (script : List Directive) : Type 0 where
+  pub lines : LinesRise 0 script
+  pub built : AllBuilt script
+  pub few : length script ≤ 1100000
+
+-- the most steps of all frames that a script's directives begin
+abbrev pub script_bound : {State Call Frame : Type 0} → Driver State Call Frame → (Request → Call) → List Directive → ℕ
+script_bound d call_of [] = 0
+script_bound d call_of (x ∷ xs) = bounds_of d (begun_by call_of (Some x.order)) + script_bound d call_of xs
+
+-- a frame may begin by an order
+abbrev pub begins_frame : Order → Bool
+begins_frame (orders.Call level r) = true
+begins_frame (orders.Do level r) = true
+begins_frame (orders.Enter line) = true
+begins_frame (orders.Serve line) = true
+begins_frame _ = false
+
+-- A journal is a run of a script from power on: it says what the directives ask for, one after another, and what happened is legal.
+pub record IsRun {State Call : Type 0} (setting : Setting State Call) (call_of : Request → Call) (script : List Directive) (journal : List Entry) : Type 0 where
+  pub follows : Follows setting call_of (start_moment setting) script journal
+  pub legal : IsLegal setting (start_moment setting) (deeds_of call_of script journal)

@@ -1,0 +1,145 @@
+-- What the parts of a run are to its journal, while a directive is obeyed.
+use Rattle.std.specs.Prelude.{◌≡◌, ℕ, zero, suc, ◌+◌, ◌-◌, ◌<◌, ◌≤◌, Bool, true, false, nat_le, List, [], ◌∷◌, ◌++◌, length, Option, Some, None}
+use Rattle.chip_model.specs.Chip.{Chip, now_of}
+use Rattle.mcal_base.specs.declared.directive.Directive.{Directive}
+use Rattle.mcal_base.specs.declared.directive.Order.{Order}
+use Rattle.mcal_base.specs.declared.directive.Order.TheVariants as orders
+use Rattle.mcal_base.specs.declared.directive.Request.{Request}
+use Rattle.irq_control.specs.declared.held.Held.{Held}
+use Rattle.run_model.specs.declared.item.Stepped.{Stepped}
+use Rattle.run_model.specs.declared.reach.Reach.{Reach}
+use Rattle.run_model.specs.declared.reach.Reach.TheVariants.{Count, Until, Whole}
+use Rattle.run_model.specs.Entry.{Entry, Begins, Stays, Steps, Written, written, words_of_answer}
+use Rattle.run_model.specs.Follows.{GoesOn, Gives, deeds_in}
+use Rattle.run_model.specs.Moment as moment
+use Rattle.run_model.specs.Moment.{Setting, Moment, Deed, start_moment, after_all}
+use Rattle.run_model.specs.Frame as frame
+use Rattle.run_model.specs.Script.{deeds_of, begun_by}
+use Rattle.step_runner.specs.Driver.{Driver}
+use Rattle.step_runner.specs.Kept.{Kept, total_fuel}
+use Rattle.step_runner.specs.Stands.{Stands}
+use Rattle.step_runner.specs.declared.stack.Under.{Under}
+
+-- the moment after the items of a journal
+abbrev pub moment_of : {State Call Frame : Type 0} → Driver State Call Frame → (Request → Call) → List Directive → List Entry → Moment State Call
+moment_of d call_of script entries = after_all d.setting (start_moment d.setting) (deeds_of call_of script entries)
+
+-- the chip and the frames stand for the items of a journal
+abbrev pub IsStanding : {State Call Frame : Type 0} → Driver State Call Frame → (Request → Call) → List Directive → Chip → List (Under Frame) → List Entry → Type 0
+IsStanding d call_of script chip us entries = Stands d chip us (deeds_of call_of script entries)
+
+-- The journal has room for the steps that may still be taken, for so many other items, and for the words of an answer.
+pub record HasRoom (most taken : ℕ) (others : ℕ) (w : Written) : Type 0 where
+  pub steps : taken ≤ most
+  pub items : length w.entries + (most - taken) + others ≤ w.room
+  pub words : length w.words + 64 ≤ w.words_room
+
+-- Items were added, and the room is as it was: at most so many that are no steps, and the words of one answer.
+pub record IsFilled (most taken : ℕ) (before : Written) (others : ℕ) (taken1 : ℕ) (after : Written) : Type 0 where
+  pub steps : taken1 ≤ most
+  pub room : after.room ≡ before.room
+  pub words_room : after.words_room ≡ before.words_room
+  pub items : length after.entries + (most - taken1) ≤ length before.entries + (most - taken) + others
+  pub words : length after.words ≤ length before.words + 64
+
+-- the steps that were taken, and those that the frames have left at most
+abbrev pub work_of : {State Call Frame : Type 0} → Driver State Call Frame → Kept Frame → ℕ
+work_of d k = k.steps + total_fuel d.fuel k.frames
+
+-- the time stood still
+pub record SameTime (before after : Chip) : Type 0 where
+  pub osc : after.osc ≡ before.osc
+  pub now : now_of after ≡ now_of before
+
+-- Items were added to a journal, for which the chip and the frames stand.
+pub record Adds {State Call Frame : Type 0} (d : Driver State Call Frame) (call_of : Request → Call) (script : List Directive) (order : Order) (before after : Written) (chip1 : Chip) (us1 : List (Under Frame)) (Right : Moment State Call → List Entry → Type 0) : Type 0 where
+  pub items : List Entry
+  pub is : after.entries ≡ before.entries ++ items
+  pub right : Right (moment_of d call_of script before.entries) items
+  pub leads : after_all d.setting (moment_of d call_of script before.entries) (deeds_in call_of order items) ≡ moment_of d call_of script after.entries
+  pub stands : IsStanding d call_of script chip1 us1 after.entries
+
+-- What a step adds: its item.
+pub record TookStep {State Call Frame : Type 0} (d : Driver State Call Frame) (call_of : Request → Call) (script : List Directive) (most : ℕ) (line : ℕ) (chip : Chip) (k : Kept Frame) (before : Written) (s : Stepped) (chip1 : Chip) (k1 : Kept Frame) (after : Written) : Type 0 where
+  pub written : after ≡ written before line (length k.frames) (Steps s) (words_of_answer s.ended)
+  pub stands : IsStanding d call_of script chip1 k1.frames after.entries
+  pub steps : k1.steps ≡ k.steps + 1
+  pub few : k.steps < most
+  pub goes : s.ended ≡ None → 0 < length k1.frames
+  pub short : length (words_of_answer s.ended) ≤ 64
+  pub time : SameTime chip chip1
+  pub spent : work_of d k1 ≤ work_of d k
+
+-- What the steps of a directive add.
+pub record WentFar {State Call Frame : Type 0} (d : Driver State Call Frame) (call_of : Request → Call) (script : List Directive) (most : ℕ) (line : ℕ) (reach : Reach) (chip : Chip) (k : Kept Frame) (before : Written) (chip1 : Chip) (k1 : Kept Frame) (after : Written) : Type 0 where
+  pub adds : (order : Order) → Adds d call_of script order before after chip1 k1.frames (λ m items. GoesOn d.setting line reach 0 m items)
+  pub filled : IsFilled most k.steps before 1 k1.steps after
+  pub time : SameTime chip chip1
+  pub spent : work_of d k1 ≤ work_of d k
+
+-- the most steps of a frame that begins by a deed
+abbrev pub bound_of : {State Call Frame : Type 0} → Driver State Call Frame → Deed Call → ℕ
+bound_of d (moment.Begins c level) = d.setting.steps_of (frame.Called c)
+bound_of d (moment.Enters l) = d.setting.steps_of (frame.Entered l)
+bound_of d (moment.Steps s) = 0
+bound_of d (moment.Happens o) = 0
+bound_of d (moment.Resets r) = 0
+
+abbrev pub bounds_of : {State Call Frame : Type 0} → Driver State Call Frame → List (Deed Call) → ℕ
+bounds_of d [] = 0
+bounds_of d (h ∷ hs) = bound_of d h + bounds_of d hs
+
+-- A call, or the handler of a line, began: one item, and the frame is there.
+pub record Began {State Call Frame : Type 0} (d : Driver State Call Frame) (call_of : Request → Call) (script : List Directive) (line : ℕ) (deed : Deed Call) (held : Option Held) (chip : Chip) (k : Kept Frame) (before : Written) (k1 : Kept Frame) (after : Written) : Type 0 where
+  pub written : after ≡ written before line (length k.frames) Begins []
+  pub free : held ≡ None
+  pub leads : moment_of d call_of script after.entries ≡ moment.after d.setting (moment_of d call_of script before.entries) deed
+  pub stands : IsStanding d call_of script chip k1.frames after.entries
+  pub steps : k1.steps ≡ k.steps
+  pub frame : 0 < length k1.frames
+  pub spent : work_of d k1 ≤ work_of d k + bound_of d deed
+
+-- It was held: one item, with its cause, and nothing else.
+pub record StayedOff {State Call Frame : Type 0} (d : Driver State Call Frame) (call_of : Request → Call) (script : List Directive) (line : ℕ) (held : Option Held) (chip : Chip) (k : Kept Frame) (before : Written) (k1 : Kept Frame) (after : Written) : Type 0 where
+  pub cause : Held
+  pub written : after ≡ written before line (length k.frames) (Stays cause) []
+  pub because : held ≡ Some cause
+  pub spent : work_of d k1 ≤ work_of d k
+  pub stands : IsStanding d call_of script chip k1.frames after.entries
+  pub steps : k1.steps ≡ k.steps
+
+-- What a directive adds, which are the items that are right for it.
+pub record ObeyedBy {State Call Frame : Type 0} (d : Driver State Call Frame) (call_of : Request → Call) (script : List Directive) (most : ℕ) (order : Order) (chip : Chip) (k : Kept Frame) (before : Written) (chip1 : Chip) (k1 : Kept Frame) (after : Written) (Right : Moment State Call → List Entry → Type 0) : Type 0 where
+  pub adds : Adds d call_of script order before after chip1 k1.frames Right
+  pub filled : IsFilled most k.steps before 2 k1.steps after
+  pub osc : chip1.osc ≤ chip.osc + 1000000
+  pub now : now_of chip1 ≤ now_of chip + 16000000
+  pub spent : work_of d k1 ≤ work_of d k + bounds_of d (begun_by call_of (Some order))
+
+abbrev pub Obeyed : {State Call Frame : Type 0} → Driver State Call Frame → (Request → Call) → List Directive → (most line : ℕ) → Order → Chip → Kept Frame → Written → Chip → Kept Frame → Written → Type 0
+Obeyed d call_of script most line order chip k before chip1 k1 after = ObeyedBy d call_of script most order chip k before chip1 k1 after (λ m items. Gives d.setting call_of m line order items)
+
+-- to run no steps at all
+abbrev pub makes_no_step : Reach → Bool
+makes_no_step (Count zero) = true
+makes_no_step (Count (suc n)) = false
+makes_no_step (Until stop) = false
+makes_no_step Whole = false
+
+-- a directive that this stage obeys
+abbrev pub is_built : Order → Bool
+is_built (orders.Call level r) = true
+is_built (orders.Do level r) = true
+is_built (orders.Enter l) = true
+is_built (orders.Serve l) = true
+is_built (orders.Run n) = true
+is_built (orders.Upto stop) = true
+is_built orders.Finish = true
+is_built (orders.Tick n) = nat_le n 1000000
+is_built _ = false
+
+-- As many steps were taken as may be, and one more is wanted: the run so far is legal, and what was taken and what the frame has left pass the bound.
+pub record IsStuck {State Call Frame : Type 0} (d : Driver State Call Frame) (call_of : Request → Call) (script : List Directive) (most work : ℕ) (chip1 : Chip) (k1 : Kept Frame) (after : Written) : Type 0 where
+  pub steps : k1.steps ≡ most
+  pub stands : IsStanding d call_of script chip1 k1.frames after.entries
+  pub wants : most < work

@@ -1,0 +1,332 @@
+ghost use Rattle.std.specs.Prelude.{ℕ, ◌≡◌, ◌<◌, ◌≤◌, ◌+◌, ◌*◌, ◌^◌, ◌∷◌, [], length, OnOk, OnErr, Some, true};
+ghost use Rattle.std.specs.Bool.{OnTrue, OnFalse};
+ghost use Rattle.chip_model.specs.Chip.{now_of};
+ghost use Rattle.mcal_base.specs.declared.directive.Order.{Order};
+ghost use Rattle.run_model.specs.Follows.{call_held, line_held, Goes, BeginsOnly, BeginsWhole};
+ghost use Rattle.run_model.specs.Moment.{Begins, Enters};
+ghost use Rattle.run_model.specs.Script.{order_at, begun_by};
+ghost use Rattle.script_runner.specs.Standing.{moment_of, IsStanding, HasRoom, Began, StayedOff, ObeyedBy, Obeyed, IsStuck, is_built, makes_no_step, work_of, bound_of, bounds_of};
+
+use crate::caller::Caller;
+use crate::steps::{TooLong, run_steps};
+use chip_model::Bus;
+use irq_control::Held;
+use mcal_base::{Directive, Order, Request};
+use run_model::{Journal, Reach};
+use step_runner::{Stack, begin, enter, hardware};
+
+/// Begins a call, or notes why it is held; tells whether it began.
+fn obey_call<M: Caller>(
+    driver: &M,
+    script: &[Directive],
+    line: u32,
+    level: u32,
+    request: &Request,
+    stack: &mut Stack<M>,
+    bus: &Bus,
+    journal: &mut Journal,
+) -> bool
+    requires fits { (M.spec driver.now).fits }
+    requires at { begun_by (M.call_of driver.now) (order_at script.now line) ≡ Begins (M.call_of driver.now request.now) level ∷ [] }
+    requires room { length journal.old.entries < journal.old.room }
+    requires stands { IsStanding (M.spec driver.now) (M.call_of driver.now) script.now bus.now stack.old.frames journal.old.entries }
+    ensures began { OnTrue result (Began (M.spec driver.now) (M.call_of driver.now) script.now line (Begins (M.call_of driver.now request.now) level) (call_held (M.spec driver.now).setting (moment_of (M.spec driver.now) (M.call_of driver.now) script.now journal.old.entries) (M.call_of driver.now request.now) level) bus.now stack.old journal.old stack.new journal.new) }
+    ensures held { OnFalse result (StayedOff (M.spec driver.now) (M.call_of driver.now) script.now line (call_held (M.spec driver.now).setting (moment_of (M.spec driver.now) (M.call_of driver.now) script.now journal.old.entries) (M.call_of driver.now request.now) level) bus.now stack.old journal.old stack.new journal.new) }
+{
+    let depth = stack.depth();
+    let call = driver.call(request);
+    match begin(stack, driver, bus, call, level) {
+        Ok(()) => {
+            journal.begun(line, depth);
+            true
+        }
+        Err(cause) => {
+            journal.held(line, depth, cause);
+            false
+        }
+    }
+}
+
+/// Begins the handler of a line, or notes why it is held; tells whether it began.
+fn obey_enter<M: Caller>(
+    driver: &M,
+    script: &[Directive],
+    line: u32,
+    irq: u32,
+    stack: &mut Stack<M>,
+    bus: &Bus,
+    journal: &mut Journal,
+) -> bool
+    requires fits { (M.spec driver.now).fits }
+    requires at { begun_by (M.call_of driver.now) (order_at script.now line) ≡ Enters irq ∷ [] }
+    requires room { length journal.old.entries < journal.old.room }
+    requires stands { IsStanding (M.spec driver.now) (M.call_of driver.now) script.now bus.now stack.old.frames journal.old.entries }
+    ensures began { OnTrue result (Began (M.spec driver.now) (M.call_of driver.now) script.now line (Enters irq) (line_held (M.spec driver.now).setting (moment_of (M.spec driver.now) (M.call_of driver.now) script.now journal.old.entries) irq) bus.now stack.old journal.old stack.new journal.new) }
+    ensures held { OnFalse result (StayedOff (M.spec driver.now) (M.call_of driver.now) script.now line (line_held (M.spec driver.now).setting (moment_of (M.spec driver.now) (M.call_of driver.now) script.now journal.old.entries) irq) bus.now stack.old journal.old stack.new journal.new) }
+{
+    let depth = stack.depth();
+    match enter(stack, driver, bus, irq) {
+        Ok(()) => {
+            journal.begun(line, depth);
+            true
+        }
+        Err(cause) => {
+            journal.held(line, depth, cause);
+            false
+        }
+    }
+}
+
+/// A directive that begins a call, and no more.
+fn obey_call_alone<M: Caller>(
+    driver: &M,
+    script: &[Directive],
+    most: u32,
+    line: u32,
+    level: u32,
+    request: &Request,
+    stack: &mut Stack<M>,
+    bus: &Bus,
+    journal: &mut Journal,
+)
+    requires fits { (M.spec driver.now).fits }
+    requires at { begun_by (M.call_of driver.now) (order_at script.now line) ≡ Begins (M.call_of driver.now request.now) level ∷ [] }
+    requires room { HasRoom most stack.old.steps 2 journal.old }
+    requires stands { IsStanding (M.spec driver.now) (M.call_of driver.now) script.now bus.now stack.old.frames journal.old.entries }
+    ensures { (order : Order) → begun_by (M.call_of driver.now) (Some order) ≡ Begins (M.call_of driver.now request.now) level ∷ [] → ObeyedBy (M.spec driver.now) (M.call_of driver.now) script.now most order bus.now stack.old journal.old bus.now stack.new journal.new (λ m items. BeginsOnly m line (call_held (M.spec driver.now).setting m (M.call_of driver.now request.now) level) items) }
+{
+    let _began = obey_call(driver, script, line, level, request, stack, bus, journal);
+}
+
+/// A directive that begins a call and runs it to its end.
+fn obey_call_whole<M: Caller>(
+    driver: &M,
+    script: &[Directive],
+    most: u32,
+    line: u32,
+    level: u32,
+    request: &Request,
+    stack: &mut Stack<M>,
+    bus: &mut Bus,
+    journal: &mut Journal,
+) -> Result<(), TooLong>
+    requires fits { (M.spec driver.now).fits }
+    requires limit { most < 4294967295 }
+    requires at { begun_by (M.call_of driver.now) (order_at script.now line) ≡ Begins (M.call_of driver.now request.now) level ∷ [] }
+    requires room { HasRoom most stack.old.steps 2 journal.old }
+    requires stands { IsStanding (M.spec driver.now) (M.call_of driver.now) script.now bus.old stack.old.frames journal.old.entries }
+    ensures obeyed { OnOk result ((order : Order) → begun_by (M.call_of driver.now) (Some order) ≡ Begins (M.call_of driver.now request.now) level ∷ [] → ObeyedBy (M.spec driver.now) (M.call_of driver.now) script.now most order bus.old stack.old journal.old bus.new stack.new journal.new (λ m items. BeginsWhole (M.spec driver.now).setting m line (Begins (M.call_of driver.now request.now) level) (call_held (M.spec driver.now).setting m (M.call_of driver.now request.now) level) items)) }
+    ensures too_long { OnErr result (IsStuck (M.spec driver.now) (M.call_of driver.now) script.now most (work_of (M.spec driver.now) stack.old + bound_of (M.spec driver.now) (Begins (M.call_of driver.now request.now) level)) bus.new stack.new journal.new) }
+{
+    if obey_call(driver, script, line, level, request, stack, bus, journal) {
+        run_steps(
+            driver,
+            script,
+            most,
+            line,
+            Reach::Whole,
+            stack,
+            bus,
+            journal,
+        )
+    } else {
+        Ok(())
+    }
+}
+
+/// A directive that begins the handler of a line, and no more.
+fn obey_enter_alone<M: Caller>(
+    driver: &M,
+    script: &[Directive],
+    most: u32,
+    line: u32,
+    irq: u32,
+    stack: &mut Stack<M>,
+    bus: &Bus,
+    journal: &mut Journal,
+)
+    requires fits { (M.spec driver.now).fits }
+    requires at { begun_by (M.call_of driver.now) (order_at script.now line) ≡ Enters irq ∷ [] }
+    requires room { HasRoom most stack.old.steps 2 journal.old }
+    requires stands { IsStanding (M.spec driver.now) (M.call_of driver.now) script.now bus.now stack.old.frames journal.old.entries }
+    ensures { (order : Order) → begun_by (M.call_of driver.now) (Some order) ≡ Enters irq ∷ [] → ObeyedBy (M.spec driver.now) (M.call_of driver.now) script.now most order bus.now stack.old journal.old bus.now stack.new journal.new (λ m items. BeginsOnly m line (line_held (M.spec driver.now).setting m irq) items) }
+{
+    let _began = obey_enter(driver, script, line, irq, stack, bus, journal);
+}
+
+/// A directive that begins the handler of a line and runs it to its end.
+fn obey_enter_whole<M: Caller>(
+    driver: &M,
+    script: &[Directive],
+    most: u32,
+    line: u32,
+    irq: u32,
+    stack: &mut Stack<M>,
+    bus: &mut Bus,
+    journal: &mut Journal,
+) -> Result<(), TooLong>
+    requires fits { (M.spec driver.now).fits }
+    requires limit { most < 4294967295 }
+    requires at { begun_by (M.call_of driver.now) (order_at script.now line) ≡ Enters irq ∷ [] }
+    requires room { HasRoom most stack.old.steps 2 journal.old }
+    requires stands { IsStanding (M.spec driver.now) (M.call_of driver.now) script.now bus.old stack.old.frames journal.old.entries }
+    ensures obeyed { OnOk result ((order : Order) → begun_by (M.call_of driver.now) (Some order) ≡ Enters irq ∷ [] → ObeyedBy (M.spec driver.now) (M.call_of driver.now) script.now most order bus.old stack.old journal.old bus.new stack.new journal.new (λ m items. BeginsWhole (M.spec driver.now).setting m line (Enters irq) (line_held (M.spec driver.now).setting m irq) items)) }
+    ensures too_long { OnErr result (IsStuck (M.spec driver.now) (M.call_of driver.now) script.now most (work_of (M.spec driver.now) stack.old + bound_of (M.spec driver.now) (Enters irq)) bus.new stack.new journal.new) }
+{
+    if obey_enter(driver, script, line, irq, stack, bus, journal) {
+        run_steps(
+            driver,
+            script,
+            most,
+            line,
+            Reach::Whole,
+            stack,
+            bus,
+            journal,
+        )
+    } else {
+        Ok(())
+    }
+}
+
+/// Whether a directive runs no steps at all.
+fn is_no_step(reach: Reach) -> bool
+    ensures { result ≡ makes_no_step reach }
+{
+    matches!(reach, Reach::Count(0))
+}
+
+/// Steps the top frame as far as a directive reaches, or notes that there is none.
+fn obey_steps<M: Caller>(
+    driver: &M,
+    script: &[Directive],
+    most: u32,
+    line: u32,
+    reach: Reach,
+    stack: &mut Stack<M>,
+    bus: &mut Bus,
+    journal: &mut Journal,
+) -> Result<(), TooLong>
+    requires fits { (M.spec driver.now).fits }
+    requires limit { most < 4294967295 }
+    requires room { HasRoom most stack.old.steps 2 journal.old }
+    requires stands { IsStanding (M.spec driver.now) (M.call_of driver.now) script.now bus.old stack.old.frames journal.old.entries }
+    ensures obeyed { OnOk result ((order : Order) → ObeyedBy (M.spec driver.now) (M.call_of driver.now) script.now most order bus.old stack.old journal.old bus.new stack.new journal.new (λ m items. Goes (M.spec driver.now).setting line reach m m.opens items)) }
+    ensures too_long { OnErr result (IsStuck (M.spec driver.now) (M.call_of driver.now) script.now most (work_of (M.spec driver.now) stack.old + 0) bus.new stack.new journal.new) }
+{
+    if stack.depth() == 0 {
+        journal.held(line, 0, Held::Empty);
+        return Ok(());
+    }
+    if is_no_step(reach) {
+        return Ok(());
+    }
+    run_steps(driver, script, most, line, reach, stack, bus, journal)
+}
+
+/// Lets the oscillator tick.
+fn obey_tick<M: Caller>(
+    driver: &M,
+    script: &[Directive],
+    most: u32,
+    directive: &Directive,
+    ticks: u32,
+    stack: &Stack<M>,
+    bus: &mut Bus,
+    journal: &mut Journal,
+)
+    requires fits { (M.spec driver.now).fits }
+    requires tick { directive.now.order ≡ Order.Tick ticks }
+    requires few { ticks ≤ 1000000 }
+    requires time { bus.old.osc + 1000000 < 2 ^ 64 }
+    requires late { now_of bus.old + 16000000 < 2 ^ 64 }
+    requires room { HasRoom most stack.now.steps 2 journal.old }
+    requires stands { IsStanding (M.spec driver.now) (M.call_of driver.now) script.now bus.old stack.now.frames journal.old.entries }
+    ensures { Obeyed (M.spec driver.now) (M.call_of driver.now) script.now most directive.now.line (Order.Tick ticks) bus.old stack.now journal.old bus.new stack.now journal.new }
+{
+    hardware(stack, bus, directive);
+    journal.ticked(directive.line, stack.depth(), ticks);
+}
+
+/// Obeys a directive.
+pub(crate) fn obey_one<M: Caller>(
+    driver: &M,
+    script: &[Directive],
+    most: u32,
+    directive: &Directive,
+    stack: &mut Stack<M>,
+    bus: &mut Bus,
+    journal: &mut Journal,
+) -> Result<(), TooLong>
+    requires fits { (M.spec driver.now).fits }
+    requires limit { most < 4294967295 }
+    requires at { order_at script.now directive.now.line ≡ Some directive.now.order }
+    requires built { is_built directive.now.order ≡ true }
+    requires time { bus.old.osc + 1000000 < 2 ^ 64 }
+    requires late { now_of bus.old + 16000000 < 2 ^ 64 }
+    requires room { HasRoom most stack.old.steps 2 journal.old }
+    requires stands { IsStanding (M.spec driver.now) (M.call_of driver.now) script.now bus.old stack.old.frames journal.old.entries }
+    ensures obeyed { OnOk result (Obeyed (M.spec driver.now) (M.call_of driver.now) script.now most directive.now.line directive.now.order bus.old stack.old journal.old bus.new stack.new journal.new) }
+    ensures too_long { OnErr result (IsStuck (M.spec driver.now) (M.call_of driver.now) script.now most (work_of (M.spec driver.now) stack.old + bounds_of (M.spec driver.now) (begun_by (M.call_of driver.now) (Some directive.now.order))) bus.new stack.new journal.new) }
+{
+    let line = directive.line;
+    match &directive.order {
+        Order::Call(level, request) => {
+            obey_call_alone(
+                driver, script, most, line, *level, request, stack, bus, journal,
+            );
+            Ok(())
+        }
+        Order::Do(level, request) => {
+            obey_call_whole(
+                driver, script, most, line, *level, request, stack, bus, journal,
+            )
+        }
+        Order::Enter(irq) => {
+            obey_enter_alone(driver, script, most, line, *irq, stack, bus, journal);
+            Ok(())
+        }
+        Order::Serve(irq) => obey_enter_whole(
+            driver, script, most, line, *irq, stack, bus, journal,
+        ),
+        Order::Run(count) => {
+            obey_steps(
+                driver,
+                script,
+                most,
+                line,
+                Reach::Count(*count),
+                stack,
+                bus,
+                journal,
+            )
+        }
+        Order::Upto(stop) => {
+            obey_steps(
+                driver,
+                script,
+                most,
+                line,
+                Reach::Until(*stop),
+                stack,
+                bus,
+                journal,
+            )
+        }
+        Order::Finish => obey_steps(
+            driver,
+            script,
+            most,
+            line,
+            Reach::Whole,
+            stack,
+            bus,
+            journal,
+        ),
+        Order::Tick(ticks) => {
+            obey_tick(driver, script, most, directive, *ticks, stack, bus, journal);
+            Ok(())
+        }
+        _ => unreachable!(),
+    }
+}

@@ -1,0 +1,89 @@
+ghost use Rattle.std.specs.Prelude.{◌≡◌, ◌<◌, ◌≤◌, ◌*◌, ◌+◌, [], length, IfOk, Some, slice_get};
+ghost use Rattle.std.specs.Bool.{OnFalse, OnTrue};
+ghost use Rattle.run_model.specs.Follows.{Follows};
+ghost use Rattle.run_model.specs.Legal.{IsLegal};
+ghost use Rattle.run_model.specs.Moment.{start_moment};
+ghost use Rattle.run_model.specs.Script.{deeds_of};
+ghost use Rattle.script_runner.specs.Scripts.{IsScript, script_bound};
+
+use crate::caller::Caller;
+use crate::obeying::obey_one;
+use crate::steps::TooLong;
+use chip_model::Bus;
+use mcal_base::{Config, Directive, NoMemory};
+use run_model::Journal;
+use std::alloc::Global;
+use step_runner::Stack;
+
+/// How a run ended.
+#[derive(Drop)]
+pub struct Ran {
+    /// All that was done.
+    pub journal: Journal,
+    /// Whether the run stopped, since one more step than the most would have been taken.
+    pub too_long: bool,
+}
+
+/// A journal with room for a run of so many directives, of at most so many steps.
+fn journal_for(alloc: Global, most: u32, directives: usize) -> Result<Journal, NoMemory>
+    requires { directives ≤ 1100000 }
+    ensures { IfOk result (λ j. j ≡ record { entries = []; room = most + 2 * directives; words = []; words_room = 64 * directives }) }
+{
+    match Journal::with_room(alloc, most as usize + 2 * directives, 64 * directives) {
+        Ok(journal) => Ok(journal),
+        Err(_) => Err(NoMemory),
+    }
+}
+
+/// The directive at a place of a script.
+fn directive_at(script: &[Directive], at: usize) -> &Directive
+    requires { at < length script.now }
+    ensures { slice_get script.now at ≡ Some result.now }
+{
+    &script[at]
+}
+
+/// Runs a script over a driver, from power on, in at most so many steps. All memory is taken before the first directive.
+pub fn run_script<M: Caller>(
+    alloc: Global,
+    driver: &M,
+    config: &Config,
+    script: &[Directive],
+    most: u32,
+) -> Result<Ran, NoMemory>
+    requires fits { (M.spec driver.now).fits }
+    requires script { IsScript script.now }
+    requires limit { most < 4294967295 }
+    ensures follows { IfOk result (λ ran. OnFalse ran.too_long (Follows (M.spec driver.now).setting (M.call_of driver.now) (start_moment (M.spec driver.now).setting) script.now ran.journal.entries)) }
+    ensures legal { IfOk result (λ ran. IsLegal (M.spec driver.now).setting (start_moment (M.spec driver.now).setting) (deeds_of (M.call_of driver.now) script.now ran.journal.entries)) }
+    // The limit is not met where the bounds of all frames that may begin are within it.
+    ensures within { IfOk result (λ ran. OnTrue ran.too_long (most < script_bound (M.spec driver.now) (M.call_of driver.now) script.now)) }
+{
+    let mut journal = journal_for(alloc, most, script.len())?;
+    let mut stack = Stack::new(alloc)?;
+    let mut bus = Bus::new(alloc, config, 0)?;
+    for at in 0..script.len() {
+        let directive = directive_at(script, at);
+        match obey_one(
+            driver,
+            script,
+            most,
+            directive,
+            &mut stack,
+            &mut bus,
+            &mut journal,
+        ) {
+            Ok(()) => {}
+            Err(TooLong) => {
+                return Ok(Ran {
+                    journal,
+                    too_long: true,
+                });
+            }
+        }
+    }
+    Ok(Ran {
+        journal,
+        too_long: false,
+    })
+}

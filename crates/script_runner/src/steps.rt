@@ -1,0 +1,133 @@
+ghost use Rattle.std.specs.Prelude.{ℕ, ◌≡◌, ◌<◌, ◌≤◌, ◌+◌, ◌∷◌, length, OnOk, OnErr, IfOk, None, ◌||◌, is_some};
+ghost use Rattle.mcal_base.specs.declared.directive.Order.{Order};
+ghost use Rattle.run_model.specs.Entry as entry;
+ghost use Rattle.run_model.specs.Follows as follows;
+ghost use Rattle.run_model.specs.Follows.{GoesOn, is_reached, resets_chip};
+ghost use Rattle.script_runner.specs.Standing.{IsStanding, HasRoom, TookStep, WentFar, IsStuck, work_of};
+
+use crate::caller::Caller;
+use chip_model::Bus;
+use mcal_base::{Directive, Event, Move, Reason, Reg, Stop};
+use run_model::{Journal, Reach, Stepped};
+use step_runner::{Stack, reset, step};
+
+/// A step past the most of a run would be taken.
+#[derive(Clone, Copy, Debug, PartialEq, Eq)]
+pub struct TooLong;
+
+/// Whether a step is one at which `upto` stops.
+fn stops_at(stop: Stop, stepped: &Stepped) -> bool
+    ensures { result ≡ follows.stops_at stop stepped.now }
+{
+    match stop {
+        Stop::Act => matches!(stepped.event, Some(Event::Act)),
+        Stop::Mask => matches!(stepped.made, Move::Mask),
+        Stop::Unmask => matches!(stepped.made, Move::Unmask),
+        Stop::Note => matches!(stepped.made, Move::Note(_)),
+    }
+}
+
+/// Whether a directive stops after this step, the last of so many.
+fn has_reached(reach: Reach, made: u32, stepped: &Stepped) -> bool
+    ensures { result ≡ is_reached reach made stepped.now }
+{
+    match reach {
+        Reach::Count(most) => made == most,
+        Reach::Until(stop) => stops_at(stop, stepped),
+        Reach::Whole => false,
+    }
+}
+
+/// Whether the steps end after this one, the last of so many: the frame ended, or the directive stops.
+fn stops_after(reach: Reach, made: u32, stepped: &Stepped) -> bool
+    ensures { result ≡ is_some stepped.now.ended || is_reached reach made stepped.now }
+{
+    stepped.ended.is_some() || has_reached(reach, made, stepped)
+}
+
+/// Whether a move resets the chip.
+fn is_reset(made: &Move) -> bool
+    ensures { result ≡ resets_chip made.now }
+{
+    matches!(made, Move::Write(Reg::ResetRequest, _))
+}
+
+/// An answer has at most 64 words.
+fn answer_is_short(stepped: &Stepped) -> usize
+    ensures { length (entry.words_of_answer stepped.now.ended) ≤ 64 }
+{
+    match &stepped.ended {
+        None => 0,
+        Some(answer) => answer.words.len(),
+    }
+}
+
+/// Takes a step of the top frame, and notes it, unless so many were taken.
+pub(crate) fn take_step<M: Caller>(
+    driver: &M,
+    script: &[Directive],
+    most: u32,
+    line: u32,
+    stack: &mut Stack<M>,
+    bus: &mut Bus,
+    journal: &mut Journal,
+) -> Result<Stepped, TooLong>
+    requires fits { (M.spec driver.now).fits }
+    requires limit { most < 4294967295 }
+    requires frame { 0 < length stack.old.frames }
+    requires room { HasRoom most stack.old.steps 1 journal.old }
+    requires stands { IsStanding (M.spec driver.now) (M.call_of driver.now) script.now bus.old stack.old.frames journal.old.entries }
+    ensures took { IfOk result (λ s. TookStep (M.spec driver.now) (M.call_of driver.now) script.now most line bus.old stack.old journal.old s bus.new stack.new journal.new) }
+    ensures too_long { OnErr result ((stack.new ≡ stack.old) × (bus.new ≡ bus.old) × (journal.new ≡ journal.old) × (stack.old.steps ≡ most)) }
+{
+    if stack.steps() == most {
+        return Err(TooLong);
+    }
+    let depth = stack.depth();
+    match step(stack, bus) {
+        Ok(stepped) => {
+            let _words = answer_is_short(&stepped);
+            journal.stepped(line, depth, &stepped);
+            Ok(stepped)
+        }
+        Err(_) => unreachable!(),
+    }
+}
+
+/// Steps the top frame as far as a directive reaches, which is at least one step.
+pub(crate) fn run_steps<M: Caller>(
+    driver: &M,
+    script: &[Directive],
+    most: u32,
+    line: u32,
+    reach: Reach,
+    stack: &mut Stack<M>,
+    bus: &mut Bus,
+    journal: &mut Journal,
+) -> Result<(), TooLong>
+    requires fits { (M.spec driver.now).fits }
+    requires limit { most < 4294967295 }
+    requires frame { 0 < length stack.old.frames }
+    requires room { HasRoom most stack.old.steps 1 journal.old }
+    requires stands { IsStanding (M.spec driver.now) (M.call_of driver.now) script.now bus.old stack.old.frames journal.old.entries }
+    ensures went { OnOk result (WentFar (M.spec driver.now) (M.call_of driver.now) script.now most line reach bus.old stack.old journal.old bus.new stack.new journal.new) }
+    ensures too_long { OnErr result (IsStuck (M.spec driver.now) (M.call_of driver.now) script.now most (work_of (M.spec driver.now) stack.old) bus.new stack.new journal.new) }
+{
+    let mut made = 0u32;
+    loop {
+        let stepped = match take_step(driver, script, most, line, stack, bus, journal) {
+            Ok(stepped) => stepped,
+            Err(TooLong) => return Err(TooLong),
+        };
+        made += 1;
+        if is_reset(&stepped.made) {
+            let depth = stack.depth();
+            let dropped = reset(stack, bus, Reason::Software);
+            journal.reset(line, depth, Reason::Software, dropped);
+            return Ok(());
+        }
+        if stops_after(reach, made, &stepped) {
+            return Ok(());
+        }
+    }
+}

@@ -1,0 +1,9 @@
+pub mod Done
+pub mod Either
+pub mod EitherLaws
+pub mod Fuel
+pub mod Lawful
+pub mod Laws
+pub mod Outline
+pub mod Short
+pub mod StepKinds

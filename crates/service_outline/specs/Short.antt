@@ -1,0 +1,97 @@
+-- The outline's routine: what each place of it does, becomes and gives.
+use Rattle.std.specs.Prelude.{ℕ, Option, Some, None}
+use Rattle.mcal_base.specs.declared.answer.Answer.{Answer}
+use Rattle.mcal_base.specs.declared.moves.Move.{Move}
+use Rattle.mcal_base.specs.declared.moves.Move.TheVariants.{Load, Mask, Unmask, Note, Report}
+use Rattle.mcal_base.specs.declared.moves.Event.{Event}
+use Rattle.mcal_base.specs.declared.moves.Event.TheVariants.{Act}
+use Rattle.mcal_base.specs.declared.routine.Taken.{Taken}
+use Rattle.run_model.specs.Machine.{no_answer}
+use Rattle.service_outline.specs.declared.done.Owed.{Owed}
+use Rattle.service_outline.specs.declared.done.Owed.TheVariants.{Nothing, Error, One, Two}
+use Rattle.service_outline.specs.declared.done.Done.{Done}
+use Rattle.service_outline.specs.declared.done.BodyTaken.{BodyTaken}
+use Rattle.service_outline.specs.declared.body.Looked.{Looked}
+use Rattle.service_outline.specs.declared.body.Looked.TheVariants.{Refused, Goes}
+use Rattle.service_outline.specs.declared.short.Short.{Short}
+use Rattle.service_outline.specs.declared.short.Short.TheVariants.{Calling, Loading, Entering, Inside, Opening, Telling, Returning}
+
+-- how it tells what it owes
+abbrev pub tells : ℕ → Owed → Move
+tells word Nothing = Load word
+tells word (Error e) = Report e
+tells word (One k) = Note k
+tells word (Two k j) = Note k
+
+abbrev pub short_move : {Call Body : Type 0} → ℕ → (Body → Move) → Short Call Body → Move
+short_move word work_of (Calling c) = Mask
+short_move word work_of (Loading c) = Load word
+short_move word work_of (Entering k) = Mask
+short_move word work_of (Inside k) = work_of k
+short_move word work_of (Opening n) = Unmask
+short_move word work_of (Telling n) = tells word n.owed
+short_move word work_of (Returning a) = Load word
+
+-- a step with nothing beside its move, with an event, and the last one
+abbrev pub goes : Taken
+goes = record { event = None; ended = None }
+
+abbrev pub does : Option Event → Taken
+does e = record { event = e; ended = None }
+
+abbrev pub ends : Answer → Taken
+ends a = record { event = None; ended = Some a }
+
+abbrev pub left_look : {Call Body : Type 0} → Looked Body → Short Call Body
+left_look (Refused n) = Opening n
+left_look (Goes k) = Inside k
+
+abbrev pub gave_look : {Body : Type 0} → Looked Body → Taken
+gave_look (Refused n) = does (Some Act)
+gave_look (Goes k) = goes
+
+abbrev pub left_body : {Call Body : Type 0} → Body → Option Done → Short Call Body
+left_body k None = Inside k
+left_body k (Some n) = Opening n
+
+abbrev pub left_open : {Call Body : Type 0} → Answer → Owed → Short Call Body
+left_open a Nothing = Returning no_answer
+left_open a (Error e) = Telling (record { answer = a; owed = Error e })
+left_open a (One k) = Telling (record { answer = a; owed = One k })
+left_open a (Two k j) = Telling (record { answer = a; owed = Two k j })
+
+abbrev pub gave_open : Answer → Owed → Taken
+gave_open a Nothing = ends a
+gave_open a (Error e) = goes
+gave_open a (One k) = goes
+gave_open a (Two k j) = goes
+
+abbrev pub left_told : {Call Body : Type 0} → Answer → Owed → Short Call Body
+left_told a Nothing = Returning no_answer
+left_told a (Error e) = Returning no_answer
+left_told a (One k) = Returning a
+left_told a (Two k j) = Telling (record { answer = a; owed = One j })
+
+abbrev pub gave_told : Answer → Owed → Taken
+gave_told a Nothing = ends a
+gave_told a (Error e) = ends a
+gave_told a (One k) = goes
+gave_told a (Two k j) = goes
+
+abbrev pub short_left : {Call Body : Type 0} → (Call → ℕ → Looked Body) → (Body → ℕ → Body × BodyTaken) → Short Call Body → ℕ → Short Call Body
+short_left looked takes (Calling c) x = Loading c
+short_left looked takes (Loading c) x = left_look (looked c x)
+short_left looked takes (Entering k) x = Inside k
+short_left looked takes (Inside k) x = left_body (takes k x).0 (takes k x).1.done
+short_left looked takes (Opening n) x = left_open n.answer n.owed
+short_left looked takes (Telling n) x = left_told n.answer n.owed
+short_left looked takes (Returning a) x = Returning no_answer
+
+abbrev pub short_gave : {Call Body : Type 0} → (Call → ℕ → Looked Body) → (Body → ℕ → Body × BodyTaken) → Short Call Body → ℕ → Taken
+short_gave looked takes (Calling c) x = goes
+short_gave looked takes (Loading c) x = gave_look (looked c x)
+short_gave looked takes (Entering k) x = goes
+short_gave looked takes (Inside k) x = does (takes k x).1.event
+short_gave looked takes (Opening n) x = gave_open n.answer n.owed
+short_gave looked takes (Telling n) x = gave_told n.answer n.owed
+short_gave looked takes (Returning a) x = ends a

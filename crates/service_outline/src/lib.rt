@@ -1,0 +1,14 @@
+//! The outline that short services and handlers have in common, as one routine over what each does in its window.
+//!
+//! A call closes the interrupt mask, loads its module's state word, and is refused there or goes on with its own
+//! body. A handler closes the mask and begins with its body. Then both open the mask and tell what they owe: a
+//! development error, or notices and the load that stands for the return of the last callback.
+#![tactic(auto)]
+
+mod body;
+mod done;
+mod short;
+
+pub use body::{Body, Looked, Or, Service};
+pub use done::{BodyTaken, Done, Owed, acts, acts_with, ends, goes, nothing, number};
+pub use short::Short;

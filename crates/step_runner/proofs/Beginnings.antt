@@ -1,0 +1,157 @@
+-- A beginning and a held one, the hardware and a reset, as deeds.
+use Rattle.std.proofs.Common.{◌≡◌, ℕ, ◌≤◌, Bool, true, false, not, ◌&&◌, is_some, List, [], ◌∷◌, ◌++◌, Option, Some, None, refl, sym, ◌∙◌, ap, subst, arith}
+use Rattle.std.specs.Prelude.{IsSome, Result, Ok, Err}
+use Rattle.std.proofs.lemmas.List.{append-nil}
+use Rattle.chip_model.specs.Chip.{Chip, happened, reset_chip, is_masked, is_pending}
+use Rattle.irq_control.specs.declared.held.Held.{Held}
+use Rattle.mcal_base.specs.declared.directive.Order.{Order}
+use Rattle.mcal_base.specs.declared.directive.Reason.{Reason}
+use Rattle.mcal_base.specs.declared.moves.Move.{Move}
+use Rattle.mcal_base.specs.declared.routine.Taken.{Taken}
+use Rattle.run_model.specs.declared.class.Tag.{Tag}
+use Rattle.run_model.specs.World.{world_after}
+use Rattle.run_model.specs.Machine.{Moves}
+use Rattle.run_model.specs.Frame.{Origin, Called, Entered, Open, opened, state_by}
+use Rattle.run_model.specs.Causes.{may_reenter, call_level_allows, line_level_allows, first_cause, is_full, call_cause, line_cause, tags_of, top_noted}
+use Rattle.run_model.specs.Moment.{Moment, Deed, Begins, Enters, Happens, Resets, call_tag, line_tag, start_moment, after_all}
+use Rattle.step_runner.specs.Driver.{Driver, IsLawful, AllOutside, tags_in}
+use Rattle.step_runner.specs.Kept.{Kept, tags_under, top_is_noted, cause_of, beginning, put_by, enter_by}
+use Rattle.step_runner.specs.Stands.{paired, AreFramesOf, IsGuarded, Matches, Stands, done}
+use Rattle.step_runner.specs.declared.stack.Under.{Under}
+use Rattle.step_runner.proofs.ChipFacts.{mask-happened, rate-happened}
+use Rattle.step_runner.proofs.Runs.{none-inside, outside-paired, stands-on}
+
+-- ---- causes
+
+-- with no cause none of the causes holds
+first-none : (masked level reentry idle full : Bool) → first_cause masked level reentry idle full ≡ None → (masked ≡ false) × (reentry ≡ false) × (idle ≡ false)
+first-none true level reentry idle full e = cc
+first-none false true reentry idle full e = cc
+first-none false false true idle full e = cc
+first-none false false false true full e = cc
+first-none false false false false full e = (refl, refl, refl)
+
+not-false : (b : Bool) → not b ≡ false → b ≡ true
+not-false true e = refl
+not-false false e = cc
+
+-- ---- what a beginning asks of the frames that are there
+
+module _ {State Call Frame : Type 0} (d : Driver State Call Frame) where
+  tags-are : (us : List (Under Frame)) (os : List (Open Call)) → AreFramesOf d us os → tags_under us ≡ tags_of os
+  tags-are [] [] a = refl
+  tags-are [] (o ∷ os) a = absurd a
+  tags-are (u ∷ us) [] a = absurd a
+  tags-are (u ∷ us) (o ∷ os) a = ap (λ t. t ∷ tags_under us) a.0.tag ∙ ap (λ ts. o.tag ∷ ts) (tags-are us os a.1)
+
+  tags-in : (us : List (Under Frame)) (os : List (Open Call)) → AreFramesOf d us os → tags_in (paired us os) ≡ tags_under us
+  tags-in [] [] a = refl
+  tags-in [] (o ∷ os) a = absurd a
+  tags-in (u ∷ us) [] a = absurd a
+  tags-in (u ∷ us) (o ∷ os) a = ap (λ t. t ∷ tags_in (paired us os)) (sym a.0.tag) ∙ ap (λ ts. u.tag ∷ ts) (tags-in us os a.1)
+
+  noted-is : (us : List (Under Frame)) (os : List (Open Call)) → AreFramesOf d us os → top_is_noted us ≡ top_noted os
+  noted-is [] [] a = refl
+  noted-is [] (o ∷ os) a = absurd a
+  noted-is (u ∷ us) [] a = absurd a
+  noted-is (u ∷ us) (o ∷ os) a = a.0.noted
+
+  -- a frame that begins with the mask open
+  put-on : (chip : Chip) (us : List (Under Frame)) (m : Moment State Call) (f : Frame) (origin : Origin Call) (tag : Tag) → is_masked m.chip ≡ false → d.fuel f ≤ d.setting.steps_of origin → (AllOutside (paired us m.opens) → d.relates m.chip m.world ((f, opened origin tag) ∷ paired us m.opens) m.state) → Matches d chip us m → Matches d chip (beginning f tag ∷ us) (record m { opens = opened origin tag ∷ m.opens })
+  put-on chip us m f origin tag e fuel keep k =
+      let out = none-inside (is_masked m.chip) m.opens e k.guarded in
+      record {
+        chip_is = k.chip_is;
+        frames = (record { tag = refl; noted = refl; steps = omega arith; window = omega arith; room = λ inside. cc }, k.frames);
+        relates = keep (outside-paired us m.opens out);
+        guarded = (e, out);
+        rate = k.rate;
+      }
+
+module _ {State Call Frame : Type 0} (d : Driver State Call Frame) (move_of : Frame → Move) (left : Frame → ℕ → Frame) (gave : Frame → ℕ → Taken) (law : IsLawful d move_of left gave) where
+  -- a call begins, or is held
+  pub stands-begin : {A : Type 0} (h : List (Deed Call)) (chip : Chip) (k : Kept Frame) (r : Result A Held) (c : Call) (level : ℕ) → d.can_call c → cause_of r ≡ call_cause (is_masked chip) (tags_under k.frames) (top_is_noted k.frames) (d.setting.class_of c) level → Stands d chip k.frames h → Stands d chip (put_by r (beginning (d.frame_of c) (call_tag d.setting c level)) k).frames (h ++ done r (Begins c level))
+  stands-begin h chip k (Err cause) c level can is st = subst (λ x. Stands d chip k.frames x) (sym (append-nil h)) st
+  stands-begin h chip k (Ok a) c level can is st =
+      let us = k.frames in
+      let m = after_all d.setting (start_moment d.setting) h in
+      let mm = st.matches in
+      let none : call_cause (is_masked chip) (tags_under us) (top_is_noted us) (d.setting.class_of c) level ≡ None = sym is in
+      let x = first-none (is_masked chip) (not (call_level_allows (tags_under us) (top_is_noted us) level)) (not (may_reenter (d.setting.class_of c) (tags_under us))) false (is_full (tags_under us)) none in
+      let reenters : may_reenter (d.setting.class_of c) (tags_in (paired us m.opens)) ≡ true = ap (may_reenter (d.setting.class_of c)) (tags-in d us m.opens mm.frames) ∙ not-false (may_reenter (d.setting.class_of c) (tags_under us)) x.1 in
+      let e : is_masked m.chip ≡ false = ap is_masked (sym mm.chip_is) ∙ x.0 in
+      let legal : call_cause (is_masked m.chip) (tags_of m.opens) (top_noted m.opens) (d.setting.class_of c) level ≡ None =
+      ap (λ b. call_cause (is_masked b) (tags_of m.opens) (top_noted m.opens) (d.setting.class_of c) level) (sym mm.chip_is)
+      ∙ (ap (λ ts. call_cause (is_masked chip) ts (top_noted m.opens) (d.setting.class_of c) level) (sym (tags-are d us m.opens mm.frames))
+      ∙ (ap (λ b. call_cause (is_masked chip) (tags_under us) b (d.setting.class_of c) level) (sym (noted-is d us m.opens mm.frames)) ∙ none)) in
+      stands-on d move_of left gave law chip chip us (beginning (d.frame_of c) (call_tag d.setting c level) ∷ us) h (Begins c level) st legal
+      (put-on d chip us m (d.frame_of c) (Called c) (call_tag d.setting c level) e (law.call_fuel c can) (λ out. law.begins m.chip m.world (paired us m.opens) m.state c level can e out reenters mm.relates) mm)
+
+  -- a handler begins, or is held
+  pub stands-enter : {A : Type 0} (h : List (Deed Call)) (chip : Chip) (k : Kept Frame) (r : Result A Held) (line : ℕ) (handler : Option Frame) → d.handler_of line ≡ handler → cause_of r ≡ line_cause (is_masked chip) (tags_under k.frames) (d.setting.level_of line) (is_some handler && is_pending chip line) → Stands d chip k.frames h → Stands d chip (enter_by r handler (line_tag d.setting line) k).frames (h ++ done r (Enters line))
+  stands-enter h chip k (Err cause) line None there is st = subst (λ x. Stands d chip k.frames x) (sym (append-nil h)) st
+  stands-enter h chip k (Err cause) line (Some f) there is st = subst (λ x. Stands d chip k.frames x) (sym (append-nil h)) st
+  stands-enter h chip k (Ok a) line None there is st =
+      let x = first-none (is_masked chip) (not (line_level_allows (tags_under k.frames) (d.setting.level_of line))) false true (is_full (tags_under k.frames)) (sym is) in
+      let e = x.2 in cc
+  stands-enter h chip k (Ok a) line (Some f) there is st =
+      let us = k.frames in
+      let m = after_all d.setting (start_moment d.setting) h in
+      let mm = st.matches in
+      let level = d.setting.level_of line in
+      let none : line_cause (is_masked chip) (tags_under us) level (is_pending chip line) ≡ None = sym is in
+      let x = first-none (is_masked chip) (not (line_level_allows (tags_under us) level)) false (not (is_pending chip line)) (is_full (tags_under us)) none in
+      let e : is_masked m.chip ≡ false = ap is_masked (sym mm.chip_is) ∙ x.0 in
+      let used : d.setting.used line ≡ true = sym (law.handled line) ∙ ap is_some there in
+      let legal : line_cause (is_masked m.chip) (tags_of m.opens) level (is_pending m.chip line) ≡ None =
+      ap (λ b. line_cause (is_masked b) (tags_of m.opens) level (is_pending b line)) (sym mm.chip_is)
+      ∙ (ap (λ ts. line_cause (is_masked chip) ts level (is_pending chip line)) (sym (tags-are d us m.opens mm.frames)) ∙ none) in
+      stands-on d move_of left gave law chip chip us (beginning f (line_tag d.setting line) ∷ us) h (Enters line) st (used, legal)
+      (put-on d chip us m f (Entered line) (line_tag d.setting line) e (law.line_fuel line f there) (λ out. law.enters m.chip m.world (paired us m.opens) m.state line f there e out mm.relates) mm)
+
+  -- the hardware moves
+  pub stands-happens : (h : List (Deed Call)) (chip : Chip) (us : List (Under Frame)) (order : Order) → Stands d chip us h → Stands d (happened chip order) us (h ++ Happens order ∷ [])
+  stands-happens h chip us order st =
+      let m = after_all d.setting (start_moment d.setting) h in
+      let mm = st.matches in
+      let t = law.moves m.chip m.world (paired us m.opens) m.state order mm.relates in
+      stands-on d move_of left gave law chip (happened chip order) us us h (Happens order) st (subst (λ o. IsSome o) (sym t.1) refl)
+      (record {
+        chip_is = ap (λ c. happened c order) mm.chip_is;
+        frames = mm.frames;
+        relates = subst (λ n. d.relates (happened m.chip order) (world_after m.world n order) (paired us m.opens) (state_by m.state (d.setting.machine.happens m.world m.state (Moves order)))) mm.rate
+            (subst (λ o. d.relates (happened m.chip order) (world_after m.world m.chip.rate order) (paired us m.opens) (state_by m.state o)) (sym t.1) t.2);
+        guarded = subst (λ b. IsGuarded b m.opens) (sym (mask-happened m.chip order)) mm.guarded;
+        rate = rate-happened m.chip order ∙ (mm.rate ∙ (sym (law.rate_moves m.world m.state order t.0 t.1) ∙ ap (λ o. d.setting.machine.rate (state_by m.state o)) (sym t.1)));
+      })
+
+  -- the chip is reset, and every frame dropped
+  pub stands-resets : (h : List (Deed Call)) (chip : Chip) (us : List (Under Frame)) (reason : Reason) → Stands d chip us h → Stands d (reset_chip chip reason) [] (h ++ Resets reason ∷ [])
+  stands-resets h chip us reason st =
+      let m = after_all d.setting (start_moment d.setting) h in
+      let mm = st.matches in
+      let t = law.resets m.chip m.world (paired us m.opens) m.state reason mm.relates in
+      stands-on d move_of left gave law chip (reset_chip chip reason) us [] h (Resets reason) st (subst (λ o. IsSome o) (sym t.1) refl)
+      (record {
+        chip_is = ap (λ c. reset_chip c reason) mm.chip_is;
+        frames = tt;
+        relates = subst (λ o. d.relates (reset_chip m.chip reason) m.world [] (state_by m.state o)) (sym t.1) t.2;
+        guarded = refl;
+        rate = law.rate_resets m.chip m.world m.state reason t.0 t.1 ∙ ap (λ o. d.setting.machine.rate (state_by m.state o)) (sym t.1);
+      })
+
+  -- the same, from what the runner's calls ensure
+
+  pub after-begin : {A : Type 0} (h : List (Deed Call)) (chip : Chip) (k k1 : Kept Frame) (r : Result A Held) (c : Call) (level : ℕ) → cause_of r ≡ call_cause (is_masked chip) (tags_under k.frames) (top_is_noted k.frames) (d.setting.class_of c) level → k1 ≡ put_by r (beginning (d.frame_of c) (call_tag d.setting c level)) k → d.can_call c → Stands d chip k.frames h → Stands d chip k1.frames (h ++ done r (Begins c level))
+  after-begin h chip k k1 r c level is new can st = subst (λ x. Stands d chip x.frames (h ++ done r (Begins c level))) (sym new) (stands-begin h chip k r c level can is st)
+
+  pub after-enter : {A : Type 0} (h : List (Deed Call)) (chip : Chip) (k k1 : Kept Frame) (r : Result A Held) (line : ℕ) → cause_of r ≡ line_cause (is_masked chip) (tags_under k.frames) (d.setting.level_of line) (is_some (d.handler_of line) && is_pending chip line) → k1 ≡ enter_by r (d.handler_of line) (line_tag d.setting line) k → Stands d chip k.frames h → Stands d chip k1.frames (h ++ done r (Enters line))
+  after-enter h chip k k1 r line is new st = subst (λ x. Stands d chip x.frames (h ++ done r (Enters line))) (sym new) (stands-enter h chip k r line (d.handler_of line) refl is st)
+
+  pub after-hardware : (h : List (Deed Call)) (chip chip1 : Chip) (us : List (Under Frame)) (order : Order) → chip1 ≡ happened chip order → Stands d chip us h → Stands d chip1 us (h ++ Happens order ∷ [])
+  after-hardware h chip chip1 us order is st = subst (λ x. Stands d x us (h ++ Happens order ∷ [])) (sym is) (stands-happens h chip us order st)
+
+  pub after-reset : (h : List (Deed Call)) (chip chip1 : Chip) (k k1 : Kept Frame) (reason : Reason) → chip1 ≡ reset_chip chip reason → k1 ≡ record k { frames = [] } → Stands d chip k.frames h → Stands d chip1 k1.frames (h ++ Resets reason ∷ [])
+  after-reset h chip chip1 k k1 reason is new st =
+      subst (λ x. Stands d x k1.frames (h ++ Resets reason ∷ [])) (sym is)
+      (subst (λ x. Stands d (reset_chip chip reason) x.frames (h ++ Resets reason ∷ [])) (sym new) (stands-resets h chip k.frames reason st))

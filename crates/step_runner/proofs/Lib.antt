@@ -1,0 +1,5 @@
+pub mod Beginnings
+pub mod Bounds
+pub mod ChipFacts
+pub mod KeptLemmas
+pub mod Runs

@@ -1,0 +1,179 @@
+-- What a chip and a stack stand for goes on by one deed.
+use Rattle.std.proofs.Common.{◌≡◌, ℕ, ◌+◌, ◌<◌, ◌≤◌, Bool, false, List, [], ◌∷◌, ◌++◌, Option, Some, None, refl, sym, ◌∙◌, ap, subst, arith}
+use Rattle.std.specs.Prelude.{Result, Ok}
+use Rattle.std.proofs.lemmas.List.{append-nil}
+use Rattle.chip_model.specs.Chip.{Chip, value_of, chip_after, fresh, is_masked}
+use Rattle.irq_control.specs.declared.held.Held.{Held}
+use Rattle.mcal_base.specs.declared.answer.Answer.{Answer}
+use Rattle.mcal_base.specs.declared.moves.Move.{Move}
+use Rattle.mcal_base.specs.declared.routine.Taken.{Taken}
+use Rattle.run_model.specs.declared.item.Stepped.{Stepped}
+use Rattle.run_model.specs.World.{World}
+use Rattle.run_model.specs.Frame.{Open, state_after, open_after, owed_by, report_by, outcome_of, happening_at, inside_after, top_after}
+use Rattle.run_model.specs.Moment.{Setting, Moment, Deed, Steps, start_moment, after, after_all}
+use Rattle.run_model.specs.Legal.{IsLegalDeed, EndRight, IsServed, QuietAtRest, IsLegal}
+use Rattle.step_runner.specs.Driver.{Driver, IsLawful, AllOutside, FuelRight, stepped}
+use Rattle.step_runner.specs.Kept.{Kept, moved, TakesStep, CanStep, total_fuel}
+use Rattle.step_runner.specs.Stands.{paired, IsFrameOf, AreFramesOf, NoneInside, IsGuarded, Matches, Stands, step_done, FuelFalls}
+use Rattle.step_runner.specs.declared.stack.Under.{Under}
+use Rattle.step_runner.proofs.Bounds.{steps_bound, window_bound, room_bound}
+use Rattle.step_runner.proofs.ChipFacts.{mask-after}
+
+-- ---- lists of deeds
+
+pub after_all-append : {State Call : Type 0} (g : Setting State Call) (m : Moment State Call) (h : List (Deed Call)) (x : Deed Call) → after_all g m (h ++ x ∷ []) ≡ after g (after_all g m h) x
+after_all-append g m [] x = refl
+after_all-append g m (y ∷ h) x = after_all-append g (after g m y) h x
+
+pub legal-append : {State Call : Type 0} (g : Setting State Call) (m : Moment State Call) (h : List (Deed Call)) (x : Deed Call) → IsLegal g m h → IsLegalDeed g (after_all g m h) x → IsServed g (after g (after_all g m h) x) → IsLegal g m (h ++ x ∷ [])
+legal-append g m [] x l k q = (l, k, q)
+legal-append g m (y ∷ h) x l k q = (l.0, l.1, legal-append g (after g m y) h x l.2 k q)
+
+-- ---- masks
+
+pub outside-paired : {Call Frame : Type 0} (us : List (Under Frame)) (os : List (Open Call)) → NoneInside os → AllOutside (paired us os)
+outside-paired [] os h = tt
+outside-paired (u ∷ us) [] h = tt
+outside-paired (u ∷ us) (o ∷ os) h = (h.0, outside-paired us os h.1)
+
+pub none-inside : {Call : Type 0} (masked : Bool) (os : List (Open Call)) → masked ≡ false → IsGuarded masked os → NoneInside os
+none-inside masked [] e h = tt
+none-inside masked (o ∷ os) e h = (sym h.0 ∙ e, h.1)
+
+guarded-none : {Call : Type 0} (masked : Bool) (os : List (Open Call)) → masked ≡ false → NoneInside os → IsGuarded masked os
+guarded-none masked [] e h = e
+guarded-none masked (o ∷ os) e h = (e ∙ sym h.0, h.1)
+
+guarded-after : {Call : Type 0} (masked : Bool) (o : Open Call) (os : List (Open Call)) (ended : Option Answer) → masked ≡ o.inside → NoneInside os → EndRight o ended → IsGuarded masked (top_after o ended os)
+guarded-after masked o os None e h k = (e, h)
+guarded-after masked o os (Some a) e h k = guarded-none masked os (e ∙ k.3) h
+
+paired-after : {Call Frame : Type 0} (u : Under Frame) (us : List (Under Frame)) (o : Open Call) (os : List (Open Call)) (ended : Option Answer) → top_after (u.frame, o) ended (paired us os) ≡ paired (top_after u ended us) (top_after o ended os)
+paired-after u us o os None = refl
+paired-after u us o os (Some a) = refl
+
+-- ---- the laws of a driver
+
+module _ {State Call Frame : Type 0} (d : Driver State Call Frame) (move_of : Frame → Move) (left : Frame → ℕ → Frame) (gave : Frame → ℕ → Taken) (law : IsLawful d move_of left gave) where
+  quiet-of : (us : List (Under Frame)) (os : List (Open Call)) (chip : Chip) (w : World) (s : State) → AreFramesOf d us os → d.relates chip w (paired us os) s → QuietAtRest d.setting (record { chip = chip; world = w; state = s; opens = os }) os
+  quiet-of [] [] chip w s a r = record { units = λ u. law.waits chip w s u r; lines = λ l used. law.rests chip w s l used r }
+  quiet-of (u ∷ us) [] chip w s a r = absurd a
+  quiet-of us (o ∷ os) chip w s a r = tt
+
+  -- what matches a moment is served there
+  pub served-of : (chip : Chip) (us : List (Under Frame)) (m : Moment State Call) → Matches d chip us m → IsServed d.setting m
+  served-of chip us m k = record {
+    due = λ e l used due. law.due m.chip m.world (paired us m.opens) m.state l used e (outside-paired us m.opens (none-inside (is_masked m.chip) m.opens e k.guarded)) k.relates due;
+    quiet = quiet-of us m.opens m.chip m.world m.state k.frames k.relates;
+  }
+
+  pub stands-start : Stands d (fresh 0 0) [] []
+  stands-start =
+      let k : Matches d (fresh 0 0) [] (start_moment d.setting) = record { chip_is = refl; frames = tt; relates = law.starts 0 0; guarded = refl; rate = sym law.rate_starts } in
+      record { legal = served-of (fresh 0 0) [] (start_moment d.setting) k; matches = k }
+
+  -- a legal deed whose moment is matched again
+  pub stands-on : (chip chip1 : Chip) (us us1 : List (Under Frame)) (h : List (Deed Call)) (x : Deed Call) → Stands d chip us h → IsLegalDeed d.setting (after_all d.setting (start_moment d.setting) h) x → Matches d chip1 us1 (after d.setting (after_all d.setting (start_moment d.setting) h) x) → Stands d chip1 us1 (h ++ x ∷ [])
+  stands-on chip chip1 us us1 h x st l k = record {
+    legal = legal-append d.setting (start_moment d.setting) h x st.legal l (served-of chip1 us1 (after d.setting (after_all d.setting (start_moment d.setting) h) x) k);
+    matches = subst (λ m. Matches d chip1 us1 m) (sym (after_all-append d.setting (start_moment d.setting) h x)) k;
+  }
+
+  -- ---- a step
+
+  frames-after : (u u1 : Under Frame) (o o1 : Open Call) (us : List (Under Frame)) (os : List (Open Call)) (ended : Option Answer) → (FuelRight (d.fuel u.frame) (d.fuel u1.frame) ended → ended ≡ None → IsFrameOf d u1 o1) → FuelRight (d.fuel u.frame) (d.fuel u1.frame) ended → AreFramesOf d us os → AreFramesOf d (top_after u1 ended us) (top_after o1 ended os)
+  frames-after u u1 o o1 us os None f r a = (f r refl, a)
+  frames-after u u1 o o1 us os (Some x) f r a = a
+
+  fuel-after : (n before later bound : ℕ) (ended : Option Answer) → FuelRight before later ended → ended ≡ None → n + before ≤ bound → (n + 1) + later ≤ bound
+  fuel-after n before later bound None f e h = omega arith
+  fuel-after n before later bound (Some a) f e h = cc
+
+  total-after : (before : ℕ) (u1 : Under Frame) (us : List (Under Frame)) (ended : Option Answer) → FuelRight before (d.fuel u1.frame) ended → total_fuel d.fuel (top_after u1 ended us) < before + total_fuel d.fuel us
+  total-after before u1 us None f = omega arith
+  total-after before u1 us (Some a) f = omega arith
+
+  -- what a step of the top frame has to show
+  pub record GoesOn (chip : Chip) (u : Under Frame) (us : List (Under Frame)) (m : Moment State Call) : Type 0 where
+    pub legal : IsLegalDeed d.setting m (Steps (stepped (move_of u.frame) (value_of chip (move_of u.frame)) 0 (gave u.frame (value_of chip (move_of u.frame)))))
+    pub matches : Matches d (chip_after chip (move_of u.frame)) (top_after (moved u (left u.frame (value_of chip (move_of u.frame))) (move_of u.frame)) (gave u.frame (value_of chip (move_of u.frame))).ended us) (after d.setting m (Steps (stepped (move_of u.frame) (value_of chip (move_of u.frame)) 0 (gave u.frame (value_of chip (move_of u.frame))))))
+    pub fuel : total_fuel d.fuel (top_after (moved u (left u.frame (value_of chip (move_of u.frame))) (move_of u.frame)) (gave u.frame (value_of chip (move_of u.frame))).ended us) < d.fuel u.frame + total_fuel d.fuel us
+
+  goes-step : (chip : Chip) (w : World) (s : State) (u : Under Frame) (us : List (Under Frame)) (o : Open Call) (os : List (Open Call)) → let m : Moment State Call = record { chip = chip; world = w; state = s; opens = o ∷ os } in Matches d chip (u ∷ us) m → GoesOn chip u us m
+  goes-step chip w s u us o os k =
+      let made = move_of u.frame in
+      let value = value_of chip made in
+      let taken = gave u.frame value in
+      let st = stepped made value 0 taken in
+      let out = outcome_of d.setting.machine w s (happening_at o.origin 0 taken.event) in
+      let o1 = open_after d.setting.machine w s o made 0 taken.event in
+      let u1 = moved u (left u.frame value) made in
+      let bound = d.setting.steps_of o.origin in
+      let wide = d.setting.window_of o.origin in
+      let here = k.frames.0 in
+      let x = law.steps chip w u.frame o (paired us os) s k.guarded.0 (outside-paired us os k.guarded.1) k.relates in
+      record {
+        legal = record {
+          value = refl;
+          received = refl;
+          event = x.event;
+          halves = x.halves;
+          move = x.move;
+          ends = x.ends;
+          own = x.own;
+          steps = steps_bound o.steps (d.fuel u.frame) (d.fuel u1.frame) bound taken.ended x.fuel here.steps;
+          window = window_bound made o.inside (owed_by o.owed out) (report_by d.setting.machine o.origin o.report taken.event out) o.window (d.room u.frame) (d.room u1.frame) wide x.move x.room here.window here.room;
+        };
+        matches = record {
+          chip_is = refl;
+          frames = frames-after u u1 o o1 us os taken.ended (λ f e. record {
+            tag = here.tag;
+            noted = refl;
+            steps = fuel-after o.steps (d.fuel u.frame) (d.fuel u1.frame) bound taken.ended f e here.steps;
+            window = window_bound made o.inside (owed_by o.owed out) (report_by d.setting.machine o.origin o.report taken.event out) o.window (d.room u.frame) (d.room u1.frame) wide x.move x.room here.window here.room;
+            room = room_bound made o.inside o.window (d.room u.frame) (d.room u1.frame) wide x.room here.room;
+          }) x.fuel k.frames.1;
+          relates = subst (λ ps. d.relates (chip_after chip made) w ps (state_after d.setting.machine w s o 0 taken.event)) (paired-after u1 us o1 os taken.ended) x.kept;
+          guarded = guarded-after (is_masked (chip_after chip made)) o1 os taken.ended (mask-after chip made ∙ ap (λ b. inside_after b made) k.guarded.0) k.guarded.1 x.ends;
+          rate = law.rate chip w u.frame o (paired us os) s k.guarded.0 (outside-paired us os k.guarded.1) k.relates k.rate;
+        };
+        fuel = total-after (d.fuel u.frame) u1 us taken.ended x.fuel;
+      }
+
+  goes-at : (chip : Chip) (w : World) (s : State) (u : Under Frame) (us : List (Under Frame)) (os : List (Open Call)) → let m : Moment State Call = record { chip = chip; world = w; state = s; opens = os } in Matches d chip (u ∷ us) m → GoesOn chip u us m
+  goes-at chip w s u us [] k = absurd k.frames
+  goes-at chip w s u us (o ∷ os) k = goes-step chip w s u us o os k
+
+  pub goes-on : (chip : Chip) (u : Under Frame) (us : List (Under Frame)) (m : Moment State Call) → Matches d chip (u ∷ us) m → GoesOn chip u us m
+  goes-on chip u us m k = subst (λ c. GoesOn c u us m) (sym k.chip_is) (goes-at m.chip m.world m.state u us m.opens (subst (λ c. Matches d c (u ∷ us) m) k.chip_is k))
+
+  -- what a step leaves stands for the deeds with the step
+  pub stands-step : (h : List (Deed Call)) (chip chip1 : Chip) (us : List (Under Frame)) (steps : ℕ) (k1 : Kept Frame) (r : Result Stepped Held) → TakesStep move_of left gave us steps chip k1 chip1 r → Stands d chip us h → Stands d chip1 k1.frames (h ++ step_done r)
+  stands-step h chip chip1 [] steps k1 r t st =
+      subst (λ x. Stands d chip1 k1.frames (h ++ step_done x)) (sym t.result_is)
+      (subst (λ x. Stands d chip1 k1.frames x) (sym (append-nil h))
+      (subst (λ x. Stands d x k1.frames h) (sym t.chip_is)
+      (subst (λ x. Stands d chip x h) (sym t.frames) st)))
+  stands-step h chip chip1 (u ∷ us) steps k1 r t st =
+      let k = goes-on chip u us (after_all d.setting (start_moment d.setting) h) st.matches in
+      subst (λ x. Stands d chip1 k1.frames (h ++ step_done x)) (sym t.result_is)
+      (subst (λ x. Stands d x k1.frames (h ++ step_done (Ok (stepped (move_of u.frame) (value_of chip (move_of u.frame)) 0 (gave u.frame (value_of chip (move_of u.frame))))))) (sym t.chip_is)
+      (subst (λ x. Stands d (chip_after chip (move_of u.frame)) x (h ++ step_done (Ok (stepped (move_of u.frame) (value_of chip (move_of u.frame)) 0 (gave u.frame (value_of chip (move_of u.frame))))))) (sym t.frames)
+      (stands-on chip (chip_after chip (move_of u.frame)) (u ∷ us) (top_after (moved u (left u.frame (value_of chip (move_of u.frame))) (move_of u.frame)) (gave u.frame (value_of chip (move_of u.frame))).ended us) h (Steps (stepped (move_of u.frame) (value_of chip (move_of u.frame)) 0 (gave u.frame (value_of chip (move_of u.frame))))) st k.legal k.matches)))
+
+  -- and the frames have fewer steps left
+  pub fuel-step : (h : List (Deed Call)) (chip chip1 : Chip) (us : List (Under Frame)) (steps : ℕ) (k1 : Kept Frame) (r : Result Stepped Held) → TakesStep move_of left gave us steps chip k1 chip1 r → Stands d chip us h → FuelFalls d.fuel us k1.frames r
+  fuel-step h chip chip1 [] steps k1 r t st = subst (λ x. FuelFalls d.fuel [] k1.frames x) (sym t.result_is) tt
+  fuel-step h chip chip1 (u ∷ us) steps k1 r t st =
+      let k = goes-on chip u us (after_all d.setting (start_moment d.setting) h) st.matches in
+      subst (λ x. FuelFalls d.fuel (u ∷ us) k1.frames x) (sym t.result_is)
+      (subst (λ x. total_fuel d.fuel x < total_fuel d.fuel (u ∷ us)) (sym t.frames) k.fuel)
+
+  can-at : (us : List (Under Frame)) (m : Moment State Call) (os : List (Open Call)) → AreFramesOf d us os → d.relates m.chip m.world (paired us os) m.state → CanStep move_of us
+  can-at [] m os a r = tt
+  can-at (u ∷ us) m [] a r = absurd a
+  can-at (u ∷ us) m (o ∷ os) a r = law.there m.chip m.world u.frame o (paired us os) m.state r
+
+  -- the top frame's move may be made
+  pub can-step : (h : List (Deed Call)) (chip : Chip) (us : List (Under Frame)) → Stands d chip us h → CanStep move_of us
+  can-step h chip us st = let m = after_all d.setting (start_moment d.setting) h in can-at us m m.opens st.matches.frames st.matches.relates

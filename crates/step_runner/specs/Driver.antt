@@ -1,0 +1,111 @@
+-- What a driver is to the runner, and the laws that it owes.
+use Rattle.std.specs.Prelude.{◌≡◌, ℕ, ◌+◌, ◌<◌, ◌≤◌, Bool, true, false, ◌||◌, List, [], ◌∷◌, Option, Some, None, is_some}
+use Rattle.chip_model.specs.Chip.{Chip, value_of, chip_after, happened, reset_chip, fresh, is_masked, is_pending}
+use Rattle.chip_model.specs.Reach.{CanApply}
+use Rattle.mcal_base.specs.declared.answer.Answer.{Answer}
+use Rattle.mcal_base.specs.declared.directive.Order.{Order}
+use Rattle.mcal_base.specs.declared.directive.Reason.{Reason}
+use Rattle.mcal_base.specs.declared.moves.Move.{Move}
+use Rattle.mcal_base.specs.declared.moves.Move.TheVariants.{Read, Write, Load, Store, Mask, Unmask, Note, Report}
+use Rattle.mcal_base.specs.declared.moves.Unit as units
+use Rattle.mcal_base.specs.declared.routine.Taken.{Taken}
+use Rattle.run_model.specs.declared.class.Tag.{Tag}
+use Rattle.run_model.specs.declared.item.Stepped.{Stepped}
+use Rattle.run_model.specs.World.{World, world_after}
+use Rattle.run_model.specs.Machine.{Moves, Restarts, Outcome}
+use Rattle.run_model.specs.Frame.{Origin, Called, Entered, Open, opened, state_after, open_after, owed_by, report_by, outcome_of, happening_at, top_after, is_shared}
+use Rattle.run_model.specs.Causes.{may_reenter}
+use Rattle.run_model.specs.Moment.{Setting, Moment, call_tag, line_tag}
+use Rattle.run_model.specs.Legal.{EventRight, HalvesRight, MoveRight, EndRight}
+
+-- A driver: its machine with the bounds of its frames, its frames, and how the chip and the open frames stand for the machine's state.
+pub record Driver (State Call Frame : Type 0) : Type 1 where
+  -- what the driver's value has to be, and what its calls have to be
+  pub fits : Type 0
+  pub can_call : Call → Type 0
+  pub setting : Setting State Call
+  pub frame_of : Call → Frame
+  pub handler_of : ℕ → Option Frame
+  -- the chip and the open frames, the newest first, stand for a state
+  pub relates : Chip → World → List (Frame × Open Call) → State → Type 0
+  -- the steps that a frame has left at most, and the moves of the window that it is in, or begins next
+  pub fuel : Frame → ℕ
+  pub room : Frame → ℕ
+
+-- no frame of these holds the mask closed
+abbrev pub AllOutside : {Frame Call : Type 0} → List (Frame × Open Call) → Type 0
+AllOutside [] = Unit {0}
+AllOutside (p ∷ ps) = (p.1.inside ≡ false) × AllOutside ps
+
+abbrev pub tags_in : {Frame Call : Type 0} → List (Frame × Open Call) → List Tag
+tags_in [] = []
+tags_in (p ∷ ps) = p.1.tag ∷ tags_in ps
+
+-- a step, by its move and what was taken of it
+abbrev pub stepped : Move → (value received : ℕ) → Taken → Stepped
+stepped made value received taken = record { made = made; value = value; received = received; event = taken.event; ended = taken.ended }
+
+-- a frame that goes on has fewer steps left, and one that ends had one
+abbrev pub FuelRight : ℕ → ℕ → Option Answer → Type 0
+FuelRight before later None = later < before
+FuelRight before later (Some a) = 1 ≤ before
+
+-- a window that is closed has room for its moves, each move in it takes one, and its opening is one
+abbrev pub RoomRight : (bound : ℕ) → (inside : Bool) → (before later : ℕ) → Move → Type 0
+RoomRight bound inside before later Mask = 1 + later ≤ bound
+RoomRight bound inside before later Unmask = 1 ≤ before
+RoomRight bound inside before later (Read r) = inside ≡ true → later < before
+RoomRight bound inside before later (Write r v) = inside ≡ true → later < before
+RoomRight bound inside before later (Load k) = inside ≡ true → later < before
+RoomRight bound inside before later (Store k v) = inside ≡ true → later < before
+RoomRight bound inside before later (Note n) = inside ≡ true → later < before
+RoomRight bound inside before later (Report e) = inside ≡ true → later < before
+
+-- what a driver owes of a step of the top frame: it is right by each point that the frame answers for, and the relation stands after it
+pub record KeepsStep {State Call Frame : Type 0} (d : Driver State Call Frame) (m : Moment State Call) (f : Frame) (o : Open Call) (later : Frame) (s : Stepped) (Kept : State → Open Call → Type 0) : Type 0 where
+  pub event : EventRight d.setting m o s s.event
+  pub halves : HalvesRight d.setting m o s s.event o.origin
+  pub move : MoveRight o.inside (owed_by o.owed (outcome_of d.setting.machine m.world m.state (happening_at o.origin s.received s.event))) (report_by d.setting.machine o.origin o.report s.event (outcome_of d.setting.machine m.world m.state (happening_at o.origin s.received s.event))) s.made
+  pub ends : EndRight (open_after d.setting.machine m.world m.state o s.made s.received s.event) s.ended
+  pub own : is_shared s.made || d.setting.owns o.origin s.made ≡ true
+  pub fuel : FuelRight (d.fuel f) (d.fuel later) s.ended
+  pub room : RoomRight (d.setting.window_of o.origin) o.inside (d.room f) (d.room later) s.made
+  pub kept : Kept (state_after d.setting.machine m.world m.state o s.received s.event) (open_after d.setting.machine m.world m.state o s.made s.received s.event)
+
+-- The laws of a driver whose frames make these moves, and become and give this by what those give.
+pub record IsLawful {State Call Frame : Type 0} (d : Driver State Call Frame) (move_of : Frame → Move) (left : Frame → ℕ → Frame) (gave : Frame → ℕ → Taken) : Type 0 where
+  -- the relation stands after power on, at whatever time
+  pub starts : (osc now : ℕ) → d.relates (fresh osc now) (record { osc = osc; now = now }) [] d.setting.first
+  -- a call that begins with the mask open, where reentry allows it, keeps it
+  pub begins : (chip : Chip) (w : World) (ps : List (Frame × Open Call)) (s : State) (c : Call) (level : ℕ) → d.can_call c → is_masked chip ≡ false → AllOutside ps → may_reenter (d.setting.class_of c) (tags_in ps) ≡ true → d.relates chip w ps s → d.relates chip w ((d.frame_of c, opened (Called c) (call_tag d.setting c level)) ∷ ps) s
+  -- a handler that begins with the mask open keeps it
+  pub enters : (chip : Chip) (w : World) (ps : List (Frame × Open Call)) (s : State) (line : ℕ) (f : Frame) → d.handler_of line ≡ Some f → is_masked chip ≡ false → AllOutside ps → d.relates chip w ps s → d.relates chip w ((f, opened (Entered line) (line_tag d.setting line)) ∷ ps) s
+  -- a step of the top frame is right, and keeps it
+  pub steps : (chip : Chip) (w : World) (f : Frame) (o : Open Call) (ps : List (Frame × Open Call)) (s : State) → is_masked chip ≡ o.inside → AllOutside ps → d.relates chip w ((f, o) ∷ ps) s → let made = move_of f in let value = value_of chip made in let taken = gave f value in KeepsStep d (record { chip = chip; world = w; state = s; opens = [] }) f o (left f value) (stepped made value 0 taken) (λ s1 o1. d.relates (chip_after chip made) w (top_after (left f value, o1) taken.ended ps) s1)
+  -- the register or the word of its move is there
+  pub there : (chip : Chip) (w : World) (f : Frame) (o : Open Call) (ps : List (Frame × Open Call)) (s : State) → d.relates chip w ((f, o) ∷ ps) s → CanApply (move_of f)
+  -- the hardware may always move, and keeps it, at whatever rate
+  pub moves : (chip : Chip) (w : World) (ps : List (Frame × Open Call)) (s : State) (order : Order) → d.relates chip w ps s → (out : Outcome State) × (d.setting.machine.happens w s (Moves order) ≡ Some out) × d.relates (happened chip order) (world_after w chip.rate order) ps out.state
+  -- a reset may always come, and leaves the state of a start
+  pub resets : (chip : Chip) (w : World) (ps : List (Frame × Open Call)) (s : State) (reason : Reason) → d.relates chip w ps s → (out : Outcome State) × (d.setting.machine.happens w s (Restarts reason) ≡ Some out) × d.relates (reset_chip chip reason) w [] out.state
+  -- a move that names nothing of the module's keeps it
+  pub undisturbed : (chip : Chip) (w : World) (ps : List (Frame × Open Call)) (s : State) (made : Move) → ((origin : Origin Call) → d.setting.owns origin made ≡ false) → d.relates chip w ps s → d.relates (chip_after chip made) w ps s
+  -- what is a module's own is a register or a word
+  pub owns_plain : (origin : Origin Call) (made : Move) → d.setting.owns origin made ≡ true → is_shared made ≡ false
+  -- what a handler owns some call owns
+  pub owns_called : (line : ℕ) (made : Move) → d.setting.owns (Entered line) made ≡ true → (c : Call) × (d.setting.owns (Called c) made ≡ true)
+  -- with the mask open each line that is due is pending
+  pub due : (chip : Chip) (w : World) (ps : List (Frame × Open Call)) (s : State) (line : ℕ) → d.setting.used line ≡ true → is_masked chip ≡ false → AllOutside ps → d.relates chip w ps s → d.setting.machine.due w s line ≡ true → is_pending chip line ≡ true
+  -- with no frame a line is pending exactly where it is due, and no unit waits for a start
+  pub rests : (chip : Chip) (w : World) (s : State) (line : ℕ) → d.setting.used line ≡ true → d.relates chip w [] s → is_pending chip line ≡ d.setting.machine.due w s line
+  pub waits : (chip : Chip) (w : World) (s : State) (u : units.Unit) → d.relates chip w [] s → d.setting.machine.startable w s u ≡ false
+  -- the rate of the chip is the machine's after power on, and wherever it was
+  pub rate_starts : d.setting.machine.rate d.setting.first ≡ 1
+  pub rate : (chip : Chip) (w : World) (f : Frame) (o : Open Call) (ps : List (Frame × Open Call)) (s : State) → is_masked chip ≡ o.inside → AllOutside ps → d.relates chip w ((f, o) ∷ ps) s → chip.rate ≡ d.setting.machine.rate s → (chip_after chip (move_of f)).rate ≡ d.setting.machine.rate (state_after d.setting.machine w s o 0 (gave f (value_of chip (move_of f))).event)
+  pub rate_moves : (w : World) (s : State) (order : Order) (out : Outcome State) → d.setting.machine.happens w s (Moves order) ≡ Some out → d.setting.machine.rate out.state ≡ d.setting.machine.rate s
+  pub rate_resets : (chip : Chip) (w : World) (s : State) (reason : Reason) (out : Outcome State) → d.setting.machine.happens w s (Restarts reason) ≡ Some out → (reset_chip chip reason).rate ≡ d.setting.machine.rate out.state
+  -- a handler is there exactly where a configured object uses the line
+  pub handled : (line : ℕ) → is_some (d.handler_of line) ≡ d.setting.used line
+  -- a frame begins with no more steps than its bound
+  pub call_fuel : (c : Call) → d.can_call c → d.fuel (d.frame_of c) ≤ d.setting.steps_of (Called c)
+  pub line_fuel : (line : ℕ) (f : Frame) → d.handler_of line ≡ Some f → d.fuel f ≤ d.setting.steps_of (Entered line)

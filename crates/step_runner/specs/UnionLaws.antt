@@ -1,0 +1,386 @@
+-- The laws of two drivers as one, from those of the members.
+use Rattle.std.proofs.Common.{◌≡◌, ℕ, ◌≤◌, Bool, true, false, cond, not, ◌&&◌, ◌||◌, List, [], ◌∷◌, Option, Some, None, is_some, refl, sym, ◌∙◌, ap, subst}
+use Rattle.std.specs.Prelude.{IsSome}
+use Rattle.std.specs.List.{list_all}
+use Rattle.chip_model.specs.Chip.{Chip, value_of, chip_after, happened, reset_chip, is_masked, is_pending}
+use Rattle.chip_model.specs.Reach.{CanApply}
+use Rattle.mcal_base.specs.declared.answer.Answer.{Answer}
+use Rattle.mcal_base.specs.declared.directive.Order.{Order}
+use Rattle.mcal_base.specs.declared.directive.Reason.{Reason}
+use Rattle.mcal_base.specs.declared.moves.Move.{Move}
+use Rattle.mcal_base.specs.declared.moves.Move.TheVariants.{Read, Write, Load, Store, Mask, Unmask, Note, Report}
+use Rattle.mcal_base.specs.declared.moves.Unit as units
+use Rattle.mcal_base.specs.declared.routine.Taken.{Taken}
+use Rattle.run_model.specs.declared.class.Tag.{Tag}
+use Rattle.run_model.specs.World.{World, world_after}
+use Rattle.run_model.specs.Machine.{Starts, Aborts, Moves, Restarts, Outcome, outcome, tells_nothing}
+use Rattle.run_model.specs.Frame.{Origin, Called, Entered, Open, opened, happening_at, outcome_of, state_by, state_after, top_after, is_shared}
+use Rattle.run_model.specs.Causes.{may_reenter, blocks}
+use Rattle.run_model.specs.Moment.{Setting, call_tag, line_tag}
+use Rattle.step_runner.specs.Driver.{Driver, IsLawful, AllOutside, tags_in, KeepsStep, stepped}
+use Rattle.step_runner.specs.Lifts.{LiesIn, lift-keeps, out-at, same-state}
+use Rattle.step_runner.specs.Union.{either, EitherFits, either_left, either_gave, either_handler, lift_out, in_both, in_first, by_origin, lift_origin, lift_open, IsMine, SameOn, others, Splits, Nothing_open, Left_open, Right_open, UnionRelates, has_handler, AreApart, union_setting, union_of}
+use Rattle.step_runner.specs.declared.either.Either.{Either}
+use Rattle.step_runner.specs.declared.either.Either.TheVariants.{Left, Right}
+
+-- ---- tests
+
+and-left : (a b : Bool) → a && b ≡ true → a ≡ true
+and-left true b e = refl
+and-left false b e = e
+
+and-right : (a b : Bool) → a && b ≡ true → b ≡ true
+and-right true b e = e
+and-right false b e = cc
+
+both-true : (a b : Bool) → a ≡ true → b ≡ true → a && b ≡ true
+both-true a b e f = rw (e, f)
+
+none-true : (b : Bool) → (b ≡ true → ⊥) → b ≡ false
+none-true true h = absurd (h refl)
+none-true false h = refl
+
+not-true : (b : Bool) → not b ≡ true → b ≡ false
+not-true true e = cc
+not-true false e = refl
+
+flipped : (x y : Bool) → (y ≡ true → x ≡ false) → x ≡ true → y ≡ false
+flipped x true h e = let f = h refl in cc
+flipped x false h e = refl
+
+-- what is shared or the one's isn't the other's
+foreign : (shared x y : Bool) → (y ≡ true → shared ≡ false) → (x ≡ true → y ≡ false) → shared || x ≡ true → y ≡ false
+foreign true x true plain apart h = let e = plain refl in cc
+foreign false x true plain apart h = apart h
+foreign shared x false plain apart h = refl
+
+none-of : (a b : Bool) → a ≡ false → b ≡ false → a || b ≡ false
+none-of a b e f = rw (e, f)
+
+-- by the member that has the line
+due-by : (b u v x y z : Bool) → b ≡ u → u || v ≡ true → cond b x y ≡ true → (u ≡ true → x ≡ true → z ≡ true) → (v ≡ true → y ≡ true → z ≡ true) → z ≡ true
+due-by true true v x y z e used h f g = f refl h
+due-by true false v x y z e used h f g = cc
+due-by false true v x y z e used h f g = cc
+due-by false false v x y z e used h f g = g used h
+
+rests-by : (b u v x y z : Bool) → b ≡ u → u || v ≡ true → (u ≡ true → z ≡ x) → (v ≡ true → z ≡ y) → z ≡ cond b x y
+rests-by true true v x y z e used f g = f refl
+rests-by true false v x y z e used f g = cc
+rests-by false true v x y z e used f g = cc
+rests-by false false v x y z e used f g = g used
+
+owned-by : {X : Type 0} (b : Bool) (p q : Move → Bool) (made : Move) → cond b p q made ≡ true → (p made ≡ true → X) → (q made ≡ true → X) → X
+owned-by true p q made e f g = f e
+owned-by false p q made e f g = g e
+
+-- ---- outcomes
+
+some-injective : {A : Type 0} {x y : A} → Some x ≡ Some y → x ≡ y
+some-injective e = cc
+
+first-some : {S T : Type 0} (s : S) (t : T) (x : Option (Outcome S)) (y : Option (Outcome T)) → IsSome x → in_first s t x y ≡ lift_out (λ a. (a, t)) x
+first-some s t (Some x) y h = refl
+first-some s t None y h = cc
+
+first-none : {S T : Type 0} (s : S) (t : T) (x : Option (Outcome S)) (y : Option (Outcome T)) → x ≡ None → in_first s t x y ≡ lift_out (λ b. (s, b)) y
+first-none s t x y e = ap (λ o. in_first s t o y) e
+
+both-some : {S T : Type 0} (x : Option (Outcome S)) (y : Option (Outcome T)) (p : Outcome S) (q : Outcome T) → x ≡ Some p → y ≡ Some q → in_both x y ≡ Some (outcome (p.state, q.state) tells_nothing)
+both-some x y p q e f = rw (e, f)
+
+both-first : {S T : Type 0} (x : Option (Outcome S)) (y : Option (Outcome T)) (out : Outcome (S × T)) → in_both x y ≡ Some out → (p : Outcome S) × (x ≡ Some p) × (p.state ≡ out.state.0)
+both-first None y out e = cc
+both-first (Some p) None out e = cc
+both-first (Some p) (Some q) out e = (p, refl, ap (λ o. o.state.0) (some-injective e))
+
+-- ---- frames
+
+handler-some : {F G : Type 0} (x : Option F) (y : Option G) → is_some (either_handler x y) ≡ is_some x || is_some y
+handler-some (Some f) y = refl
+handler-some None (Some g) = refl
+handler-some None None = refl
+
+fuel-by : {F G : Type 0} (fuel_f : F → ℕ) (fuel_g : G → ℕ) (x : Option F) (y : Option G) (u : Either F G) (m n : ℕ) → either_handler x y ≡ Some u → ((f : F) → x ≡ Some f → fuel_f f ≤ m) → ((g : G) → y ≡ Some g → fuel_g g ≤ n) → either fuel_f fuel_g u ≤ cond (is_some x) m n
+fuel-by fuel_f fuel_g (Some f) y u m n e h k = subst (λ z. either fuel_f fuel_g z ≤ m) (some-injective e) (h f refl)
+fuel-by fuel_f fuel_g None (Some g) u m n e h k = subst (λ z. either fuel_f fuel_g z ≤ n) (some-injective e) (k g refl)
+fuel-by fuel_f fuel_g None None u m n e h k = cc
+
+origin-left : {C D Z : Type 0} (ours : ℕ → Bool) (p : Origin C → Z) (q : Origin D → Z) (o : Origin C) → IsMine ours o → by_origin ours p q (lift_origin Left o) ≡ p o
+origin-left ours p q (Called c) m = refl
+origin-left ours p q (Entered l) m = rw m
+
+origin-right : {C D Z : Type 0} (ours : ℕ → Bool) (p : Origin C → Z) (q : Origin D → Z) (o : Origin D) → IsMine (others ours) o → by_origin ours p q (lift_origin Right o) ≡ q o
+origin-right ours p q (Called c) m = refl
+origin-right ours p q (Entered l) m = let e = not-true (ours l) m in rw e
+
+mine-same : {C : Type 0} (mine : ℕ → Bool) (p q : Origin C) → q ≡ p → IsMine mine p → IsMine mine q
+mine-same mine p q e m = subst (λ o. IsMine mine o) (sym e) m
+
+shared-rate : (chip : Chip) (made : Move) → is_shared made ≡ true → (chip_after chip made).rate ≡ chip.rate
+shared-rate chip Mask e = refl
+shared-rate chip Unmask e = refl
+shared-rate chip (Note n) e = refl
+shared-rate chip (Report x) e = refl
+shared-rate chip (Read r) e = cc
+shared-rate chip (Write r v) e = cc
+shared-rate chip (Load k) e = cc
+shared-rate chip (Store k v) e = cc
+
+steady-by : (chip : Chip) (made : Move) (shared x : Bool) → is_shared made ≡ shared → shared || x ≡ true → (x ≡ true → (chip_after chip made).rate ≡ chip.rate) → (chip_after chip made).rate ≡ chip.rate
+steady-by chip made true x is e h = shared-rate chip made is
+steady-by chip made false x is e h = h e
+
+module _ {C D F G : Type 0} (ours : ℕ → Bool) where
+  outside-split : (ps : List (Either F G × Open (Either C D))) (fs : List (F × Open C)) (gs : List (G × Open D)) → Splits ours ps fs gs → AllOutside ps → AllOutside fs × AllOutside gs
+  outside-split ps fs gs Nothing_open h = (tt, tt)
+  outside-split ps fs gs (Left_open f o missed qs fs1 gs1 m same sp) h = let k = outside-split qs fs1 gs1 sp h.1 in ((h.0, k.0), k.1)
+  outside-split ps fs gs (Right_open g o missed qs fs1 gs1 m same sp) h = let k = outside-split qs fs1 gs1 sp h.1 in (k.0, (h.0, k.1))
+
+  -- what holds of all tags holds of a member's
+  tags-split : (p : Tag → Bool) (ps : List (Either F G × Open (Either C D))) (fs : List (F × Open C)) (gs : List (G × Open D)) → Splits ours ps fs gs → list_all p (tags_in ps) ≡ true → (list_all p (tags_in fs) ≡ true) × (list_all p (tags_in gs) ≡ true)
+  tags-split p ps fs gs Nothing_open h = (refl, refl)
+  tags-split p ps fs gs (Left_open f o missed qs fs1 gs1 m same sp) h =
+      let k = tags-split p qs fs1 gs1 sp (and-right (p o.tag) (list_all p (tags_in qs)) h) in
+      (both-true (p o.tag) (list_all p (tags_in fs1)) (and-left (p o.tag) (list_all p (tags_in qs)) h) k.0, k.1)
+  tags-split p ps fs gs (Right_open g o missed qs fs1 gs1 m same sp) h =
+      let k = tags-split p qs fs1 gs1 sp (and-right (p o.tag) (list_all p (tags_in qs)) h) in
+      (k.0, both-true (p o.tag) (list_all p (tags_in gs1)) (and-left (p o.tag) (list_all p (tags_in qs)) h) k.1)
+
+  empty-split : (fs : List (F × Open C)) (gs : List (G × Open D)) → Splits ours [] fs gs → (fs ≡ []) × (gs ≡ [])
+  empty-split fs gs Nothing_open = (refl, refl)
+
+-- ---- the laws
+
+module _ {S T C D F G : Type 0} (d : Driver S C F) (e : Driver T D G) (move_a : F → Move) (left_a : F → ℕ → F) (gave_a : F → ℕ → Taken) (move_b : G → Move) (left_b : G → ℕ → G) (gave_b : G → ℕ → Taken) (la : IsLawful d move_a left_a gave_a) (lb : IsLawful e move_b left_b gave_b) (apart : AreApart d e) where
+  abbrev ours : ℕ → Bool
+  ours = has_handler d
+
+  abbrev URelates : Chip → World → List (Either F G × Open (Either C D)) → S × T → Type 0
+  URelates = UnionRelates ours d.relates e.relates
+
+  abbrev g : Setting (S × T) (Either C D)
+  g = union_setting ours d.setting e.setting
+
+  lies-left : (w : World) (s : S) (t : T) → LiesIn d.setting g (λ a. (a, t)) Left ours w s
+  lies-left w s t = record {
+    acts = λ c. refl;
+    serves = λ l r m. rw m;
+    starts = λ u r some. first-some s t (d.setting.machine.happens w s (Starts u r)) (e.setting.machine.happens w t (Starts u r)) some;
+    aborts = λ u some. first-some s t (d.setting.machine.happens w s (Aborts u)) (e.setting.machine.happens w t (Aborts u)) some;
+    ready = λ l m. rw m;
+    services = λ c. refl;
+    detects = λ c. refl;
+    polls = λ c. refl;
+    polled = apart.polls;
+    low = λ c. refl;
+    owns = λ p made m. ap (λ f. f made) (origin-left ours d.setting.owns e.setting.owns p m);
+    window = λ p m. origin-left ours d.setting.window_of e.setting.window_of p m;
+  }
+
+  lies-right : (w : World) (s : S) (t : T) → LiesIn e.setting g (λ b. (s, b)) Right (others ours) w t
+  lies-right w s t = record {
+    acts = λ c. refl;
+    serves = λ l r m. let x = not-true (ours l) m in rw x;
+    starts = λ u r some. first-none s t (d.setting.machine.happens w s (Starts u r)) (e.setting.machine.happens w t (Starts u r)) (apart.starts w s t u r some);
+    aborts = λ u some. first-none s t (d.setting.machine.happens w s (Aborts u)) (e.setting.machine.happens w t (Aborts u)) (apart.aborts w s t u some);
+    ready = λ l m. let x = not-true (ours l) m in rw x;
+    services = λ c. refl;
+    detects = λ c. refl;
+    polls = λ c. refl;
+    polled = λ c l h. ap not (apart.polls_other c l h);
+    low = λ c. refl;
+    owns = λ p made m. ap (λ f. f made) (origin-right ours d.setting.owns e.setting.owns p m);
+    window = λ p m. origin-right ours d.setting.window_of e.setting.window_of p m;
+  }
+
+  grow-left : (chip : Chip) (w : World) (f : F) (o : Open C) (missed : ℕ → Bool) (ended : Option Answer) (qs : List (Either F G × Open (Either C D))) (fs : List (F × Open C)) (gs : List (G × Open D)) (s : S) (t : T) → IsMine ours o.origin → SameOn ours missed o.missed → Splits ours qs fs gs → d.relates chip w (top_after (f, o) ended fs) s → e.relates chip w gs t → URelates chip w (top_after (Left f, lift_open Left missed o) ended qs) (s, t)
+  grow-left chip w f o missed None qs fs gs s t m same sp a b = record { firsts = (f, o) ∷ fs; seconds = gs; splits = Left_open f o missed qs fs gs m same sp; first = a; second = b }
+  grow-left chip w f o missed (Some x) qs fs gs s t m same sp a b = record { firsts = fs; seconds = gs; splits = sp; first = a; second = b }
+
+  grow-right : (chip : Chip) (w : World) (y : G) (o : Open D) (missed : ℕ → Bool) (ended : Option Answer) (qs : List (Either F G × Open (Either C D))) (fs : List (F × Open C)) (gs : List (G × Open D)) (s : S) (t : T) → IsMine (others ours) o.origin → SameOn (others ours) missed o.missed → Splits ours qs fs gs → d.relates chip w fs s → e.relates chip w (top_after (y, o) ended gs) t → URelates chip w (top_after (Right y, lift_open Right missed o) ended qs) (s, t)
+  grow-right chip w y o missed None qs fs gs s t m same sp a b = record { firsts = fs; seconds = (y, o) ∷ gs; splits = Right_open y o missed qs fs gs m same sp; first = a; second = b }
+  grow-right chip w y o missed (Some x) qs fs gs s t m same sp a b = record { firsts = fs; seconds = gs; splits = sp; first = a; second = b }
+
+  -- a member's move is none of the other's
+  not-second : (p : Origin C) (made : Move) → is_shared made || d.setting.owns p made ≡ true → (q : Origin D) → e.setting.owns q made ≡ false
+  not-second p made h q = foreign (is_shared made) (d.setting.owns p made) (e.setting.owns q made) (lb.owns_plain q made) (apart.owns p q made) h
+
+  not-first : (q : Origin D) (made : Move) → is_shared made || e.setting.owns q made ≡ true → (p : Origin C) → d.setting.owns p made ≡ false
+  not-first q made h p = foreign (is_shared made) (e.setting.owns q made) (d.setting.owns p made) (la.owns_plain p made) (flipped (e.setting.owns q made) (d.setting.owns p made) (apart.owns p q made)) h
+
+  abbrev UKeeps : Chip → World → Either F G → Open (Either C D) → List (Either F G × Open (Either C D)) → S × T → Type 0
+  UKeeps chip w u o ps s = let made = either move_a move_b u in let value = value_of chip made in let taken = either_gave gave_a gave_b u value in KeepsStep (union_of d e) (record { chip = chip; world = w; state = s; opens = [] }) u o (either_left left_a left_b u value) (stepped made value 0 taken) (λ s1 o1. URelates (chip_after chip made) w (top_after (either_left left_a left_b u value, o1) taken.ended ps) s1)
+
+  step-split : (chip : Chip) (w : World) (u : Either F G) (o : Open (Either C D)) (ps : List (Either F G × Open (Either C D))) (s : S) (t : T) (fs : List (F × Open C)) (gs : List (G × Open D)) → Splits ours ((u, o) ∷ ps) fs gs → is_masked chip ≡ o.inside → AllOutside ps → d.relates chip w fs s → e.relates chip w gs t → UKeeps chip w u o ps (s, t)
+  step-split chip w u o ps s t fs gs (Left_open f o1 missed qs fs1 gs1 m same sp) masked out x y =
+      let made = move_a f in
+      let value = value_of chip made in
+      let taken = gave_a f value in
+      let k = la.steps chip w f o1 fs1 s masked (outside-split ours qs fs1 gs1 sp out).0 x in
+      lift-keeps d (union_of d e) (λ a. (a, t)) Left (λ z. Left z) ours chip w s f (left_a f value) o1 missed (stepped made value 0 taken)
+      (λ s1 o2. d.relates (chip_after chip made) w (top_after (left_a f value, o2) taken.ended fs1) s1)
+      (λ s1 o2. URelates (chip_after chip made) w (top_after (Left (left_a f value), o2) taken.ended qs) s1)
+      (lies-left w s t) (λ z. refl) (λ z. refl) m same
+      (λ s1 o2 missed1 is same1 kept. grow-left (chip_after chip made) w (left_a f value) o2 missed1 taken.ended qs fs1 gs1 s1 t (mine-same ours o1.origin o2.origin is m) same1 sp kept (lb.undisturbed chip w gs1 t made (not-second o1.origin made k.own) y))
+      k
+  step-split chip w u o ps s t fs gs (Right_open f o1 missed qs fs1 gs1 m same sp) masked out x y =
+      let made = move_b f in
+      let value = value_of chip made in
+      let taken = gave_b f value in
+      let k = lb.steps chip w f o1 gs1 t masked (outside-split ours qs fs1 gs1 sp out).1 y in
+      lift-keeps e (union_of d e) (λ b. (s, b)) Right (λ z. Right z) (others ours) chip w t f (left_b f value) o1 missed (stepped made value 0 taken)
+      (λ s1 o2. e.relates (chip_after chip made) w (top_after (left_b f value, o2) taken.ended gs1) s1)
+      (λ s1 o2. URelates (chip_after chip made) w (top_after (Right (left_b f value), o2) taken.ended qs) s1)
+      (lies-right w s t) (λ z. refl) (λ z. refl) m same
+      (λ s1 o2 missed1 is same1 kept. grow-right (chip_after chip made) w (left_b f value) o2 missed1 taken.ended qs fs1 gs1 s s1 (mine-same (others ours) o1.origin o2.origin is m) same1 sp (la.undisturbed chip w fs1 s made (not-first o1.origin made k.own) x) kept)
+      k
+
+  there-split : (chip : Chip) (w : World) (u : Either F G) (o : Open (Either C D)) (ps : List (Either F G × Open (Either C D))) (s : S) (t : T) (fs : List (F × Open C)) (gs : List (G × Open D)) → Splits ours ((u, o) ∷ ps) fs gs → d.relates chip w fs s → e.relates chip w gs t → CanApply (either move_a move_b u)
+  there-split chip w u o ps s t fs gs (Left_open f o1 missed qs fs1 gs1 m same sp) x y = la.there chip w f o1 fs1 s x
+  there-split chip w u o ps s t fs gs (Right_open f o1 missed qs fs1 gs1 m same sp) x y = lb.there chip w f o1 gs1 t y
+
+  rate-split : (chip : Chip) (w : World) (u : Either F G) (o : Open (Either C D)) (ps : List (Either F G × Open (Either C D))) (s : S) (t : T) (fs : List (F × Open C)) (gs : List (G × Open D)) → Splits ours ((u, o) ∷ ps) fs gs → is_masked chip ≡ o.inside → AllOutside ps → d.relates chip w fs s → e.relates chip w gs t → chip.rate ≡ d.setting.machine.rate s → (chip_after chip (either move_a move_b u)).rate ≡ g.machine.rate (state_after g.machine w (s, t) o 0 (either_gave gave_a gave_b u (value_of chip (either move_a move_b u))).event)
+  rate-split chip w u o ps s t fs gs (Left_open f o1 missed qs fs1 gs1 m same sp) masked out x y is =
+      let made = move_a f in
+      let value = value_of chip made in
+      let taken = gave_a f value in
+      let st = stepped made value 0 taken in
+      let in1 = (outside-split ours qs fs1 gs1 sp out).0 in
+      let k = la.steps chip w f o1 fs1 s masked in1 x in
+      let same_out = out-at d.setting g (λ a. (a, t)) Left ours w s (lies-left w s t) o1 chip st taken.event m k.event in
+      la.rate chip w f o1 fs1 s masked in1 x is ∙ sym (ap (λ o. g.machine.rate (state_by (s, t) o)) same_out ∙ ap g.machine.rate (same-state (λ a. (a, t)) s (outcome_of d.setting.machine w s (happening_at o1.origin 0 taken.event))))
+  rate-split chip w u o ps s t fs gs (Right_open f o1 missed qs fs1 gs1 m same sp) masked out x y is =
+      let made = move_b f in
+      let value = value_of chip made in
+      let taken = gave_b f value in
+      let st = stepped made value 0 taken in
+      let k = lb.steps chip w f o1 gs1 t masked (outside-split ours qs fs1 gs1 sp out).1 y in
+      let same_out = out-at e.setting g (λ b. (s, b)) Right (others ours) w t (lies-right w s t) o1 chip st taken.event m k.event in
+      steady-by chip made (is_shared made) (e.setting.owns o1.origin made) refl k.own (apart.steady chip o1.origin made) ∙ (is ∙ sym (ap (λ o. g.machine.rate (state_by (s, t) o)) same_out ∙ ap g.machine.rate (same-state (λ b. (s, b)) t (outcome_of e.setting.machine w t (happening_at o1.origin 0 taken.event)))))
+
+  u-begins : (chip : Chip) (w : World) (ps : List (Either F G × Open (Either C D))) (s : S × T) (c : Either C D) (level : ℕ) → EitherFits d.can_call e.can_call c → is_masked chip ≡ false → AllOutside ps → may_reenter (g.class_of c) (tags_in ps) ≡ true → URelates chip w ps s → URelates chip w ((either (λ x. Left (d.frame_of x)) (λ y. Right (e.frame_of y)) c, opened (Called c) (call_tag g c level)) ∷ ps) s
+  u-begins chip w ps s (Left c) level can masked out enters h =
+      let tags = tags-split ours (λ x. not (blocks (d.setting.class_of c) x)) ps h.firsts h.seconds h.splits enters in
+      let outs = outside-split ours ps h.firsts h.seconds h.splits out in
+      record {
+        firsts = (d.frame_of c, opened (Called c) (call_tag d.setting c level)) ∷ h.firsts;
+        seconds = h.seconds;
+        splits = Left_open (d.frame_of c) (opened (Called c) (call_tag d.setting c level)) (λ l. false) ps h.firsts h.seconds tt (λ l m. refl) h.splits;
+        first = la.begins chip w h.firsts s.0 c level can masked outs.0 tags.0 h.first;
+        second = h.second;
+      }
+  u-begins chip w ps s (Right c) level can masked out enters h =
+      let tags = tags-split ours (λ x. not (blocks (e.setting.class_of c) x)) ps h.firsts h.seconds h.splits enters in
+      let outs = outside-split ours ps h.firsts h.seconds h.splits out in
+      record {
+        firsts = h.firsts;
+        seconds = (e.frame_of c, opened (Called c) (call_tag e.setting c level)) ∷ h.seconds;
+        splits = Right_open (e.frame_of c) (opened (Called c) (call_tag e.setting c level)) (λ l. false) ps h.firsts h.seconds tt (λ l m. refl) h.splits;
+        first = h.first;
+        second = lb.begins chip w h.seconds s.1 c level can masked outs.1 tags.1 h.second;
+      }
+
+  abbrev tag-by : Bool → ℕ → Tag
+  tag-by b line = record { level = cond b (d.setting.level_of line) (e.setting.level_of line); owner = cond b (d.setting.owner_of line) (e.setting.owner_of line); class = None }
+
+  u-enters : (chip : Chip) (w : World) (ps : List (Either F G × Open (Either C D))) (s : S × T) (line : ℕ) (u : Either F G) (x : Option F) (y : Option G) → d.handler_of line ≡ x → e.handler_of line ≡ y → either_handler x y ≡ Some u → is_masked chip ≡ false → AllOutside ps → URelates chip w ps s → URelates chip w ((u, opened (Entered line) (line_tag g line)) ∷ ps) s
+  u-enters chip w ps s line u (Some f) y is_x is_y is masked out h =
+      let m : ours line ≡ true = ap is_some is_x in
+      let outs = outside-split ours ps h.firsts h.seconds h.splits out in
+      subst (λ z. URelates chip w ((z, opened (Entered line) (line_tag g line)) ∷ ps) s) (some-injective is)
+      (subst (λ b. URelates chip w ((Left f, opened (Entered line) (tag-by b line)) ∷ ps) s) (sym m)
+      (record {
+        firsts = (f, opened (Entered line) (line_tag d.setting line)) ∷ h.firsts;
+        seconds = h.seconds;
+        splits = Left_open f (opened (Entered line) (line_tag d.setting line)) (λ l. false) ps h.firsts h.seconds m (λ l k. refl) h.splits;
+        first = la.enters chip w h.firsts s.0 line f is_x masked outs.0 h.first;
+        second = h.second;
+      }))
+  u-enters chip w ps s line u None (Some f) is_x is_y is masked out h =
+      let m : ours line ≡ false = ap is_some is_x in
+      let outs = outside-split ours ps h.firsts h.seconds h.splits out in
+      subst (λ z. URelates chip w ((z, opened (Entered line) (line_tag g line)) ∷ ps) s) (some-injective is)
+      (subst (λ b. URelates chip w ((Right f, opened (Entered line) (tag-by b line)) ∷ ps) s) (sym m)
+      (record {
+        firsts = h.firsts;
+        seconds = (f, opened (Entered line) (line_tag e.setting line)) ∷ h.seconds;
+        splits = Right_open f (opened (Entered line) (line_tag e.setting line)) (λ l. false) ps h.firsts h.seconds (ap not m) (λ l k. refl) h.splits;
+        first = h.first;
+        second = lb.enters chip w h.seconds s.1 line f is_y masked outs.1 h.second;
+      }))
+  u-enters chip w ps s line u None None is_x is_y is masked out h = cc
+
+  u-moves : (chip : Chip) (w : World) (ps : List (Either F G × Open (Either C D))) (s : S × T) (order : Order) → URelates chip w ps s → (out : Outcome (S × T)) × (g.machine.happens w s (Moves order) ≡ Some out) × URelates (happened chip order) (world_after w chip.rate order) ps out.state
+  u-moves chip w ps s order h =
+      let x = la.moves chip w h.firsts s.0 order h.first in
+      let y = lb.moves chip w h.seconds s.1 order h.second in
+      (outcome (x.0.state, y.0.state) tells_nothing, both-some (d.setting.machine.happens w s.0 (Moves order)) (e.setting.machine.happens w s.1 (Moves order)) x.0 y.0 x.1 y.1, record { firsts = h.firsts; seconds = h.seconds; splits = h.splits; first = x.2; second = y.2 })
+
+  u-resets : (chip : Chip) (w : World) (ps : List (Either F G × Open (Either C D))) (s : S × T) (reason : Reason) → URelates chip w ps s → (out : Outcome (S × T)) × (g.machine.happens w s (Restarts reason) ≡ Some out) × URelates (reset_chip chip reason) w [] out.state
+  u-resets chip w ps s reason h =
+      let x = la.resets chip w h.firsts s.0 reason h.first in
+      let y = lb.resets chip w h.seconds s.1 reason h.second in
+      (outcome (x.0.state, y.0.state) tells_nothing, both-some (d.setting.machine.happens w s.0 (Restarts reason)) (e.setting.machine.happens w s.1 (Restarts reason)) x.0 y.0 x.1 y.1, record { firsts = []; seconds = []; splits = Nothing_open; first = x.2; second = y.2 })
+
+  -- a move that is none of the union's is none of a member's
+  none-first : (made : Move) → ((origin : Origin (Either C D)) → g.owns origin made ≡ false) → (p : Origin C) → d.setting.owns p made ≡ false
+  none-first made none (Called c) = none (Called (Left c))
+  none-first made none (Entered l) = none-true (d.setting.owns (Entered l) made) (λ h. let k = la.owns_called l made h in let f = none (Called (Left k.0)) in let t = k.1 in cc)
+
+  none-second : (made : Move) → ((origin : Origin (Either C D)) → g.owns origin made ≡ false) → (p : Origin D) → e.setting.owns p made ≡ false
+  none-second made none (Called c) = none (Called (Right c))
+  none-second made none (Entered l) = none-true (e.setting.owns (Entered l) made) (λ h. let k = lb.owns_called l made h in let f = none (Called (Right k.0)) in let t = k.1 in cc)
+
+  u-plain : (origin : Origin (Either C D)) (made : Move) → g.owns origin made ≡ true → is_shared made ≡ false
+  u-plain (Called (Left c)) made h = la.owns_plain (Called c) made h
+  u-plain (Called (Right c)) made h = lb.owns_plain (Called c) made h
+  u-plain (Entered l) made h = owned-by (ours l) (d.setting.owns (Entered l)) (e.setting.owns (Entered l)) made h (la.owns_plain (Entered l) made) (lb.owns_plain (Entered l) made)
+
+  u-called : (line : ℕ) (made : Move) → g.owns (Entered line) made ≡ true → (c : Either C D) × (g.owns (Called c) made ≡ true)
+  u-called line made h = owned-by (ours line) (d.setting.owns (Entered line)) (e.setting.owns (Entered line)) made h (λ k. let c = la.owns_called line made k in (Left c.0, c.1)) (λ k. let c = lb.owns_called line made k in (Right c.0, c.1))
+
+  u-call-fuel : (c : Either C D) → EitherFits d.can_call e.can_call c → either d.fuel e.fuel (either (λ x. Left (d.frame_of x)) (λ y. Right (e.frame_of y)) c) ≤ g.steps_of (Called c)
+  u-call-fuel (Left c) can = la.call_fuel c can
+  u-call-fuel (Right c) can = lb.call_fuel c can
+
+  rests-at : (chip : Chip) (w : World) (s : S × T) (line : ℕ) (fs : List (F × Open C)) (gs : List (G × Open D)) → fs ≡ [] → gs ≡ [] → g.used line ≡ true → d.relates chip w fs s.0 → e.relates chip w gs s.1 → is_pending chip line ≡ g.machine.due w s line
+  rests-at chip w s line fs gs no_fs no_gs used x y =
+      rests-by (ours line) (d.setting.used line) (e.setting.used line) (d.setting.machine.due w s.0 line) (e.setting.machine.due w s.1 line) (is_pending chip line) (la.handled line) used
+      (λ u. la.rests chip w s.0 line u (subst (λ z. d.relates chip w z s.0) no_fs x))
+      (λ u. lb.rests chip w s.1 line u (subst (λ z. e.relates chip w z s.1) no_gs y))
+
+  waits-at : (chip : Chip) (w : World) (s : S × T) (u : units.Unit) (fs : List (F × Open C)) (gs : List (G × Open D)) → fs ≡ [] → gs ≡ [] → d.relates chip w fs s.0 → e.relates chip w gs s.1 → g.machine.startable w s u ≡ false
+  waits-at chip w s u fs gs no_fs no_gs x y = none-of (d.setting.machine.startable w s.0 u) (e.setting.machine.startable w s.1 u) (la.waits chip w s.0 u (subst (λ z. d.relates chip w z s.0) no_fs x)) (lb.waits chip w s.1 u (subst (λ z. e.relates chip w z s.1) no_gs y))
+
+  u-due : (chip : Chip) (w : World) (ps : List (Either F G × Open (Either C D))) (s : S × T) (line : ℕ) → g.used line ≡ true → is_masked chip ≡ false → AllOutside ps → URelates chip w ps s → g.machine.due w s line ≡ true → is_pending chip line ≡ true
+  u-due chip w ps s line used masked out h due =
+      let outs = outside-split ours ps h.firsts h.seconds h.splits out in
+      due-by (ours line) (d.setting.used line) (e.setting.used line) (d.setting.machine.due w s.0 line) (e.setting.machine.due w s.1 line) (is_pending chip line) (la.handled line) used due
+      (λ u k. la.due chip w h.firsts s.0 line u masked outs.0 h.first k)
+      (λ u k. lb.due chip w h.seconds s.1 line u masked outs.1 h.second k)
+
+  -- two lawful drivers that are apart are a lawful one
+  pub union-lawful : IsLawful (union_of d e) (either move_a move_b) (either_left left_a left_b) (either_gave gave_a gave_b)
+  union-lawful = record {
+    starts = λ osc now. record { firsts = []; seconds = []; splits = Nothing_open; first = la.starts osc now; second = lb.starts osc now };
+    begins = u-begins;
+    enters = λ chip w ps s line f is masked out h. u-enters chip w ps s line f (d.handler_of line) (e.handler_of line) refl refl is masked out h;
+    steps = λ chip w f o ps s masked out h. step-split chip w f o ps s.0 s.1 h.firsts h.seconds h.splits masked out h.first h.second;
+    there = λ chip w f o ps s h. there-split chip w f o ps s.0 s.1 h.firsts h.seconds h.splits h.first h.second;
+    moves = u-moves;
+    resets = u-resets;
+    undisturbed = λ chip w ps s made none h. record { firsts = h.firsts; seconds = h.seconds; splits = h.splits; first = la.undisturbed chip w h.firsts s.0 made (none-first made none) h.first; second = lb.undisturbed chip w h.seconds s.1 made (none-second made none) h.second };
+    owns_plain = u-plain;
+    owns_called = u-called;
+    due = u-due;
+    rests = λ chip w s line used h. let k = empty-split ours h.firsts h.seconds h.splits in rests-at chip w s line h.firsts h.seconds k.0 k.1 used h.first h.second;
+    waits = λ chip w s u h. let k = empty-split ours h.firsts h.seconds h.splits in waits-at chip w s u h.firsts h.seconds k.0 k.1 h.first h.second;
+    rate_starts = la.rate_starts;
+    rate = λ chip w f o ps s masked out h is. rate-split chip w f o ps s.0 s.1 h.firsts h.seconds h.splits masked out h.first h.second is;
+    rate_moves = λ w s order out is. let k = both-first (d.setting.machine.happens w s.0 (Moves order)) (e.setting.machine.happens w s.1 (Moves order)) out is in subst (λ x. d.setting.machine.rate x ≡ d.setting.machine.rate s.0) k.2 (la.rate_moves w s.0 order k.0 k.1);
+    rate_resets = λ chip w s reason out is. let k = both-first (d.setting.machine.happens w s.0 (Restarts reason)) (e.setting.machine.happens w s.1 (Restarts reason)) out is in subst (λ x. (reset_chip chip reason).rate ≡ d.setting.machine.rate x) k.2 (la.rate_resets chip w s.0 reason k.0 k.1);
+    handled = λ line. handler-some (d.handler_of line) (e.handler_of line) ∙ (ap (λ x. x || is_some (e.handler_of line)) (la.handled line) ∙ ap (λ x. d.setting.used line || x) (lb.handled line));
+    call_fuel = u-call-fuel;
+    line_fuel = λ line f is. fuel-by d.fuel e.fuel (d.handler_of line) (e.handler_of line) f (d.setting.steps_of (Entered line)) (e.setting.steps_of (Entered line)) is (λ x k. la.line_fuel line x k) (λ y k. lb.line_fuel line y k);
+  }

@@ -1,0 +1,19 @@
+//! Runs the frames of any module, one step at a time.
+#![tactic(auto)]
+
+mod either;
+mod module;
+mod run;
+mod stack;
+#[cfg(test)]
+mod tests;
+mod union;
+
+pub use either::Either;
+pub use module::Module;
+pub use run::{begin, enter, hardware, reset, step};
+pub use run_model::{
+    Class, Hardware, Item, Items, Journal, Key, KeyKind, Kind, Logged, Pool, Span, Stepped, What,
+};
+pub use stack::Stack;
+pub use union::Union;

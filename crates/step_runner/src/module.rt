@@ -1,0 +1,43 @@
+ghost use Rattle.std.specs.Prelude.{◌≡◌, ℕ, Option};
+ghost use Rattle.step_runner.specs.Driver.{Driver, IsLawful};
+
+use mcal_base::{ModuleName, Routine};
+use run_model::Class;
+
+/// A driver: which frames its calls and its lines have, and how they bear one another.
+pub trait Module {
+    /// A service with its arguments.
+    type Call: Drop;
+
+    /// A call or a handler under way.
+    type Frame: Routine + Drop;
+
+    /// The state of its machine. Contracts alone name it.
+    type State;
+
+    /// What it is to the runner.
+    ghost spec: { Self → Driver Self.State Self.Call Self.Frame };
+
+    /// The frame of a call that begins.
+    fn frame(&self, call: &Self::Call) -> Self::Frame
+        ensures { result ≡ (spec self.now).frame_of call.now };
+
+    /// The frame of a line's handler, if a configured object of the module uses the line.
+    fn handler(&self, line: u32) -> Option<Self::Frame>
+        ensures { result ≡ (spec self.now).handler_of line };
+
+    /// The class of a call.
+    fn class(&self, call: &Self::Call) -> Class
+        ensures { result ≡ (spec self.now).setting.class_of call.now };
+
+    /// The level of a line.
+    fn level(&self, line: u32) -> u32
+        ensures { result ≡ (spec self.now).setting.level_of line };
+
+    /// The module to which the handler of a line belongs.
+    fn owner(&self, line: u32) -> ModuleName
+        ensures { result ≡ (spec self.now).setting.owner_of line };
+
+    /// What it owes.
+    ghost laws: { (m : Self) → (spec m).fits → IsLawful (spec m) Self.Frame.move_of Self.Frame.left Self.Frame.gave };
+}

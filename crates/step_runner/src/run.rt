@@ -1,0 +1,125 @@
+ghost use Rattle.std.specs.Prelude.{◌≡◌, ◌<◌, ◌&&◌, List, [], ◌∷◌, ◌++◌, length, is_some};
+ghost use Rattle.chip_model.specs.Chip.{is_masked, is_pending, happened, CanHappen, reset_chip};
+ghost use Rattle.run_model.specs.Causes.{call_cause, line_cause};
+ghost use Rattle.run_model.specs.Moment.{Deed, Begins, Enters, Happens, Resets, call_tag, line_tag};
+ghost use Rattle.step_runner.specs.Stands.{Stands, done, step_done, FuelFalls};
+ghost use Rattle.step_runner.specs.Kept.{tags_under, top_is_noted, cause_of, beginning, put_by, enter_by, CanStep, TakesStep};
+
+use crate::{Module, Stack};
+use chip_model::Bus;
+use irq_control::Held;
+use mcal_base::{Directive, Move, Reason, Routine};
+use run_model::{Stepped, Tag};
+
+/// Begins a call at a level, unless a cause holds it; a held one changes nothing.
+pub fn begin<M: Module>(
+    stack: &mut Stack<M>,
+    driver: &M,
+    bus: &Bus,
+    call: M::Call,
+    level: u32,
+) -> Result<(), Held>
+    ensures cause { cause_of result ≡ call_cause (is_masked bus.now) (tags_under stack.old.frames)
+        (top_is_noted stack.old.frames) ((M.spec driver.now).setting.class_of call) level }
+    ensures stack { let frame = (M.spec driver.now).frame_of call in
+        let tag = call_tag (M.spec driver.now).setting call level in
+        stack.new ≡ put_by result (beginning frame tag) stack.old }
+    ensures stands { (h : List (Deed M.Call)) → (M.spec driver.now).fits → (M.spec driver.now).can_call call →
+        Stands (M.spec driver.now) bus.now stack.old.frames h →
+        Stands (M.spec driver.now) bus.now stack.new.frames (h ++ done result (Begins call level)) }
+{
+    let class = driver.class(&call);
+    stack.call_held(bus.masked(), &class, level)?;
+    let tag = Tag {
+        level,
+        owner: class.module,
+        class: Some(class),
+    };
+    stack.put(driver.frame(&call), tag);
+    Ok(())
+}
+
+/// Begins the handler of a line, unless a cause holds it; a held one changes nothing.
+/// A line without a handler is never pending.
+pub fn enter<M: Module>(stack: &mut Stack<M>, driver: &M, bus: &Bus, line: u32) -> Result<(), Held>
+    ensures cause { let level = (M.spec driver.now).setting.level_of line in
+        let is_due = is_some ((M.spec driver.now).handler_of line) && is_pending bus.now line in
+        cause_of result ≡ line_cause (is_masked bus.now) (tags_under stack.old.frames) level is_due }
+    ensures stack { let tag = line_tag (M.spec driver.now).setting line in
+        stack.new ≡ enter_by result ((M.spec driver.now).handler_of line) tag stack.old }
+    ensures stands { (h : List (Deed M.Call)) → (M.spec driver.now).fits →
+        Stands (M.spec driver.now) bus.now stack.old.frames h →
+        Stands (M.spec driver.now) bus.now stack.new.frames (h ++ done result (Enters line)) }
+{
+    let level = driver.level(line);
+    let handler = driver.handler(line);
+    let is_pending = handler.is_some() && bus.pending(line);
+    stack.line_held(bus.masked(), level, is_pending)?;
+    if let Some(frame) = handler {
+        let tag = Tag {
+            level,
+            owner: driver.owner(line),
+            class: None,
+        };
+        stack.put(frame, tag);
+    }
+    Ok(())
+}
+
+/// Makes the move of the top frame, hands its value to the frame, and takes the frame off where it ended.
+/// It is held as empty exactly where no frame is there.
+pub fn step<M: Module>(stack: &mut Stack<M>, bus: &mut Bus) -> Result<Stepped, Held>
+    requires few { stack.old.steps < 4294967295 }
+    requires there { CanStep M.Frame.move_of stack.old.frames }
+    ensures step { TakesStep M.Frame.move_of M.Frame.left M.Frame.gave
+        stack.old.frames stack.old.steps bus.old stack.new bus.new result }
+    ensures stands { (driver : M) (h : List (Deed M.Call)) → (M.spec driver).fits →
+        Stands (M.spec driver) bus.old stack.old.frames h →
+        Stands (M.spec driver) bus.new stack.new.frames (h ++ step_done result) }
+    ensures shortens { (driver : M) (h : List (Deed M.Call)) → (M.spec driver).fits →
+        Stands (M.spec driver) bus.old stack.old.frames h →
+        FuelFalls (M.spec driver).fuel stack.old.frames stack.new.frames result }
+{
+    let Some(mut top) = stack.take() else {
+        return Err(Held::Empty);
+    };
+    let made = top.frame.next();
+    let value = bus.apply(&made).value;
+    let taken = top.frame.took(value);
+    if taken.ended.is_none() {
+        top.noted = matches!(made, Move::Note(_));
+        stack.put_back(top);
+    }
+    Ok(Stepped {
+        made,
+        value,
+        received: 0,
+        event: taken.event,
+        ended: taken.ended,
+    })
+}
+
+/// A hardware event of the script.
+pub fn hardware<M: Module>(stack: &Stack<M>, bus: &mut Bus, happening: &Directive)
+    requires { CanHappen bus.old happening.now.order }
+    ensures chip { bus.new ≡ happened bus.old happening.now.order }
+    ensures stands { (driver : M) (h : List (Deed M.Call)) → (M.spec driver).fits →
+        Stands (M.spec driver) bus.old stack.now.frames h →
+        Stands (M.spec driver) bus.new stack.now.frames (h ++ Happens happening.now.order ∷ []) }
+{
+    let _frames = stack;
+    bus.hardware(happening);
+}
+
+/// Resets the chip and drops every frame, and answers how many they were.
+pub fn reset<M: Module>(stack: &mut Stack<M>, bus: &mut Bus, reason: Reason) -> u32
+    ensures dropped { result ≡ length stack.old.frames }
+    ensures stack { stack.new ≡ record stack.old { frames = [] } }
+    ensures chip { bus.new ≡ reset_chip bus.old reason }
+    ensures stands { (driver : M) (h : List (Deed M.Call)) → (M.spec driver).fits →
+        Stands (M.spec driver) bus.old stack.old.frames h →
+        Stands (M.spec driver) bus.new stack.new.frames (h ++ Resets reason ∷ []) }
+{
+    bus.reset(reason);
+    stack.clear()
+}

@@ -1,0 +1,254 @@
+ghost use Rattle.std.specs.Prelude.{◌≡◌, ◌<◌, [], ◌∷◌, not, length, IfOk, OnOk};
+ghost use Rattle.std.specs.List.{list_all};
+ghost use Rattle.std.specs.Bool.{OnFalse};
+ghost use Rattle.mcal_base.specs.Names.{module_number};
+ghost use Rattle.run_model.specs.Causes.{kind_number, same_key, kind_blocks, class_blocks, blocks, may_reenter, call_level_allows, line_level_allows, call_cause, line_cause, is_full};
+ghost use Rattle.chip_model.specs.Chip.{fresh};
+ghost use Rattle.step_runner.specs.Stands.{Stands};
+ghost use Rattle.step_runner.specs.Kept.{kept_empty, tags_under, top_is_noted, cause_of, beginning, TakesTop};
+
+use crate::Module;
+use irq_control::Held;
+use mcal_base::NoMemory;
+use run_model::{Class, Key, KeyKind, Kind, Tag};
+use std::alloc::Global;
+use std::marker::Model;
+
+/// The most frames at once.
+const MOST_FRAMES: u32 = 8;
+
+/// A frame under way, as the stack keeps it.
+#[derive(Drop)]
+pub struct Under<F: Drop> {
+    /// The frame.
+    pub frame: F,
+    /// Its level, its module and the class of a call.
+    pub tag: Tag,
+    /// Whether its last move was a notice.
+    pub noted: bool,
+}
+
+/// The frames under way, at most eight, and the number of steps that were made.
+#[derive(Drop)]
+pub struct Stack<M: Module> {
+    frames: Vec<Under<M::Frame>>,
+    steps: u32,
+}
+
+impl<M: Module> Model for Stack<M> {
+    ghost use Rattle.std.specs.Prelude.{◌≤◌, reverse, vec_len, vec_capacity};
+    ghost use Rattle.step_runner.specs.Kept.{Kept};
+
+    ghost Value = { Kept M.Frame };
+
+    ghost view = { λ s. record { frames = reverse s.frames.items; steps = s.steps } };
+
+    ghost invariant = { λ s. (vec_len s.frames ≤ 8) × (8 ≤ vec_capacity s.frames) };
+}
+
+fn kind_number_of(kind: KeyKind) -> u32
+    ensures { result ≡ kind_number kind }
+{
+    match kind {
+        KeyKind::Section => 0,
+        KeyKind::Pin => 1,
+        KeyKind::Channel => 2,
+        KeyKind::Group => 3,
+        KeyKind::Sequence => 4,
+        KeyKind::Clock => 5,
+        KeyKind::Main => 6,
+    }
+}
+
+/// Whether two calls have the same key.
+fn have_same_key(new: Option<Key>, there: Option<Key>) -> bool
+    ensures { result ≡ same_key new there }
+{
+    match (new, there) {
+        (Some(new), Some(there)) => {
+            kind_number_of(new.kind) == kind_number_of(there.kind) && new.number == there.number
+        }
+        _ => false,
+    }
+}
+
+/// Whether a kind of call may not begin over a call of the same module.
+fn kind_is_blocked(new: Kind, there: Kind, same: bool) -> bool
+    ensures { result ≡ kind_blocks new there same }
+{
+    match (new, there) {
+        (Kind::Exclusive, _) | (Kind::Keyed | Kind::Guarded, Kind::Exclusive) => true,
+        (Kind::Keyed, Kind::Keyed) => same,
+        _ => false,
+    }
+}
+
+/// Whether a call may not begin over a call, or over a handler, of the same module.
+fn class_is_blocked(new: &Class, there: Option<Class>) -> bool
+    ensures { result ≡ class_blocks new.now there }
+{
+    match there {
+        None => matches!(new.kind, Kind::Exclusive),
+        Some(there) => kind_is_blocked(new.kind, there.kind, have_same_key(new.key, there.key)),
+    }
+}
+
+/// Whether a call may not begin over a frame with this tag.
+fn is_blocked(new: &Class, there: &Tag) -> bool
+    ensures { result ≡ blocks new.now there.now }
+{
+    new.module.number() == there.owner.number() && class_is_blocked(new, there.class)
+}
+
+/// Whether a call may begin over each of these frames.
+fn none_blocks<F: Drop>(class: &Class, frames: &[Under<F>]) -> bool
+    ensures { result ≡ list_all (λ u. not (blocks class.now u.tag)) frames.now }
+{
+    frames.iter().all(|u| !is_blocked(class, &u.tag))
+}
+
+impl<M: Module> Stack<M> {
+    /// An empty stack. It takes the room of eight frames, and no later call takes memory.
+    pub fn new(alloc: Global) -> Result<Stack<M>, NoMemory>
+        ensures empty { IfOk result (λ s. s ≡ kept_empty) }
+        ensures stands { (driver : M) → (M.spec driver).fits →
+            IfOk result (λ s. Stands (M.spec driver) (fresh 0 0) s.frames []) }
+    {
+        let frames = Vec::with_capacity(alloc, MOST_FRAMES as usize).map_err(|_| NoMemory)?;
+        Ok(Stack { frames, steps: 0 })
+    }
+
+    /// The number of frames.
+    pub fn depth(&self) -> u32
+        ensures { result ≡ length self.now.frames }
+    {
+        self.frames.len() as u32
+    }
+
+    /// The number of steps that were made.
+    pub fn steps(&self) -> u32
+        ensures { result ≡ self.now.steps }
+    {
+        self.steps
+    }
+
+    /// Drops all frames, and answers how many they were.
+    pub fn clear(&mut self) -> u32
+        ensures dropped { result ≡ length self.old.frames }
+        ensures left { self.new ≡ record self.old { frames = [] } }
+    {
+        let dropped = self.depth();
+        self.frames.clear();
+        dropped
+    }
+
+    /// Whether reentry allows a call.
+    fn may_reenter(&self, class: &Class) -> bool
+        ensures { result ≡ may_reenter class.now (tags_under self.now.frames) }
+    {
+        none_blocks(class, &self.frames)
+    }
+
+    /// Whether a call of this level may begin over the top frame.
+    fn call_level_allows(&self, level: u32) -> bool
+        ensures { result ≡ call_level_allows (tags_under self.now.frames) (top_is_noted self.now.frames) level }
+    {
+        match self.frames.last() {
+            None => true,
+            Some(top) => top.tag.level < level || top.noted && level == top.tag.level,
+        }
+    }
+
+    /// Whether the handler of a line of this level may begin over the top frame.
+    fn line_level_allows(&self, level: u32) -> bool
+        ensures { result ≡ line_level_allows (tags_under self.now.frames) level }
+    {
+        match self.frames.last() {
+            None => true,
+            Some(top) => top.tag.level < level,
+        }
+    }
+
+    fn is_full(&self) -> bool
+        ensures tags { result ≡ is_full (tags_under self.now.frames) }
+        ensures room { OnFalse result (length self.now.frames < 8) }
+    {
+        self.depth() >= MOST_FRAMES
+    }
+
+    /// The first cause that holds a call, if there is one.
+    pub(crate) fn call_held(&self, is_masked: bool, class: &Class, level: u32) -> Result<(), Held>
+        ensures cause { cause_of result ≡ call_cause is_masked (tags_under self.now.frames) (top_is_noted self.now.frames)
+            class.now level }
+        ensures room { OnOk result (length self.now.frames < 8) }
+    {
+        if is_masked {
+            return Err(Held::Masked);
+        }
+        if !self.call_level_allows(level) {
+            return Err(Held::Level);
+        }
+        if !self.may_reenter(class) {
+            return Err(Held::Reentry);
+        }
+        if self.is_full() {
+            return Err(Held::Full);
+        }
+        Ok(())
+    }
+
+    /// The first cause that holds the handler of a line, if there is one.
+    pub(crate) fn line_held(
+        &self,
+        is_masked: bool,
+        level: u32,
+        is_pending: bool,
+    ) -> Result<(), Held>
+        ensures cause { cause_of result ≡ line_cause is_masked (tags_under self.now.frames) level is_pending }
+        ensures room { OnOk result (length self.now.frames < 8) }
+    {
+        if is_masked {
+            return Err(Held::Masked);
+        }
+        if !self.line_level_allows(level) {
+            return Err(Held::Level);
+        }
+        if !is_pending {
+            return Err(Held::Idle);
+        }
+        if self.is_full() {
+            return Err(Held::Full);
+        }
+        Ok(())
+    }
+
+    /// Puts a frame on.
+    pub(crate) fn put(&mut self, frame: M::Frame, tag: Tag)
+        requires { length self.old.frames < 8 }
+        ensures { self.new ≡ record self.old { frames = beginning frame tag ∷ self.old.frames } }
+    {
+        self.put_back(Under {
+            frame,
+            tag,
+            noted: false,
+        });
+    }
+
+    /// Takes the top frame off for a step of its own, and counts the step.
+    pub(crate) fn take(&mut self) -> Option<Under<M::Frame>>
+        requires { self.old.steps < 4294967295 }
+        ensures { TakesTop self.old.frames self.old.steps self.new result }
+    {
+        let top = self.frames.pop()?;
+        self.steps += 1;
+        Some(top)
+    }
+
+    /// Puts a frame that was taken back on.
+    pub(crate) fn put_back(&mut self, top: Under<M::Frame>)
+        requires { length self.old.frames < 8 }
+        ensures { self.new ≡ record self.old { frames = top ∷ self.old.frames } }
+    {
+        self.frames.push_reserved(top);
+    }
+}
