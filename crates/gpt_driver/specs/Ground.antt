@@ -80,9 +80,9 @@ owns_written EnableSet v = has_lines v
 owns_written EnableClear v = has_lines v
 owns_written r v = is_timer r
 
--- a driver word of the module
+-- a driver word of the module, which has 64
 abbrev pub is_own_word : ℕ → Bool
-is_own_word k = not (nat_lt k 16384) && nat_lt k 24576
+is_own_word k = not (nat_lt k 16384) && nat_lt k 16448
 
 -- the move names a register, a line or a word of the module
 abbrev pub gpt_owns : Move → Bool

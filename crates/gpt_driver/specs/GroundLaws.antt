@@ -129,7 +129,7 @@ length_apart chip Unmask = refl
 length_apart chip (Note n) = refl
 length_apart chip (Report x) = refl
 
-is_own : (k : ℕ) → 16384 ≤ k → k < 24576 → is_own_word k ≡ true
+is_own : (k : ℕ) → 16384 ≤ k → k < 16448 → is_own_word k ≡ true
 is_own k a b = grind (arith, nat_tests)
 
 not_it : (j k : ℕ) → is_own_word j ≡ false → is_own_word k ≡ true → k ≢ j

@@ -1,0 +1,134 @@
+-- Small runs of the timers' machine, written out: the boards, what happens, and what is told.
+use Rattle.std.specs.Prelude.{ℕ, true, false, List, [], ◌∷◌, Option, Some, None}
+use Rattle.mcal_base.specs.declared.config.gpt.GptChannelMode.TheVariants.{Continuous, OneShot}
+use Rattle.mcal_base.specs.declared.directive.Order.TheVariants.{Tick}
+use Rattle.mcal_base.specs.declared.error_name.ErrorName.{ErrorName}
+use Rattle.mcal_base.specs.declared.notice.NoticeKind.{NoticeKind}
+use Rattle.run_model.specs.declared.class.Tag.{Tag}
+use Rattle.run_model.specs.Moment.{line_tag, call_tag}
+use Rattle.run_model.specs.World.{World, world_start, world_after}
+use Rattle.run_model.specs.Machine.{Happening, Acts, Serves, Moves, Told, Outcome, no_answer, tells_nothing}
+use Rattle.run_model.specs.Frame.{state_by}
+use Rattle.service_outline.specs.Done.{number}
+use Rattle.gpt_driver.specs.Ground.{gpt_setting}
+use Rattle.gpt_driver.specs.Machine.{GptState, gpt_machine, first_state}
+use Rattle.gpt_driver.specs.Table.{driver_of}
+use Rattle.gpt_driver.specs.declared.call.Call.{Call}
+use Rattle.gpt_driver.specs.declared.call.Call.TheVariants.{Init, GetTimeElapsed, GetTimeRemaining, StartTimer, StopTimer, EnableNotification, SetMode, EnableWakeup, CheckWakeup}
+use Rattle.gpt_driver.specs.declared.call.GptMode.TheVariants as modes
+use Rattle.gpt_driver.specs.declared.driver.GptDriver.{GptDriver}
+
+-- ---- boards
+
+-- one one-shot channel
+abbrev pub plain_board : GptDriver
+plain_board = driver_of (record {
+  dev_error_detect = true;
+  channels = record { id = 0; mode = OneShot; tick_value_max = 4294967295; enable_wakeup = false; notification = false; prescaler = 1; level = 1 } ∷ [];
+})
+
+-- a one-shot channel of small values that notifies, and a continuous one that notifies and wakes
+abbrev pub two_channels : GptDriver
+two_channels = driver_of (record {
+  dev_error_detect = true;
+  channels =
+      record { id = 0; mode = OneShot; tick_value_max = 100000; enable_wakeup = false; notification = true; prescaler = 1; level = 1 }
+      ∷ record { id = 1; mode = Continuous; tick_value_max = 4294967295; enable_wakeup = true; notification = true; prescaler = 1; level = 2 }
+      ∷ [];
+})
+
+-- the frame of the handler of channel 0's line, and of a call of level 0 that asks that channel
+abbrev pub handler_tag : Tag
+handler_tag = line_tag (gpt_setting two_channels) 0
+
+abbrev pub asking_tag : Tag
+asking_tag = call_tag (gpt_setting two_channels) (GetTimeElapsed 0) 0
+
+-- ---- what is told
+
+-- the outside after a happening
+abbrev pub world_by : GptDriver → World → GptState → Happening Call → World
+world_by d w s (Moves order) = world_after w ((gpt_machine d).rate s) order
+world_by d w s _ = w
+
+abbrev pub told_by : Option (Outcome GptState) → Option Told
+told_by None = None
+told_by (Some out) = Some out.told
+
+-- what is told at each happening, and none where one isn't allowed, which changes nothing
+abbrev pub told_from : GptDriver → World → GptState → List (Happening Call) → List (Option Told)
+told_from d w s [] = []
+told_from d w s (h ∷ hs) =
+    told_by ((gpt_machine d).happens w s h) ∷ told_from d (world_by d w s h) (state_by s ((gpt_machine d).happens w s h)) hs
+
+-- the same from power on
+abbrev pub told : GptDriver → List (Happening Call) → List (Option Told)
+told d hs = told_from d world_start first_state hs
+
+-- nothing is told; a number is answered; an error is found; a notice is given; it isn't allowed
+abbrev pub silence : Option Told
+silence = Some tells_nothing
+
+abbrev pub answered : ℕ → Option Told
+answered n = Some (record { answer = number n; error = None; notices = [] })
+
+abbrev pub refused : ErrorName → Option Told
+refused e = Some (record { answer = no_answer; error = Some e; notices = [] })
+
+abbrev pub noted : NoticeKind → ℕ → Option Told
+noted kind c = Some (record { answer = no_answer; error = None; notices = record { kind = kind; id = c } ∷ [] })
+
+abbrev pub forbidden : Option Told
+forbidden = None
+
+-- ---- what happens
+
+-- so many ticks
+abbrev pub ticks : ℕ → Happening Call
+ticks n = Moves (Tick n)
+
+-- a line is served
+abbrev pub serving : ℕ → Happening Call
+serving line = Serves line 0
+
+-- a timer is started with 100, and asked after 30 ticks
+abbrev pub plain_run : List (Happening Call)
+plain_run = Acts Init ∷ Acts (StartTimer 0 100) ∷ ticks 30 ∷ Acts (GetTimeElapsed 0) ∷ []
+
+-- a timer is started with values that are too small, too large and the largest, and while it runs
+abbrev pub starts_run : List (Happening Call)
+starts_run = Acts Init ∷ Acts (StartTimer 0 0) ∷ Acts (StartTimer 0 100001) ∷ Acts (StartTimer 0 100000) ∷ Acts (StartTimer 0 5) ∷ []
+
+-- a timer expires, is asked and is served twice
+abbrev pub expiry_run : List (Happening Call)
+expiry_run =
+    Acts Init ∷ Acts (EnableNotification 0) ∷ Acts (StartTimer 0 50) ∷ ticks 50 ∷ Acts (GetTimeElapsed 0) ∷ Acts (GetTimeRemaining 0) ∷ serving 0
+    ∷ serving 0 ∷ []
+
+-- a timer is asked one tick before its low half is full, and a tick later
+abbrev pub carry_run : List (Happening Call)
+carry_run = Acts Init ∷ Acts (StartTimer 0 100000) ∷ ticks 65535 ∷ Acts (GetTimeElapsed 0) ∷ ticks 1 ∷ Acts (GetTimeElapsed 0) ∷ []
+
+-- a timer is stopped one tick before its expiry, and then at an expiry
+abbrev pub stops_run : List (Happening Call)
+stops_run =
+    Acts Init ∷ Acts (EnableNotification 0) ∷ Acts (StartTimer 0 50) ∷ ticks 49 ∷ Acts (StopTimer 0) ∷ ticks 1 ∷ Acts (GetTimeElapsed 0) ∷ serving 0
+    ∷ Acts (StartTimer 0 50) ∷ ticks 50 ∷ Acts (StopTimer 0) ∷ Acts (GetTimeElapsed 0) ∷ serving 0 ∷ []
+
+-- two timers fall asleep, one of them wakes, and the other one was stopped
+abbrev pub sleep_run : List (Happening Call)
+sleep_run =
+    Acts Init ∷ Acts (EnableWakeup 1) ∷ Acts (StartTimer 0 100) ∷ Acts (StartTimer 1 40) ∷ ticks 10 ∷ Acts (SetMode (Some modes.Sleep)) ∷ ticks 30
+    ∷ serving 1 ∷ Acts (CheckWakeup 1) ∷ Acts (CheckWakeup 1) ∷ Acts (StartTimer 0 5) ∷ Acts (SetMode (Some modes.Normal)) ∷ Acts (GetTimeElapsed 0) ∷ []
+
+-- a timer is started again in its notification
+abbrev pub callback_run : List (Happening Call)
+callback_run =
+    Acts Init ∷ Acts (EnableNotification 0) ∷ Acts (StartTimer 0 10) ∷ Acts (StartTimer 1 5000) ∷ ticks 10 ∷ serving 0 ∷ Acts (StartTimer 0 20)
+    ∷ Acts (GetTimeElapsed 1) ∷ []
+
+-- a continuous timer passes its value twice before it is served, and is stopped
+abbrev pub continuous_run : List (Happening Call)
+continuous_run =
+    Acts Init ∷ Acts (EnableNotification 1) ∷ Acts (StartTimer 1 40) ∷ ticks 100 ∷ Acts (GetTimeElapsed 1) ∷ Acts (GetTimeRemaining 1) ∷ serving 1
+    ∷ serving 1 ∷ ticks 20 ∷ Acts (StopTimer 1) ∷ serving 1 ∷ []
