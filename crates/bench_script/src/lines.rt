@@ -1,4 +1,4 @@
-ghost use Rattle.std.specs.Prelude.{◌≡◌, ◌==◌, ◌<◌, ◌∷◌, [], Some, MatchOption, IfSome, IfOk, length, map, not, option_map};
+ghost use Rattle.std.specs.Prelude.{◌≡◌, ◌==◌, ◌<◌, ◌≤◌, ◌∷◌, [], Some, MatchOption, IfSome, IfOk, length, map, not, option_map};
 ghost use Rattle.std.specs.List.{position};
 ghost use Rattle.std.specs.Str.Lines.{lines, strip_carriage_return};
 ghost use Rattle.bench_script.specs.Lines as spec;
@@ -28,7 +28,8 @@ fn without_return(line: &[u8]) -> &[u8]
 
 /// The configuration and the script of a bench file. The first line that is `---` stands between them.
 pub fn split_file(text: &[u8]) -> Option<(&[u8], &[u8])>
-    ensures { option_map (λ p. (p.0.now, p.1.now)) result ≡ spec.file text.now }
+    ensures parts { option_map (λ p. (p.0.now, p.1.now)) result ≡ spec.file text.now }
+    ensures shorter { IfSome result (λ p. length p.1.now ≤ length text.now) }
 {
     let mut start = 0;
     while let Some(feed) = place_of(b'\n', &text[start..]) {

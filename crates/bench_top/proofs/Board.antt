@@ -1,5 +1,5 @@
 -- The timer driver of a sound configuration.
-use Rattle.std.proofs.Common.{◌≡◌, ◌<◌, ◌^◌, arith, subst, sym}
+use Rattle.std.proofs.Common.{◌≡◌, arith, subst, sym}
 use Rattle.std.specs.Prelude.{All}
 use Rattle.config_facts.specs.Valid.{IsGpt}
 use Rattle.mcal_base.specs.declared.config.gpt.GptConfig.{GptConfig}

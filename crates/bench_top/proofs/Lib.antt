@@ -1,5 +1,4 @@
 pub mod Board
+pub mod Judging
 pub mod Known
 pub mod Scripts
-pub mod Splits
-pub mod Judging

@@ -1,100 +1,50 @@
--- The directives that lines are read as.
-use Rattle.std.proofs.Common.{◌≡◌, ℕ, ◌+◌, ◌<◌, ◌≤◌, Bool, true, false, nat_le, List, [], ◌∷◌, ◌++◌, length, Option, Some, None, Ok, Err, refl, ap, sym, subst, arith, append_assoc, add-one}
-use Rattle.std.specs.Prelude.{Result, codes, bytes_eq, if◌then◌else◌}
+-- The directives of a text may be run, where each of them can be.
+use Rattle.std.proofs.Common.{◌≡◌, ℕ, ◌+◌, ◌<◌, Bool, true, false, not, List, [], ◌∷◌, Some, None, inl, inr, refl, sym, subst, cond, arith}
+use Rattle.std.specs.Prelude.{option_map, find}
+use Rattle.std.proofs.lemmas.Bool.Decides.{nat_tests}
+use Rattle.std.specs.Str.Lines.{lines}
 use Rattle.mcal_base.specs.declared.directive.Directive.{Directive}
 use Rattle.mcal_base.specs.declared.directive.Order.{Order}
-use Rattle.mcal_base.specs.declared.directive.Order.TheVariants as orders
-use Rattle.mcal_base.specs.declared.service.Service.TheVariants as services
+use Rattle.mcal_base.specs.declared.directive.Order.TheVariants.{Call, Do, Enter, Serve, Run, Upto, Finish, Tick}
+use Rattle.bench_script.specs.Productions.{HoldsOrder, HoldDirectives}
+use Rattle.bench_script.proofs.Whole.{script_is}
 use Rattle.script_runner.specs.Scripts.{LinesRise, AllBuilt, IsScript}
-use Rattle.script_runner.specs.Standing.{is_built}
-use Rattle.bench_top.specs.declared.thin_file.Reading.{Reading}
-use Rattle.bench_top.specs.declared.thin_file.Reading.TheVariants.{Empty, Asks, NotBuilt}
-use Rattle.bench_top.specs.Numbers.{argument, digits, within}
-use Rattle.bench_top.specs.Script.{behind, call, started, ticked, tick_line, start_line, read_line, with_line, script_from, onto}
+use Rattle.script_runner.specs.Standing as runner
+use Rattle.bench_top.specs.Built.{is_built, unbuilt_line, IsRead}
 
-pub onto_asked : (front : List Directive) (n : ℕ) (order : Order) (r : Result (List Directive) ℕ) → onto (front ++ (record { line = n; order = order }) ∷ []) r ≡ onto front (with_line n (Asks order) r)
-onto_asked front n order (Ok script) = ap (λ ds. Ok ds) (append_assoc front ((record { line = n; order = order }) ∷ []) script)
-onto_asked front n order (Err line) = refl
+-- the lines of directives rise
+rises : (low n : ℕ) (ls : List (List ℕ)) (ds : List Directive) → low < n → HoldDirectives n ls ds → LinesRise low ds
+rises low n [] [] lt h = tt
+rises low n [] (d ∷ ds) lt h = absurd h
+rises low n (line ∷ ls) ds lt (inl h) = rises low (n + 1) ls ds (omega (arith, lt)) h.1
+rises low n (line ∷ ls) ds lt (inr h) = subst (λ (xs : List Directive). LinesRise low xs) (sym h.2) (lt, rises n (n + 1) ls h.1 (omega arith) h.4)
 
--- ---- a line that asks for something asks for what is built
+-- an order that can be run, of a line
+obeyed : (line : List ℕ) (order : Order) → HoldsOrder line order → is_built order ≡ true → runner.is_built order ≡ true
+obeyed line (Call level r) h b = refl
+obeyed line (Do level r) h b = refl
+obeyed line (Enter n) h b = refl
+obeyed line (Serve n) h b = refl
+obeyed line (Run n) h b = refl
+obeyed line (Upto stop) h b = refl
+obeyed line Finish h b = refl
+obeyed line (Tick n) h b = let most = h.is.given.number.below in grind (arith, nat_tests, most)
+obeyed line _ h b = cc
 
--- what a reading may ask for
-abbrev IsBuilt : Reading → Type 0
-IsBuilt r = (order : Order) → r ≡ Asks order → is_built order ≡ true
+none_first : (d : Directive) (ds : List Directive) (b : Bool) → is_built d.order ≡ b → option_map (λ (x : Directive). x.line) (cond (not b) (Some d) (find (λ (x : Directive). not (is_built x.order)) ds)) ≡ None → (is_built d.order ≡ true) × (unbuilt_line ds ≡ None)
+none_first d ds true e h = (e, h)
+none_first d ds false e h = cc
 
-asks_built : (order : Order) → is_built order ≡ true → IsBuilt (Asks order)
-asks_built order h = λ o e. subst (λ r. reading_built r ≡ true) e h where
-  reading_built : Reading → Bool
-  reading_built (Asks o) = is_built o
-  reading_built _ = true
+all_obeyed : (n : ℕ) (ls : List (List ℕ)) (ds : List Directive) → HoldDirectives n ls ds → unbuilt_line ds ≡ None → AllBuilt ds
+all_obeyed n [] [] h none = tt
+all_obeyed n [] (d ∷ ds) h none = absurd h
+all_obeyed n (line ∷ ls) ds (inl h) none = all_obeyed (n + 1) ls ds h.1 none
+all_obeyed n (line ∷ ls) ds (inr h) none =
+    let d : Directive = record { line = n; order = h.0 } in
+    let first = none_first d h.1 (is_built h.0) refl (subst (λ (xs : List Directive). unbuilt_line xs ≡ None) h.2 none) in
+    subst (λ (xs : List Directive). AllBuilt xs) (sym h.2) (obeyed line h.0 h.3 first.0, all_obeyed (n + 1) ls h.1 h.4 first.1)
 
-started_built : (q : Option ℕ) → IsBuilt (started q)
-started_built None = λ o e. cc
-started_built (Some n) = λ o e. cc
-
-within_most : (most : ℕ) (q : Option ℕ) (n : ℕ) → within most q ≡ Some n → nat_le n most ≡ true
-within_most most None n e = cc
-within_most most (Some m) n e = chosen (nat_le m most) refl e where
-  chosen : (b : Bool) → nat_le m most ≡ b → (if b then Some m else None) ≡ Some n → nat_le n most ≡ true
-  chosen true h f = let i : m ≡ n = cc in subst (λ x. nat_le x most ≡ true) i h
-  chosen false h f = cc
-
-argument_most : (count most : ℕ) (word : List ℕ) (n : ℕ) → argument count most word ≡ Some n → nat_le n most ≡ true
-argument_most count most word n e = chosen (nat_le (length word) count) e where
-  chosen : (b : Bool) → (if b then within most (digits word) else None) ≡ Some n → nat_le n most ≡ true
-  chosen true f = within_most most (digits word) n f
-  chosen false f = cc
-
-ticked_built : (q : Option ℕ) → ((n : ℕ) → q ≡ Some n → nat_le n 1000000 ≡ true) → IsBuilt (ticked q)
-ticked_built None h = λ o e. cc
-ticked_built (Some n) h = asks_built (orders.Tick n) (h n refl)
-
-tick_built : (q : Option (List ℕ)) → IsBuilt (tick_line q)
-tick_built None = λ o e. cc
-tick_built (Some word) = ticked_built (argument 7 1000000 word) (argument_most 7 1000000 word)
-
-start_built : (line : List ℕ) (q : Option (List ℕ)) → IsBuilt (start_line line q)
-start_built line None = tick_built (behind (codes "tick ") line)
-start_built line (Some word) = started_built (argument 10 4294967295 word)
-
-if_built : (b : Bool) (r s : Reading) → IsBuilt r → IsBuilt s → IsBuilt (if b then r else s)
-if_built true r s h k = h
-if_built false r s h k = k
-
-line_built : (line : List ℕ) → IsBuilt (read_line line)
-line_built line =
-    if_built (bytes_eq line (codes "")) _ _ (λ o e. cc)
-    (if_built (bytes_eq line (codes "finish")) _ _ (asks_built orders.Finish refl)
-    (if_built (bytes_eq line (codes "call 0 Gpt_Init")) _ _ (asks_built _ refl)
-    (if_built (bytes_eq line (codes "call 0 Gpt_GetTimeElapsed 0")) _ _ (asks_built _ refl)
-    (start_built line (behind (codes "call 0 Gpt_StartTimer 0 ") line)))))
-
--- ---- the directives of lines
-
--- the lines rise, each directive is built, and there are no more than lines
-record IsRead (low most : ℕ) (script : List Directive) : Type 0 where
-  rise : LinesRise low script
-  built : AllBuilt script
-  few : length script ≤ most
-
-lower : (low n most : ℕ) (script : List Directive) → low ≤ n → IsRead n most script → IsRead low (most + 1) script
-lower low n most [] h r = record { rise = r.rise; built = r.built; few = omega arith }
-lower low n most (x ∷ xs) h r = record { rise = (let k = r.rise.0 in omega (arith, h, k), r.rise.1); built = r.built; few = let k = r.few in omega (arith, k) }
-
-one_line : (low n most : ℕ) (reading : Reading) (rest : Result (List Directive) ℕ) (script : List Directive) → low < n → IsBuilt reading → ((later : List Directive) → rest ≡ Ok later → IsRead n most later) → with_line n reading rest ≡ Ok script → IsRead low (most + 1) script
-one_line low n most Empty rest script lt built later e = lower low n most script (omega (arith, lt)) (later script e)
-one_line low n most (Asks order) (Ok xs) script lt built later e =
-    let r = later xs refl in
-    let i : (record { line = n; order = order }) ∷ xs ≡ script = cc in
-    subst (IsRead low (most + 1)) i (record { rise = (lt, r.rise); built = (built order refl, r.built); few = let k = r.few in omega (arith, k) })
-one_line low n most (Asks order) (Err f) script lt built later e = cc
-one_line low n most NotBuilt rest script lt built later e = cc
-
-read_from : (low n : ℕ) (lines : List (List ℕ)) (script : List Directive) → low < n → script_from n lines ≡ Ok script → IsRead low (length lines) script
-read_from low n [] script lt e = let i : [] ≡ script = cc in subst (IsRead low 0) i (record { rise = _; built = _; few = omega arith })
-read_from low n (line ∷ lines) script lt e = rw add-one at (
-    one_line low n (length lines) (read_line line) (script_from (n + 1) lines) script lt (line_built line) (λ later f. read_from n (n + 1) lines later (omega arith) f) e)
-
--- the directives of a script that was read may be run
-pub may_run : (lines : List (List ℕ)) (script : List Directive) → length lines ≤ 1100000 → script_from 1 lines ≡ Ok script → IsScript script
-may_run lines script few e = let r = read_from 0 1 lines script (omega arith) e in record { lines = r.rise; built = r.built; few = let k = r.few in omega (arith, few, k) }
+pub may_run : (ds : List Directive) → IsRead ds → unbuilt_line ds ≡ None → IsScript ds
+may_run ds read none =
+    let s = script_is read.text ds read.is in
+    record { lines = rises 0 1 (lines read.text) ds (omega arith) s.hold; built = all_obeyed 1 (lines read.text) ds s.hold none; few = omega (arith, s.few) }

@@ -1,21 +1,38 @@
--- What a call of the bench refuses, in the order of its refusals, and what it runs.
-use Rattle.std.specs.Prelude.{ℕ, ◌++◌, nat_lt, List, length, Option, Some, None, Result, Ok, Err, codes, decimal, if◌then◌else◌}
+-- What a call of the bench prints without a run, in the order of its refusals, and what it runs.
+use Rattle.std.specs.Prelude.{ℕ, ◌++◌, nat_lt, List, length, Bool, Option, Some, None, Result, Ok, Err, codes, decimal, if◌then◌else◌}
+use Rattle.mcal_base.specs.Names.{module_text}
+use Rattle.mcal_base.specs.declared.config.whole.Config.{Config}
 use Rattle.mcal_base.specs.declared.directive.Directive.{Directive}
+use Rattle.mcal_base.specs.declared.module_name.ModuleName.{ModuleName}
+use Rattle.config_rows.specs.Printed.{fault_text}
+use Rattle.config_rows.specs.declared.fault.ConfigFault.{ConfigFault}
+use Rattle.config_rows.specs.declared.fault.ConfigFault.TheVariants.{NotToml}
+use Rattle.mcal_config.specs.Whole.{fault_of, record_of}
+use Rattle.bench_script.specs.Faults.{line_of, kind_text}
+use Rattle.bench_script.specs.Lines.{file}
+use Rattle.bench_script.specs.Script.{script}
+use Rattle.bench_script.specs.declared.fault.ScriptFault.{ScriptFault}
+use Rattle.bench_script.specs.declared.fault.ScriptFault.TheVariants.{Long}
+use Rattle.bench_top.specs.Built.{unbuilt_module, unbuilt_line}
 use Rattle.bench_top.specs.declared.refusal.Refusal.{Refusal}
 use Rattle.bench_top.specs.declared.refusal.Refusal.TheVariants as refusals
 use Rattle.bench_top.specs.declared.words.Form.{Form}
-use Rattle.bench_top.specs.Lines.{lines_of, script_lines, is_configured}
-use Rattle.bench_top.specs.Script.{script_from}
+use Rattle.bench_top.specs.declared.words.Form.TheVariants.{Check, Run}
 
 -- a status, and all that is printed
 pub record Ending : Type 0 where
   pub status : ℕ
   pub text : List ℕ
 
--- a call is refused, or it runs a script
+-- a text is printed and nothing runs, or a script runs on a configuration, traced or not
 pub data Judgement : Type 0 where
-  Refuses : Ending → Judgement
-  Accepts : List Directive → Judgement
+  Prints : Ending → Judgement
+  Runs : (traced : Bool) → Config → List Directive → Judgement
+
+-- ---- endings without a run
+
+abbrev pub checked : ℕ → Ending
+checked directives = record { status = 0; text = codes "configuration ok\nscript ok " ++ (decimal directives ++ codes "\n") }
 
 abbrev pub usage : Ending
 usage = record { status = 1; text = codes "usage: mcal_bench check | run | run --trace | run --tail N | gen SEED COUNT | audit\n" }
@@ -24,41 +41,55 @@ usage = record { status = 1; text = codes "usage: mcal_bench check | run | run -
 abbrev pub read_fault : Ending
 read_fault = record { status = 2; text = codes "read fault\n" }
 
-abbrev pub too_long : Ending
-too_long = record { status = 5; text = codes "too long: more than 1048576 bytes\n" }
+abbrev pub too_many_bytes : Ending
+too_many_bytes = record { status = 5; text = codes "too long: more than 1048576 bytes\n" }
 
-abbrev pub not_configured : Ending
-not_configured = record { status = 6; text = codes "configuration not built\n" }
+abbrev pub too_many_directives : Ending
+too_many_directives = record { status = 5; text = codes "too long: more than 50000 directives\n" }
 
-abbrev pub no_separator : Ending
-no_separator = record { status = 7; text = codes "script fault 0 NoSeparator\n" }
-
-abbrev pub not_built : ℕ → Ending
-not_built line = record { status = 7; text = codes "script fault " ++ (decimal line ++ codes " NotBuilt\n") }
+-- a run stopped at the limit of steps
+abbrev pub too_many_steps : Ending
+too_many_steps = record { status = 5; text = codes "too long: more than 1000000 steps\n" }
 
 -- how a call ends whose file is refused
 abbrev pub ending_of : Refusal → Ending
-ending_of refusals.NoSeparator = no_separator
-ending_of refusals.Configuration = not_configured
-ending_of (refusals.NotBuilt line) = not_built line
+ending_of refusals.NoSeparator = record { status = 7; text = codes "script fault 0 NoSeparator\n" }
+ending_of (refusals.Configuration fault) = record { status = 6; text = codes "configuration fault " ++ (fault_text fault ++ codes "\n") }
+ending_of (refusals.Script (Long line)) = too_many_directives
+ending_of (refusals.Script fault) = record { status = 7; text = codes "script fault " ++ (decimal (line_of fault) ++ (codes " " ++ (kind_text fault ++ codes "\n"))) }
+ending_of (refusals.ModuleNotBuilt m) = record { status = 6; text = codes "configuration not built " ++ (module_text m ++ codes "\n") }
+ending_of (refusals.LineNotBuilt line) = record { status = 7; text = codes "script fault " ++ (decimal line ++ codes " NotBuilt\n") }
+
+-- ---- the order of the refusals
+
+-- what is configured, and then the directives, can be run
+abbrev pub judged_built : Bool → Config → List Directive → Option ModuleName → Option ℕ → Judgement
+judged_built traced config directives (Some m) line = Prints (ending_of (refusals.ModuleNotBuilt m))
+judged_built traced config directives None (Some line) = Prints (ending_of (refusals.LineNotBuilt line))
+judged_built traced config directives None None = Runs traced config directives
+
+-- a file that was read: `check` says so, whether it can be run or not
+abbrev pub judged_whole : Form → Config → List Directive → Judgement
+judged_whole Check config directives = Prints (checked (length directives))
+judged_whole (Run traced) config directives = judged_built traced config directives (unbuilt_module config) (unbuilt_line directives)
 
 -- the script
-abbrev pub judged_script : Result (List Directive) ℕ → Judgement
-judged_script (Ok script) = Accepts script
-judged_script (Err line) = Refuses (not_built line)
+abbrev pub judged_script : Form → Config → Result (List Directive) ScriptFault → Judgement
+judged_script form config (Ok directives) = judged_whole form config directives
+judged_script form config (Err fault) = Prints (ending_of (refusals.Script fault))
 
--- the separator, and then the configuration
-abbrev pub judged_parts : List (List ℕ) → Option (List (List ℕ)) → Judgement
-judged_parts lines None = Refuses no_separator
-judged_parts lines (Some script) = if is_configured lines then judged_script (script_from 1 script) else Refuses not_configured
+-- the configuration, and then the script; a text without a fault has a record
+abbrev pub judged_parts : Form → Option ConfigFault → Option Config → List ℕ → Judgement
+judged_parts form (Some fault) config text = Prints (ending_of (refusals.Configuration fault))
+judged_parts form None (Some config) text = judged_script form config (script text)
+judged_parts form None None text = Prints (ending_of (refusals.Configuration NotToml))
 
-abbrev pub judged_lines : List (List ℕ) → Judgement
-judged_lines lines = judged_parts lines (script_lines lines)
-
-abbrev pub judged_file : List ℕ → Judgement
-judged_file bytes = judged_lines (lines_of bytes)
+-- the separator, and then both parts
+abbrev pub judged_file : Form → Option (List ℕ × List ℕ) → Judgement
+judged_file form None = Prints (ending_of refusals.NoSeparator)
+judged_file form (Some parts) = judged_parts form (fault_of parts.0) (record_of parts.0) parts.1
 
 -- the words, and then the number of bytes
 abbrev pub judged : Option Form → List ℕ → Judgement
-judged None bytes = Refuses usage
-judged (Some form) bytes = if nat_lt 1048576 (length bytes) then Refuses too_long else judged_file bytes
+judged None bytes = Prints usage
+judged (Some form) bytes = if nat_lt 1048576 (length bytes) then Prints too_many_bytes else judged_file form (file bytes)

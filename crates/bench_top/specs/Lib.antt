@@ -1,7 +1,5 @@
-pub mod Words
-pub mod Lines
-pub mod Numbers
-pub mod Script
+pub mod Built
 pub mod Judged
-pub mod Runs
 pub mod Outcomes
+pub mod Runs
+pub mod Words

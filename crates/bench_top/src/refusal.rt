@@ -1,6 +1,9 @@
 ghost use Rattle.std.specs.Prelude.{◌≡◌, IfOk, string_bytes};
 ghost use Rattle.bench_top.specs.Judged.{ending_of};
 
+use bench_script::ScriptFault;
+use mcal_base::ModuleName;
+use mcal_config::{ConfigFault, Printed};
 use std::alloc::{AllocError, Global};
 
 /// Why a bench file is refused.
@@ -8,10 +11,14 @@ use std::alloc::{AllocError, Global};
 pub enum Refusal {
     /// No line is the separator.
     NoSeparator,
-    /// The configuration is not blank.
-    Configuration,
-    /// The script line of this number is none of those that are built.
-    NotBuilt(u32),
+    /// The configuration has this fault.
+    Configuration(ConfigFault),
+    /// The script has this fault; one directive too many is a limit, and no fault of a line.
+    Script(ScriptFault),
+    /// This module is configured, and has no driver yet.
+    ModuleNotBuilt(ModuleName),
+    /// The script line of this number names what can't be run yet.
+    LineNotBuilt(u32),
 }
 
 impl Refusal {
@@ -20,8 +27,9 @@ impl Refusal {
         ensures { result ≡ (ending_of self).status }
     {
         match self {
-            Refusal::Configuration => 6,
-            Refusal::NoSeparator | Refusal::NotBuilt(_) => 7,
+            Refusal::Script(ScriptFault::Long(_)) => 5,
+            Refusal::Configuration(_) | Refusal::ModuleNotBuilt(_) => 6,
+            Refusal::NoSeparator | Refusal::Script(_) | Refusal::LineNotBuilt(_) => 7,
         }
     }
 
@@ -31,8 +39,23 @@ impl Refusal {
     {
         match self {
             Refusal::NoSeparator => String::from_str(alloc, "script fault 0 NoSeparator\n"),
-            Refusal::Configuration => String::from_str(alloc, "configuration not built\n"),
-            Refusal::NotBuilt(line) => format!(in alloc; "script fault {line} NotBuilt\n"),
+            Refusal::Configuration(fault) => {
+                let fault = Printed(fault);
+                format!(in alloc; "configuration fault {fault}\n")
+            }
+            Refusal::Script(ScriptFault::Long(_)) => {
+                String::from_str(alloc, "too long: more than 50000 directives\n")
+            }
+            Refusal::Script(fault) => {
+                let line = fault.line();
+                let kind = fault.kind_text();
+                format!(in alloc; "script fault {line} {kind}\n")
+            }
+            Refusal::ModuleNotBuilt(module) => {
+                let module = module.text();
+                format!(in alloc; "configuration not built {module}\n")
+            }
+            Refusal::LineNotBuilt(line) => format!(in alloc; "script fault {line} NotBuilt\n"),
         }
     }
 }

@@ -1,20 +1,25 @@
 ghost use Rattle.std.specs.Prelude.{IfOk};
-ghost use Rattle.bench_top.specs.Runs.{Runs};
+ghost use Rattle.std.specs.Bool.{OnFalse, OnTrue};
+ghost use Rattle.config_facts.specs.Valid.{IsValid};
 ghost use Rattle.script_runner.specs.Scripts.{IsScript};
+ghost use Rattle.bench_top.specs.Runs.{IsWholeRun, IsStoppedRun};
 
 use gpt_driver::GptDriver;
-use mcal_base::{Directive, NoMemory};
-use mcal_config::default_board;
-use run_model::Journal;
-use script_runner::run_whole;
+use mcal_base::{Config, Directive, NoMemory};
+use script_runner::{Ran, run_within};
 use std::alloc::Global;
 
-/// Runs a script over the timer driver of the default board, and gives the journal.
-pub fn run(alloc: Global, script: &[Directive]) -> Result<Journal, NoMemory>
-    requires { IsScript script.now }
-    ensures { IfOk result (λ journal. Runs script.now journal.entries) }
+/// The most steps of a run.
+pub const MOST_STEPS: u32 = 1_000_000;
+
+/// Runs a script over the timer driver of a configuration: to its end, or until one more step than the most would be
+/// taken.
+pub fn run(alloc: Global, config: &Config, script: &[Directive]) -> Result<Ran, NoMemory>
+    requires valid { IsValid config.now }
+    requires script { IsScript script.now }
+    ensures whole { IfOk result (λ ran. OnFalse ran.too_long (IsWholeRun config.now script.now ran.journal.entries)) }
+    ensures stopped { IfOk result (λ ran. OnTrue ran.too_long (IsStoppedRun config.now script.now ran.journal.entries)) }
 {
-    let config = default_board();
-    let driver = GptDriver::new(&config);
-    run_whole(alloc, &driver, &config, script)
+    let driver = GptDriver::new(config);
+    run_within(alloc, &driver, config, script, MOST_STEPS)
 }

@@ -1,22 +1,29 @@
-ghost use Rattle.std.specs.Prelude.{List, ◌≡◌, ◌≢◌, ◌≤◌, [], None, codes, length, map, string_bytes};
+ghost use Rattle.std.specs.Prelude.{◌≡◌, ◌≢◌, ◌≤◌, ◌++◌, ℕ, List, Bool, [], None, IfOk, codes, decimal, length, map, string_bytes};
 ghost use Rattle.std.specs.Option.{IfSome};
 ghost use Rattle.std.specs.Io.KnownBytes.{Appends, IsAtEnd};
 ghost use Rattle.mcal_base.specs.Causes.{Rose};
-ghost use Rattle.bench_top.specs.Words.{form_of};
+ghost use Rattle.mcal_base.specs.declared.config.whole.Config as records;
+ghost use Rattle.config_facts.specs.Valid.{IsValid};
+ghost use Rattle.bench_script.specs.Lines.{file};
 ghost use Rattle.script_runner.specs.Scripts.{IsScript};
-ghost use Rattle.bench_top.specs.Judged.{Accepts, Refuses, judged, judged_file, ending_of};
-ghost use Rattle.bench_top.specs.Outcomes.{Concludes, FrontOf, Journals, WritesFront, output, status_of};
+ghost use Rattle.bench_top.specs.Built.{IsRead};
+ghost use Rattle.bench_top.specs.Judged as spec;
+ghost use Rattle.bench_top.specs.Judged.{Ending, Prints, Runs, judged};
+ghost use Rattle.bench_top.specs.Outcomes.{Concludes, Ends, FrontOf, WritesFront, output};
+ghost use Rattle.bench_top.specs.Runs.{bound_of_script};
+ghost use Rattle.bench_top.specs.Words.{form_of};
 
+use crate::built::{unbuilt_line, unbuilt_module};
+use crate::file::{BenchFile, FileEnd, read_file};
 use crate::input::{ReadEnd, read_all};
 use crate::output::write_all;
 use crate::refusal::Refusal;
 use crate::run::run;
-use crate::thin_file::{FileEnd, read_file};
 use crate::words::{Form, form_of};
 use bench_report::report;
-use mcal_base::{Directive, Sink, Source};
+use mcal_base::{Config, Directive, Sink, Source};
 use run_model::Journal;
-use std::alloc::Global;
+use std::alloc::{AllocError, Global};
 
 /// What is printed where the words are of no form.
 const USAGE: &str =
@@ -26,7 +33,10 @@ const USAGE: &str =
 const READ_FAULT: &str = "read fault\n";
 
 /// What is printed where more bytes came than an input may have.
-const TOO_LONG: &str = "too long: more than 1048576 bytes\n";
+const TOO_MANY_BYTES: &str = "too long: more than 1048576 bytes\n";
+
+/// What is printed where one more step than the most would be taken.
+const TOO_MANY_STEPS: &str = "too long: more than 1000000 steps\n";
 
 /// How a call ended.
 #[derive(Drop)]
@@ -64,47 +74,101 @@ fn no_memory(alloc: Global) -> Outcome
     }
 }
 
-/// Writes the line of a refusal.
-fn refuse_with<K: Sink>(alloc: Global, out: &mut K, status: u8, text: &str) -> Outcome
+/// Writes a text, where nothing runs.
+fn print<K: Sink>(alloc: Global, out: &mut K, status: u8, text: &str) -> Outcome
     requires fault { status ≢ 3 }
     requires memory { status ≢ 4 }
     ensures remembers { result.status ≢ 4 }
-    ensures concludes { Concludes (Refuses (record { status = status; text = text.now })) result.status result.journal.entries (K.taken out.old) (K.taken out.new) (K.faults out.old) (K.faults out.new) }
+    ensures concludes { Concludes (Prints (record { status = status; text = text.now })) result.status result.journal.entries (K.taken out.old) (K.taken out.new) (K.faults out.old) (K.faults out.new) }
 {
     finish(out, status, text.as_bytes(), Journal::empty(alloc))
 }
 
 /// Writes the line of a file that is refused.
 fn refuse<K: Sink>(alloc: Global, out: &mut K, refusal: Refusal) -> Outcome
-    ensures { Concludes (Refuses (ending_of refusal)) result.status result.journal.entries (K.taken out.old) (K.taken out.new) (K.faults out.old) (K.faults out.new) }
+    ensures { Concludes (Prints (spec.ending_of refusal)) result.status result.journal.entries (K.taken out.old) (K.taken out.new) (K.faults out.old) (K.faults out.new) }
 {
     match refusal.text(alloc) {
-        Ok(text) => refuse_with(alloc, out, refusal.status(), text.as_str()),
+        Ok(text) => print(alloc, out, refusal.status(), text.as_str()),
         Err(_) => no_memory(alloc),
     }
 }
 
-/// Runs a script, and writes the report.
-fn run_and_report<K: Sink>(alloc: Global, out: &mut K, script: &[Directive]) -> Outcome
-    requires { IsScript script.now }
-    ensures { Concludes (Accepts script.now) result.status result.journal.entries (K.taken out.old) (K.taken out.new) (K.faults out.old) (K.faults out.new) }
+/// The lines of a file that was read.
+fn checked_text(alloc: Global, directives: usize) -> Result<String, AllocError>
+    ensures { IfOk result (λ text. string_bytes text ≡ (spec.checked directives).text) }
 {
-    let Ok(journal) = run(alloc, script) else {
+    format!(in alloc; "configuration ok\nscript ok {directives}\n")
+}
+
+/// Says that a file was read.
+fn check<K: Sink>(alloc: Global, out: &mut K, script: &[Directive]) -> Outcome
+    ensures { Concludes (Prints (spec.checked (length script.now))) result.status result.journal.entries (K.taken out.old) (K.taken out.new) (K.faults out.old) (K.faults out.new) }
+{
+    match checked_text(alloc, script.len()) {
+        Ok(text) => print(alloc, out, 0, text.as_str()),
+        Err(_) => no_memory(alloc),
+    }
+}
+
+/// Runs a script, and writes the report, or that the run was too long.
+fn run_and_report<K: Sink>(
+    alloc: Global,
+    out: &mut K,
+    traced: bool,
+    config: &Config,
+    script: &[Directive],
+) -> Outcome
+    requires valid { IsValid config.now }
+    requires script { IsScript script.now }
+    ensures { Concludes (Runs traced config.now script.now) result.status result.journal.entries (K.taken out.old) (K.taken out.new) (K.faults out.old) (K.faults out.new) }
+{
+    let Ok(ran) = run(alloc, config, script) else {
         return no_memory(alloc);
     };
-    match report(alloc, script, &journal, false) {
-        Ok(text) => finish(out, 0, text.as_bytes(), journal),
+    if ran.too_long {
+        return finish(out, 5, TOO_MANY_STEPS.as_bytes(), ran.journal);
+    }
+    match report(alloc, script, &ran.journal, traced) {
+        Ok(text) => finish(out, 0, text.as_bytes(), ran.journal),
         Err(_) => no_memory(alloc),
     }
 }
 
-/// Does what a bench file asks for.
-fn conclude<K: Sink>(alloc: Global, out: &mut K, bytes: &[u8]) -> Outcome
+/// Runs a file that was read, where all of it can be run.
+fn run_built<K: Sink>(alloc: Global, out: &mut K, traced: bool, read: &BenchFile) -> Outcome
+    requires valid { IsValid read.now.config }
+    requires script { IsRead read.now.script.items }
+    ensures { Concludes (spec.judged_whole (Form.Run traced) read.now.config read.now.script.items) result.status result.journal.entries (K.taken out.old) (K.taken out.new) (K.faults out.old) (K.faults out.new) }
+{
+    if let Some(module) = unbuilt_module(&read.config) {
+        return refuse(alloc, out, Refusal::ModuleNotBuilt(module));
+    }
+    if let Some(line) = unbuilt_line(&read.script) {
+        return refuse(alloc, out, Refusal::LineNotBuilt(line));
+    }
+    run_and_report(alloc, out, traced, &read.config, &read.script)
+}
+
+/// Does what a form asks for with a file that was read.
+fn act<K: Sink>(alloc: Global, out: &mut K, form: Form, read: &BenchFile) -> Outcome
+    requires valid { IsValid read.now.config }
+    requires script { IsRead read.now.script.items }
+    ensures { Concludes (spec.judged_whole form read.now.config read.now.script.items) result.status result.journal.entries (K.taken out.old) (K.taken out.new) (K.faults out.old) (K.faults out.new) }
+{
+    match form {
+        Form::Check => check(alloc, out, &read.script),
+        Form::Run(traced) => run_built(alloc, out, traced, read),
+    }
+}
+
+/// Does what a form asks for with a bench file.
+fn conclude<K: Sink>(alloc: Global, out: &mut K, form: Form, bytes: &[u8]) -> Outcome
     requires { length bytes.now ≤ 1048576 }
-    ensures { Concludes (judged_file bytes.now) result.status result.journal.entries (K.taken out.old) (K.taken out.new) (K.faults out.old) (K.faults out.new) }
+    ensures { Concludes (spec.judged_file form (file bytes.now)) result.status result.journal.entries (K.taken out.old) (K.taken out.new) (K.faults out.old) (K.faults out.new) }
 {
     match read_file(alloc, bytes) {
-        Ok(script) => run_and_report(alloc, out, &script),
+        Ok(read) => act(alloc, out, form, &read),
         Err(FileEnd::Refused(refusal)) => refuse(alloc, out, refusal),
         Err(FileEnd::NoMemory) => no_memory(alloc),
     }
@@ -120,7 +184,7 @@ pub fn bench<S: Source, K: Sink>(
     // Where no fault was met and memory was found, the status, the journal and the output are those of the definition.
     ensures exact { result.status ≢ 2 → result.status ≢ 3 → result.status ≢ 4 → IfSome (S.left input.old) (λ bytes.
         let judgement = judged (form_of (map string_bytes words.now)) bytes in
-        (result.status ≡ status_of judgement) × Journals judgement result.journal.entries × Appends (K.taken out.old) (K.taken out.new) (output judgement result.journal.entries)) }
+        Ends judgement result.status result.journal.entries × Appends (K.taken out.old) (K.taken out.new) (output judgement result.status result.journal.entries)) }
     // The words alone decide on status 1.
     ensures refused { form_of (map string_bytes words.now) ≡ None → result.status ≢ 3 → result.status ≡ 1 }
     ensures usage { result.status ≡ 1 → form_of (map string_bytes words.now) ≡ None }
@@ -133,22 +197,26 @@ pub fn bench<S: Source, K: Sink>(
     ensures write_only { result.status ≢ 3 → K.faults out.new ≡ K.faults out.old }
     ensures front { result.status ≡ 3 → IfSome (S.left input.old) (λ bytes. FrontOf (judged (form_of (map string_bytes words.now)) bytes) (Rose (S.faults input.old) (S.faults input.new)) result.journal.entries (K.taken out.old) (K.taken out.new)) }
     ensures read_front { result.status ≡ 3 → S.faults input.new ≢ S.faults input.old → WritesFront (K.taken out.old) (K.taken out.new) (codes "read fault\n") × (result.journal.entries ≡ []) }
-    ensures no_run { result.status ≢ 0 → result.status ≢ 3 → result.journal.entries ≡ [] }
+    // Only a run leaves a journal.
+    ensures no_run { result.status ≢ 0 → result.status ≢ 3 → result.status ≢ 5 → result.journal.entries ≡ [] }
     // Want of memory: nothing is written.
     ensures nothing { result.status ≡ 4 → Appends (K.taken out.old) (K.taken out.new) [] × (result.journal.entries ≡ []) }
     // Status 0 comes only where all was read.
     ensures ended { result.status ≡ 0 → IsAtEnd (S.left input.new) }
-    // A file that is not refused is run, where no fault is met and memory is found.
+    // A file that is not refused is run to its end, where no fault is met, memory is found and the bounds of its frames are within the limit of steps.
     ensures complete { (Rose (S.faults input.old) (S.faults input.new) → ⊥) → (Rose (K.faults out.old) (K.faults out.new) → ⊥) → IfSome (S.left input.old) (λ bytes.
-        (script : List Directive) → judged (form_of (map string_bytes words.now)) bytes ≡ Accepts script → result.status ≢ 4 → result.status ≡ 0) }
+        (traced : Bool) (config : records.Config) (script : List Directive) → judged (form_of (map string_bytes words.now)) bytes ≡ Runs traced config script → bound_of_script config script ≤ 1000000 → result.status ≢ 4 → result.status ≡ 0) }
+    // And a file that is not refused is checked.
+    ensures checks { (Rose (S.faults input.old) (S.faults input.new) → ⊥) → (Rose (K.faults out.old) (K.faults out.new) → ⊥) → IfSome (S.left input.old) (λ bytes.
+        (ending : Ending) → judged (form_of (map string_bytes words.now)) bytes ≡ Prints ending → result.status ≢ 4 → result.status ≡ ending.status) }
 {
-    match form_of(words) {
-        None => refuse_with(alloc, out, 1, USAGE),
-        Some(Form::Run) => match read_all(alloc, input) {
-            Ok(bytes) => conclude(alloc, out, &bytes),
-            Err(ReadEnd::Fault) => refuse_with(alloc, out, 2, READ_FAULT),
-            Err(ReadEnd::TooLong) => refuse_with(alloc, out, 5, TOO_LONG),
-            Err(ReadEnd::NoMemory) => no_memory(alloc),
-        },
+    let Some(form) = form_of(words) else {
+        return print(alloc, out, 1, USAGE);
+    };
+    match read_all(alloc, input) {
+        Ok(bytes) => conclude(alloc, out, form, &bytes),
+        Err(ReadEnd::Fault) => print(alloc, out, 2, READ_FAULT),
+        Err(ReadEnd::TooLong) => print(alloc, out, 5, TOO_MANY_BYTES),
+        Err(ReadEnd::NoMemory) => no_memory(alloc),
     }
 }

@@ -4,15 +4,32 @@ ghost use Rattle.bench_top.specs.Words as spec;
 /// What the words ask for.
 #[derive(Clone, Copy, Debug, PartialEq, Eq)]
 pub enum Form {
-    /// Runs a bench file, and prints the report.
-    Run,
+    /// Reads a bench file, and says that it is one.
+    Check,
+    /// Runs a bench file, and prints the report: with a line for each step where it is traced.
+    Run(bool),
 }
 
 /// The form of one word.
 fn one_word(word: &str) -> Option<Form>
     ensures { result ≡ spec.one_word word.now }
 {
-    if word == "run" { Some(Form::Run) } else { None }
+    match word {
+        "check" => Some(Form::Check),
+        "run" => Some(Form::Run(false)),
+        _ => None,
+    }
+}
+
+/// The form of two words.
+fn two_words(word: &str, option: &str) -> Option<Form>
+    ensures { result ≡ spec.two_words word.now option.now }
+{
+    if word == "run" && option == "--trace" {
+        Some(Form::Run(true))
+    } else {
+        None
+    }
 }
 
 /// The form of the words, where they are of one.
@@ -21,6 +38,7 @@ pub fn form_of(words: &[String]) -> Option<Form>
 {
     match words {
         [word] => one_word(word.as_str()),
+        [word, option] => two_words(word.as_str(), option.as_str()),
         _ => None,
     }
 }

@@ -74,7 +74,7 @@ is_timer _ = false
 abbrev pub has_lines : ℕ → Bool
 has_lines v = not (v % 256 == 0) || not (nat_lt v 4294967296)
 
--- a register of the module, or a value for the lines of the module
+-- a register of the module, or a value that names a line of the module
 abbrev pub owns_written : Reg → ℕ → Bool
 owns_written EnableSet v = has_lines v
 owns_written EnableClear v = has_lines v
@@ -95,6 +95,21 @@ gpt_owns Unmask = false
 gpt_owns (Note n) = false
 gpt_owns (Report e) = false
 
+-- the value has bits of timer lines, and of no other
+abbrev pub is_for_lines : ℕ → Bool
+is_for_lines v = not (v == 0) && nat_lt v 256
+
+-- a register of the module, or a value for lines of the module alone
+abbrev pub may_write : Reg → ℕ → Bool
+may_write EnableSet v = is_for_lines v
+may_write EnableClear v = is_for_lines v
+may_write r v = is_timer r
+
+-- a move that a frame of the module may make
+abbrev pub gpt_may : Move → Bool
+gpt_may (Write r v) = may_write r v
+gpt_may made = gpt_owns made
+
 -- the low half of the counter that a call reads
 abbrev pub low_half : Call → Option Reg
 low_half (GetTimeElapsed c) = Some (TimerLow c)
@@ -110,8 +125,10 @@ gpt_setting d = record {
   level_of = λ l. level_by (channel_of d l);
   owner_of = λ l. Gpt;
   used = λ l. is_some (channel_of d l);
+  lines = λ l. nat_lt l 8;
   steps_of = λ o. 64;
   window_of = λ o. 32;
+  may = λ o made. gpt_may made;
   owns = λ o made. gpt_owns made;
   low_half = low_half;
 }

@@ -1,11 +1,12 @@
 -- The ground keeps what it owes: at the start, in time, under moves elsewhere and over a reset.
-use Rattle.std.proofs.Common.{◌≡◌, ℕ, zero, suc, ◌+◌, ◌*◌, ◌/◌, ◌%◌, ◌<◌, ◌≤◌, ◌≢◌, ◌^◌, Bool, true, false, ◌&&◌, ◌||◌, ◌==◌, not, nat_lt, length, Option, None, refl, sym, ◌∙◌, ap, subst, arith, length-set, get_or-set_other}
+use Rattle.std.proofs.Common.{◌≡◌, ℕ, zero, suc, ◌+◌, ◌*◌, ◌/◌, ◌%◌, ◌<◌, ◌≤◌, ◌≢◌, ◌^◌, Bool, true, false, ◌&&◌, ◌||◌, ◌==◌, not, nat_lt, length, Option, Some, None, refl, sym, ◌∙◌, ap, subst, arith, length-set, get_or-set_other}
 use Rattle.std.specs.Prelude.{is_some, if◌then◌else◌, slice_index, bit_or}
 use Rattle.std.proofs.lemmas.Bool.Decides.{nat_tests}
 use Rattle.chip_model.specs.Chip.{Chip, chip_after, happened, fresh, word_of, is_pending, line_flags}
 use Rattle.chip_model.proofs.WordLaws.{length-blank, slice_index-blank}
 use Rattle.chip_timers.specs.Timers.{Timers, timer_at, timers_fresh, idle, after_read, after_write}
 use Rattle.chip_timers.proofs.TimerLaws.{has_bit-flags_of}
+use Rattle.chip_timers.specs.declared.timer.Timer.{Timer}
 use Rattle.mcal_base.specs.Bits.{has_bit, without}
 use Rattle.mcal_base.proofs.BitLaws.{has_bit-or, has_bit-without}
 use Rattle.mcal_base.specs.declared.directive.Order.{Order}
@@ -18,9 +19,9 @@ use Rattle.run_model.specs.World.{World, world_after}
 use Rattle.run_model.specs.Machine.{tells_nothing, outcome}
 use Rattle.run_model.specs.Frame.{Called, is_shared}
 use Rattle.service_outline.specs.Outline.{IsGround}
-use Rattle.gpt_driver.specs.Ground.{Gap, settled, GptAgrees, IsClean, gpt_ground, gpt_owns, is_timer, owns_written, is_own_word, has_lines, AreEnabled, CourseAgrees}
+use Rattle.gpt_driver.specs.Ground.{Gap, settled, GptAgrees, IsClean, gpt_ground, gpt_owns, gpt_may, is_timer, owns_written, may_write, is_own_word, has_lines, is_for_lines, AreEnabled, CourseAgrees}
 use Rattle.gpt_driver.specs.Facts.{flagged_same}
-use Rattle.gpt_driver.specs.Machine.{channel_at, GptState, first_state, untouched, Mode, Off, Normal, Sleep, is_marked, expired}
+use Rattle.gpt_driver.specs.Machine.{channel_at, GptState, first_state, untouched, Course, Never, Running, Stopped, Mode, Off, Normal, Sleep, is_marked, expired, ready}
 use Rattle.gpt_driver.specs.Table.{channel_of}
 use Rattle.gpt_driver.specs.Words.{target_word, switches_word}
 use Rattle.gpt_driver.specs.declared.call.Call.TheVariants.{Init}
@@ -243,6 +244,20 @@ owned_plain Unmask e = absurd (cc)
 owned_plain (Note n) e = absurd (cc)
 owned_plain (Report x) e = absurd (cc)
 
+-- ---- what a frame may do is the module's own
+
+lines_named : (v : ℕ) → is_for_lines v ≡ true → has_lines v ≡ true
+lines_named v e = grind (arith, nat_tests)
+
+written_owned : (r : Reg) (v : ℕ) → may_write r v ≡ true → owns_written r v ≡ true
+written_owned EnableSet v e = lines_named v e
+written_owned EnableClear v e = lines_named v e
+written_owned _ v e = e
+
+may_owned : (made : Move) → gpt_may made ≡ true → gpt_owns made ≡ true
+may_owned (Write r v) e = written_owned r v e
+may_owned _ e = e
+
 -- ---- what is due
 
 -- a configured channel is one of the eight
@@ -252,6 +267,9 @@ within_by c false o e h = absurd (cc)
 
 pub within : (d : GptDriver) (c : ℕ) → is_some (channel_of d c) ≡ true → c < 8
 within d c h = within_by c (nat_lt c 8) _ refl h
+
+below : (c : ℕ) → nat_lt c 8 ≡ true → c < 8
+below c e = grind (arith, nat_tests)
 
 below_test : (c : ℕ) → c < 8 → nat_lt c 8 ≡ true
 below_test c lt = grind (arith, nat_tests)
@@ -287,8 +305,24 @@ clean_at s Off c h e = h c
 clean_at s Normal c h e = absurd (cc)
 clean_at s Sleep c h e = absurd (cc)
 
-pends : (d : GptDriver) (chip : Chip) (w : World) (s : GptState) (c : ℕ) → is_some (channel_of d c) ≡ true → GptAgrees d settled chip w s → is_pending chip c ≡ (nat_lt c 8 && is_marked (channel_of d c) w.now (channel_at s c))
-pends d chip w s c used h = pends_by d chip w s c s.mode (within d c used) h (h.enabled refl) (clean_at s s.mode c h.clean)
+pends : (d : GptDriver) (chip : Chip) (w : World) (s : GptState) (c : ℕ) → nat_lt c 8 ≡ true → GptAgrees d settled chip w s → is_pending chip c ≡ (nat_lt c 8 && is_marked (channel_of d c) w.now (channel_at s c))
+pends d chip w s c lt h = pends_by d chip w s c s.mode (below c lt) h (h.enabled refl) (clean_at s s.mode c h.clean)
+
+-- a channel that isn't configured never expires
+expires_used : (k : Option Channel) (t : Timer) (x : Course) (dropped now : ℕ) → CourseAgrees k t x dropped → expired k dropped now x ≡ true → is_some k ≡ true
+expires_used (Some k) t x dropped now h e = refl
+expires_used None t Never dropped now h e = absurd (cc)
+expires_used None t (Running s v) dropped now h e = absurd (let p = h.5 in omega (arith, p))
+expires_used None t (Stopped a v) dropped now h e = absurd (cc)
+
+both_of : (a b : Bool) → a && b ≡ true → (a ≡ true) × (b ≡ true)
+both_of true b e = (refl, e)
+both_of false b e = absurd (cc)
+
+due_used : (d : GptDriver) (chip : Chip) (w : World) (s : GptState) (c : ℕ) → GptAgrees d settled chip w s → ready d w s c ≡ true → is_some (channel_of d c) ≡ true
+due_used d chip w s c h e =
+    let k = both_of (nat_lt c 8) (is_marked (channel_of d c) w.now (channel_at s c)) e in
+    expires_used (channel_of d c) (timer_at chip.timers c) (channel_at s c).course (channel_at s c).dropped w.now ((h.each c (below c k.0)).timer refl) k.1
 
 pub ground_right : (d : GptDriver) → IsGround (gpt_ground d)
 ground_right d = record {
@@ -298,9 +332,12 @@ ground_right d = record {
   agrees_later = λ gap chip w s order h. later_agrees d gap chip w s order h;
   agrees_apart = λ gap chip w s made e h. apart_agrees d gap chip w s made (e (Called Init)) h;
   foot_apart = λ chip made e. timers_apart chip made (e (Called Init));
+  may_owns = λ o made e. may_owned made e;
   owns_plain = λ o made e. owned_plain made e;
   owns_called = λ line made e. (Init, e);
-  pends = λ chip w s line used h. pends d chip w s line used h;
+  used_lines = λ line used. below_test line (within d line used);
+  due_used = λ chip w s line h e. due_used d chip w s line h e;
+  pends = λ chip w s line lt h. pends d chip w s line lt h;
   waits = λ chip w s u h. refl;
   rate_starts = refl;
   rate_moves = λ w s order out e. refl;

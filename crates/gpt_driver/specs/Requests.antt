@@ -1,5 +1,5 @@
 -- The calls that the requests of a script ask for.
-use Rattle.std.specs.Prelude.{ℕ, ◌≤◌, Option, Some, None, slice_get}
+use Rattle.std.specs.Prelude.{ℕ, Option, Some, None, slice_get}
 use Rattle.mcal_base.specs.declared.argument_name.ArgumentName.TheVariants.{GptModeNormal, GptModeSleep}
 use Rattle.mcal_base.specs.declared.directive.Argument.{Argument}
 use Rattle.mcal_base.specs.declared.directive.Argument.TheVariants.{Number, Name}

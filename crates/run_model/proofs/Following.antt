@@ -1,6 +1,5 @@
 -- A journal that follows a script, as items are added at its end.
-use Rattle.std.proofs.Common.{◌≡◌, ℕ, zero, suc, ◌+◌, Bool, true, false, ◌||◌, List, [], ◌∷◌, ◌++◌, length, Option, Some, None, is_some, refl, sym, ◌∙◌, ap, subst, append_assoc, append-nil, cond}
-use Rattle.std.specs.Prelude.{MatchBool}
+use Rattle.std.proofs.Common.{◌≡◌, ℕ, ◌+◌, true, false, ◌||◌, List, [], ◌∷◌, ◌++◌, length, Some, is_some, refl, sym, ◌∙◌, ap, subst, append_assoc, append-nil}
 use Rattle.mcal_base.specs.declared.directive.Directive.{Directive}
 use Rattle.mcal_base.specs.declared.directive.Order.{Order}
 use Rattle.mcal_base.specs.declared.directive.Reason.TheVariants.{Software}
@@ -10,7 +9,7 @@ use Rattle.run_model.specs.declared.reach.Reach.{Reach}
 use Rattle.run_model.specs.Entry as entry
 use Rattle.run_model.specs.Moment.{Setting, Moment, Deed, Steps, after, after_all}
 use Rattle.run_model.specs.Script.{order_at, deed_of, deeds_of}
-use Rattle.run_model.specs.Follows.{is_reached, resets_chip, GoesOn, IsStep, Gives, deeds_in, FirstThen, Follows}
+use Rattle.run_model.specs.Follows.{is_reached, resets_chip, GoesOn, Gives, deeds_in, Follows}
 
 pub after_all-append : {State Call : Type 0} (g : Setting State Call) (m : Moment State Call) (hs ks : List (Deed Call)) → after_all g m (hs ++ ks) ≡ after_all g (after_all g m hs) ks
 after_all-append g m [] ks = refl

@@ -1,21 +1,19 @@
 -- When a journal follows a script: directive by directive its items are those that the bench language gives.
-use Rattle.std.specs.Prelude.{◌≡◌, ℕ, zero, suc, ◌+◌, Bool, true, false, ◌||◌, ◌&&◌, ◌==◌, cond, List, [], ◌∷◌, ◌++◌, length, Option, Some, None, is_some, MatchBool}
+use Rattle.std.specs.Prelude.{◌≡◌, ℕ, zero, suc, ◌+◌, Bool, true, false, ◌||◌, ◌&&◌, ◌==◌, List, [], ◌∷◌, ◌++◌, length, Option, Some, None, is_some, MatchBool}
 use Rattle.chip_model.specs.Chip.{is_pending, is_masked}
 use Rattle.irq_control.specs.declared.held.Held.{Held}
 use Rattle.irq_control.specs.declared.held.Held.TheVariants.{Empty, Frames, Unknown}
 use Rattle.mcal_base.specs.declared.directive.Directive.{Directive}
 use Rattle.mcal_base.specs.declared.directive.Order.{Order}
 use Rattle.mcal_base.specs.declared.directive.Order.TheVariants as orders
-use Rattle.mcal_base.specs.declared.directive.Reason.{Reason}
 use Rattle.mcal_base.specs.declared.directive.Reason.TheVariants.{Software}
 use Rattle.mcal_base.specs.declared.directive.Request.{Request}
 use Rattle.mcal_base.specs.declared.directive.Stop.{Stop}
 use Rattle.mcal_base.specs.declared.directive.Stop.TheVariants as stops
 use Rattle.mcal_base.specs.declared.moves.Event.{Event}
-use Rattle.mcal_base.specs.declared.moves.Event.TheVariants.{Act, Serve, Abort, Start}
+use Rattle.mcal_base.specs.declared.moves.Event.TheVariants.{Act}
 use Rattle.mcal_base.specs.declared.moves.Move.{Move}
-use Rattle.mcal_base.specs.declared.moves.Move.TheVariants.{Read, Write, Load, Store, Mask, Unmask, Note, Report}
-use Rattle.mcal_base.specs.declared.register.Reg.{Reg}
+use Rattle.mcal_base.specs.declared.moves.Move.TheVariants.{Write, Mask, Unmask, Note}
 use Rattle.mcal_base.specs.declared.register.Reg.TheVariants.{ResetRequest}
 use Rattle.run_model.specs.declared.item.Stepped.{Stepped}
 use Rattle.run_model.specs.declared.reach.Reach.{Reach}
@@ -141,6 +139,8 @@ Gives g call_of m line (orders.Miso u ws) items = IsOne m line (entry.Happens (o
 Gives g call_of m line (orders.SpiFault u) items = IsOne m line (entry.Happens (orders.SpiFault u)) items
 -- a source array is there for configured serial channels alone
 Gives g call_of m line (orders.Fill c ws) items = IsOne m line (entry.Stays Unknown) items
+-- a script asks for no software reset
+Gives g call_of m line (orders.Reset Software) items = ⊥
 Gives g call_of m line (orders.Reset reason) items = IsOne m line (entry.Resets reason (length m.opens)) items
 Gives g call_of m line (orders.Show s) items = Shows m line (orders.Show s) m.opens items
 

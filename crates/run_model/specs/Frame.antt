@@ -10,7 +10,7 @@ use Rattle.mcal_base.specs.declared.moves.Event.TheVariants.{Act, Serve, Abort, 
 use Rattle.mcal_base.specs.declared.notice.Notice.{Notice}
 use Rattle.run_model.specs.declared.class.Tag.{Tag}
 use Rattle.run_model.specs.World.{World}
-use Rattle.run_model.specs.Machine.{Happening, Acts, Serves, Starts, Aborts, Told, Outcome, Machine}
+use Rattle.run_model.specs.Machine.{Happening, Acts, Serves, Starts, Aborts, Outcome, Machine}
 
 -- what a frame was begun for: a call, or a line
 pub data Origin (Call : Type 0) : Type 0 where

@@ -1,7 +1,8 @@
 -- When a run is legal: what each of its deeds has to be, in the moment before it.
-use Rattle.std.specs.Prelude.{◌≡◌, ℕ, ◌+◌, ◌≤◌, Bool, true, false, ◌&&◌, ◌||◌, ◌==◌, cond, List, [], ◌∷◌, Option, Some, None, IsSome}
+use Rattle.std.specs.Prelude.{◌≡◌, ℕ, ◌≤◌, Bool, true, false, ◌||◌, ◌==◌, List, [], ◌∷◌, Option, Some, None, IsSome}
 use Rattle.std.specs.List.{list_any}
-use Rattle.chip_model.specs.Chip.{Chip, value_of, is_pending, is_masked}
+use Rattle.chip_model.specs.Chip.{value_of, is_pending, is_masked}
+use Rattle.chip_model.specs.Reach.{CanApply}
 use Rattle.mcal_base.specs.declared.answer.Answer.{Answer}
 use Rattle.mcal_base.specs.declared.error_name.ErrorName.{ErrorName}
 use Rattle.mcal_base.specs.declared.moves.DevError.{DevError}
@@ -10,12 +11,13 @@ use Rattle.mcal_base.specs.declared.moves.Move.TheVariants.{Read, Write, Load, S
 use Rattle.mcal_base.specs.declared.moves.Event.{Event}
 use Rattle.mcal_base.specs.declared.moves.Event.TheVariants.{Act, Serve, Abort, Start}
 use Rattle.mcal_base.specs.declared.moves.Unit as units
+use Rattle.mcal_base.specs.declared.moves.Unit.TheVariants.{Adc0, Adc1, Spi0, Spi1}
 use Rattle.mcal_base.specs.declared.notice.Notice.{Notice}
 use Rattle.mcal_base.specs.declared.register.Reg.{Reg}
 use Rattle.mcal_base.specs.declared.register.Reg.TheVariants.{ConverterGo, ConverterAbort, SerialData}
 use Rattle.run_model.specs.declared.item.Stepped.{Stepped}
-use Rattle.run_model.specs.Machine.{Happening, Moves, Restarts, Told, Outcome, Machine, no_answer}
-use Rattle.run_model.specs.Frame.{Origin, Called, Entered, Open, happening_at, outcome_of, owed_by, report_by, open_after, is_shared}
+use Rattle.run_model.specs.Machine.{Moves, Restarts, Outcome, Machine, no_answer}
+use Rattle.run_model.specs.Frame.{Origin, Called, Entered, Open, happening_at, outcome_of, report_by, open_after, is_shared}
 use Rattle.run_model.specs.Causes.{call_cause, line_cause, tags_of, top_noted}
 use Rattle.run_model.specs.Moment.{Setting, Moment, Deed, Begins, Enters, Steps, Happens, Resets, after}
 
@@ -30,14 +32,27 @@ IsOwnEvent mac o (Serve k) (Entered l) = (k ≡ l) × (o.served ≡ []) × (o.in
 IsOwnEvent mac o (Abort u) origin = o.owed ≡ []
 IsOwnEvent mac o (Start u) origin = o.owed ≡ []
 
--- a unit is started at the write that does it, and aborted at the read that did it
+-- the number of a unit among those of its kind
+abbrev pub unit_number : units.Unit → ℕ
+unit_number Adc0 = 0
+unit_number Adc1 = 1
+unit_number Spi0 = 0
+unit_number Spi1 = 1
+
+abbrev pub is_converter : units.Unit → Bool
+is_converter Adc0 = true
+is_converter Adc1 = true
+is_converter Spi0 = false
+is_converter Spi1 = false
+
+-- a unit is started at the write of its own register that does it, and aborted at the read that did it
 abbrev pub StandsAt : Event → Move → (value : ℕ) → Type 0
 StandsAt Act made value = Unit {0}
 StandsAt (Serve k) made value = Unit {0}
-StandsAt (Start u) (Write (ConverterGo k) v) value = Unit {0}
-StandsAt (Start u) (Write (SerialData k) v) value = Unit {0}
+StandsAt (Start u) (Write (ConverterGo k) v) value = (is_converter u ≡ true) × (k ≡ unit_number u)
+StandsAt (Start u) (Write (SerialData k) v) value = (is_converter u ≡ false) × (k ≡ unit_number u)
 StandsAt (Start u) _ value = ⊥
-StandsAt (Abort u) (Read (ConverterAbort k)) value = value ≡ 1
+StandsAt (Abort u) (Read (ConverterAbort k)) value = (is_converter u ≡ true) × (k ≡ unit_number u) × (value ≡ 1)
 StandsAt (Abort u) _ value = ⊥
 
 -- the machine allows the event here
@@ -105,12 +120,13 @@ pub record IsLegalStep {State Call : Type 0} (g : Setting State Call) (m : Momen
   pub event : EventRight g m o s s.event
   -- a counter's halves are read in one window
   pub halves : HalvesRight g m o s s.event o.origin
-  -- the mask, the notices and the report
-  pub move : MoveRight o.inside (owed_by o.owed (outcome_of g.machine m.world m.state (happening_at o.origin s.received s.event))) (report_by g.machine o.origin o.report s.event (outcome_of g.machine m.world m.state (happening_at o.origin s.received s.event))) s.made
+  -- the mask, the notices and the report: a notice is owed before the step, a report also by it
+  pub move : MoveRight o.inside o.owed (report_by g.machine o.origin o.report s.event (outcome_of g.machine m.world m.state (happening_at o.origin s.received s.event))) s.made
   -- the answer, where the frame ends
   pub ends : EndRight (open_after g.machine m.world m.state o s.made s.received s.event) s.ended
-  -- the registers and words are its module's
-  pub own : is_shared s.made || g.owns o.origin s.made ≡ true
+  -- the register or the word is there, and it is its module's
+  pub there : CanApply s.made
+  pub own : is_shared s.made || g.may o.origin s.made ≡ true
   -- no more steps, and no longer a window, than its bounds
   pub steps : (open_after g.machine m.world m.state o s.made s.received s.event).steps ≤ g.steps_of o.origin
   pub window : (open_after g.machine m.world m.state o s.made s.received s.event).window ≤ g.window_of o.origin
@@ -131,12 +147,12 @@ IsLegalDeed g m (Resets reason) = IsSome (g.machine.happens m.world m.state (Res
 
 -- wherever the mask is open, each line that is due is pending
 abbrev pub DueIsPending : {State Call : Type 0} → Setting State Call → Moment State Call → Type 0
-DueIsPending g m = is_masked m.chip ≡ false → (l : ℕ) → g.used l ≡ true → g.machine.due m.world m.state l ≡ true → is_pending m.chip l ≡ true
+DueIsPending g m = is_masked m.chip ≡ false → (l : ℕ) → g.lines l ≡ true → g.machine.due m.world m.state l ≡ true → is_pending m.chip l ≡ true
 
--- at rest no unit waits for a start, and a line is pending exactly where it is due
+-- at rest no unit waits for a start, and a line, used or not, is pending exactly where it is due
 pub record IsQuiet {State Call : Type 0} (g : Setting State Call) (m : Moment State Call) : Type 0 where
   pub units : (u : units.Unit) → g.machine.startable m.world m.state u ≡ false
-  pub lines : (l : ℕ) → g.used l ≡ true → is_pending m.chip l ≡ g.machine.due m.world m.state l
+  pub lines : (l : ℕ) → g.lines l ≡ true → is_pending m.chip l ≡ g.machine.due m.world m.state l
 
 abbrev pub QuietAtRest : {State Call : Type 0} → Setting State Call → Moment State Call → List (Open Call) → Type 0
 QuietAtRest g m [] = IsQuiet g m

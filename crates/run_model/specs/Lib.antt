@@ -7,4 +7,5 @@ pub mod Machine
 pub mod Moment
 pub mod Rooms
 pub mod Script
+pub mod Stops
 pub mod World

@@ -1,5 +1,5 @@
 -- A machine of the specifications: what happens to a module, and what comes of it. It knows no register, no mask and no place in a program.
-use Rattle.std.specs.Prelude.{ℕ, List, [], Bool, Option, Some, None}
+use Rattle.std.specs.Prelude.{ℕ, List, [], Bool, Option, None}
 use Rattle.mcal_base.specs.declared.answer.Answer.{Answer}
 use Rattle.mcal_base.specs.declared.answer.Head.TheVariants.{Nothing}
 use Rattle.mcal_base.specs.declared.directive.Order.{Order}

@@ -1,5 +1,5 @@
 -- A moment of a run: the chip, the outside, the machine's state and the frames under way; and what comes after it.
-use Rattle.std.specs.Prelude.{ℕ, Bool, ◌&&◌, List, [], ◌∷◌, Option, Some, None}
+use Rattle.std.specs.Prelude.{ℕ, Bool, List, [], ◌∷◌, Option, Some, None}
 use Rattle.chip_model.specs.Chip.{Chip, chip_after, happened, reset_chip, fresh}
 use Rattle.mcal_base.specs.declared.directive.Order.{Order}
 use Rattle.mcal_base.specs.declared.directive.Reason.{Reason}
@@ -23,10 +23,14 @@ pub record Setting (State Call : Type 0) : Type 0 where
   pub level_of : ℕ → ℕ
   pub owner_of : ℕ → ModuleName
   pub used : ℕ → Bool
+  -- the lines of the modules' units, whether an object uses them or not
+  pub lines : ℕ → Bool
   -- the most steps of a frame, and the most moves of its windows
   pub steps_of : Origin Call → ℕ
   pub window_of : Origin Call → ℕ
-  -- whether a frame's move names a register or a word of its module
+  -- whether a frame may make a move: it names a register or a word of its module, or lines of its module alone
+  pub may : Origin Call → Move → Bool
+  -- whether a move names anything of a frame's module, so that another module's would disturb it
   pub owns : Origin Call → Move → Bool
   -- the low half at whose read a call acts that reads a counter in halves
   pub low_half : Call → Option Reg

@@ -1,5 +1,5 @@
 -- What beginnings and steps make of a directive's items.
-use Rattle.std.proofs.Common.{◌≡◌, ℕ, suc, List, [], ◌∷◌, ◌++◌, length, Option, Some, refl, sym, ◌∙◌, ap, subst, append_assoc, append-nil}
+use Rattle.std.proofs.Common.{◌≡◌, ℕ, suc, List, [], ◌∷◌, ◌++◌, length, Option, Some, refl, sym, ◌∙◌, ap, subst, arith, append_assoc, append-nil}
 use Rattle.chip_model.specs.Chip.{Chip}
 use Rattle.irq_control.specs.declared.held.Held.{Held}
 use Rattle.mcal_base.specs.declared.directive.Directive.{Directive}
@@ -11,12 +11,14 @@ use Rattle.run_model.specs.Frame as frame
 use Rattle.run_model.specs.Follows.{GoesOn, deeds_in, IsOne, BeginsOnly, BeginsWhole}
 use Rattle.run_model.specs.Moment.{Moment, Deed, after, after_all, start_moment}
 use Rattle.run_model.specs.Script.{deeds_of, deed_of, begun_by, order_at}
+use Rattle.run_model.specs.Stops.{GoesToStop, BeginsToStop}
 use Rattle.run_model.proofs.Following.{after_all-append, deeds_of-append}
 use Rattle.step_runner.specs.Driver.{Driver}
 use Rattle.step_runner.specs.Kept.{Kept}
 use Rattle.step_runner.specs.Stands.{AreFramesOf}
 use Rattle.step_runner.specs.declared.stack.Under.{Under}
-use Rattle.script_runner.specs.Standing.{moment_of, IsStanding, Adds, Began, StayedOff}
+use Rattle.script_runner.specs.Standing.{moment_of, IsStanding, Adds, Began, StayedOff, IsStuck, bounds_of}
+use Rattle.script_runner.proofs.Stops.{no_step_counted}
 
 -- the frames of a stack are as many as those of the run
 pub as_many : {State Call Frame : Type 0} (d : Driver State Call Frame) (us : List (Under Frame)) (os : List (frame.Open Call)) → AreFramesOf d us os → length us ≡ length os
@@ -63,21 +65,42 @@ module _ {State Call Frame : Type 0} (d : Driver State Call Frame) (call_of : Re
         stands = h.stands;
       }
 
+  -- the item of a beginning, and those behind it
+  begun_items : (line : ℕ) (deed : Deed Call) (held : Option Held) (chip : Chip) (k : Kept Frame) (before : Written) (k1 : Kept Frame) (between after : Written) (items : List Entry) → Began d call_of script line deed held chip k before k1 between → after.entries ≡ between.entries ++ items → after.entries ≡ before.entries ++ (record { line = line; depth = length k.frames; said = Begins }) ∷ items
+  begun_items line deed held chip k before k1 between after items h is =
+      is ∙ ap (λ w. w.entries ++ items) h.written ∙ append_assoc before.entries ((record { line = line; depth = length k.frames; said = Begins }) ∷ []) items
+
+  -- the item of a beginning, as the moment sees it
+  begun_at : (line : ℕ) (chip : Chip) (k : Kept Frame) (before : Written) (items : List Entry) → IsStanding d call_of script chip k.frames before.entries → (let first : Entry = record { line = line; depth = length k.frames; said = Begins } in first ∷ items) ≡ (record { line = line; depth = length (moment_of d call_of script before.entries).opens; said = Begins }) ∷ items
+  begun_at line chip k before items stands = ap (λ x. (record { line = line; depth = x; said = Begins }) ∷ items) (depth_is chip k.frames before.entries stands)
+
   -- a call or a handler that began, and was run to its end
   pub begins_whole : (line : ℕ) (order : Order) (deed : Deed Call) (held : Option Held) (chip : Chip) (k : Kept Frame) (before : Written) (k1 : Kept Frame) (between : Written) (chip2 : Chip) (us2 : List (Under Frame)) (after : Written) → begun_by call_of (Some order) ≡ deed ∷ [] → IsStanding d call_of script chip k.frames before.entries → Began d call_of script line deed held chip k before k1 between → Adds d call_of script order between after chip2 us2 (λ m items. GoesOn d.setting line Whole 0 m items) → Adds d call_of script order before after chip2 us2 (λ m items. BeginsWhole d.setting m line deed held items)
   begins_whole line order deed held chip k before k1 between chip2 us2 after at stands h steps =
-      let n = depth_is chip k.frames before.entries stands in
       let m = moment_of d call_of script before.entries in
       let first : Entry = record { line = line; depth = length k.frames; said = Begins } in
-      let first_at : Entry = record { line = line; depth = length m.opens; said = Begins } in
-      let same : first ≡ first_at = ap (λ x. record { line = line; depth = x; said = Begins }) n in
       record {
         items = first ∷ steps.items;
-        is = steps.is ∙ ap (λ w. w.entries ++ steps.items) h.written ∙ append_assoc before.entries (first ∷ []) steps.items;
-        right = subst (λ c. BeginsWhole d.setting m line deed c (first ∷ steps.items)) (sym h.free) (record { steps = steps.items; is = ap (λ e. e ∷ steps.items) same; goes = subst (λ x. GoesOn d.setting line Whole 0 x steps.items) h.leads steps.right });
+        is = begun_items line deed held chip k before k1 between after steps.items h steps.is;
+        right = subst (λ c. BeginsWhole d.setting m line deed c (first ∷ steps.items)) (sym h.free) (record { steps = steps.items; is = begun_at line chip k before steps.items stands; goes = subst (λ x. GoesOn d.setting line Whole 0 x steps.items) h.leads steps.right });
         leads =
             ap (λ ds. after_all d.setting m (ds ++ deeds_in call_of order steps.items)) at
             ∙ ap (λ x. after_all d.setting x (deeds_in call_of order steps.items)) (sym h.leads)
             ∙ steps.leads;
         stands = steps.stands;
+      }
+
+  -- one that began, and was run up to a stop
+  pub begins_to_stop : (most line : ℕ) (deed : Deed Call) (held : Moment State Call → Option Held) (chip : Chip) (k : Kept Frame) (before : Written) (k1 : Kept Frame) (between : Written) (chip2 : Chip) (k2 : Kept Frame) (after : Written) → IsStanding d call_of script chip k.frames before.entries → Began d call_of script line deed (held (moment_of d call_of script before.entries)) chip k before k1 between → IsStuck d call_of script most 0 k1 between chip2 k2 after (λ m items. GoesToStop d.setting line Whole 0 m items) → IsStuck d call_of script most (bounds_of d.setting (deed ∷ [])) k before chip2 k2 after (λ m items. BeginsToStop d.setting line m deed (held m) items)
+  begins_to_stop most line deed held chip k before k1 between chip2 k2 after stands h stuck =
+      let begun = no_step_counted line (length k.frames) Begins k.steps k1.steps before between refl h.steps h.written in
+      record {
+        items = (record { line = line; depth = length k.frames; said = Begins }) ∷ stuck.items;
+        is = begun_items line deed (held (moment_of d call_of script before.entries)) chip k before k1 between after stuck.items h stuck.is;
+        right = record { free = h.free; steps = stuck.items; is = begun_at line chip k before stuck.items stands; goes = subst (λ x. GoesToStop d.setting line Whole 0 x stuck.items) h.leads stuck.right };
+        stands = stuck.stands;
+        steps = stuck.steps;
+        counted = omega (arith, begun, stuck.counted);
+        room = stuck.room ∙ ap (λ w. w.room) h.written;
+        wants = omega (arith, h.spent, stuck.wants);
       }

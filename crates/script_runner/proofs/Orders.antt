@@ -19,11 +19,13 @@ use Rattle.run_model.specs.Follows.{GoesOn, Goes, BeginsOnly, BeginsWhole, call_
 use Rattle.run_model.specs.Moment as moment
 use Rattle.run_model.specs.Moment.{Moment, Deed, after_all, line_tag}
 use Rattle.run_model.specs.Script.{deeds_of, begun_by, order_at}
+use Rattle.run_model.specs.Stops.{GoesToStop, StopsWithin, is_step}
 use Rattle.step_runner.specs.Driver.{Driver}
 use Rattle.step_runner.specs.Kept.{Kept, tags_under, top_is_noted, beginning, enter_by}
 use Rattle.step_runner.specs.Stands.{Stands, AreFramesOf}
 use Rattle.step_runner.specs.declared.stack.Under.{Under}
-use Rattle.script_runner.specs.Standing.{moment_of, IsStanding, IsFilled, WentFar, Began, StayedOff, ObeyedBy, Obeyed, makes_no_step, work_of, bound_of, bounds_of}
+use Rattle.script_runner.specs.Standing.{moment_of, IsStanding, IsFilled, WentFar, Began, StayedOff, ObeyedBy, Obeyed, IsStuck, makes_no_step, work_of, bound_of, bounds_of}
+use Rattle.script_runner.proofs.Stops.{stops_within, no_step_counted}
 use Rattle.script_runner.proofs.Arms.{depth_is, deeds_more, moment_more, begins_only, stays_off, begins_whole}
 
 -- ---- the causes, as the stack has them and as the moment has them
@@ -63,7 +65,7 @@ module _ {State Call Frame : Type 0} (d : Driver State Call Frame) (call_of : Re
 
   -- ---- beginnings
 
-  pub began : (line n : ℕ) (deed : Deed Call) (held : Option Held) (chip : Chip) (k : Kept Frame) (before : Written) (u : Under Frame) (k1 : Kept Frame) (after : Written) → begun_by call_of (order_at script line) ≡ deed ∷ [] → None ≡ held → n ≡ length k.frames → k1 ≡ record { frames = u ∷ k.frames; steps = k.steps } → after ≡ written before line n Begins [] → Stands d chip k1.frames (deeds_of call_of script before.entries ++ deed ∷ []) → d.fuel u.frame ≤ bound_of d deed → Began d call_of script line deed held chip k before k1 after
+  pub began : (line n : ℕ) (deed : Deed Call) (held : Option Held) (chip : Chip) (k : Kept Frame) (before : Written) (u : Under Frame) (k1 : Kept Frame) (after : Written) → begun_by call_of (order_at script line) ≡ deed ∷ [] → None ≡ held → n ≡ length k.frames → k1 ≡ record { frames = u ∷ k.frames; steps = k.steps } → after ≡ written before line n Begins [] → Stands d chip k1.frames (deeds_of call_of script before.entries ++ deed ∷ []) → d.fuel u.frame ≤ bound_of d.setting deed → Began d call_of script line deed held chip k before k1 after
   began line n deed held chip k before u k1 after at free n_is k1_is is stands fuel =
       let e : Entry = record { line = line; depth = n; said = Begins } in
       record {
@@ -73,7 +75,7 @@ module _ {State Call Frame : Type 0} (d : Driver State Call Frame) (call_of : Re
         stands = subst (λ w. IsStanding d call_of script chip k1.frames w.entries) (sym is) (subst (λ h. Stands d chip k1.frames h) (sym (deeds_more d call_of script before.entries e (deed ∷ []) at)) stands);
         steps = ap (λ k. k.steps) k1_is;
         frame = subst (λ k. 0 < length k.frames) (sym k1_is) (omega arith);
-        spent = subst (λ x. work_of d x ≤ work_of d k + bound_of d deed) (sym k1_is) (omega (arith, fuel));
+        spent = subst (λ x. work_of d x ≤ work_of d k + bound_of d.setting deed) (sym k1_is) (omega (arith, fuel));
       }
 
   pub stayed : (line n : ℕ) (cause : Held) (held : Option Held) (chip : Chip) (k : Kept Frame) (before : Written) (k1 : Kept Frame) (after : Written) → Some cause ≡ held → n ≡ length k.frames → k1 ≡ k → after ≡ written before line n (Stays cause) [] → IsStanding d call_of script chip k.frames before.entries → StayedOff d call_of script line held chip k before k1 after
@@ -123,12 +125,13 @@ module _ {State Call Frame : Type 0} (d : Driver State Call Frame) (call_of : Re
       n_is (k1_is ∙ enter_held cause (d.handler_of irq) (line_tag d.setting irq) k) is stands
 
   -- the room after one item that is no step
-  one_filled : (most line n : ℕ) (said : entry.Said) (taken taken1 : ℕ) (before after : Written) → taken ≤ most → taken1 ≡ taken → after ≡ written before line n said [] → IsFilled most taken before 2 taken1 after
-  one_filled most line n said taken taken1 before after few same is =
+  one_filled : (most line n : ℕ) (said : entry.Said) (taken taken1 : ℕ) (before after : Written) → taken ≤ most → is_step said ≡ false → taken1 ≡ taken → after ≡ written before line n said [] → IsFilled most taken before 2 taken1 after
+  one_filled most line n said taken taken1 before after few other same is =
       let e : Entry = record { line = line; depth = n; said = said } in
       let words_are : after.words ≡ before.words = ap (λ x. x.words) is ∙ append-nil before.words in
       record {
         steps = omega arith;
+        counted = no_step_counted line n said taken taken1 before after other same is;
         room = ap (λ x. x.room) is;
         words_room = ap (λ x. x.words_room) is;
         items = rw is (omega (arith, length-append before.entries (e ∷ []), same));
@@ -140,16 +143,16 @@ module _ {State Call Frame : Type 0} (d : Driver State Call Frame) (call_of : Re
       let a = begins_only d call_of script line order deed (held (moment_of d call_of script before.entries)) chip k before k1 after at stands on in
       record {
         adds = record { items = a.items; is = a.is; right = a.right; leads = a.leads; stands = a.stands };
-        filled = one_filled most line (length k.frames) Begins k.steps k1.steps before after few on.steps on.written;
+        filled = one_filled most line (length k.frames) Begins k.steps k1.steps before after few refl on.steps on.written;
         osc = omega arith;
         now = omega arith;
-        spent = subst (λ hs. work_of d k1 ≤ work_of d k + bounds_of d hs) (sym at) (omega (arith, on.spent));
+        spent = subst (λ hs. work_of d k1 ≤ work_of d k + bounds_of d.setting hs) (sym at) (omega (arith, on.spent));
       }
   alone most line order deed chip k before k1 after held false few at stands on off =
       let a = stays_off d call_of script line order (held (moment_of d call_of script before.entries)) chip k before k1 after (λ h m items. BeginsOnly m line h items) (λ c m items x. x) stands off in
       record {
         adds = record { items = a.items; is = a.is; right = a.right; leads = a.leads; stands = a.stands };
-        filled = one_filled most line (length k.frames) (Stays off.cause) k.steps k1.steps before after few off.steps off.written;
+        filled = one_filled most line (length k.frames) (Stays off.cause) k.steps k1.steps before after few refl off.steps off.written;
         osc = omega arith;
         now = omega arith;
         spent = omega (arith, off.spent);
@@ -165,6 +168,7 @@ module _ {State Call Frame : Type 0} (d : Driver State Call Frame) (call_of : Re
         adds = record { items = a.items; is = a.is; right = a.right; leads = a.leads; stands = a.stands };
         filled = record {
           steps = w.filled.steps;
+          counted = omega (arith, w.filled.counted, no_step_counted line (length k.frames) Begins k.steps k1.steps before between refl b.steps b.written);
           room = w.filled.room ∙ ap (λ x. x.room) b.written;
           words_room = w.filled.words_room ∙ ap (λ x. x.words_room) b.written;
           items = omega (arith, w.filled.items, n, b.steps);
@@ -172,7 +176,7 @@ module _ {State Call Frame : Type 0} (d : Driver State Call Frame) (call_of : Re
         };
         osc = omega (arith, w.time.osc);
         now = omega (arith, w.time.now);
-        spent = subst (λ hs. work_of d k2 ≤ work_of d k + bounds_of d hs) (sym at) (omega (arith, b.spent, w.spent));
+        spent = subst (λ hs. work_of d k2 ≤ work_of d k + bounds_of d.setting hs) (sym at) (omega (arith, b.spent, w.spent));
       }
 
   pub whole_off : (most line : ℕ) (order : Order) (deed : Deed Call) (chip : Chip) (k : Kept Frame) (before : Written) (k1 : Kept Frame) (after : Written) (held : Moment State Call → Option Held) → k.steps ≤ most → IsStanding d call_of script chip k.frames before.entries → StayedOff d call_of script line (held (moment_of d call_of script before.entries)) chip k before k1 after → ObeyedBy d call_of script most order chip k before chip k1 after (λ m items. BeginsWhole d.setting m line deed (held m) items)
@@ -180,7 +184,7 @@ module _ {State Call Frame : Type 0} (d : Driver State Call Frame) (call_of : Re
       let a = stays_off d call_of script line order (held (moment_of d call_of script before.entries)) chip k before k1 after (λ h m items. BeginsWhole d.setting m line deed h items) (λ c m items x. x) stands off in
       record {
         adds = record { items = a.items; is = a.is; right = a.right; leads = a.leads; stands = a.stands };
-        filled = one_filled most line (length k.frames) (Stays off.cause) k.steps k1.steps before after few off.steps off.written;
+        filled = one_filled most line (length k.frames) (Stays off.cause) k.steps k1.steps before after few refl off.steps off.written;
         osc = omega arith;
         now = omega arith;
         spent = omega (arith, off.spent);
@@ -205,7 +209,7 @@ module _ {State Call Frame : Type 0} (d : Driver State Call Frame) (call_of : Re
           leads = sym (moment_more d call_of script before.entries e [] refl) ∙ ap (λ w. moment_of d call_of script w.entries) (sym is);
           stands = subst (λ w. IsStanding d call_of script chip k.frames w.entries) (sym is) (subst (λ h. Stands d chip k.frames h) (sym (deeds_more d call_of script before.entries e [] refl ∙ append-nil (deeds_of call_of script before.entries))) stands);
         };
-        filled = one_filled most line n (Stays Empty) k.steps k.steps before after few refl is;
+        filled = one_filled most line n (Stays Empty) k.steps k.steps before after few refl refl is;
         osc = omega arith;
         now = omega arith;
         spent = omega arith;
@@ -227,7 +231,7 @@ module _ {State Call Frame : Type 0} (d : Driver State Call Frame) (call_of : Re
           leads = refl;
           stands = stands;
         };
-        filled = record { steps = few; room = refl; words_room = refl; items = omega arith; words = omega arith };
+        filled = record { steps = few; counted = refl; room = refl; words_room = refl; items = omega arith; words = omega arith };
         osc = omega arith;
         now = omega arith;
         spent = omega arith;
@@ -246,10 +250,26 @@ module _ {State Call Frame : Type 0} (d : Driver State Call Frame) (call_of : Re
       let a = w.adds order in
       record {
         adds = record { items = a.items; is = a.is; right = subst (λ os. Goes d.setting line reach m os a.items) (sym o.2) (goes_by line reach m a.items o.0 o.1 not a.right); leads = a.leads; stands = a.stands };
-        filled = record { steps = w.filled.steps; room = w.filled.room; words_room = w.filled.words_room; items = omega (arith, w.filled.items); words = w.filled.words };
+        filled = record { steps = w.filled.steps; counted = w.filled.counted; room = w.filled.room; words_room = w.filled.words_room; items = omega (arith, w.filled.items); words = w.filled.words };
         osc = omega (arith, w.time.osc);
         now = omega (arith, w.time.now);
         spent = omega (arith, w.spent);
+      }
+
+  -- the same steps, up to a stop
+  pub stops_far : (most line : ℕ) (reach : Reach) (chip : Chip) (k : Kept Frame) (before : Written) (chip1 : Chip) (k1 : Kept Frame) (after : Written) → 0 < length k.frames → (reach ≡ Count 0 → ⊥) → IsStanding d call_of script chip k.frames before.entries → IsStuck d call_of script most 0 k before chip1 k1 after (λ m items. GoesToStop d.setting line reach 0 m items) → IsStuck d call_of script most 0 k before chip1 k1 after (λ m items. StopsWithin d.setting line reach m m.opens items)
+  stops_far most line reach chip k before chip1 k1 after some not stands h =
+      let m = moment_of d call_of script before.entries in
+      let o = some_opens k.frames m.opens (depth_is d call_of script chip k.frames before.entries stands) some in
+      record {
+        items = h.items;
+        is = h.is;
+        right = subst (λ os. StopsWithin d.setting line reach m os h.items) (sym o.2) (stops_within d.setting line reach m h.items o.0 o.1 not h.right);
+        stands = h.stands;
+        steps = h.steps;
+        counted = h.counted;
+        room = h.room;
+        wants = h.wants;
       }
 
   pub makes_a_step : (reach : Reach) → makes_no_step reach ≡ false → reach ≡ Count 0 → ⊥
@@ -283,7 +303,7 @@ module _ {State Call Frame : Type 0} (d : Driver State Call Frame) (call_of : Re
           leads = sym (moment_more d call_of script before.entries e (moment.Happens (orders.Tick n) ∷ []) refl) ∙ ap (λ w. moment_of d call_of script w.entries) (sym is);
           stands = subst (λ w. IsStanding d call_of script chip1 kept.frames w.entries) (sym is) (subst (λ h. Stands d chip1 kept.frames h) (sym (deeds_more d call_of script before.entries e (moment.Happens (orders.Tick n) ∷ []) refl)) moved);
         };
-        filled = one_filled most line k (Happens (orders.Tick n)) kept.steps kept.steps before after few refl is;
+        filled = one_filled most line k (Happens (orders.Tick n)) kept.steps kept.steps before after few refl refl is;
         osc = subst (λ x. x.osc ≤ chip.osc + 1000000) (sym chip_is) (omega arith);
         now = subst (λ x. now_of x ≤ now_of chip + 16000000) (sym chip_is) (omega (arith, few_ticks));
         spent = omega arith;

@@ -1,5 +1,5 @@
 -- A script's directives, one after another.
-use Rattle.std.proofs.Common.{◌≡◌, ℕ, zero, suc, ◌+◌, ◌-◌, ◌*◌, ◌<◌, ◌≤◌, true, false, cond, List, [], ◌∷◌, ◌++◌, length, take, Some, sym, ◌∙◌, ap, subst, arith, add-one}
+use Rattle.std.proofs.Common.{◌≡◌, ℕ, zero, suc, ◌+◌, ◌-◌, ◌*◌, ◌<◌, ◌≤◌, true, false, cond, List, [], ◌∷◌, ◌++◌, length, take, drop, Some, sym, ◌∙◌, ap, subst, arith, add-one}
 use Rattle.std.specs.Prelude.{slice_get, slice_index_or, ◌==◌}
 use Rattle.std.proofs.lemmas.Bool.Decides.{nat_tests}
 use Rattle.chip_model.specs.Chip.{Chip, fresh, now_of}
@@ -11,12 +11,14 @@ use Rattle.run_model.specs.Entry.{Written}
 use Rattle.run_model.specs.Frame.{Origin, Called, Entered}
 use Rattle.run_model.specs.Moment.{start_moment}
 use Rattle.run_model.specs.Script.{order_at, begun_by}
+use Rattle.run_model.specs.Stops.{FollowsToStop, steps_in}
 use Rattle.run_model.proofs.Following.{FollowsTo, Nothing_followed, follows_more}
 use Rattle.step_runner.specs.Driver.{Driver}
 use Rattle.step_runner.specs.Kept.{Kept, kept_empty}
 use Rattle.step_runner.specs.Stands.{Stands}
 use Rattle.script_runner.specs.Scripts.{LinesRise, AllBuilt, script_bound, begins_frame}
-use Rattle.script_runner.specs.Standing.{moment_of, IsStanding, Obeyed, is_built, work_of, bounds_of}
+use Rattle.script_runner.specs.Standing.{moment_of, IsStanding, Obeyed, Stuck, is_built, work_of, bounds_of}
+use Rattle.script_runner.proofs.Stops.{follows_to_stop}
 
 -- a directive further on has a greater line
 line_above : (low : ℕ) (script : List Directive) (k : ℕ) (d : Directive) → LinesRise low script → slice_get script k ≡ Some d → low < d.line
@@ -56,11 +58,17 @@ take_more [] k d e = cc
 take_more (x ∷ xs) zero d e = let i : x ≡ d = cc in ap (λ y. y ∷ []) i
 take_more (x ∷ xs) (suc k) d e = rw add-one (ap (λ ys. x ∷ ys) (rw add-one at (take_more xs k d e)))
 
-script_bound-append : {State Call Frame : Type 0} (d : Driver State Call Frame) (call_of : Request → Call) (ds : List Directive) (e : Directive) → script_bound d call_of (ds ++ e ∷ []) ≡ script_bound d call_of ds + bounds_of d (begun_by call_of (Some e.order))
+-- what is before a directive, and what is behind it
+split_at : (script : List Directive) (k : ℕ) (d : Directive) → slice_get script k ≡ Some d → script ≡ take k script ++ d ∷ drop (k + 1) script
+split_at [] k d e = cc
+split_at (x ∷ xs) zero d e = let i : x ≡ d = cc in ap (λ y. y ∷ xs) i
+split_at (x ∷ xs) (suc k) d e = rw add-one (ap (λ ys. x ∷ ys) (rw add-one at (split_at xs k d e)))
+
+script_bound-append : {State Call Frame : Type 0} (d : Driver State Call Frame) (call_of : Request → Call) (ds : List Directive) (e : Directive) → script_bound d.setting call_of (ds ++ e ∷ []) ≡ script_bound d.setting call_of ds + bounds_of d.setting (begun_by call_of (Some e.order))
 script_bound-append d call_of [] e = omega arith
 script_bound-append d call_of (x ∷ xs) e = let h = script_bound-append d call_of xs e in omega (arith, h)
 
-pub script_bound-take : {State Call Frame : Type 0} (d : Driver State Call Frame) (call_of : Request → Call) (n : ℕ) (ds : List Directive) → script_bound d call_of (take n ds) ≤ script_bound d call_of ds
+pub script_bound-take : {State Call Frame : Type 0} (d : Driver State Call Frame) (call_of : Request → Call) (n : ℕ) (ds : List Directive) → script_bound d.setting call_of (take n ds) ≤ script_bound d.setting call_of ds
 script_bound-take d call_of zero ds = omega arith
 script_bound-take d call_of (suc n) [] = omega arith
 script_bound-take d call_of (suc n) (x ∷ xs) = let h = script_bound-take d call_of n xs in omega (arith, h)
@@ -70,7 +78,9 @@ pub record Going {State Call Frame : Type 0} (d : Driver State Call Frame) (call
   pub follows : FollowsTo d.setting call_of (start_moment d.setting) (take at script) w.entries (moment_of d call_of script w.entries)
   pub stands : IsStanding d call_of script chip k.frames w.entries
   pub steps : k.steps ≤ most
-  pub spent : work_of d k ≤ script_bound d call_of (take at script)
+  pub counted : steps_in w.entries ≡ k.steps
+  pub spent : work_of d k ≤ script_bound d.setting call_of (take at script)
+  pub room : w.room ≡ most + 2 * length script
   pub items : length w.entries + (most - k.steps) + 2 * (length script - at) ≤ w.room
   pub words : length w.words + 64 * (length script - at) ≤ w.words_room
   pub osc : chip.osc ≤ 1000000 * at
@@ -85,7 +95,9 @@ module _ {State Call Frame : Type 0} (d : Driver State Call Frame) (call_of : Re
         follows = subst (λ ds. FollowsTo d.setting call_of (start_moment d.setting) ds after.entries (moment_of d call_of script after.entries)) (sym (take_more script at directive e)) (subst (λ es. FollowsTo d.setting call_of (start_moment d.setting) (take at script ++ directive ∷ []) es (moment_of d call_of script after.entries)) (sym a.is) (subst (λ m. FollowsTo d.setting call_of (start_moment d.setting) (take at script ++ directive ∷ []) (before.entries ++ a.items) m) a.leads more));
         stands = a.stands;
         steps = o.filled.steps;
-        spent = subst (λ ds. work_of d k1 ≤ script_bound d call_of ds) (sym (take_more script at directive e)) (rw (script_bound-append d call_of (take at script) directive) (omega (arith, o.spent, h.spent)));
+        counted = omega (arith, o.filled.counted, h.counted);
+        spent = subst (λ ds. work_of d k1 ≤ script_bound d.setting call_of ds) (sym (take_more script at directive e)) (rw (script_bound-append d call_of (take at script) directive) (omega (arith, o.spent, h.spent)));
+        room = o.filled.room ∙ h.room;
         items = omega (arith, o.filled.items, o.filled.room, h.items);
         words = omega (arith, o.filled.words, o.filled.words_room, h.words);
         osc = omega (arith, o.osc, h.osc);
@@ -93,11 +105,22 @@ module _ {State Call Frame : Type 0} (d : Driver State Call Frame) (call_of : Re
       }
 
   -- a run that would pass a number of steps has frames whose bounds pass it
-  pub passes : (most at work : ℕ) (directive : Directive) → slice_get script at ≡ Some directive → work ≤ script_bound d call_of (take at script) → most < work + bounds_of d (begun_by call_of (Some directive.order)) → most < script_bound d call_of script
+  pub passes : (most at work : ℕ) (directive : Directive) → slice_get script at ≡ Some directive → work ≤ script_bound d.setting call_of (take at script) → most < work + bounds_of d.setting (begun_by call_of (Some directive.order)) → most < script_bound d.setting call_of script
   passes most at work directive e spent wants =
       let taken = script_bound-take d call_of (at + 1) script in
-      let more = ap (script_bound d call_of) (take_more script at directive e) ∙ script_bound-append d call_of (take at script) directive in
+      let more = ap (script_bound d.setting call_of) (take_more script at directive e) ∙ script_bound-append d call_of (take at script) directive in
       omega (arith, taken, more, spent, wants)
+
+  -- a run that stops in a directive
+  pub stops_in : (most at : ℕ) (directive : Directive) (chip : Chip) (k : Kept Frame) (before : Written) (chip1 : Chip) (k1 : Kept Frame) (after : Written) → slice_get script at ≡ Some directive → Going d call_of script most at chip k before → Stuck d call_of script most directive.line directive.order k before chip1 k1 after → FollowsToStop d.setting call_of (start_moment d.setting) script after.entries
+  stops_in most at directive chip k before chip1 k1 after e h s =
+      subst (λ es. FollowsToStop d.setting call_of (start_moment d.setting) script es) (sym s.is)
+      (subst (λ ds. FollowsToStop d.setting call_of (start_moment d.setting) ds (before.entries ++ s.items)) (sym (split_at script at directive e))
+      (follows_to_stop d.setting call_of directive (drop (at + 1) script) s.items h.follows s.right))
+
+  -- as many steps are in it as were taken
+  pub stops_counted : (most at : ℕ) (directive : Directive) (chip : Chip) (k : Kept Frame) (before : Written) (chip1 : Chip) (k1 : Kept Frame) (after : Written) → Going d call_of script most at chip k before → Stuck d call_of script most directive.line directive.order k before chip1 k1 after → steps_in after.entries ≡ most
+  stops_counted most at directive chip k before chip1 k1 after h s = omega (arith, h.counted, s.counted, s.steps)
 
   pub going_start : (most : ℕ) (chip : Chip) (k : Kept Frame) (w : Written) → chip ≡ fresh 0 0 → k ≡ kept_empty → w ≡ record { entries = []; room = most + 2 * length script; words = []; words_room = 64 * length script } → Stands d (fresh 0 0) k.frames [] → Going d call_of script most 0 chip k w
   going_start most chip k w chip_is k_is w_is stands =
@@ -111,7 +134,9 @@ module _ {State Call Frame : Type 0} (d : Driver State Call Frame) (call_of : Re
         follows = subst (λ es. FollowsTo d.setting call_of (start_moment d.setting) [] es (moment_of d call_of script es)) (sym entries_are) (Nothing_followed (start_moment d.setting));
         stands = subst (λ es. IsStanding d call_of script chip k.frames es) (sym entries_are) (subst (λ c. Stands d c k.frames []) (sym chip_is) stands);
         steps = omega (arith, e5);
+        counted = ap (λ es. steps_in es) entries_are ∙ sym e5;
         spent = subst (λ x. work_of d x ≤ 0) (sym k_is) (omega arith);
+        room = e1;
         items = omega (arith, e1, e3);
         words = omega (arith, e2, e4);
         osc = subst (λ c. c.osc ≤ 0) (sym chip_is) (omega arith);
@@ -121,14 +146,14 @@ module _ {State Call Frame : Type 0} (d : Driver State Call Frame) (call_of : Re
 -- ---- a bound that is summed up
 
 -- what an order begins takes no more steps than any frame does
-each_bound : {State Call Frame : Type 0} (d : Driver State Call Frame) (call_of : Request → Call) (each : ℕ) → ((origin : Origin Call) → d.setting.steps_of origin ≤ each) → (order : Order) → bounds_of d (begun_by call_of (Some order)) ≤ each
+each_bound : {State Call Frame : Type 0} (d : Driver State Call Frame) (call_of : Request → Call) (each : ℕ) → ((origin : Origin Call) → d.setting.steps_of origin ≤ each) → (order : Order) → bounds_of d.setting (begun_by call_of (Some order)) ≤ each
 each_bound d call_of each most (orders.Call level r) = let h = most (Called (call_of r)) in omega (arith, h)
 each_bound d call_of each most (orders.Do level r) = let h = most (Called (call_of r)) in omega (arith, h)
 each_bound d call_of each most (orders.Enter line) = let h = most (Entered line) in omega (arith, h)
 each_bound d call_of each most (orders.Serve line) = let h = most (Entered line) in omega (arith, h)
 each_bound d call_of each most _ = omega arith
 
-no_bound : {State Call Frame : Type 0} (d : Driver State Call Frame) (call_of : Request → Call) (order : Order) → begins_frame order ≡ false → bounds_of d (begun_by call_of (Some order)) ≤ 0
+no_bound : {State Call Frame : Type 0} (d : Driver State Call Frame) (call_of : Request → Call) (order : Order) → begins_frame order ≡ false → bounds_of d.setting (begun_by call_of (Some order)) ≤ 0
 no_bound d call_of (orders.Call level r) h = cc
 no_bound d call_of (orders.Do level r) h = cc
 no_bound d call_of (orders.Enter line) h = cc
@@ -136,13 +161,13 @@ no_bound d call_of (orders.Serve line) h = cc
 no_bound d call_of _ h = omega arith
 
 module _ {State Call Frame : Type 0} (d : Driver State Call Frame) (call_of : Request → Call) (script : List Directive) where
-  one_more : (at most more : ℕ) (directive : Directive) → slice_get script at ≡ Some directive → bounds_of d (begun_by call_of (Some directive.order)) ≤ more → script_bound d call_of (take at script) ≤ most → script_bound d call_of (take (at + 1) script) ≤ most + more
+  one_more : (at most more : ℕ) (directive : Directive) → slice_get script at ≡ Some directive → bounds_of d.setting (begun_by call_of (Some directive.order)) ≤ more → script_bound d.setting call_of (take at script) ≤ most → script_bound d.setting call_of (take (at + 1) script) ≤ most + more
   one_more at most more directive e h spent =
-      let k = ap (script_bound d call_of) (take_more script at directive e) ∙ script_bound-append d call_of (take at script) directive in
+      let k = ap (script_bound d.setting call_of) (take_more script at directive e) ∙ script_bound-append d call_of (take at script) directive in
       omega (arith, k, h, spent)
 
-  pub frame_more : (at most each : ℕ) (directive : Directive) → slice_get script at ≡ Some directive → ((origin : Origin Call) → d.setting.steps_of origin ≤ each) → script_bound d call_of (take at script) ≤ most → script_bound d call_of (take (at + 1) script) ≤ most + each
+  pub frame_more : (at most each : ℕ) (directive : Directive) → slice_get script at ≡ Some directive → ((origin : Origin Call) → d.setting.steps_of origin ≤ each) → script_bound d.setting call_of (take at script) ≤ most → script_bound d.setting call_of (take (at + 1) script) ≤ most + each
   frame_more at most each directive e h spent = one_more at most each directive e (each_bound d call_of each h directive.order) spent
 
-  pub none_more : (at most : ℕ) (directive : Directive) → slice_get script at ≡ Some directive → begins_frame directive.order ≡ false → script_bound d call_of (take at script) ≤ most → script_bound d call_of (take (at + 1) script) ≤ most
+  pub none_more : (at most : ℕ) (directive : Directive) → slice_get script at ≡ Some directive → begins_frame directive.order ≡ false → script_bound d.setting call_of (take at script) ≤ most → script_bound d.setting call_of (take (at + 1) script) ≤ most
   none_more at most directive e h spent = let k = one_more at most 0 directive e (no_bound d call_of directive.order h) spent in omega (arith, k)

@@ -17,10 +17,12 @@ use Rattle.run_model.proofs.Following.{after_all-append, deeds_in-append, Went, 
 use Rattle.step_runner.specs.Driver.{Driver, IsLawful}
 use Rattle.step_runner.specs.Kept.{Kept}
 use Rattle.run_model.specs.Script.{deeds_of}
+use Rattle.run_model.specs.Stops.{GoesToStop, steps_in}
 use Rattle.step_runner.specs.Stands.{Stands}
 use Rattle.script_runner.specs.Standing.{moment_of, IsStanding, SameTime, TookStep, WentFar, IsStuck, work_of}
 use Rattle.script_runner.proofs.Taken.{has_fuel}
 use Rattle.script_runner.proofs.Arms.{depth_is, deeds_more, moment_more}
+use Rattle.script_runner.proofs.Stops.{goes_to_stop, steps_written, no_step_counted}
 
 -- Steps were made, at none of which the directive stops.
 pub record Walked {State Call Frame : Type 0} (d : Driver State Call Frame) (call_of : Request → Call) (script : List Directive) (most line : ℕ) (reach : Reach) (chip : Chip) (k : Kept Frame) (before : Written) (made : ℕ) (chip1 : Chip) (k1 : Kept Frame) (after : Written) : Type 0 where
@@ -34,6 +36,7 @@ pub record Walked {State Call Frame : Type 0} (d : Driver State Call Frame) (cal
   pub room : after.room ≡ before.room
   pub words_room : after.words_room ≡ before.words_room
   pub count : length after.entries ≡ length before.entries + made
+  pub counted : steps_in after.entries ≡ steps_in before.entries + made
   pub words : after.words ≡ before.words
   pub time : SameTime chip chip1
   pub spent : work_of d k1 ≤ work_of d k
@@ -52,6 +55,7 @@ module _ {State Call Frame : Type 0} (d : Driver State Call Frame) (call_of : Re
     room = refl;
     words_room = refl;
     count = omega arith;
+    counted = omega arith;
     words = refl;
     time = record { osc = refl; now = refl };
     spent = omega arith;
@@ -60,6 +64,10 @@ module _ {State Call Frame : Type 0} (d : Driver State Call Frame) (call_of : Re
   -- the item of a step, as the moment sees it
   step_item : (chip1 : Chip) (k1 : Kept Frame) (between : Written) (s : Stepped) → IsStanding d call_of script chip1 k1.frames between.entries → (let e : Entry = record { line = line; depth = length k1.frames; said = Steps s } in e) ≡ record { line = line; depth = length (moment_of d call_of script between.entries).opens; said = Steps s }
   step_item chip1 k1 between s stands = ap (λ x. record { line = line; depth = x; said = Steps s }) (depth_is d call_of script chip1 k1.frames between.entries stands)
+
+  -- a step is counted
+  step_counted : (between : Written) (s : Stepped) (depth : ℕ) (after : Written) → after ≡ written between line depth (Steps s) (words_of_answer s.ended) → steps_in after.entries ≡ steps_in between.entries + 1
+  step_counted between s depth after is = ap (λ x. steps_in x.entries) is ∙ steps_written between line depth (Steps s) (words_of_answer s.ended)
 
   -- one more step, at which it goes on
   pub walk_more : (chip : Chip) (k : Kept Frame) (before : Written) (made : ℕ) (chip1 : Chip) (k1 : Kept Frame) (between : Written) (s : Stepped) (chip2 : Chip) (k2 : Kept Frame) (after : Written) → Walked d call_of script most line reach chip k before made chip1 k1 between → TookStep d call_of script most line chip1 k1 between s chip2 k2 after → resets_chip s.made ≡ false → s.ended ≡ None → is_some s.ended || is_reached reach (made + 1) s ≡ false → Walked d call_of script most line reach chip k before (made + 1) chip2 k2 after
@@ -80,6 +88,7 @@ module _ {State Call Frame : Type 0} (d : Driver State Call Frame) (call_of : Re
         room = ap (λ x. x.room) t.written ∙ w.room;
         words_room = ap (λ x. x.words_room) t.written ∙ w.words_room;
         count = ap (λ x. length x.entries) t.written ∙ omega (arith, length-append between.entries (e ∷ []), w.count);
+        counted = omega (arith, step_counted between s (length k1.frames) after t.written, w.counted);
         words = words_same ∙ w.words;
         time = record { osc = t.time.osc ∙ w.time.osc; now = t.time.now ∙ w.time.now };
         spent = omega (arith, t.spent, w.spent);
@@ -102,6 +111,7 @@ module _ {State Call Frame : Type 0} (d : Driver State Call Frame) (call_of : Re
         };
         filled = record {
           steps = omega (arith, t.steps, t.few);
+          counted = omega (arith, step_counted between s (length k1.frames) after t.written, w.counted, t.steps, w.taken);
           room = ap (λ x. x.room) t.written ∙ w.room;
           words_room = ap (λ x. x.words_room) t.written ∙ w.words_room;
           items = rw t.written (omega (arith, length-append between.entries (e ∷ []), w.count, t.steps, w.taken, t.few));
@@ -135,6 +145,7 @@ module _ {State Call Frame : Type 0} (d : Driver State Call Frame) (call_of : Re
         };
         filled = record {
           steps = omega (arith, t.steps, t.few, steps);
+          counted = omega (arith, step_counted between s (length k1.frames) stepped t.written, no_step_counted line (length k2.frames) (Resets Software (length k2.frames)) k2.steps k3.steps stepped after refl steps is, w.counted, t.steps, w.taken, steps);
           room = ap (λ x. x.room) is ∙ ap (λ x. x.room) t.written ∙ w.room;
           words_room = ap (λ x. x.words_room) is ∙ ap (λ x. x.words_room) t.written ∙ w.words_room;
           items = rw (is, t.written) (omega (arith, length-append between.entries (e ∷ []), length-append (between.entries ++ e ∷ []) (f ∷ []), w.count, t.steps, w.taken, t.few, steps));
@@ -145,16 +156,23 @@ module _ {State Call Frame : Type 0} (d : Driver State Call Frame) (call_of : Re
       }
 
   -- one more step is wanted than may be taken
-  pub stuck : (move_of : Frame → Move) (left : Frame → ℕ → Frame) (gave : Frame → ℕ → Taken) → IsLawful d move_of left gave → (chip : Chip) (k : Kept Frame) (before : Written) (made : ℕ) (chip1 : Chip) (k1 : Kept Frame) (after : Written) (chip2 : Chip) (k2 : Kept Frame) (after2 : Written) → Walked d call_of script most line reach chip k before made chip1 k1 after → (k2 ≡ k1) × (chip2 ≡ chip1) × (after2 ≡ after) × (k1.steps ≡ most) → IsStuck d call_of script most (work_of d k) chip2 k2 after2
+  pub stuck : (move_of : Frame → Move) (left : Frame → ℕ → Frame) (gave : Frame → ℕ → Taken) → IsLawful d move_of left gave → (chip : Chip) (k : Kept Frame) (before : Written) (made : ℕ) (chip1 : Chip) (k1 : Kept Frame) (after : Written) (chip2 : Chip) (k2 : Kept Frame) (after2 : Written) → Walked d call_of script most line reach chip k before made chip1 k1 after → (k2 ≡ k1) × (chip2 ≡ chip1) × (after2 ≡ after) × (k1.steps ≡ most) → IsStuck d call_of script most 0 k before chip2 k2 after2 (λ m items. GoesToStop d.setting line reach 0 m items)
   stuck move_of left gave law chip k before made chip1 k1 after chip2 k2 after2 w same =
       let some = has_fuel d call_of script move_of left gave law chip1 k1.frames (deeds_of call_of script after.entries) w.stands w.frame in
       let k_is = same.0 in
       let chip_is = same.1 in
       let after_is = same.2 in
       let steps = same.3 in
+      let taken : k2.steps ≡ k1.steps = ap (λ x. x.steps) k_is in
+      let counted : steps_in after2.entries ≡ steps_in after.entries = ap (λ x. steps_in x.entries) after_is in
       record {
-        steps = ap (λ x. x.steps) k_is ∙ steps;
+        items = w.items;
+        is = ap (λ x. x.entries) after_is ∙ w.is;
+        right = goes_to_stop d.setting line reach w.went;
         stands = subst (λ x. IsStanding d call_of script x k2.frames after2.entries) (sym chip_is) (subst (λ x. IsStanding d call_of script chip1 x.frames after2.entries) (sym k_is) (subst (λ x. IsStanding d call_of script chip1 k1.frames x.entries) (sym after_is) w.stands));
+        steps = taken ∙ steps;
+        counted = omega (arith, taken, counted, w.counted, w.taken);
+        room = ap (λ x. x.room) after_is ∙ w.room;
         wants = omega (arith, w.spent, some, steps);
       }
 

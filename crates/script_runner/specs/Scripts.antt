@@ -9,7 +9,7 @@ use Rattle.run_model.specs.Follows.{Follows}
 use Rattle.run_model.specs.Legal.{IsLegal}
 use Rattle.run_model.specs.Moment.{Setting, start_moment}
 use Rattle.run_model.specs.Script.{deeds_of, begun_by}
-use Rattle.step_runner.specs.Driver.{Driver}
+use Rattle.run_model.specs.Stops.{FollowsToStop, steps_in}
 use Rattle.script_runner.specs.Standing.{is_built, bounds_of}
 
 -- the lines rise, from above this one
@@ -29,9 +29,9 @@ pub record IsScript (script : List Directive) : Type 0 where
   pub few : length script ≤ 1100000
 
 -- the most steps of all frames that a script's directives begin
-abbrev pub script_bound : {State Call Frame : Type 0} → Driver State Call Frame → (Request → Call) → List Directive → ℕ
-script_bound d call_of [] = 0
-script_bound d call_of (x ∷ xs) = bounds_of d (begun_by call_of (Some x.order)) + script_bound d call_of xs
+abbrev pub script_bound : {State Call : Type 0} → Setting State Call → (Request → Call) → List Directive → ℕ
+script_bound g call_of [] = 0
+script_bound g call_of (x ∷ xs) = bounds_of g (begun_by call_of (Some x.order)) + script_bound g call_of xs
 
 -- a frame may begin by an order
 abbrev pub begins_frame : Order → Bool
@@ -45,3 +45,9 @@ begins_frame _ = false
 pub record IsRun {State Call : Type 0} (setting : Setting State Call) (call_of : Request → Call) (script : List Directive) (journal : List Entry) : Type 0 where
   pub follows : Follows setting call_of (start_moment setting) script journal
   pub legal : IsLegal setting (start_moment setting) (deeds_of call_of script journal)
+
+-- A journal is a run of a script that stopped after so many steps: it says what the directives ask for up to there, where one more step is asked for, and what happened is legal.
+pub record IsStopped {State Call : Type 0} (setting : Setting State Call) (call_of : Request → Call) (most : ℕ) (script : List Directive) (journal : List Entry) : Type 0 where
+  pub follows : FollowsToStop setting call_of (start_moment setting) script journal
+  pub legal : IsLegal setting (start_moment setting) (deeds_of call_of script journal)
+  pub steps : steps_in journal ≡ most

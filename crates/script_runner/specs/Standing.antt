@@ -11,6 +11,7 @@ use Rattle.run_model.specs.declared.reach.Reach.{Reach}
 use Rattle.run_model.specs.declared.reach.Reach.TheVariants.{Count, Until, Whole}
 use Rattle.run_model.specs.Entry.{Entry, Begins, Stays, Steps, Written, written, words_of_answer}
 use Rattle.run_model.specs.Follows.{GoesOn, Gives, deeds_in}
+use Rattle.run_model.specs.Stops.{GivesToStop, steps_in}
 use Rattle.run_model.specs.Moment as moment
 use Rattle.run_model.specs.Moment.{Setting, Moment, Deed, start_moment, after_all}
 use Rattle.run_model.specs.Frame as frame
@@ -34,9 +35,14 @@ pub record HasRoom (most taken : ℕ) (others : ℕ) (w : Written) : Type 0 wher
   pub items : length w.entries + (most - taken) + others ≤ w.room
   pub words : length w.words + 64 ≤ w.words_room
 
+-- as many steps were counted as items that are steps were added
+abbrev pub IsCounted : (taken : ℕ) → Written → (taken1 : ℕ) → Written → Type 0
+IsCounted taken before taken1 after = steps_in after.entries + taken ≡ steps_in before.entries + taken1
+
 -- Items were added, and the room is as it was: at most so many that are no steps, and the words of one answer.
 pub record IsFilled (most taken : ℕ) (before : Written) (others : ℕ) (taken1 : ℕ) (after : Written) : Type 0 where
   pub steps : taken1 ≤ most
+  pub counted : IsCounted taken before taken1 after
   pub room : after.room ≡ before.room
   pub words_room : after.words_room ≡ before.words_room
   pub items : length after.entries + (most - taken1) ≤ length before.entries + (most - taken) + others
@@ -78,16 +84,16 @@ pub record WentFar {State Call Frame : Type 0} (d : Driver State Call Frame) (ca
   pub spent : work_of d k1 ≤ work_of d k
 
 -- the most steps of a frame that begins by a deed
-abbrev pub bound_of : {State Call Frame : Type 0} → Driver State Call Frame → Deed Call → ℕ
-bound_of d (moment.Begins c level) = d.setting.steps_of (frame.Called c)
-bound_of d (moment.Enters l) = d.setting.steps_of (frame.Entered l)
-bound_of d (moment.Steps s) = 0
-bound_of d (moment.Happens o) = 0
-bound_of d (moment.Resets r) = 0
+abbrev pub bound_of : {State Call : Type 0} → Setting State Call → Deed Call → ℕ
+bound_of g (moment.Begins c level) = g.steps_of (frame.Called c)
+bound_of g (moment.Enters l) = g.steps_of (frame.Entered l)
+bound_of g (moment.Steps s) = 0
+bound_of g (moment.Happens o) = 0
+bound_of g (moment.Resets r) = 0
 
-abbrev pub bounds_of : {State Call Frame : Type 0} → Driver State Call Frame → List (Deed Call) → ℕ
-bounds_of d [] = 0
-bounds_of d (h ∷ hs) = bound_of d h + bounds_of d hs
+abbrev pub bounds_of : {State Call : Type 0} → Setting State Call → List (Deed Call) → ℕ
+bounds_of g [] = 0
+bounds_of g (h ∷ hs) = bound_of g h + bounds_of g hs
 
 -- A call, or the handler of a line, began: one item, and the frame is there.
 pub record Began {State Call Frame : Type 0} (d : Driver State Call Frame) (call_of : Request → Call) (script : List Directive) (line : ℕ) (deed : Deed Call) (held : Option Held) (chip : Chip) (k : Kept Frame) (before : Written) (k1 : Kept Frame) (after : Written) : Type 0 where
@@ -97,7 +103,7 @@ pub record Began {State Call Frame : Type 0} (d : Driver State Call Frame) (call
   pub stands : IsStanding d call_of script chip k1.frames after.entries
   pub steps : k1.steps ≡ k.steps
   pub frame : 0 < length k1.frames
-  pub spent : work_of d k1 ≤ work_of d k + bound_of d deed
+  pub spent : work_of d k1 ≤ work_of d k + bound_of d.setting deed
 
 -- It was held: one item, with its cause, and nothing else.
 pub record StayedOff {State Call Frame : Type 0} (d : Driver State Call Frame) (call_of : Request → Call) (script : List Directive) (line : ℕ) (held : Option Held) (chip : Chip) (k : Kept Frame) (before : Written) (k1 : Kept Frame) (after : Written) : Type 0 where
@@ -114,7 +120,7 @@ pub record ObeyedBy {State Call Frame : Type 0} (d : Driver State Call Frame) (c
   pub filled : IsFilled most k.steps before 2 k1.steps after
   pub osc : chip1.osc ≤ chip.osc + 1000000
   pub now : now_of chip1 ≤ now_of chip + 16000000
-  pub spent : work_of d k1 ≤ work_of d k + bounds_of d (begun_by call_of (Some order))
+  pub spent : work_of d k1 ≤ work_of d k + bounds_of d.setting (begun_by call_of (Some order))
 
 abbrev pub Obeyed : {State Call Frame : Type 0} → Driver State Call Frame → (Request → Call) → List Directive → (most line : ℕ) → Order → Chip → Kept Frame → Written → Chip → Kept Frame → Written → Type 0
 Obeyed d call_of script most line order chip k before chip1 k1 after = ObeyedBy d call_of script most order chip k before chip1 k1 after (λ m items. Gives d.setting call_of m line order items)
@@ -138,8 +144,16 @@ is_built orders.Finish = true
 is_built (orders.Tick n) = nat_le n 1000000
 is_built _ = false
 
--- As many steps were taken as may be, and one more is wanted: the run so far is legal, and what was taken and what the frame has left pass the bound.
-pub record IsStuck {State Call Frame : Type 0} (d : Driver State Call Frame) (call_of : Request → Call) (script : List Directive) (most work : ℕ) (chip1 : Chip) (k1 : Kept Frame) (after : Written) : Type 0 where
-  pub steps : k1.steps ≡ most
+-- As many steps were taken as may be, and the directive wants one more: the items up to there are right, the run so far is legal, and the steps that were taken, with those that the frames had left and so many more, pass the most.
+pub record IsStuck {State Call Frame : Type 0} (d : Driver State Call Frame) (call_of : Request → Call) (script : List Directive) (most more : ℕ) (k : Kept Frame) (before : Written) (chip1 : Chip) (k1 : Kept Frame) (after : Written) (Right : Moment State Call → List Entry → Type 0) : Type 0 where
+  pub items : List Entry
+  pub is : after.entries ≡ before.entries ++ items
+  pub right : Right (moment_of d call_of script before.entries) items
   pub stands : IsStanding d call_of script chip1 k1.frames after.entries
-  pub wants : most < work
+  pub steps : k1.steps ≡ most
+  pub counted : IsCounted k.steps before k1.steps after
+  pub room : after.room ≡ before.room
+  pub wants : most < work_of d k + more
+
+abbrev pub Stuck : {State Call Frame : Type 0} → Driver State Call Frame → (Request → Call) → List Directive → (most line : ℕ) → Order → Kept Frame → Written → Chip → Kept Frame → Written → Type 0
+Stuck d call_of script most line order k before chip1 k1 after = IsStuck d call_of script most (bounds_of d.setting (begun_by call_of (Some order))) k before chip1 k1 after (λ m items. GivesToStop d.setting call_of m line order items)

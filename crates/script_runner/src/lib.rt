@@ -5,9 +5,9 @@ mod caller;
 mod obeying;
 mod run;
 mod steps;
-mod whole;
+mod within;
 
 pub use caller::Caller;
 pub use run::{Ran, run_script};
 pub use steps::TooLong;
-pub use whole::run_whole;
+pub use within::run_within;

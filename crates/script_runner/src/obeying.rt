@@ -5,7 +5,8 @@ ghost use Rattle.mcal_base.specs.declared.directive.Order.{Order};
 ghost use Rattle.run_model.specs.Follows.{call_held, line_held, Goes, BeginsOnly, BeginsWhole};
 ghost use Rattle.run_model.specs.Moment.{Begins, Enters};
 ghost use Rattle.run_model.specs.Script.{order_at, begun_by};
-ghost use Rattle.script_runner.specs.Standing.{moment_of, IsStanding, HasRoom, Began, StayedOff, ObeyedBy, Obeyed, IsStuck, is_built, makes_no_step, work_of, bound_of, bounds_of};
+ghost use Rattle.run_model.specs.Stops.{BeginsToStop, StopsWithin};
+ghost use Rattle.script_runner.specs.Standing.{moment_of, IsStanding, HasRoom, Began, StayedOff, ObeyedBy, Obeyed, IsStuck, Stuck, is_built, makes_no_step, bounds_of};
 
 use crate::caller::Caller;
 use crate::steps::{TooLong, run_steps};
@@ -116,7 +117,7 @@ fn obey_call_whole<M: Caller>(
     requires room { HasRoom most stack.old.steps 2 journal.old }
     requires stands { IsStanding (M.spec driver.now) (M.call_of driver.now) script.now bus.old stack.old.frames journal.old.entries }
     ensures obeyed { OnOk result ((order : Order) → begun_by (M.call_of driver.now) (Some order) ≡ Begins (M.call_of driver.now request.now) level ∷ [] → ObeyedBy (M.spec driver.now) (M.call_of driver.now) script.now most order bus.old stack.old journal.old bus.new stack.new journal.new (λ m items. BeginsWhole (M.spec driver.now).setting m line (Begins (M.call_of driver.now request.now) level) (call_held (M.spec driver.now).setting m (M.call_of driver.now request.now) level) items)) }
-    ensures too_long { OnErr result (IsStuck (M.spec driver.now) (M.call_of driver.now) script.now most (work_of (M.spec driver.now) stack.old + bound_of (M.spec driver.now) (Begins (M.call_of driver.now request.now) level)) bus.new stack.new journal.new) }
+    ensures too_long { OnErr result (IsStuck (M.spec driver.now) (M.call_of driver.now) script.now most (bounds_of (M.spec driver.now).setting (Begins (M.call_of driver.now request.now) level ∷ [])) stack.old journal.old bus.new stack.new journal.new (λ m items. BeginsToStop (M.spec driver.now).setting line m (Begins (M.call_of driver.now request.now) level) (call_held (M.spec driver.now).setting m (M.call_of driver.now request.now) level) items)) }
 {
     if obey_call(driver, script, line, level, request, stack, bus, journal) {
         run_steps(
@@ -171,7 +172,7 @@ fn obey_enter_whole<M: Caller>(
     requires room { HasRoom most stack.old.steps 2 journal.old }
     requires stands { IsStanding (M.spec driver.now) (M.call_of driver.now) script.now bus.old stack.old.frames journal.old.entries }
     ensures obeyed { OnOk result ((order : Order) → begun_by (M.call_of driver.now) (Some order) ≡ Enters irq ∷ [] → ObeyedBy (M.spec driver.now) (M.call_of driver.now) script.now most order bus.old stack.old journal.old bus.new stack.new journal.new (λ m items. BeginsWhole (M.spec driver.now).setting m line (Enters irq) (line_held (M.spec driver.now).setting m irq) items)) }
-    ensures too_long { OnErr result (IsStuck (M.spec driver.now) (M.call_of driver.now) script.now most (work_of (M.spec driver.now) stack.old + bound_of (M.spec driver.now) (Enters irq)) bus.new stack.new journal.new) }
+    ensures too_long { OnErr result (IsStuck (M.spec driver.now) (M.call_of driver.now) script.now most (bounds_of (M.spec driver.now).setting (Enters irq ∷ [])) stack.old journal.old bus.new stack.new journal.new (λ m items. BeginsToStop (M.spec driver.now).setting line m (Enters irq) (line_held (M.spec driver.now).setting m irq) items)) }
 {
     if obey_enter(driver, script, line, irq, stack, bus, journal) {
         run_steps(
@@ -212,7 +213,7 @@ fn obey_steps<M: Caller>(
     requires room { HasRoom most stack.old.steps 2 journal.old }
     requires stands { IsStanding (M.spec driver.now) (M.call_of driver.now) script.now bus.old stack.old.frames journal.old.entries }
     ensures obeyed { OnOk result ((order : Order) → ObeyedBy (M.spec driver.now) (M.call_of driver.now) script.now most order bus.old stack.old journal.old bus.new stack.new journal.new (λ m items. Goes (M.spec driver.now).setting line reach m m.opens items)) }
-    ensures too_long { OnErr result (IsStuck (M.spec driver.now) (M.call_of driver.now) script.now most (work_of (M.spec driver.now) stack.old + 0) bus.new stack.new journal.new) }
+    ensures too_long { OnErr result (IsStuck (M.spec driver.now) (M.call_of driver.now) script.now most 0 stack.old journal.old bus.new stack.new journal.new (λ m items. StopsWithin (M.spec driver.now).setting line reach m m.opens items)) }
 {
     if stack.depth() == 0 {
         journal.held(line, 0, Held::Empty);
@@ -267,7 +268,7 @@ pub(crate) fn obey_one<M: Caller>(
     requires room { HasRoom most stack.old.steps 2 journal.old }
     requires stands { IsStanding (M.spec driver.now) (M.call_of driver.now) script.now bus.old stack.old.frames journal.old.entries }
     ensures obeyed { OnOk result (Obeyed (M.spec driver.now) (M.call_of driver.now) script.now most directive.now.line directive.now.order bus.old stack.old journal.old bus.new stack.new journal.new) }
-    ensures too_long { OnErr result (IsStuck (M.spec driver.now) (M.call_of driver.now) script.now most (work_of (M.spec driver.now) stack.old + bounds_of (M.spec driver.now) (begun_by (M.call_of driver.now) (Some directive.now.order))) bus.new stack.new journal.new) }
+    ensures too_long { OnErr result (Stuck (M.spec driver.now) (M.call_of driver.now) script.now most directive.now.line directive.now.order stack.old journal.old bus.new stack.new journal.new) }
 {
     let line = directive.line;
     match &directive.order {

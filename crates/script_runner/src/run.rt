@@ -4,6 +4,7 @@ ghost use Rattle.run_model.specs.Follows.{Follows};
 ghost use Rattle.run_model.specs.Legal.{IsLegal};
 ghost use Rattle.run_model.specs.Moment.{start_moment};
 ghost use Rattle.run_model.specs.Script.{deeds_of};
+ghost use Rattle.run_model.specs.Stops.{FollowsToStop, steps_in};
 ghost use Rattle.script_runner.specs.Scripts.{IsScript, script_bound};
 
 use crate::caller::Caller;
@@ -55,9 +56,15 @@ pub fn run_script<M: Caller>(
     requires script { IsScript script.now }
     requires limit { most < 4294967295 }
     ensures follows { IfOk result (λ ran. OnFalse ran.too_long (Follows (M.spec driver.now).setting (M.call_of driver.now) (start_moment (M.spec driver.now).setting) script.now ran.journal.entries)) }
+    // A run that stopped says what the directives ask for up to there, where one more step is asked for.
+    ensures stops { IfOk result (λ ran. OnTrue ran.too_long (FollowsToStop (M.spec driver.now).setting (M.call_of driver.now) (start_moment (M.spec driver.now).setting) script.now ran.journal.entries)) }
     ensures legal { IfOk result (λ ran. IsLegal (M.spec driver.now).setting (start_moment (M.spec driver.now).setting) (deeds_of (M.call_of driver.now) script.now ran.journal.entries)) }
+    ensures few { IfOk result (λ ran. steps_in ran.journal.entries ≤ most) }
+    ensures most_taken { IfOk result (λ ran. OnTrue ran.too_long (steps_in ran.journal.entries ≡ most)) }
+    // The room is for so many steps, and for two other items of each directive.
+    ensures room { IfOk result (λ ran. ran.journal.room ≡ most + 2 * length script.now) }
     // The limit is not met where the bounds of all frames that may begin are within it.
-    ensures within { IfOk result (λ ran. OnTrue ran.too_long (most < script_bound (M.spec driver.now) (M.call_of driver.now) script.now)) }
+    ensures within { IfOk result (λ ran. OnTrue ran.too_long (most < script_bound (M.spec driver.now).setting (M.call_of driver.now) script.now)) }
 {
     let mut journal = journal_for(alloc, most, script.len())?;
     let mut stack = Stack::new(alloc)?;

@@ -3,7 +3,8 @@ ghost use Rattle.mcal_base.specs.declared.directive.Order.{Order};
 ghost use Rattle.run_model.specs.Entry as entry;
 ghost use Rattle.run_model.specs.Follows as follows;
 ghost use Rattle.run_model.specs.Follows.{GoesOn, is_reached, resets_chip};
-ghost use Rattle.script_runner.specs.Standing.{IsStanding, HasRoom, TookStep, WentFar, IsStuck, work_of};
+ghost use Rattle.run_model.specs.Stops.{GoesToStop};
+ghost use Rattle.script_runner.specs.Standing.{IsStanding, HasRoom, TookStep, WentFar, IsStuck};
 
 use crate::caller::Caller;
 use chip_model::Bus;
@@ -111,7 +112,7 @@ pub(crate) fn run_steps<M: Caller>(
     requires room { HasRoom most stack.old.steps 1 journal.old }
     requires stands { IsStanding (M.spec driver.now) (M.call_of driver.now) script.now bus.old stack.old.frames journal.old.entries }
     ensures went { OnOk result (WentFar (M.spec driver.now) (M.call_of driver.now) script.now most line reach bus.old stack.old journal.old bus.new stack.new journal.new) }
-    ensures too_long { OnErr result (IsStuck (M.spec driver.now) (M.call_of driver.now) script.now most (work_of (M.spec driver.now) stack.old) bus.new stack.new journal.new) }
+    ensures too_long { OnErr result (IsStuck (M.spec driver.now) (M.call_of driver.now) script.now most 0 stack.old journal.old bus.new stack.new journal.new (λ m items. GoesToStop (M.spec driver.now).setting line reach 0 m items)) }
 {
     let mut made = 0u32;
     loop {

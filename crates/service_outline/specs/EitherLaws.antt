@@ -42,7 +42,7 @@ module _ {State Call A B : Type 0} (g : Ground State Call) (v : Bodies g A) (u :
   steps_lift chip w s o made (Some t) m k (Some e) n h = h
 
 module _ {State Call A B : Type 0} (g : Ground State Call) (v : Bodies g A) (u : Bodies g B) (p : AreRight g v) (q : AreRight g u) where
-  own : (chip : Chip) (w : World) (s : State) (k : Or A B) (o : Origin Call) (t : Option Told) → At g (either v u) chip w s k o t → g.setting.owns o ((either v u).work_of k) ≡ true
+  own : (chip : Chip) (w : World) (s : State) (k : Or A B) (o : Origin Call) (t : Option Told) → At g (either v u) chip w s k o t → g.setting.may o ((either v u).work_of k) ≡ true
   own chip w s (First k) o t h = p.own chip w s k o t h
   own chip w s (Second k) o t h = q.own chip w s k o t h
 

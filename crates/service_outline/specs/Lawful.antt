@@ -155,8 +155,8 @@ module _ {State Call Asked Body : Type 0} (d : Outlined State Call Asked Body) (
   line_by line f None e is = absurd (cc)
   line_by line f (Some k) e is = let at : Entering k ≡ f = cc in subst (λ x. (driver_of d).fuel x ≤ d.basis.setting.steps_of (Entered line)) at (law.line_steps line k e)
 
-  settled_due : (chip : Chip) (w : World) (ps : List (Short Asked Body × Open Call)) (s : State) (line : ℕ) → d.basis.setting.used line ≡ true → AllOutside ps → Relates d chip w ps s → is_pending chip line ≡ d.basis.setting.machine.due w s line
-  settled_due chip w ps s line used out h = law.basis.pends chip w s line used (all_wait chip w ps s out h).0
+  settled_due : (chip : Chip) (w : World) (ps : List (Short Asked Body × Open Call)) (s : State) (line : ℕ) → d.basis.setting.lines line ≡ true → AllOutside ps → Relates d chip w ps s → is_pending chip line ≡ d.basis.setting.machine.due w s line
+  settled_due chip w ps s line there out h = law.basis.pends chip w s line there (all_wait chip w ps s out h).0
 
   pub short_lawful : IsLawful (driver_of d) (short_move d.word d.bodies.work_of) (short_left d.looked d.bodies.takes) (short_gave d.looked d.bodies.takes)
   short_lawful = record {
@@ -168,10 +168,13 @@ module _ {State Call Asked Body : Type 0} (d : Outlined State Call Asked Body) (
     moves = moves;
     resets = resets;
     undisturbed = undisturbed;
+    may_owns = law.basis.may_owns;
     owns_plain = law.basis.owns_plain;
     owns_called = law.basis.owns_called;
-    due = λ chip w ps s line used unmasked out h e. settled_due chip w ps s line used out h ∙ e;
-    rests = λ chip w s line used h. law.basis.pends chip w s line used h;
+    used_lines = law.basis.used_lines;
+    due_used = λ chip w ps s line out h e. law.basis.due_used chip w s line (all_wait chip w ps s out h).0 e;
+    due = λ chip w ps s line there unmasked out h e. settled_due chip w ps s line there out h ∙ e;
+    rests = λ chip w s line there h. law.basis.pends chip w s line there h;
     waits = λ chip w s u h. law.basis.waits chip w s u h;
     rate_starts = law.basis.rate_starts;
     rate = λ chip w f o ps s masked out h e. rate chip w f o s h.0 e;

@@ -68,7 +68,7 @@ module _ {State Call Asked Body : Type 0} (d : Outlined State Call Asked Body) (
   goes_by chip s1 rest (Called c) None k (Some n) h = absurd h
   goes_by chip s1 rest (Entered l) None k (Some n) h = ((h.0, missed_done rest l n h.1 h.2), waits)
 
-  body_by : (chip chip1 : Chip) (x : ℕ) (f : Short Asked Body) (origin : Origin Call) (told : Option Told) (made : Move) (k : Body) (e : Option Event) (left : Option Done) → is_shared made ≡ false → d.basis.setting.owns origin made ≡ true → short_fuel d.most d.bodies.fuel (left_body k left) < short_fuel d.most d.bodies.fuel f → short_room d.most d.bodies.fuel (left_body k left) < short_room d.most d.bodies.fuel f → StepsRight d.basis d.bodies chip1 w s origin made told (missed_after d.basis.setting.machine w s r.missed) k e left → Keeps (driver_of d) chip w s f (left_body k left) (λ s1 o1. Relates d chip1 w ((left_body k left, o1) ∷ ps) s1) (during d.basis.setting.machine r origin told true) made x (does e)
+  body_by : (chip chip1 : Chip) (x : ℕ) (f : Short Asked Body) (origin : Origin Call) (told : Option Told) (made : Move) (k : Body) (e : Option Event) (left : Option Done) → is_shared made ≡ false → d.basis.setting.may origin made ≡ true → short_fuel d.most d.bodies.fuel (left_body k left) < short_fuel d.most d.bodies.fuel f → short_room d.most d.bodies.fuel (left_body k left) < short_room d.most d.bodies.fuel f → StepsRight d.basis d.bodies chip1 w s origin made told (missed_after d.basis.setting.machine w s r.missed) k e left → Keeps (driver_of d) chip w s f (left_body k left) (λ s1 o1. Relates d chip1 w ((left_body k left, o1) ∷ ps) s1) (during d.basis.setting.machine r origin told true) made x (does e)
   body_by chip chip1 x f origin told made k None left p own fuel room h = plain_step (driver_of d) chip w s f (left_body k left) _ r origin (acted_in told origin) (served_in told origin) (owed_in told) (report_in d.basis.setting.machine told origin) true made x p own fuel (λ e. room) (goes_by chip1 s (rest_after d.basis.setting.machine w s (during d.basis.setting.machine r origin told true) made) origin told k left h)
   body_by chip chip1 x f origin None made k (Some e) left p own fuel room h = event_step (driver_of d) chip w s f (left_body k left) _ r origin made x e h.state h.told p own fuel room h.own h.is h.low (goes_by chip1 h.state (rest_after d.basis.setting.machine w s (during d.basis.setting.machine r origin None true) made) origin (Some h.told) k left h.next)
   body_by chip chip1 x f origin (Some t) made k (Some e) left p own fuel room h = absurd h
@@ -119,7 +119,7 @@ module _ {State Call Asked Body : Type 0} (d : Outlined State Call Asked Body) (
       let t = d.bodies.takes k x in
       let i = h.0 in
       let own = law.bodies.own chip w s k o.origin i.told i.at in
-      subst (λ y. KeepsAt d chip w (Inside k) y ps s) (sym i.form) (body_by d law ps h.1 s w o chip (chip_after chip made) x (Inside k) o.origin i.told made t.0 t.1.event t.1.done (law.basis.owns_plain o.origin made own) own (body_fuel d.most d.bodies.fuel (d.bodies.fuel k) t.0 t.1.done (law.bodies.shortens k x)) (body_room d.most d.bodies.fuel (d.bodies.fuel k) t.0 t.1.done (law.bodies.shortens k x)) (law.bodies.steps chip w s k o.origin i.told o.missed i.at))
+      subst (λ y. KeepsAt d chip w (Inside k) y ps s) (sym i.form) (body_by d law ps h.1 s w o chip (chip_after chip made) x (Inside k) o.origin i.told made t.0 t.1.event t.1.done (law.basis.owns_plain o.origin made (law.basis.may_owns o.origin made own)) own (body_fuel d.most d.bodies.fuel (d.bodies.fuel k) t.0 t.1.done (law.bodies.shortens k x)) (body_room d.most d.bodies.fuel (d.bodies.fuel k) t.0 t.1.done (law.bodies.shortens k x)) (law.bodies.steps chip w s k o.origin i.told o.missed i.at))
   short_steps chip w (Opening n) o ps s h =
       let k = h.0.1 in
       let e = form_is o (notices_in n.owed) (error_in n.owed) true k.owed k.report k.inside in

@@ -103,11 +103,16 @@ pub record IsGround {State Call : Type 0} (g : Ground State Call) : Type 0 where
   pub agrees_later : (gap : g.Gap) (chip : Chip) (w : World) (s : State) (order : Order) → g.agrees gap chip w s → g.agrees gap (happened chip order) (world_after w chip.rate order) (g.later w s order)
   pub agrees_apart : (gap : g.Gap) (chip : Chip) (w : World) (s : State) (made : Move) → Apart g made → g.agrees gap chip w s → g.agrees gap (chip_after chip made) w s
   pub foot_apart : (chip : Chip) (made : Move) → Apart g made → g.foot (chip_after chip made) ≡ g.foot chip
+  -- what a frame may do names what is the driver's own, and that is a register or a word
+  pub may_owns : (origin : Origin Call) (made : Move) → g.setting.may origin made ≡ true → g.setting.owns origin made ≡ true
   pub owns_plain : (origin : Origin Call) (made : Move) → g.setting.owns origin made ≡ true → is_shared made ≡ false
   -- what a handler owns some call owns
   pub owns_called : (line : ℕ) (made : Move) → g.setting.owns (Entered line) made ≡ true → (c : Call) × (g.setting.owns (Called c) made ≡ true)
-  -- a line is pending exactly where it is due, and no unit waits for a start
-  pub pends : (chip : Chip) (w : World) (s : State) (line : ℕ) → g.setting.used line ≡ true → g.agrees g.settled chip w s → is_pending chip line ≡ g.setting.machine.due w s line
+  -- a line that an object uses is one of the modules' lines, and one that no object uses is not due
+  pub used_lines : (line : ℕ) → g.setting.used line ≡ true → g.setting.lines line ≡ true
+  pub due_used : (chip : Chip) (w : World) (s : State) (line : ℕ) → g.agrees g.settled chip w s → g.setting.machine.due w s line ≡ true → g.setting.used line ≡ true
+  -- each line, used or not, is pending exactly where it is due, and no unit waits for a start
+  pub pends : (chip : Chip) (w : World) (s : State) (line : ℕ) → g.setting.lines line ≡ true → g.agrees g.settled chip w s → is_pending chip line ≡ g.setting.machine.due w s line
   pub waits : (chip : Chip) (w : World) (s : State) (u : units.Unit) → g.agrees g.settled chip w s → g.setting.machine.startable w s u ≡ false
   pub rate_starts : g.setting.machine.rate g.setting.first ≡ 1
   pub rate_moves : (w : World) (s : State) (order : Order) (out : Outcome State) → g.setting.machine.happens w s (Moves order) ≡ Some out → g.setting.machine.rate out.state ≡ g.setting.machine.rate s
@@ -288,8 +293,8 @@ state_past g b chip w s k origin = state_by s (outcome_of g.setting.machine w s 
 
 -- what bodies owe
 pub record AreRight {State Call Body : Type 0} (g : Ground State Call) (b : Bodies g Body) : Type 0 where
-  -- a body's move names what is the driver's, and what is there
-  pub own : (chip : Chip) (w : World) (s : State) (k : Body) (origin : Origin Call) (told : Option Told) → At g b chip w s k origin told → g.setting.owns origin (b.work_of k) ≡ true
+  -- a body's move is one that its frame may make, and names what is there
+  pub own : (chip : Chip) (w : World) (s : State) (k : Body) (origin : Origin Call) (told : Option Told) → At g b chip w s k origin told → g.setting.may origin (b.work_of k) ≡ true
   pub there : (chip : Chip) (w : World) (s : State) (k : Body) (origin : Origin Call) (told : Option Told) → At g b chip w s k origin told → CanApply (b.work_of k)
   pub steps : (chip : Chip) (w : World) (s : State) (k : Body) (origin : Origin Call) (told : Option Told) (missed : ℕ → Bool) → At g b chip w s k origin told → RightAt g b chip w s k origin told missed
   pub later : (chip : Chip) (w : World) (s : State) (order : Order) (k : Body) (origin : Origin Call) (told : Option Told) → At g b chip w s k origin told → b.place (g.foot (happened chip order)) (world_after w chip.rate order) (g.later w s order) k origin told
@@ -302,7 +307,8 @@ pub record IsOutlined {State Call Asked Body : Type 0} (d : Outlined State Call 
   pub bodies : AreRight d.basis d.bodies
   -- the load of the state word, in the window
   pub looks : (chip : Chip) (w : World) (s : State) (c : Call) → d.can c → d.basis.agrees d.basis.settled chip w s → LooksRight d chip w s c (d.looked (d.asked c) (value_of chip (Load d.word)))
-  pub own_word : (origin : Origin Call) → d.basis.setting.owns origin (Load d.word) ≡ true
+  -- the state word is its own, and there
+  pub own_word : (origin : Origin Call) → d.basis.setting.may origin (Load d.word) ≡ true
   pub word_there : CanApply (Load d.word)
   -- each configured line has a handler, and no other, which may be entered
   pub handled : (line : ℕ) → is_some (d.body_of line) ≡ d.basis.setting.used line

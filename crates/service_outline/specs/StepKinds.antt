@@ -119,7 +119,7 @@ module _ {State Call Frame : Type 0} (d : Driver State Call Frame) (chip : Chip)
   Keeps o made value taken = KeepsStep d (record { chip = chip; world = w; state = s; opens = [] }) f o later (stepped made value 0 taken) Kept
 
   -- a plain move with no event
-  pub plain_step : (r : Open Call) (origin : Origin Call) (acted : Option Answer) (served : List ℕ) (owed : List Notice) (report : Option DevError) (inside : Bool) (made : Move) (value : ℕ) → is_shared made ≡ false → d.setting.owns origin made ≡ true → d.fuel later < d.fuel f → (inside ≡ true → d.room later < d.room f) → Kept s (form (rest_after d.setting.machine w s (form r origin acted served owed report inside) made) origin acted served owed report inside) → Keeps (form r origin acted served owed report inside) made value goes
+  pub plain_step : (r : Open Call) (origin : Origin Call) (acted : Option Answer) (served : List ℕ) (owed : List Notice) (report : Option DevError) (inside : Bool) (made : Move) (value : ℕ) → is_shared made ≡ false → d.setting.may origin made ≡ true → d.fuel later < d.fuel f → (inside ≡ true → d.room later < d.room f) → Kept s (form (rest_after d.setting.machine w s (form r origin acted served owed report inside) made) origin acted served owed report inside) → Keeps (form r origin acted served owed report inside) made value goes
   plain_step r (Called c) acted served owed report inside made value p own fuel room k = record {
     event = tt;
     halves = tt;
@@ -142,7 +142,7 @@ module _ {State Call Frame : Type 0} (d : Driver State Call Frame) (chip : Chip)
   }
 
   -- a plain move with the mask open, the last step of its frame
-  pub last_step : (r : Open Call) (origin : Origin Call) (acted : Option Answer) (served : List ℕ) (word value : ℕ) (a : Answer) → d.setting.owns origin (Load word) ≡ true → MayEnd origin (form r origin acted served [] None false) a → 1 ≤ d.fuel f → Kept s (form (rest_after d.setting.machine w s (form r origin acted served [] None false) (Load word)) origin acted served [] None false) → Keeps (form r origin acted served [] None false) (Load word) value (ends a)
+  pub last_step : (r : Open Call) (origin : Origin Call) (acted : Option Answer) (served : List ℕ) (word value : ℕ) (a : Answer) → d.setting.may origin (Load word) ≡ true → MayEnd origin (form r origin acted served [] None false) a → 1 ≤ d.fuel f → Kept s (form (rest_after d.setting.machine w s (form r origin acted served [] None false) (Load word)) origin acted served [] None false) → Keeps (form r origin acted served [] None false) (Load word) value (ends a)
   last_step r (Called c) acted served word value a own m fuel k = record {
     event = tt;
     halves = tt;
@@ -190,14 +190,14 @@ module _ {State Call Frame : Type 0} (d : Driver State Call Frame) (chip : Chip)
   note_step r (Entered l) acted served n ns value fuel k = record { event = tt; halves = tt; move = (refl, refl); ends = tt; own = refl; fuel = fuel; room = λ e. absurd (cc); kept = k }
 
   -- an act or a serving, at a plain move
-  act_step : (r : Open Call) (c : Call) (made : Move) (value : ℕ) (s1 : State) (t : Told) → is_shared made ≡ false → d.setting.owns (Called c) made ≡ true → d.fuel later < d.fuel f → d.room later < d.room f → d.setting.machine.happens w s (Acts c) ≡ Some (outcome s1 t) → ReadsLow (d.setting.low_half c) true made (Some (outcome s1 t)) → Kept s1 (during d.setting.machine (rest_after d.setting.machine w s (during d.setting.machine r (Called c) None true) made) (Called c) (Some t) true) → Keeps (during d.setting.machine r (Called c) None true) made value (does (Some Act))
+  act_step : (r : Open Call) (c : Call) (made : Move) (value : ℕ) (s1 : State) (t : Told) → is_shared made ≡ false → d.setting.may (Called c) made ≡ true → d.fuel later < d.fuel f → d.room later < d.room f → d.setting.machine.happens w s (Acts c) ≡ Some (outcome s1 t) → ReadsLow (d.setting.low_half c) true made (Some (outcome s1 t)) → Kept s1 (during d.setting.machine (rest_after d.setting.machine w s (during d.setting.machine r (Called c) None true) made) (Called c) (Some t) true) → Keeps (during d.setting.machine r (Called c) None true) made value (does (Some Act))
   act_step r c made value s1 t p own fuel room is low k =
       let mac = d.setting.machine in
       let o = during mac r (Called c) None true in
       record {
         event = (refl, tt, subst (λ x. IsSome x) (sym is) refl);
         halves = subst (λ x. ReadsLow (d.setting.low_half c) true made x) (sym is) low;
-        move = move_plain true (owed_by [] (mac.happens w s (Acts c))) (report_by mac (Called c) None (Some Act) (mac.happens w s (Acts c))) made p;
+        move = move_plain true [] (report_by mac (Called c) None (Some Act) (mac.happens w s (Acts c))) made p;
         ends = tt;
         own = or_true (is_shared made) own;
         fuel = fuel;
@@ -205,7 +205,7 @@ module _ {State Call Frame : Type 0} (d : Driver State Call Frame) (chip : Chip)
         kept = subst (λ x. Kept (state_by s x) (open_with mac w s o made (Some Act) x)) (sym is) (subst (λ x. Kept s1 x) (sym (plainly mac w s o made (Some Act) (Some (outcome s1 t)) p)) k);
       }
 
-  serve_step : (r : Open Call) (l : ℕ) (made : Move) (value : ℕ) (s1 : State) (t : Told) → is_shared made ≡ false → d.setting.owns (Entered l) made ≡ true → d.fuel later < d.fuel f → d.room later < d.room f → outcome_of d.setting.machine w s (happening_of (Entered l) 0 (Serve l)) ≡ Some (outcome s1 t) → Kept s1 (during d.setting.machine (rest_after d.setting.machine w s (during d.setting.machine r (Entered l) None true) made) (Entered l) (Some t) true) → Keeps (during d.setting.machine r (Entered l) None true) made value (does (Some (Serve l)))
+  serve_step : (r : Open Call) (l : ℕ) (made : Move) (value : ℕ) (s1 : State) (t : Told) → is_shared made ≡ false → d.setting.may (Entered l) made ≡ true → d.fuel later < d.fuel f → d.room later < d.room f → outcome_of d.setting.machine w s (happening_of (Entered l) 0 (Serve l)) ≡ Some (outcome s1 t) → Kept s1 (during d.setting.machine (rest_after d.setting.machine w s (during d.setting.machine r (Entered l) None true) made) (Entered l) (Some t) true) → Keeps (during d.setting.machine r (Entered l) None true) made value (does (Some (Serve l)))
   serve_step r l made value s1 t p own fuel room is k =
       let mac = d.setting.machine in
       let o = during mac r (Entered l) None true in
@@ -213,7 +213,7 @@ module _ {State Call Frame : Type 0} (d : Driver State Call Frame) (chip : Chip)
       record {
         event = ((refl, refl, refl), tt, subst (λ x. IsSome x) (sym is) refl);
         halves = tt;
-        move = move_plain true (owed_by [] out) (report_by mac (Entered l) None (Some (Serve l)) out) made p;
+        move = move_plain true [] (report_by mac (Entered l) None (Some (Serve l)) out) made p;
         ends = tt;
         own = or_true (is_shared made) own;
         fuel = fuel;
@@ -221,7 +221,7 @@ module _ {State Call Frame : Type 0} (d : Driver State Call Frame) (chip : Chip)
         kept = subst (λ x. Kept (state_by s x) (open_with mac w s o made (Some (Serve l)) x)) (sym is) (subst (λ x. Kept s1 x) (sym (plainly mac w s o made (Some (Serve l)) (Some (outcome s1 t)) p)) k);
       }
 
-  pub event_step : (r : Open Call) (origin : Origin Call) (made : Move) (value : ℕ) (e : Event) (s1 : State) (t : Told) → is_shared made ≡ false → d.setting.owns origin made ≡ true → d.fuel later < d.fuel f → d.room later < d.room f → IsOwn origin e → outcome_of d.setting.machine w s (happening_of origin 0 e) ≡ Some (outcome s1 t) → LowAt d.setting origin made s1 t → Kept s1 (during d.setting.machine (rest_after d.setting.machine w s (during d.setting.machine r origin None true) made) origin (Some t) true) → Keeps (during d.setting.machine r origin None true) made value (does (Some e))
+  pub event_step : (r : Open Call) (origin : Origin Call) (made : Move) (value : ℕ) (e : Event) (s1 : State) (t : Told) → is_shared made ≡ false → d.setting.may origin made ≡ true → d.fuel later < d.fuel f → d.room later < d.room f → IsOwn origin e → outcome_of d.setting.machine w s (happening_of origin 0 e) ≡ Some (outcome s1 t) → LowAt d.setting origin made s1 t → Kept s1 (during d.setting.machine (rest_after d.setting.machine w s (during d.setting.machine r origin None true) made) origin (Some t) true) → Keeps (during d.setting.machine r origin None true) made value (does (Some e))
   event_step r (Called c) made value Act s1 t p own fuel room is_own is low k = act_step r c made value s1 t p own fuel room is low k
   event_step r (Called c) made value (Serve j) s1 t p own fuel room is_own is low k = absurd is_own
   event_step r (Called c) made value (Abort u) s1 t p own fuel room is_own is low k = absurd is_own

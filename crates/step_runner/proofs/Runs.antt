@@ -9,7 +9,7 @@ use Rattle.mcal_base.specs.declared.moves.Move.{Move}
 use Rattle.mcal_base.specs.declared.routine.Taken.{Taken}
 use Rattle.run_model.specs.declared.item.Stepped.{Stepped}
 use Rattle.run_model.specs.World.{World}
-use Rattle.run_model.specs.Frame.{Open, state_after, open_after, owed_by, report_by, outcome_of, happening_at, inside_after, top_after}
+use Rattle.run_model.specs.Frame.{Open, state_after, open_after, report_by, outcome_of, happening_at, inside_after, top_after}
 use Rattle.run_model.specs.Moment.{Setting, Moment, Deed, Steps, start_moment, after, after_all}
 use Rattle.run_model.specs.Legal.{IsLegalDeed, EndRight, IsServed, QuietAtRest, IsLegal}
 use Rattle.step_runner.specs.Driver.{Driver, IsLawful, AllOutside, FuelRight, stepped}
@@ -56,14 +56,14 @@ paired-after u us o os (Some a) = refl
 
 module _ {State Call Frame : Type 0} (d : Driver State Call Frame) (move_of : Frame → Move) (left : Frame → ℕ → Frame) (gave : Frame → ℕ → Taken) (law : IsLawful d move_of left gave) where
   quiet-of : (us : List (Under Frame)) (os : List (Open Call)) (chip : Chip) (w : World) (s : State) → AreFramesOf d us os → d.relates chip w (paired us os) s → QuietAtRest d.setting (record { chip = chip; world = w; state = s; opens = os }) os
-  quiet-of [] [] chip w s a r = record { units = λ u. law.waits chip w s u r; lines = λ l used. law.rests chip w s l used r }
+  quiet-of [] [] chip w s a r = record { units = λ u. law.waits chip w s u r; lines = λ l line. law.rests chip w s l line r }
   quiet-of (u ∷ us) [] chip w s a r = absurd a
   quiet-of us (o ∷ os) chip w s a r = tt
 
   -- what matches a moment is served there
   pub served-of : (chip : Chip) (us : List (Under Frame)) (m : Moment State Call) → Matches d chip us m → IsServed d.setting m
   served-of chip us m k = record {
-    due = λ e l used due. law.due m.chip m.world (paired us m.opens) m.state l used e (outside-paired us m.opens (none-inside (is_masked m.chip) m.opens e k.guarded)) k.relates due;
+    due = λ e l line due. law.due m.chip m.world (paired us m.opens) m.state l line e (outside-paired us m.opens (none-inside (is_masked m.chip) m.opens e k.guarded)) k.relates due;
     quiet = quiet-of us m.opens m.chip m.world m.state k.frames k.relates;
   }
 
@@ -120,9 +120,10 @@ module _ {State Call Frame : Type 0} (d : Driver State Call Frame) (move_of : Fr
           halves = x.halves;
           move = x.move;
           ends = x.ends;
+          there = law.there chip w u.frame o (paired us os) s k.relates;
           own = x.own;
           steps = steps_bound o.steps (d.fuel u.frame) (d.fuel u1.frame) bound taken.ended x.fuel here.steps;
-          window = window_bound made o.inside (owed_by o.owed out) (report_by d.setting.machine o.origin o.report taken.event out) o.window (d.room u.frame) (d.room u1.frame) wide x.move x.room here.window here.room;
+          window = window_bound made o.inside o.owed (report_by d.setting.machine o.origin o.report taken.event out) o.window (d.room u.frame) (d.room u1.frame) wide x.move x.room here.window here.room;
         };
         matches = record {
           chip_is = refl;
@@ -130,7 +131,7 @@ module _ {State Call Frame : Type 0} (d : Driver State Call Frame) (move_of : Fr
             tag = here.tag;
             noted = refl;
             steps = fuel-after o.steps (d.fuel u.frame) (d.fuel u1.frame) bound taken.ended f e here.steps;
-            window = window_bound made o.inside (owed_by o.owed out) (report_by d.setting.machine o.origin o.report taken.event out) o.window (d.room u.frame) (d.room u1.frame) wide x.move x.room here.window here.room;
+            window = window_bound made o.inside o.owed (report_by d.setting.machine o.origin o.report taken.event out) o.window (d.room u.frame) (d.room u1.frame) wide x.move x.room here.window here.room;
             room = room_bound made o.inside o.window (d.room u.frame) (d.room u1.frame) wide x.room here.room;
           }) x.fuel k.frames.1;
           relates = subst (λ ps. d.relates (chip_after chip made) w ps (state_after d.setting.machine w s o 0 taken.event)) (paired-after u1 us o1 os taken.ended) x.kept;

@@ -13,7 +13,7 @@ use Rattle.run_model.specs.declared.class.Tag.{Tag}
 use Rattle.run_model.specs.declared.item.Stepped.{Stepped}
 use Rattle.run_model.specs.World.{World, world_after}
 use Rattle.run_model.specs.Machine.{Moves, Restarts, Outcome}
-use Rattle.run_model.specs.Frame.{Origin, Called, Entered, Open, opened, state_after, open_after, owed_by, report_by, outcome_of, happening_at, top_after, is_shared}
+use Rattle.run_model.specs.Frame.{Origin, Called, Entered, Open, opened, state_after, open_after, report_by, outcome_of, happening_at, top_after, is_shared}
 use Rattle.run_model.specs.Causes.{may_reenter}
 use Rattle.run_model.specs.Moment.{Setting, Moment, call_tag, line_tag}
 use Rattle.run_model.specs.Legal.{EventRight, HalvesRight, MoveRight, EndRight}
@@ -65,9 +65,9 @@ RoomRight bound inside before later (Report e) = inside ≡ true → later < bef
 pub record KeepsStep {State Call Frame : Type 0} (d : Driver State Call Frame) (m : Moment State Call) (f : Frame) (o : Open Call) (later : Frame) (s : Stepped) (Kept : State → Open Call → Type 0) : Type 0 where
   pub event : EventRight d.setting m o s s.event
   pub halves : HalvesRight d.setting m o s s.event o.origin
-  pub move : MoveRight o.inside (owed_by o.owed (outcome_of d.setting.machine m.world m.state (happening_at o.origin s.received s.event))) (report_by d.setting.machine o.origin o.report s.event (outcome_of d.setting.machine m.world m.state (happening_at o.origin s.received s.event))) s.made
+  pub move : MoveRight o.inside o.owed (report_by d.setting.machine o.origin o.report s.event (outcome_of d.setting.machine m.world m.state (happening_at o.origin s.received s.event))) s.made
   pub ends : EndRight (open_after d.setting.machine m.world m.state o s.made s.received s.event) s.ended
-  pub own : is_shared s.made || d.setting.owns o.origin s.made ≡ true
+  pub own : is_shared s.made || d.setting.may o.origin s.made ≡ true
   pub fuel : FuelRight (d.fuel f) (d.fuel later) s.ended
   pub room : RoomRight (d.setting.window_of o.origin) o.inside (d.room f) (d.room later) s.made
   pub kept : Kept (state_after d.setting.machine m.world m.state o s.received s.event) (open_after d.setting.machine m.world m.state o s.made s.received s.event)
@@ -90,14 +90,21 @@ pub record IsLawful {State Call Frame : Type 0} (d : Driver State Call Frame) (m
   pub resets : (chip : Chip) (w : World) (ps : List (Frame × Open Call)) (s : State) (reason : Reason) → d.relates chip w ps s → (out : Outcome State) × (d.setting.machine.happens w s (Restarts reason) ≡ Some out) × d.relates (reset_chip chip reason) w [] out.state
   -- a move that names nothing of the module's keeps it
   pub undisturbed : (chip : Chip) (w : World) (ps : List (Frame × Open Call)) (s : State) (made : Move) → ((origin : Origin Call) → d.setting.owns origin made ≡ false) → d.relates chip w ps s → d.relates (chip_after chip made) w ps s
+  -- what a frame may do names what is its module's own
+  pub may_owns : (origin : Origin Call) (made : Move) → d.setting.may origin made ≡ true → d.setting.owns origin made ≡ true
   -- what is a module's own is a register or a word
   pub owns_plain : (origin : Origin Call) (made : Move) → d.setting.owns origin made ≡ true → is_shared made ≡ false
   -- what a handler owns some call owns
   pub owns_called : (line : ℕ) (made : Move) → d.setting.owns (Entered line) made ≡ true → (c : Call) × (d.setting.owns (Called c) made ≡ true)
+  -- a line that an object uses is one of the modules' lines
+  pub used_lines : (line : ℕ) → d.setting.used line ≡ true → d.setting.lines line ≡ true
+  -- where no frame holds the mask closed, a line that no object uses isn't due
+  pub due_used : (chip : Chip) (w : World) (ps : List (Frame × Open Call)) (s : State) (line : ℕ) → AllOutside ps → d.relates chip w ps s → d.setting.machine.due w s line ≡ true → d.setting.used line ≡ true
   -- with the mask open each line that is due is pending
-  pub due : (chip : Chip) (w : World) (ps : List (Frame × Open Call)) (s : State) (line : ℕ) → d.setting.used line ≡ true → is_masked chip ≡ false → AllOutside ps → d.relates chip w ps s → d.setting.machine.due w s line ≡ true → is_pending chip line ≡ true
-  -- with no frame a line is pending exactly where it is due, and no unit waits for a start
-  pub rests : (chip : Chip) (w : World) (s : State) (line : ℕ) → d.setting.used line ≡ true → d.relates chip w [] s → is_pending chip line ≡ d.setting.machine.due w s line
+  pub due : (chip : Chip) (w : World) (ps : List (Frame × Open Call)) (s : State) (line : ℕ) → d.setting.lines line ≡ true → is_masked chip ≡ false → AllOutside ps → d.relates chip w ps s → d.setting.machine.due w s line ≡ true → is_pending chip line ≡ true
+  -- with no frame each line, used or not, is pending exactly where it is due
+  pub rests : (chip : Chip) (w : World) (s : State) (line : ℕ) → d.setting.lines line ≡ true → d.relates chip w [] s → is_pending chip line ≡ d.setting.machine.due w s line
+  -- with no frame no unit waits for a start
   pub waits : (chip : Chip) (w : World) (s : State) (u : units.Unit) → d.relates chip w [] s → d.setting.machine.startable w s u ≡ false
   -- the rate of the chip is the machine's after power on, and wherever it was
   pub rate_starts : d.setting.machine.rate d.setting.first ≡ 1

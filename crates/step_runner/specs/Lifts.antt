@@ -61,7 +61,7 @@ pub record LiesIn {S C U E : Type 0} (g : Setting S C) (b : Setting U E) (put : 
   pub polls : (c : C) → b.machine.polls (k c) ≡ g.machine.polls c
   pub polled : (c : C) (l : ℕ) → list_any (λ x. x == l) (g.machine.polls c) ≡ true → mine l ≡ true
   pub low : (c : C) → b.low_half (k c) ≡ g.low_half c
-  pub owns : (p : Origin C) (made : Move) → IsMine mine p → b.owns (lift_origin k p) made ≡ g.owns p made
+  pub may : (p : Origin C) (made : Move) → IsMine mine p → b.may (lift_origin k p) made ≡ g.may p made
   pub window : (p : Origin C) → IsMine mine p → b.window_of (lift_origin k p) ≡ g.window_of p
 
 module _ {S C U E : Type 0} (g : Setting S C) (b : Setting U E) (put : S → U) (k : C → E) (mine : ℕ → Bool) (w : World) (s : S) (lies : LiesIn g b put k mine w s) where
@@ -187,15 +187,14 @@ lift-keeps d big put k into mine chip w s f later o missed st Kept Big lies fuel
     let missed1 = missed_after b.machine w (put s) missed in
     let same1 : SameOn mine missed1 o1.missed = missed-lifted g b put k mine w s lies missed o.missed same in
     let o_is = open-lifted g b put k mine w s lies o missed st.made st.received st.event is in
-    let owed_is : owed_by o.owed y ≡ owed_by o.owed x = ap (owed_by o.owed) is ∙ same-owed put o.owed x in
     let report_is : report_by b.machine (lift_origin k o.origin) o.report st.event y ≡ report_by g.machine o.origin o.report st.event x = ap (report_by b.machine (lift_origin k o.origin) o.report st.event) is ∙ same-report g b put k mine w s lies o.origin o.report st.event x in
     let state_is : state_by (put s) y ≡ put (state_by s x) = ap (state_by (put s)) is ∙ same-state put s x in
     record {
       event = event-lifted g b put k mine w s lies o missed chip st st.event m h.event;
       halves = halves-lifted g b put k mine w s lies o missed chip st st.event o.origin h.halves;
-      move = subst (λ a. MoveRight o.inside a (report_by b.machine (lift_origin k o.origin) o.report st.event y) st.made) (sym owed_is) (subst (λ r. MoveRight o.inside (owed_by o.owed x) r st.made) (sym report_is) h.move);
+      move = subst (λ r. MoveRight o.inside o.owed r st.made) (sym report_is) h.move;
       ends = subst (λ a. EndRight a st.ended) (sym o_is) (end-lifted g b put k mine w s lies o1 missed1 st.ended m same1 h.ends);
-      own = ap (λ a. is_shared st.made || a) (lies.owns o.origin st.made m) ∙ h.own;
+      own = ap (λ a. is_shared st.made || a) (lies.may o.origin st.made m) ∙ h.own;
       fuel = subst (λ n. FuelRight n (big.fuel (into later)) st.ended) (sym (fuels f)) (subst (λ n. FuelRight (d.fuel f) n st.ended) (sym (fuels later)) h.fuel);
       room = subst (λ n. RoomRight n o.inside (big.room (into f)) (big.room (into later)) st.made) (sym (lies.window o.origin m))
           (subst (λ n. RoomRight (g.window_of o.origin) o.inside n (big.room (into later)) st.made) (sym (rooms f)) (subst (λ n. RoomRight (g.window_of o.origin) o.inside (d.room f) n st.made) (sym (rooms later)) h.room));

@@ -128,16 +128,19 @@ pub record UnionRelates {S T C D F G : Type 0} (ours : ℕ → Bool) (First : Ch
 abbrev pub has_handler : {S C F : Type 0} → Driver S C F → ℕ → Bool
 has_handler d l = is_some (d.handler_of l)
 
--- What two drivers have to be so that they make one: apart in what they own, in their lines and in their units, and the second never sets the rate.
+-- What two drivers have to be so that they make one: apart in what they may do, in the lines that they poll and in their units, and the second never sets the rate.
 pub record AreApart {S T C D F G : Type 0} (d : Driver S C F) (e : Driver T D G) : Type 0 where
-  pub owns : (p : Origin C) (q : Origin D) (made : Move) → d.setting.owns p made ≡ true → e.setting.owns q made ≡ false
+  -- what a frame of the one may do is nothing that the other owns
+  pub may : (p : Origin C) (q : Origin D) (made : Move) → d.setting.may p made ≡ true → e.setting.owns q made ≡ false
+  pub may_other : (p : Origin C) (q : Origin D) (made : Move) → e.setting.may q made ≡ true → d.setting.owns p made ≡ false
   -- a call polls lines of its own
   pub polls : (c : C) (l : ℕ) → list_any (λ k. k == l) (d.setting.machine.polls c) ≡ true → has_handler d l ≡ true
   pub polls_other : (c : D) (l : ℕ) → list_any (λ k. k == l) (e.setting.machine.polls c) ≡ true → has_handler d l ≡ false
   -- the first allows no start and no abort that the second does
   pub starts : (w : World) (s : S) (t : T) (u : units.Unit) (r : ℕ) → IsSome (e.setting.machine.happens w t (Starts u r)) → d.setting.machine.happens w s (Starts u r) ≡ None
   pub aborts : (w : World) (s : S) (t : T) (u : units.Unit) → IsSome (e.setting.machine.happens w t (Aborts u)) → d.setting.machine.happens w s (Aborts u) ≡ None
-  pub steady : (chip : Chip) (q : Origin D) (made : Move) → e.setting.owns q made ≡ true → (chip_after chip made).rate ≡ chip.rate
+  -- what the second may do leaves the rate
+  pub steady : (chip : Chip) (q : Origin D) (made : Move) → e.setting.may q made ≡ true → (chip_after chip made).rate ≡ chip.rate
 
 -- the members' settings as one; ours tells the lines of the first
 abbrev pub union_setting : {S T C D : Type 0} → (ℕ → Bool) → Setting S C → Setting T D → Setting (S × T) (Either C D)
@@ -148,8 +151,10 @@ union_setting ours g h = record {
   level_of = λ l. cond (ours l) (g.level_of l) (h.level_of l);
   owner_of = λ l. cond (ours l) (g.owner_of l) (h.owner_of l);
   used = λ l. g.used l || h.used l;
+  lines = λ l. g.lines l || h.lines l;
   steps_of = by_origin ours g.steps_of h.steps_of;
   window_of = by_origin ours g.window_of h.window_of;
+  may = by_origin ours g.may h.may;
   owns = by_origin ours g.owns h.owns;
   low_half = either g.low_half h.low_half;
 }

@@ -44,11 +44,7 @@ not-true : (b : Bool) → not b ≡ true → b ≡ false
 not-true true e = cc
 not-true false e = refl
 
-flipped : (x y : Bool) → (y ≡ true → x ≡ false) → x ≡ true → y ≡ false
-flipped x true h e = let f = h refl in cc
-flipped x false h e = refl
-
--- what is shared or the one's isn't the other's
+-- what is shared, or what the one may do, isn't the other's
 foreign : (shared x y : Bool) → (y ≡ true → shared ≡ false) → (x ≡ true → y ≡ false) → shared || x ≡ true → y ≡ false
 foreign true x true plain apart h = let e = plain refl in cc
 foreign false x true plain apart h = apart h
@@ -57,18 +53,35 @@ foreign shared x false plain apart h = refl
 none-of : (a b : Bool) → a ≡ false → b ≡ false → a || b ≡ false
 none-of a b e f = rw (e, f)
 
--- by the member that has the line
-due-by : (b u v x y z : Bool) → b ≡ u → u || v ≡ true → cond b x y ≡ true → (u ≡ true → x ≡ true → z ≡ true) → (v ≡ true → y ≡ true → z ≡ true) → z ≡ true
-due-by true true v x y z e used h f g = f refl h
-due-by true false v x y z e used h f g = cc
-due-by false true v x y z e used h f g = cc
-due-by false false v x y z e used h f g = g used h
+or-first : (a b : Bool) → a ≡ true → a || b ≡ true
+or-first a b e = rw e
 
-rests-by : (b u v x y z : Bool) → b ≡ u → u || v ≡ true → (u ≡ true → z ≡ x) → (v ≡ true → z ≡ y) → z ≡ cond b x y
-rests-by true true v x y z e used f g = f refl
-rests-by true false v x y z e used f g = cc
-rests-by false true v x y z e used f g = cc
-rests-by false false v x y z e used f g = g used
+or-second : (a b : Bool) → b ≡ true → a || b ≡ true
+or-second true b e = refl
+or-second false b e = e
+
+either-true : (a b c d : Bool) → (a ≡ true → c ≡ true) → (b ≡ true → d ≡ true) → a || b ≡ true → c || d ≡ true
+either-true true b c d f g h = or-first c d (f refl)
+either-true false b c d f g h = or-second c d (g h)
+
+-- by the member that has the line: x and y tell what is due
+due-by : (b x y z : Bool) → cond b x y ≡ true → (x ≡ true → z ≡ true) → (y ≡ true → z ≡ true) → z ≡ true
+due-by true x y z h f g = f h
+due-by false x y z h f g = g h
+
+-- the lines of the members are i and j, and a member has no line due that isn't used, which u and v tell
+rests-by : (b u v i j x y z : Bool) → b ≡ u → (u ≡ true → i ≡ true) → (v ≡ true → j ≡ true) → (x ≡ true → u ≡ true) → (y ≡ true → v ≡ true) → (i ≡ true → z ≡ x) → (j ≡ true → z ≡ y) → i || j ≡ true → z ≡ cond b x y
+rests-by true u v i j x y z e in_i in_j of_x of_y at_x at_y h = at_x (in_i (sym e))
+rests-by false u v i true x y z e in_i in_j of_x of_y at_x at_y h = at_y refl
+rests-by false u v true false x y z e in_i in_j of_x of_y at_x at_y h =
+    let no_x : x ≡ false = none-true x (λ k. let f = of_x k in cc) in
+    let no_y : y ≡ false = none-true y (λ k. let f = in_j (of_y k) in cc) in
+    at_x refl ∙ (no_x ∙ sym no_y)
+rests-by false u v false false x y z e in_i in_j of_x of_y at_x at_y h = cc
+
+may-by : (b : Bool) (p q r s : Move → Bool) (made : Move) → cond b p q made ≡ true → (p made ≡ true → r made ≡ true) → (q made ≡ true → s made ≡ true) → cond b r s made ≡ true
+may-by true p q r s made e f g = f e
+may-by false p q r s made e f g = g e
 
 owned-by : {X : Type 0} (b : Bool) (p q : Move → Bool) (made : Move) → cond b p q made ≡ true → (p made ≡ true → X) → (q made ≡ true → X) → X
 owned-by true p q made e f g = f e
@@ -174,7 +187,7 @@ module _ {S T C D F G : Type 0} (d : Driver S C F) (e : Driver T D G) (move_a : 
     polls = λ c. refl;
     polled = apart.polls;
     low = λ c. refl;
-    owns = λ p made m. ap (λ f. f made) (origin-left ours d.setting.owns e.setting.owns p m);
+    may = λ p made m. ap (λ f. f made) (origin-left ours d.setting.may e.setting.may p m);
     window = λ p m. origin-left ours d.setting.window_of e.setting.window_of p m;
   }
 
@@ -190,7 +203,7 @@ module _ {S T C D F G : Type 0} (d : Driver S C F) (e : Driver T D G) (move_a : 
     polls = λ c. refl;
     polled = λ c l h. ap not (apart.polls_other c l h);
     low = λ c. refl;
-    owns = λ p made m. ap (λ f. f made) (origin-right ours d.setting.owns e.setting.owns p m);
+    may = λ p made m. ap (λ f. f made) (origin-right ours d.setting.may e.setting.may p m);
     window = λ p m. origin-right ours d.setting.window_of e.setting.window_of p m;
   }
 
@@ -203,11 +216,11 @@ module _ {S T C D F G : Type 0} (d : Driver S C F) (e : Driver T D G) (move_a : 
   grow-right chip w y o missed (Some x) qs fs gs s t m same sp a b = record { firsts = fs; seconds = gs; splits = sp; first = a; second = b }
 
   -- a member's move is none of the other's
-  not-second : (p : Origin C) (made : Move) → is_shared made || d.setting.owns p made ≡ true → (q : Origin D) → e.setting.owns q made ≡ false
-  not-second p made h q = foreign (is_shared made) (d.setting.owns p made) (e.setting.owns q made) (lb.owns_plain q made) (apart.owns p q made) h
+  not-second : (p : Origin C) (made : Move) → is_shared made || d.setting.may p made ≡ true → (q : Origin D) → e.setting.owns q made ≡ false
+  not-second p made h q = foreign (is_shared made) (d.setting.may p made) (e.setting.owns q made) (lb.owns_plain q made) (apart.may p q made) h
 
-  not-first : (q : Origin D) (made : Move) → is_shared made || e.setting.owns q made ≡ true → (p : Origin C) → d.setting.owns p made ≡ false
-  not-first q made h p = foreign (is_shared made) (e.setting.owns q made) (d.setting.owns p made) (la.owns_plain p made) (flipped (e.setting.owns q made) (d.setting.owns p made) (apart.owns p q made)) h
+  not-first : (q : Origin D) (made : Move) → is_shared made || e.setting.may q made ≡ true → (p : Origin C) → d.setting.owns p made ≡ false
+  not-first q made h p = foreign (is_shared made) (e.setting.may q made) (d.setting.owns p made) (la.owns_plain p made) (apart.may_other p q made) h
 
   abbrev UKeeps : Chip → World → Either F G → Open (Either C D) → List (Either F G × Open (Either C D)) → S × T → Type 0
   UKeeps chip w u o ps s = let made = either move_a move_b u in let value = value_of chip made in let taken = either_gave gave_a gave_b u value in KeepsStep (union_of d e) (record { chip = chip; world = w; state = s; opens = [] }) u o (either_left left_a left_b u value) (stepped made value 0 taken) (λ s1 o1. URelates (chip_after chip made) w (top_after (either_left left_a left_b u value, o1) taken.ended ps) s1)
@@ -257,7 +270,7 @@ module _ {S T C D F G : Type 0} (d : Driver S C F) (e : Driver T D G) (move_a : 
       let st = stepped made value 0 taken in
       let k = lb.steps chip w f o1 gs1 t masked (outside-split ours qs fs1 gs1 sp out).1 y in
       let same_out = out-at e.setting g (λ b. (s, b)) Right (others ours) w t (lies-right w s t) o1 chip st taken.event m k.event in
-      steady-by chip made (is_shared made) (e.setting.owns o1.origin made) refl k.own (apart.steady chip o1.origin made) ∙ (is ∙ sym (ap (λ o. g.machine.rate (state_by (s, t) o)) same_out ∙ ap g.machine.rate (same-state (λ b. (s, b)) t (outcome_of e.setting.machine w t (happening_at o1.origin 0 taken.event)))))
+      steady-by chip made (is_shared made) (e.setting.may o1.origin made) refl k.own (apart.steady chip o1.origin made) ∙ (is ∙ sym (ap (λ o. g.machine.rate (state_by (s, t) o)) same_out ∙ ap g.machine.rate (same-state (λ b. (s, b)) t (outcome_of e.setting.machine w t (happening_at o1.origin 0 taken.event)))))
 
   u-begins : (chip : Chip) (w : World) (ps : List (Either F G × Open (Either C D))) (s : S × T) (c : Either C D) (level : ℕ) → EitherFits d.can_call e.can_call c → is_masked chip ≡ false → AllOutside ps → may_reenter (g.class_of c) (tags_in ps) ≡ true → URelates chip w ps s → URelates chip w ((either (λ x. Left (d.frame_of x)) (λ y. Right (e.frame_of y)) c, opened (Called c) (call_tag g c level)) ∷ ps) s
   u-begins chip w ps s (Left c) level can masked out enters h =
@@ -332,6 +345,11 @@ module _ {S T C D F G : Type 0} (d : Driver S C F) (e : Driver T D G) (move_a : 
   none-second made none (Called c) = none (Called (Right c))
   none-second made none (Entered l) = none-true (e.setting.owns (Entered l) made) (λ h. let k = lb.owns_called l made h in let f = none (Called (Right k.0)) in let t = k.1 in cc)
 
+  u-may : (origin : Origin (Either C D)) (made : Move) → g.may origin made ≡ true → g.owns origin made ≡ true
+  u-may (Called (Left c)) made h = la.may_owns (Called c) made h
+  u-may (Called (Right c)) made h = lb.may_owns (Called c) made h
+  u-may (Entered l) made h = may-by (ours l) (d.setting.may (Entered l)) (e.setting.may (Entered l)) (d.setting.owns (Entered l)) (e.setting.owns (Entered l)) made h (la.may_owns (Entered l) made) (lb.may_owns (Entered l) made)
+
   u-plain : (origin : Origin (Either C D)) (made : Move) → g.owns origin made ≡ true → is_shared made ≡ false
   u-plain (Called (Left c)) made h = la.owns_plain (Called c) made h
   u-plain (Called (Right c)) made h = lb.owns_plain (Called c) made h
@@ -344,21 +362,35 @@ module _ {S T C D F G : Type 0} (d : Driver S C F) (e : Driver T D G) (move_a : 
   u-call-fuel (Left c) can = la.call_fuel c can
   u-call-fuel (Right c) can = lb.call_fuel c can
 
-  rests-at : (chip : Chip) (w : World) (s : S × T) (line : ℕ) (fs : List (F × Open C)) (gs : List (G × Open D)) → fs ≡ [] → gs ≡ [] → g.used line ≡ true → d.relates chip w fs s.0 → e.relates chip w gs s.1 → is_pending chip line ≡ g.machine.due w s line
-  rests-at chip w s line fs gs no_fs no_gs used x y =
-      rests-by (ours line) (d.setting.used line) (e.setting.used line) (d.setting.machine.due w s.0 line) (e.setting.machine.due w s.1 line) (is_pending chip line) (la.handled line) used
-      (λ u. la.rests chip w s.0 line u (subst (λ z. d.relates chip w z s.0) no_fs x))
-      (λ u. lb.rests chip w s.1 line u (subst (λ z. e.relates chip w z s.1) no_gs y))
+  rests-at : (chip : Chip) (w : World) (s : S × T) (line : ℕ) (fs : List (F × Open C)) (gs : List (G × Open D)) → fs ≡ [] → gs ≡ [] → g.lines line ≡ true → d.relates chip w fs s.0 → e.relates chip w gs s.1 → is_pending chip line ≡ g.machine.due w s line
+  rests-at chip w s line fs gs no_fs no_gs there x y =
+      let x1 = subst (λ z. d.relates chip w z s.0) no_fs x in
+      let y1 = subst (λ z. e.relates chip w z s.1) no_gs y in
+      rests-by (ours line) (d.setting.used line) (e.setting.used line) (d.setting.lines line) (e.setting.lines line) (d.setting.machine.due w s.0 line) (e.setting.machine.due w s.1 line) (is_pending chip line) (la.handled line)
+      (la.used_lines line) (lb.used_lines line)
+      (λ k. la.due_used chip w [] s.0 line tt x1 k) (λ k. lb.due_used chip w [] s.1 line tt y1 k)
+      (λ k. la.rests chip w s.0 line k x1) (λ k. lb.rests chip w s.1 line k y1)
+      there
 
   waits-at : (chip : Chip) (w : World) (s : S × T) (u : units.Unit) (fs : List (F × Open C)) (gs : List (G × Open D)) → fs ≡ [] → gs ≡ [] → d.relates chip w fs s.0 → e.relates chip w gs s.1 → g.machine.startable w s u ≡ false
   waits-at chip w s u fs gs no_fs no_gs x y = none-of (d.setting.machine.startable w s.0 u) (e.setting.machine.startable w s.1 u) (la.waits chip w s.0 u (subst (λ z. d.relates chip w z s.0) no_fs x)) (lb.waits chip w s.1 u (subst (λ z. e.relates chip w z s.1) no_gs y))
 
-  u-due : (chip : Chip) (w : World) (ps : List (Either F G × Open (Either C D))) (s : S × T) (line : ℕ) → g.used line ≡ true → is_masked chip ≡ false → AllOutside ps → URelates chip w ps s → g.machine.due w s line ≡ true → is_pending chip line ≡ true
-  u-due chip w ps s line used masked out h due =
+  u-lines : (line : ℕ) → g.used line ≡ true → g.lines line ≡ true
+  u-lines line h = either-true (d.setting.used line) (e.setting.used line) (d.setting.lines line) (e.setting.lines line) (la.used_lines line) (lb.used_lines line) h
+
+  u-due-used : (chip : Chip) (w : World) (ps : List (Either F G × Open (Either C D))) (s : S × T) (line : ℕ) → AllOutside ps → URelates chip w ps s → g.machine.due w s line ≡ true → g.used line ≡ true
+  u-due-used chip w ps s line out h due =
       let outs = outside-split ours ps h.firsts h.seconds h.splits out in
-      due-by (ours line) (d.setting.used line) (e.setting.used line) (d.setting.machine.due w s.0 line) (e.setting.machine.due w s.1 line) (is_pending chip line) (la.handled line) used due
-      (λ u k. la.due chip w h.firsts s.0 line u masked outs.0 h.first k)
-      (λ u k. lb.due chip w h.seconds s.1 line u masked outs.1 h.second k)
+      due-by (ours line) (d.setting.machine.due w s.0 line) (e.setting.machine.due w s.1 line) (g.used line) due
+      (λ k. or-first (d.setting.used line) (e.setting.used line) (la.due_used chip w h.firsts s.0 line outs.0 h.first k))
+      (λ k. or-second (d.setting.used line) (e.setting.used line) (lb.due_used chip w h.seconds s.1 line outs.1 h.second k))
+
+  u-due : (chip : Chip) (w : World) (ps : List (Either F G × Open (Either C D))) (s : S × T) (line : ℕ) → is_masked chip ≡ false → AllOutside ps → URelates chip w ps s → g.machine.due w s line ≡ true → is_pending chip line ≡ true
+  u-due chip w ps s line masked out h due =
+      let outs = outside-split ours ps h.firsts h.seconds h.splits out in
+      due-by (ours line) (d.setting.machine.due w s.0 line) (e.setting.machine.due w s.1 line) (is_pending chip line) due
+      (λ k. la.due chip w h.firsts s.0 line (la.used_lines line (la.due_used chip w h.firsts s.0 line outs.0 h.first k)) masked outs.0 h.first k)
+      (λ k. lb.due chip w h.seconds s.1 line (lb.used_lines line (lb.due_used chip w h.seconds s.1 line outs.1 h.second k)) masked outs.1 h.second k)
 
   -- two lawful drivers that are apart are a lawful one
   pub union-lawful : IsLawful (union_of d e) (either move_a move_b) (either_left left_a left_b) (either_gave gave_a gave_b)
@@ -371,10 +403,13 @@ module _ {S T C D F G : Type 0} (d : Driver S C F) (e : Driver T D G) (move_a : 
     moves = u-moves;
     resets = u-resets;
     undisturbed = λ chip w ps s made none h. record { firsts = h.firsts; seconds = h.seconds; splits = h.splits; first = la.undisturbed chip w h.firsts s.0 made (none-first made none) h.first; second = lb.undisturbed chip w h.seconds s.1 made (none-second made none) h.second };
+    may_owns = u-may;
     owns_plain = u-plain;
     owns_called = u-called;
-    due = u-due;
-    rests = λ chip w s line used h. let k = empty-split ours h.firsts h.seconds h.splits in rests-at chip w s line h.firsts h.seconds k.0 k.1 used h.first h.second;
+    used_lines = u-lines;
+    due_used = u-due-used;
+    due = λ chip w ps s line there masked out h due. u-due chip w ps s line masked out h due;
+    rests = λ chip w s line there h. let k = empty-split ours h.firsts h.seconds h.splits in rests-at chip w s line h.firsts h.seconds k.0 k.1 there h.first h.second;
     waits = λ chip w s u h. let k = empty-split ours h.firsts h.seconds h.splits in waits-at chip w s u h.firsts h.seconds k.0 k.1 h.first h.second;
     rate_starts = la.rate_starts;
     rate = λ chip w f o ps s masked out h is. rate-split chip w f o ps s.0 s.1 h.firsts h.seconds h.splits masked out h.first h.second is;

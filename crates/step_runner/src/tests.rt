@@ -89,8 +89,10 @@ impl Module for Bells {
         level_of = λ l. cond (l == 3) 2 1;
         owner_of = λ l. Gpt;
         used = λ l. l == 3;
+        lines = λ l. l == 3;
         steps_of = λ o. 4;
         window_of = λ o. 2;
+        may = λ o made. false;
         owns = λ o made. false;
         low_half = λ c. None;
       };

@@ -5,7 +5,7 @@ ghost use Rattle.irq_control.specs.declared.held.Held.TheVariants.{Masked, Level
 ghost use Rattle.run_model.specs.Causes.{call_cause, line_cause};
 ghost use Rattle.gpt_driver.specs.Ground.{class_of};
 ghost use Rattle.gpt_driver.specs.declared.call.Call.TheVariants.{Init, GetTimeElapsed, StartTimer, StopTimer};
-ghost use Rattle.worked_examples.specs.Rows.{handler_tag, asking_tag};
+ghost use Rattle.worked_examples.specs.Runs.{handler_tag, asking_tag};
 
 /// Over the handler of a line of level 1 no call begins while the mask is closed. With the mask open a call of
 /// level 0 is held for its level, also at a notice, and one of level 1 begins at a notice only.

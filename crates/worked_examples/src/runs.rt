@@ -3,7 +3,7 @@
 ghost use Rattle.std.specs.Prelude.{◌≡◌, [], ◌∷◌};
 ghost use Rattle.mcal_base.specs.declared.error_name.ErrorName.TheVariants.{GptParamValue, GptBusy, GptMode};
 ghost use Rattle.mcal_base.specs.declared.notice.NoticeKind.TheVariants.{GptNotification, EcuMCheckWakeup, EcuMSetWakeupEvent};
-ghost use Rattle.worked_examples.specs.Rows.{plain_board, two_channels, told, silence, answered, refused, noted, forbidden, plain_run, starts_run, expiry_run, carry_run, stops_run, sleep_run, callback_run, continuous_run};
+ghost use Rattle.worked_examples.specs.Runs.{plain_board, two_channels, told, silence, answered, refused, noted, forbidden, plain_run, starts_run, expiry_run, carry_run, stops_run, sleep_run, callback_run, continuous_run};
 
 /// A one-shot timer that was started with 100 shows 30 after 30 ticks.
 pub fn elapsed_after_thirty_ticks()

@@ -25,7 +25,7 @@ pub use Rattle.service_outline.specs.declared.done.Owed.TheVariants.{Nothing, Er
 pub use Rattle.service_outline.specs.declared.done.BodyTaken.{BodyTaken}
 pub use Rattle.service_outline.specs.Outline.{Bodies, At, AreRight, StepsTo, RightAt, TellsAs, error_in, Before, Is_before, After, Is_after, Serving, Is_serving, Served, Is_served, state_past}
 pub use Rattle.gpt_driver.specs.Checks.{error_by, service_of}
-pub use Rattle.gpt_driver.specs.Ground.{Gap, settled, none, only, timer_open, target_behind, switches_behind, state_behind, armed, ChannelAgrees, GptAgrees, IsClean, CourseAgrees, AreAllSet, AreEnabled, state_word, gpt_ground, gpt_owns, gpt_setting}
+pub use Rattle.gpt_driver.specs.Ground.{Gap, settled, none, only, timer_open, target_behind, switches_behind, state_behind, armed, ChannelAgrees, GptAgrees, IsClean, CourseAgrees, AreAllSet, AreEnabled, state_word, gpt_ground, gpt_may, gpt_setting}
 pub use Rattle.gpt_driver.specs.Machine.{GptState, channel_at, table, fresh_state, Timing, Course, Never, Running, Stopped, Mode, Off, Normal, Sleep, untouched, first_state, is_off, is_asleep, elapsed, remaining, target_of, prescaler_of, runs, runs_at, is_busy, expired, is_marked, started, stopped, unmarked, with_channel, with_switches, with_mode, work, acts_by, acts, ready, served, happens, gpt_machine}
 pub use Rattle.gpt_driver.specs.Table.{channel_of, one_shot_of, is_one_shot, FitsGpt}
 pub use Rattle.gpt_driver.specs.Words.{bit, target_word, switches_word, word_of as packed, switches_of}

@@ -1,7 +1,7 @@
 -- Gpt_CheckWakeup: what holds at each step, and that it is right.
 use Rattle.std.proofs.Common.{◌≡◌, ℕ, ◌<◌, Bool, true, false, List, [], ◌∷◌, Option, Some, None, refl, sym, ◌∙◌, ap, arith}
 use Rattle.std.specs.Prelude.{if◌then◌else◌}
-use Rattle.gpt_driver.specs.laws.Base.{Chip, chip_after, happened, CanApply, Timers, Order, World, world_after, Told, Origin, Bodies, At, AreRight, RightAt, Before, Is_before, error_in, Nothing, One, Gap, settled, gpt_ground, gpt_owns, GptState, channel_at, with_switches, acts_by, channel_of, switches_of, Call, CheckWakeup, Channel, GptDriver, Switches, IsOn, own_switches, unpacked}
+use Rattle.gpt_driver.specs.laws.Base.{Chip, chip_after, happened, CanApply, Timers, Order, World, world_after, Told, Origin, Bodies, At, AreRight, RightAt, Before, Is_before, error_in, Nothing, One, Gap, settled, gpt_ground, gpt_may, GptState, channel_at, with_switches, acts_by, channel_of, switches_of, Call, CheckWakeup, Channel, GptDriver, Switches, IsOn, own_switches, unpacked}
 use Rattle.mcal_base.specs.declared.moves.DevError.{DevError}
 use Rattle.mcal_base.specs.declared.notice.Notice.{Notice}
 use Rattle.mcal_base.specs.declared.notice.NoticeKind.TheVariants.{EcuMSetWakeupEvent}
@@ -55,7 +55,7 @@ module _ (d : GptDriver) where
         next = (switches_stored d chip w s c (with_woken x false) y i.lt i.on (ap (λ z. with_woken z false) e) h, (refl, woken_notice x c (channel_at s c).switches.woken (ap (λ z. z.woken) e), woken_error x c x.woken refl));
       }
 
-  own : (chip : Chip) (w : World) (s : GptState) (k : CheckBody) (o : Origin Call) (t : Option Told) → At (gpt_ground d) (check_bodies d) chip w s k o t → gpt_owns (check_work k) ≡ true
+  own : (chip : Chip) (w : World) (s : GptState) (k : CheckBody) (o : Origin Call) (t : Option Told) → At (gpt_ground d) (check_bodies d) chip w s k o t → gpt_may (check_work k) ≡ true
   own chip w s (Load c) o t h = own_switches c h.1.1.lt
   own chip w s (Store c x) o t h = own_switches c h.1.1.lt
 

@@ -1,6 +1,6 @@
 -- Gpt_GetTimeElapsed and Gpt_GetTimeRemaining: what holds at each step, and that it is right.
 use Rattle.std.proofs.Common.{◌≡◌, ℕ, ◌-◌, ◌/◌, ◌%◌, ◌<◌, ◌^◌, Bool, true, Option, Some, refl, sym, ◌∙◌, ap, subst, arith}
-use Rattle.gpt_driver.specs.laws.Base.{Chip, chip_after, happened, CanApply, Timers, timer_at, counter, Order, World, world_after, Told, outcome, Origin, Bodies, At, AreRight, RightAt, Before, Is_before, After, Is_after, Gap, settled, GptAgrees, gpt_ground, gpt_owns, GptState, channel_at, elapsed, remaining, target_of, acts_by, channel_of, Call, GetTimeElapsed, GetTimeRemaining, GptDriver, counter_same, counter_small, own_target, rest_agrees, at_order}
+use Rattle.gpt_driver.specs.laws.Base.{Chip, chip_after, happened, CanApply, Timers, timer_at, counter, Order, World, world_after, Told, outcome, Origin, Bodies, At, AreRight, RightAt, Before, Is_before, After, Is_after, Gap, settled, GptAgrees, gpt_ground, gpt_may, GptState, channel_at, elapsed, remaining, target_of, acts_by, channel_of, Call, GetTimeElapsed, GetTimeRemaining, GptDriver, counter_same, counter_small, own_target, rest_agrees, at_order}
 use Rattle.gpt_driver.specs.Machine.{answers_number}
 use Rattle.gpt_driver.specs.laws.Passed.{Passed}
 use Rattle.gpt_driver.specs.service.Count.{count_work, count_takes, count_fuel, joined}
@@ -65,7 +65,7 @@ module _ (d : GptDriver) where
       }
   steps chip w s (RemainingHigh c v low) o t m (h, (Is_after, lt)) = (h, (refl, refl, refl))
 
-  own : (chip : Chip) (w : World) (s : GptState) (k : CountBody) (o : Origin Call) (t : Option Told) → At (gpt_ground d) (count_bodies d) chip w s k o t → gpt_owns (count_work k) ≡ true
+  own : (chip : Chip) (w : World) (s : GptState) (k : CountBody) (o : Origin Call) (t : Option Told) → At (gpt_ground d) (count_bodies d) chip w s k o t → gpt_may (count_work k) ≡ true
   own chip w s (ElapsedLow c) o t h = refl
   own chip w s (ElapsedHigh c low) o t h = refl
   own chip w s (RemainingTarget c) o t h = own_target c h.1.2

@@ -2,7 +2,7 @@
 use Rattle.std.proofs.Common.{◌≡◌, ℕ, zero, suc, ◌+◌, ◌<◌, ◌≢◌, Bool, true, false, ◌||◌, ◌==◌, not, nat_lt, [], Option, Some, None, refl, sym, ◌∙◌, ap, subst, arith, length}
 use Rattle.std.specs.Prelude.{if◌then◌else◌}
 use Rattle.std.proofs.lemmas.Bool.Decides.{nat_tests}
-use Rattle.gpt_driver.specs.laws.Base.{Chip, chip_after, happened, word_of, CanApply, Timers, timer_at, acted, flag_clear, counts_on, expired_between, is_running, is_flagged, running_of, Still, Since, Timer, has_bit, bits_of, has_bit-running_of, GptBusy, Order, Write, EnableClear, TimerFlags, TimerZero, World, world_after, Told, no_answer, tells_nothing, Origin, Called, missed_after, Nothing, Bodies, At, AreRight, StepsTo, RightAt, Before, Is_before, After, Is_after, error_in, error_by, Gap, settled, GptAgrees, CourseAgrees, gpt_ground, gpt_machine, gpt_owns, GptState, channel_at, Course, untouched, first_state, is_off, is_asleep, runs, runs_at, acts_by, channel_of, target_word, switches_word, Call, DeInit, Channel, GptDriver, LINES, STATE, running_same, runs_later, quiet_later, own_target, own_switches, at_order}
+use Rattle.gpt_driver.specs.laws.Base.{Chip, chip_after, happened, word_of, CanApply, Timers, timer_at, acted, flag_clear, counts_on, expired_between, is_running, is_flagged, running_of, Still, Since, Timer, has_bit, bits_of, has_bit-running_of, GptBusy, Order, Write, EnableClear, TimerFlags, TimerZero, World, world_after, Told, no_answer, tells_nothing, Origin, Called, missed_after, Nothing, Bodies, At, AreRight, StepsTo, RightAt, Before, Is_before, After, Is_after, error_in, error_by, Gap, settled, GptAgrees, CourseAgrees, gpt_ground, gpt_machine, gpt_may, GptState, channel_at, Course, untouched, first_state, is_off, is_asleep, runs, runs_at, acts_by, channel_of, target_word, switches_word, Call, DeInit, Channel, GptDriver, LINES, STATE, running_same, runs_later, quiet_later, own_target, own_switches, at_order}
 use Rattle.std.specs.List.{list_any}
 use Rattle.chip_timers.specs.declared.timer.Act.{Act}
 use Rattle.chip_timers.specs.declared.timer.Act.TheVariants as turns
@@ -303,7 +303,7 @@ module _ (d : GptDriver) where
   steps chip w s (places.Target c) o t m (h, (Is_after, e, lt)) = (subst (λ x. GptAgrees d (words_behind (c + 1) c) (chip_after chip (Stores (target_word c) 0)) w x) (sym e) (target_gone chip w c lt (subst (λ x. GptAgrees d (words_behind c c) chip w x) e h)), (Is_after, e, lt))
   steps chip w s (places.Switches c) o t m (h, (Is_after, e, lt)) = switches_by (chip_after chip (Stores (switches_word c) 0)) w s (missed_after (gpt_machine d) w s m) c lt e (switches_gone chip w c lt (subst (λ x. GptAgrees d (words_behind (c + 1) c) chip w x) e h)) (nat_lt c 7) refl
 
-  own : (chip : Chip) (w : World) (s : GptState) (k : DeInitBody) (o : Origin Call) (t : Option Told) → At (gpt_ground d) (deinit_bodies d) chip w s k o t → gpt_owns (deinit_work k) ≡ true
+  own : (chip : Chip) (w : World) (s : GptState) (k : DeInitBody) (o : Origin Call) (t : Option Told) → At (gpt_ground d) (deinit_bodies d) chip w s k o t → gpt_may (deinit_work k) ≡ true
   own chip w s (places.Look r) o t h = refl
   own chip w s places.Store o t h = refl
   own chip w s places.Disable o t h = refl

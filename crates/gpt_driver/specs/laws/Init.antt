@@ -1,7 +1,7 @@
 -- Gpt_Init: what holds at each step, and that it is right.
 use Rattle.std.proofs.Common.{◌≡◌, ℕ, zero, suc, ◌<◌, Bool, true, false, ◌||◌, Option, Some, refl, sym, ◌∙◌, ap, subst, arith}
 use Rattle.std.specs.Prelude.{bit_or}
-use Rattle.gpt_driver.specs.laws.Base.{Chip, chip_after, CanApply, Timers, has_bit, has_bit-or, Write, EnableSet, World, Told, tells_nothing, Origin, Bodies, At, AreRight, RightAt, Before, Is_before, error_by, Gap, settled, armed, state_behind, ChannelAgrees, GptAgrees, IsClean, AreEnabled, gpt_ground, gpt_owns, GptState, channel_at, fresh_state, Off, Normal, untouched, is_off, is_asleep, acts_by, channel_of, Call, Init, GptDriver, LINES, store_state}
+use Rattle.gpt_driver.specs.laws.Base.{Chip, chip_after, CanApply, Timers, has_bit, has_bit-or, Write, EnableSet, World, Told, tells_nothing, Origin, Bodies, At, AreRight, RightAt, Before, Is_before, error_by, Gap, settled, armed, state_behind, ChannelAgrees, GptAgrees, IsClean, AreEnabled, gpt_ground, gpt_may, GptState, channel_at, fresh_state, Off, Normal, untouched, is_off, is_asleep, acts_by, channel_of, Call, Init, GptDriver, LINES, store_state}
 use Rattle.gpt_driver.specs.service.Init.{init_work, init_takes, init_fuel}
 use Rattle.gpt_driver.specs.Frames.{init_shortens}
 use Rattle.gpt_driver.specs.declared.service.init.InitBody.{InitBody}
@@ -75,7 +75,7 @@ module _ (d : GptDriver) where
     next = (store_state d state_behind settled chip w on_state 1 refl refl refl (λ k. (refl, refl, refl)) (turned_on d chip w s off h), (refl, refl, refl));
   }
 
-  own : (chip : Chip) (w : World) (s : GptState) (k : InitBody) (o : Origin Call) (t : Option Told) → At (gpt_ground d) (init_bodies d) chip w s k o t → gpt_owns (init_work k) ≡ true
+  own : (chip : Chip) (w : World) (s : GptState) (k : InitBody) (o : Origin Call) (t : Option Told) → At (gpt_ground d) (init_bodies d) chip w s k o t → gpt_may (init_work k) ≡ true
   own chip w s Enable o t h = refl
   own chip w s Store o t h = refl
 

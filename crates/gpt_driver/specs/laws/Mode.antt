@@ -2,7 +2,7 @@
 use Rattle.std.proofs.Common.{◌≡◌, ℕ, ◌+◌, ◌<◌, ◌≤◌, ◌≢◌, Bool, true, false, ◌&&◌, ◌||◌, ◌==◌, not, nat_lt, Option, Some, None, refl, sym, ◌∙◌, ap, subst, arith}
 use Rattle.std.specs.Prelude.{if◌then◌else◌, bit_or}
 use Rattle.std.proofs.lemmas.Bool.Decides.{nat_tests}
-use Rattle.gpt_driver.specs.laws.Base.{Chip, chip_after, happened, word_of, CanApply, Timers, timer_at, acted, gate_clear, flag_clear, Still, Timer, has_bit, has_bit-or, Order, World, world_after, Told, tells_nothing, Origin, Called, missed_after, Bodies, At, AreRight, StepsTo, RightAt, Before, Is_before, After, Is_after, Gap, settled, state_behind, GptAgrees, CourseAgrees, AreAllSet, AreEnabled, state_word, gpt_ground, gpt_machine, gpt_owns, GptState, channel_at, table_at, Timing, Course, Never, Running, Stopped, Mode, Off, Normal, Sleep, target_of, elapsed, prescaler_of, runs, stopped, unmarked, with_mode, acts_by, channel_of, one_shot_of, bit, switches_word, switches_of, packed, Call, SetMode, Channel, GptDriver, IsOn, store_state, counter_same, counter_small, has_one, has_other, own_switches, at_order, unpacked}
+use Rattle.gpt_driver.specs.laws.Base.{Chip, chip_after, happened, word_of, CanApply, Timers, timer_at, acted, gate_clear, flag_clear, Still, Timer, has_bit, has_bit-or, Order, World, world_after, Told, tells_nothing, Origin, Called, missed_after, Bodies, At, AreRight, StepsTo, RightAt, Before, Is_before, After, Is_after, Gap, settled, state_behind, GptAgrees, CourseAgrees, AreAllSet, AreEnabled, state_word, gpt_ground, gpt_machine, gpt_may, GptState, channel_at, table_at, Timing, Course, Never, Running, Stopped, Mode, Off, Normal, Sleep, target_of, elapsed, prescaler_of, runs, stopped, unmarked, with_mode, acts_by, channel_of, one_shot_of, bit, switches_word, switches_of, packed, Call, SetMode, Channel, GptDriver, IsOn, store_state, counter_same, counter_small, has_one, has_other, own_switches, at_order, unpacked}
 use Rattle.chip_timers.specs.declared.timer.Act.TheVariants as turns
 use Rattle.chip_timers.proofs.TimerLaws.{timer_at-acted, length-acted}
 use Rattle.mcal_base.specs.Expiry.{runs_on, expiries}
@@ -230,7 +230,7 @@ module _ (d : GptDriver) where
   steps chip w s (places.Flags bits) o t m (h, (Is_after, asleep, a)) = (unflagged chip w s bits a h, (Is_after, asleep))
   steps chip w s places.Sleep o t m (h, (Is_after, asleep)) = (store_state d state_behind settled chip w s 2 (sym (ap (λ x. state_word x) asleep)) refl refl (λ k. (refl, refl, refl)) h, (refl, refl, refl))
 
-  own : (chip : Chip) (w : World) (s : GptState) (k : ModeBody) (o : Origin Call) (t : Option Told) → At (gpt_ground d) (mode_bodies d) chip w s k o t → gpt_owns (mode_work k) ≡ true
+  own : (chip : Chip) (w : World) (s : GptState) (k : ModeBody) (o : Origin Call) (t : Option Told) → At (gpt_ground d) (mode_bodies d) chip w s k o t → gpt_may (mode_work k) ≡ true
   own chip w s places.Wake o t h = refl
   own chip w s (places.Gather c bits) o t h = own_switches c h.1.3
   own chip w s (places.Gate bits) o t h = refl

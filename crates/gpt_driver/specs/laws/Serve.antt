@@ -2,7 +2,7 @@
 use Rattle.std.proofs.Common.{◌≡◌, ℕ, ◌+◌, ◌<◌, ◌≤◌, Bool, true, false, ◌&&◌, ◌||◌, ◌==◌, not, nat_lt, Option, Some, None, refl, sym, ◌∙◌, ap, subst, arith}
 use Rattle.std.specs.Prelude.{if◌then◌else◌}
 use Rattle.std.proofs.lemmas.Bool.Decides.{nat_tests}
-use Rattle.gpt_driver.specs.laws.Base.{Chip, chip_after, happened, CanApply, Timers, timer_at, acted, flag_clear, flags_of, has_bit, Timer, Order, Serve, Write, TimerFlags, World, world_after, Told, no_answer, tells_nothing, outcome, Origin, Entered, missed_after, Nothing, BodyTaken, Bodies, At, AreRight, StepsTo, RightAt, Serving, Is_serving, Served, Is_served, Gap, settled, switches_behind, GptAgrees, IsClean, CourseAgrees, state_word, gpt_ground, gpt_machine, gpt_owns, GptState, channel_at, Course, Never, Running, Stopped, Mode, Off, Normal, Sleep, is_asleep, prescaler_of, expired, is_marked, unmarked, with_channel, ready, served, channel_of, one_shot_of, bit, switches_of, packed, Call, Channel, GptDriver, Switches, acted_but, acted_at, settled_at, IsOn, retimed, store_switches, channel_same, same_yes, own_switches, flag_bit, at_order, unpacked}
+use Rattle.gpt_driver.specs.laws.Base.{Chip, chip_after, happened, CanApply, Timers, timer_at, acted, flag_clear, flags_of, has_bit, Timer, Order, Serve, Write, TimerFlags, World, world_after, Told, no_answer, tells_nothing, outcome, Origin, Entered, missed_after, Nothing, BodyTaken, Bodies, At, AreRight, StepsTo, RightAt, Serving, Is_serving, Served, Is_served, Gap, settled, switches_behind, GptAgrees, IsClean, CourseAgrees, state_word, gpt_ground, gpt_machine, gpt_may, GptState, channel_at, Course, Never, Running, Stopped, Mode, Off, Normal, Sleep, is_asleep, prescaler_of, expired, is_marked, unmarked, with_channel, ready, served, channel_of, one_shot_of, bit, switches_of, packed, Call, Channel, GptDriver, Switches, acted_but, acted_at, settled_at, IsOn, retimed, store_switches, channel_same, same_yes, own_switches, flag_bit, at_order, unpacked}
 use Rattle.chip_timers.specs.declared.timer.Act.TheVariants as turns
 use Rattle.mcal_base.specs.Expiry.{expiries}
 use Rattle.mcal_base.proofs.ExpiryLaws.{expiries-later}
@@ -143,7 +143,7 @@ module _ (d : GptDriver) where
       subst (λ b. Clears chip w s m1 c (serve_clears c b x)) (sym e) (subst (λ y. Clears chip w s m1 c (serve_clears c (is_asleep s.mode) y)) (sym i) a)
   steps chip w s (places.Mark c x) o t m (h, (Is_served, lt, e)) = (store_switches d chip w s c (packed (with_woken x true)) lt (ap (λ y. packed y) e) h, (refl, refl, refl))
 
-  own : (chip : Chip) (w : World) (s : GptState) (k : ServeBody) (o : Origin Call) (t : Option Told) → At (gpt_ground d) (serve_bodies d) chip w s k o t → gpt_owns (serve_work k) ≡ true
+  own : (chip : Chip) (w : World) (s : GptState) (k : ServeBody) (o : Origin Call) (t : Option Told) → At (gpt_ground d) (serve_bodies d) chip w s k o t → gpt_may (serve_work k) ≡ true
   own chip w s (places.Look c) o t h = refl
   own chip w s (places.Mode c) o t h = refl
   own chip w s (places.Switches c asleep) o t h = own_switches c h.1.1

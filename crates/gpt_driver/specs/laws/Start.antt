@@ -2,7 +2,7 @@
 use Rattle.std.proofs.Common.{◌≡◌, ℕ, ◌+◌, ◌<◌, ◌^◌, Bool, true, false, ◌||◌, ◌==◌, Option, Some, None, refl, sym, ◌∙◌, ap, subst, arith, []}
 use Rattle.std.specs.Prelude.{if◌then◌else◌}
 use Rattle.std.proofs.lemmas.Bool.Decides.{nat_tests}
-use Rattle.gpt_driver.specs.laws.Base.{Chip, chip_after, happened, CanApply, Timers, timer_at, with_timer, acted, gate_set, flag_clear, running_of, is_flagged, expired_between, Since, Timer, has_bit-running_of, has_bit, bits_of, has_bit-bits_of, Order, GptBusy, World, world_after, Told, no_answer, tells_nothing, Origin, Called, Bodies, At, AreRight, StepsTo, RightAt, Before, Is_before, After, Is_after, error_by, Gap, settled, timer_open, target_behind, GptAgrees, CourseAgrees, gpt_ground, gpt_owns, GptState, channel_at, Course, Never, Running, Stopped, target_of, prescaler_of, runs, expired, started, with_channel, acts_by, is_off, is_asleep, channel_of, one_shot_of, is_one_shot, bit, Call, StartTimer, Channel, GptDriver, acted_but, acted_at, with_but, with_at, settled_at, timer_open_at, IsOn, error_in, missed_after, gpt_machine, retimed, reworked, store_target, channel_same, same_yes, running_same, runs_later, quiet_later, own_target, rest_agrees, at_order}
+use Rattle.gpt_driver.specs.laws.Base.{Chip, chip_after, happened, CanApply, Timers, timer_at, with_timer, acted, gate_set, flag_clear, running_of, is_flagged, expired_between, Since, Timer, has_bit-running_of, has_bit, bits_of, has_bit-bits_of, Order, GptBusy, World, world_after, Told, no_answer, tells_nothing, Origin, Called, Bodies, At, AreRight, StepsTo, RightAt, Before, Is_before, After, Is_after, error_by, Gap, settled, timer_open, target_behind, GptAgrees, CourseAgrees, gpt_ground, gpt_may, GptState, channel_at, Course, Never, Running, Stopped, target_of, prescaler_of, runs, expired, started, with_channel, acts_by, is_off, is_asleep, channel_of, one_shot_of, is_one_shot, bit, Call, StartTimer, Channel, GptDriver, acted_but, acted_at, with_but, with_at, settled_at, timer_open_at, IsOn, error_in, missed_after, gpt_machine, retimed, reworked, store_target, channel_same, same_yes, running_same, runs_later, quiet_later, own_target, rest_agrees, at_order}
 use Rattle.mcal_base.specs.declared.service.Service.TheVariants.{GptStartTimer}
 use Rattle.chip_timers.specs.declared.timer.Act.TheVariants as turns
 use Rattle.service_outline.specs.Done.{goes}
@@ -172,7 +172,7 @@ module _ (d : GptDriver) where
       }
   steps chip w s (Keep r) o t m (h, (Is_after, lt, is)) = (store_target d chip w s r.channel r.value lt is h, (refl, refl, refl))
 
-  own : (chip : Chip) (w : World) (s : GptState) (k : StartBody) (o : Origin Call) (t : Option Told) → At (gpt_ground d) (start_bodies d) chip w s k o t → gpt_owns (start_work k) ≡ true
+  own : (chip : Chip) (w : World) (s : GptState) (k : StartBody) (o : Origin Call) (t : Option Told) → At (gpt_ground d) (start_bodies d) chip w s k o t → gpt_may (start_work k) ≡ true
   own chip w s (Look r) o t h = refl
   own chip w s (Target r) o t h = refl
   own chip w s (Prescaler r) o t h = refl

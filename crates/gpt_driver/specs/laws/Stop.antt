@@ -2,7 +2,7 @@
 use Rattle.std.proofs.Common.{◌≡◌, ℕ, ◌<◌, Bool, true, false, nat_lt, Option, Some, refl, sym, ◌∙◌, ap, subst, arith}
 use Rattle.std.specs.Prelude.{if◌then◌else◌}
 use Rattle.std.proofs.lemmas.Bool.Decides.{nat_tests}
-use Rattle.gpt_driver.specs.laws.Base.{Chip, chip_after, happened, CanApply, Timers, timer_at, acted, counter, flag_clear, is_running, is_flagged, Still, Timer, Order, World, world_after, Told, tells_nothing, Origin, Bodies, At, AreRight, RightAt, Before, Is_before, After, Is_after, Gap, settled, timer_open, GptAgrees, CourseAgrees, gpt_ground, gpt_owns, GptState, channel_at, Timing, Course, Never, Running, Stopped, target_of, elapsed, prescaler_of, runs, expired, stopped, with_channel, acts_by, channel_of, one_shot_of, bit, Call, StopTimer, Channel, GptDriver, acted_but, acted_at, settled_at, timer_open_at, IsOn, retimed, reworked, channel_same, same_yes, running_same, counter_same, counter_small, flagged_same, at_order}
+use Rattle.gpt_driver.specs.laws.Base.{Chip, chip_after, happened, CanApply, Timers, timer_at, acted, counter, flag_clear, is_running, is_flagged, Still, Timer, Order, World, world_after, Told, tells_nothing, Origin, Bodies, At, AreRight, RightAt, Before, Is_before, After, Is_after, Gap, settled, timer_open, GptAgrees, CourseAgrees, gpt_ground, gpt_may, GptState, channel_at, Timing, Course, Never, Running, Stopped, target_of, elapsed, prescaler_of, runs, expired, stopped, with_channel, acts_by, channel_of, one_shot_of, bit, Call, StopTimer, Channel, GptDriver, acted_but, acted_at, settled_at, timer_open_at, IsOn, retimed, reworked, channel_same, same_yes, running_same, counter_same, counter_small, flagged_same, at_order}
 use Rattle.chip_timers.specs.declared.timer.Act.TheVariants as turns
 use Rattle.mcal_base.specs.Expiry.{runs_on, expiries}
 use Rattle.mcal_base.proofs.ExpiryLaws.{expiries-one_shot}
@@ -135,7 +135,7 @@ module _ (d : GptDriver) where
     (refl, refl, refl),
   )
 
-  own : (chip : Chip) (w : World) (s : GptState) (k : StopBody) (o : Origin Call) (t : Option Told) → At (gpt_ground d) (stop_bodies d) chip w s k o t → gpt_owns (stop_work k) ≡ true
+  own : (chip : Chip) (w : World) (s : GptState) (k : StopBody) (o : Origin Call) (t : Option Told) → At (gpt_ground d) (stop_bodies d) chip w s k o t → gpt_may (stop_work k) ≡ true
   own chip w s (OneShot c) o t h = refl
   own chip w s (Continuous c) o t h = refl
   own chip w s (Flag c) o t h = refl

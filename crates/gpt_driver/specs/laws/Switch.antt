@@ -1,6 +1,6 @@
 -- The services that switch notification and wakeup: what holds at each step, and that it is right.
 use Rattle.std.proofs.Common.{◌≡◌, ℕ, ◌<◌, Bool, true, false, Option, Some, refl, sym, ◌∙◌, ap, arith}
-use Rattle.gpt_driver.specs.laws.Base.{Chip, chip_after, happened, CanApply, Timers, Order, Move, World, world_after, Told, tells_nothing, Outcome, outcome, Origin, Bodies, At, AreRight, RightAt, Before, Is_before, Gap, settled, GptAgrees, gpt_ground, gpt_owns, GptState, channel_at, with_switches, acts, acts_by, switches_word, switches_of, packed, Call, EnableNotification, DisableNotification, EnableWakeup, DisableWakeup, GptDriver, Switches, IsOn, store_switches, channel_same, own_switches, reswitched, unpacked}
+use Rattle.gpt_driver.specs.laws.Base.{Chip, chip_after, happened, CanApply, Timers, Order, Move, World, world_after, Told, tells_nothing, Outcome, outcome, Origin, Bodies, At, AreRight, RightAt, Before, Is_before, Gap, settled, GptAgrees, gpt_ground, gpt_may, GptState, channel_at, with_switches, acts, acts_by, switches_word, switches_of, packed, Call, EnableNotification, DisableNotification, EnableWakeup, DisableWakeup, GptDriver, Switches, IsOn, store_switches, channel_same, own_switches, reswitched, unpacked}
 use Rattle.mcal_base.specs.declared.moves.Move.TheVariants.{Store as Stores}
 use Rattle.run_model.specs.Legal.{ReadsLow}
 use Rattle.gpt_driver.specs.Ground.{low_half}
@@ -65,7 +65,7 @@ module _ (d : GptDriver) where
         next = (switches_stored chip w s c x y i.lt i.on e h, (refl, refl, refl));
       }
 
-  own : (chip : Chip) (w : World) (s : GptState) (k : SwitchBody) (o : Origin Call) (t : Option Told) → At (gpt_ground d) (switch_bodies d) chip w s k o t → gpt_owns (switch_work k) ≡ true
+  own : (chip : Chip) (w : World) (s : GptState) (k : SwitchBody) (o : Origin Call) (t : Option Told) → At (gpt_ground d) (switch_bodies d) chip w s k o t → gpt_may (switch_work k) ≡ true
   own chip w s (Load c by) o t h = own_switches c h.1.1.lt
   own chip w s (Store c x) o t h = own_switches c h.1.2.lt
 

@@ -3,8 +3,8 @@ use Rattle.bench_script.specs.Lines.{is_separator}
 use Rattle.bench_script.proofs.Cuts.{cut_here, cut_on, cut_last}
 use Rattle.bench_script.proofs.lines.split_file.Goals as goal
 
-pub returns-then-eq : goal.returns-then-eq
-returns-then-eq c = cut_here c.args.text.now c.loop-feed.start c.in-Some.feed c.loop-feed.invariant.cut c.in-Some.ensures.place (ap is_separator (sym c.without_return.ensures) ∙ (sym c.eq.ensures ∙ c.if-eq.true))
+pub returns-then-eq-clause-parts : goal.returns-then-eq-clause-parts
+returns-then-eq-clause-parts c = cut_here c.args.text.now c.loop-feed.start c.in-Some.feed c.loop-feed.invariant.cut c.in-Some.ensures.place (ap is_separator (sym c.without_return.ensures) ∙ (sym c.eq.ensures ∙ c.if-eq.true))
 
 pub loop-feed-preserved : goal.loop-feed-preserved
 loop-feed-preserved c = record {
@@ -12,5 +12,5 @@ loop-feed-preserved c = record {
   cut = cut_on c.args.text.now c.loop-feed.start c.in-Some.feed c.loop-feed.invariant.cut c.in-Some.ensures.place (ap is_separator (sym c.without_return.ensures) ∙ (sym c.eq.ensures ∙ c.if-eq.false));
 }
 
-pub returns-else-eq-2 : goal.returns-else-eq-2
-returns-else-eq-2 c = sym (cut_last c.args.text.now c.loop-feed.start _ c.loop-feed.invariant.cut c.in_default.ensures.place (sym c.eq-2.ensures ∙ c.if-eq-2.false))
+pub returns-else-eq-2-clause-parts : goal.returns-else-eq-2-clause-parts
+returns-else-eq-2-clause-parts c = sym (cut_last c.args.text.now c.loop-feed.start _ c.loop-feed.invariant.cut c.in_default.ensures.place (sym c.eq-2.ensures ∙ c.if-eq-2.false))

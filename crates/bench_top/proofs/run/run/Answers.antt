@@ -1,5 +1,5 @@
 use Rattle.bench_top.proofs.Board.{fits_driver}
 use Rattle.bench_top.proofs.run.run.Goals as goal
 
-pub run_whole-requires-clause-fits : goal.run_whole-requires-clause-fits
-run_whole-requires-clause-fits c = fits_driver c.default_board-config.result.gpt c.new-driver.result c.default_board-config.ensures.valid.gpt c.new-driver.ensures
+pub run_within-requires-clause-fits : goal.run_within-requires-clause-fits
+run_within-requires-clause-fits c = fits_driver c.args.config.now.gpt c.new-driver.result c.requires.valid.gpt c.new-driver.ensures

@@ -3,7 +3,7 @@ use Rattle.std.proofs.lemmas.List.{take_all}
 use Rattle.run_model.proofs.Following.{FollowsTo, follows_from}
 use Rattle.run_model.specs.Moment.{start_moment}
 use Rattle.script_runner.specs.Standing.{moment_of, work_of}
-use Rattle.script_runner.proofs.Scripts.{at_line, built_at, goes_on, going_start, passes}
+use Rattle.script_runner.proofs.Scripts.{at_line, built_at, goes_on, going_start, passes, stops_in, stops_counted}
 use Rattle.script_runner.proofs.run.run_script.Goals as goal
 
 pub loop-at-init : goal.loop-at-init
@@ -25,3 +25,9 @@ returns-clause-follows g c =
 
 pub returns-in-Err-clause-within : goal.returns-in-Err-clause-within
 returns-in-Err-clause-within g c = passes (g.M.Module.spec c.args.driver.now) (g.M.Caller.call_of c.args.driver.now) c.args.script.now c.args.most c.loop-at.at (work_of (g.M.Module.spec c.args.driver.now) c.loop-at.stack) c.directive_at-directive.result.now c.directive_at-directive.ensures c.loop-at.invariant.spent c.in-Err.ensures.too_long.wants
+
+pub returns-in-Err-clause-stops : goal.returns-in-Err-clause-stops
+returns-in-Err-clause-stops g c = stops_in (g.M.Module.spec c.args.driver.now) (g.M.Caller.call_of c.args.driver.now) c.args.script.now c.args.most c.loop-at.at c.directive_at-directive.result.now c.loop-at.bus c.loop-at.stack c.loop-at.journal c.obey_one.new.bus c.obey_one.new.stack c.obey_one.new.journal c.directive_at-directive.ensures c.loop-at.invariant c.in-Err.ensures.too_long
+
+pub returns-in-Err-clause-most_taken : goal.returns-in-Err-clause-most_taken
+returns-in-Err-clause-most_taken g c = stops_counted (g.M.Module.spec c.args.driver.now) (g.M.Caller.call_of c.args.driver.now) c.args.script.now c.args.most c.loop-at.at c.directive_at-directive.result.now c.loop-at.bus c.loop-at.stack c.loop-at.journal c.obey_one.new.bus c.obey_one.new.stack c.obey_one.new.journal c.loop-at.invariant c.in-Err.ensures.too_long

@@ -1,0 +1,54 @@
+-- What can be run today: one module, and the directives that its scripts need.
+use Rattle.std.specs.Prelude.{◌≡◌, Ok, ℕ, ◌+◌, ◌==◌, ◌&&◌, not, List, [], ◌∷◌, length, Bool, true, false, Option, find, option_map}
+use Rattle.mcal_base.specs.Names.{module_of}
+use Rattle.mcal_base.specs.declared.config.whole.Config.{Config}
+use Rattle.mcal_base.specs.declared.directive.Directive.{Directive}
+use Rattle.mcal_base.specs.declared.directive.Order.{Order}
+use Rattle.mcal_base.specs.declared.directive.Order.TheVariants.{Call, Do, Enter, Serve, Run, Upto, Finish, Tick}
+use Rattle.mcal_base.specs.declared.module_name.ModuleName.{ModuleName}
+use Rattle.mcal_base.specs.declared.module_name.ModuleName.TheVariants.{Mcu, Port, Gpt, Pwm, Icu, Adc, Spi}
+use Rattle.bench_script.specs.Script.{script}
+
+-- the module has a driver
+abbrev pub has_driver : ModuleName → Bool
+has_driver Gpt = true
+has_driver _ = false
+
+-- the tables in the arrays of a module
+abbrev pub tables_of : Config → ModuleName → ℕ
+tables_of c Mcu = length c.mcu.clock_settings + length c.mcu.modes + length c.mcu.ram_sections
+tables_of c Port = length c.port.pins
+tables_of c Gpt = length c.gpt.channels
+tables_of c Pwm = length c.pwm.channels
+tables_of c Icu = length c.icu.channels
+tables_of c Adc = length c.adc.units + length c.adc.groups
+tables_of c Spi = length c.spi.channels + length c.spi.jobs + length c.spi.sequences
+
+-- the module is configured, and can't be run
+abbrev pub is_missing : Config → ModuleName → Bool
+is_missing c m = not (has_driver m) && not (tables_of c m == 0)
+
+-- the first configured module that can't be run, in the order of the configuration
+abbrev pub unbuilt_module : Config → Option ModuleName
+unbuilt_module c = find (is_missing c) (Mcu ∷ Port ∷ Gpt ∷ Pwm ∷ Icu ∷ Adc ∷ Spi ∷ [])
+
+-- the directive, and the service that it names, can be run
+abbrev pub is_built : Order → Bool
+is_built (Call level request) = has_driver (module_of request.service)
+is_built (Do level request) = has_driver (module_of request.service)
+is_built (Enter line) = true
+is_built (Serve line) = true
+is_built (Run n) = true
+is_built (Upto stop) = true
+is_built Finish = true
+is_built (Tick n) = true
+is_built _ = false
+
+-- the line of the first directive that can't be run
+abbrev pub unbuilt_line : List Directive → Option ℕ
+unbuilt_line script = option_map (λ d. d.line) (find (λ d. not (is_built d.order)) script)
+
+-- The directives are what some text is read as.
+pub record IsRead (directives : List Directive) : Type 0 where
+  pub text : List ℕ
+  pub is : script text ≡ Ok directives

@@ -1,0 +1,76 @@
+ghost use Rattle.std.specs.Prelude.{◌≡◌, ◌≤◌, ℕ, List, Err, Ok, IfOk, length};
+ghost use Rattle.mcal_base.specs.declared.config.whole.Config as records;
+ghost use Rattle.config_facts.specs.Valid.{IsValid};
+ghost use Rattle.mcal_config.specs.Whole.{fault_of, record_of};
+ghost use Rattle.bench_script.specs.Lines.{file};
+ghost use Rattle.bench_script.specs.Script as spec_script;
+ghost use Rattle.bench_top.specs.Built.{IsRead};
+ghost use Rattle.bench_top.specs.Judged as spec;
+ghost use Rattle.bench_top.specs.Judged.{Prints};
+ghost use Rattle.bench_top.specs.declared.words.Form.{Form};
+
+use crate::refusal::Refusal;
+use bench_script::{ScriptFault, read_script, split_file};
+use mcal_base::{Config, Directive};
+use mcal_config::{ConfigFault, read_config};
+use std::alloc::Global;
+
+/// A bench file that was read.
+#[derive(Drop)]
+pub struct BenchFile {
+    /// Its configuration.
+    pub config: Config,
+    /// Its script.
+    pub script: Vec<Directive>,
+}
+
+/// Why no bench file was read.
+#[derive(Clone, Copy, Debug, PartialEq, Eq)]
+pub enum FileEnd {
+    /// It is refused.
+    Refused(Refusal),
+    /// Memory was not found.
+    NoMemory,
+}
+
+/// The configuration of a text.
+fn configuration(alloc: Global, text: &[u8]) -> Result<Config, FileEnd>
+    ensures read { IfOk result (λ config. (script : List ℕ) (form : Form) → spec.judged_parts form (fault_of text.now) (record_of text.now) script ≡ spec.judged_script form config (spec_script.script script)) }
+    ensures valid { IfOk result IsValid }
+    ensures refused { (refusal : Refusal) → result ≡ Err (FileEnd.Refused refusal) → (script : List ℕ) (form : Form) → spec.judged_parts form (fault_of text.now) (record_of text.now) script ≡ Prints (spec.ending_of refusal) }
+{
+    match read_config(alloc, text) {
+        Ok(config) => Ok(config),
+        Err(ConfigFault::NoMemory) => Err(FileEnd::NoMemory),
+        Err(fault) => Err(FileEnd::Refused(Refusal::Configuration(fault))),
+    }
+}
+
+/// The directives of a text.
+fn directives(alloc: Global, text: &[u8]) -> Result<Vec<Directive>, FileEnd>
+    requires { length text.now ≤ 1048576 }
+    ensures read { IfOk result (λ directives. spec_script.script text.now ≡ Ok directives.items) }
+    ensures refused { (refusal : Refusal) → result ≡ Err (FileEnd.Refused refusal) → (form : Form) (config : records.Config) → spec.judged_script form config (spec_script.script text.now) ≡ Prints (spec.ending_of refusal) }
+{
+    match read_script(alloc, text) {
+        Ok(directives) => Ok(directives),
+        Err(ScriptFault::NoMemory) => Err(FileEnd::NoMemory),
+        Err(fault) => Err(FileEnd::Refused(Refusal::Script(fault))),
+    }
+}
+
+/// Reads a bench file: its configuration first, and then its script.
+pub fn read_file(alloc: Global, bytes: &[u8]) -> Result<BenchFile, FileEnd>
+    requires { length bytes.now ≤ 1048576 }
+    ensures whole { IfOk result (λ read. (form : Form) → spec.judged_file form (file bytes.now) ≡ spec.judged_whole form read.config read.script.items) }
+    ensures valid { IfOk result (λ read. IsValid read.config) }
+    ensures script { IfOk result (λ read. IsRead read.script.items) }
+    ensures refused { (refusal : Refusal) → result ≡ Err (FileEnd.Refused refusal) → (form : Form) → spec.judged_file form (file bytes.now) ≡ Prints (spec.ending_of refusal) }
+{
+    let Some((first, second)) = split_file(bytes) else {
+        return Err(FileEnd::Refused(Refusal::NoSeparator));
+    };
+    let config = configuration(alloc, first)?;
+    let script = directives(alloc, second)?;
+    Ok(BenchFile { config, script })
+}

@@ -1,0 +1,65 @@
+-- When a journal follows a script up to a stop: the items of the first directives are whole, and those of the next one end where the top frame would make one more step.
+use Rattle.std.specs.Prelude.{◌≡◌, ◌⊎◌, ℕ, zero, ◌+◌, Bool, true, false, ◌||◌, List, [], ◌∷◌, length, count_by, Option, None, is_some}
+use Rattle.irq_control.specs.declared.held.Held.{Held}
+use Rattle.mcal_base.specs.declared.directive.Directive.{Directive}
+use Rattle.mcal_base.specs.declared.directive.Order.{Order}
+use Rattle.mcal_base.specs.declared.directive.Order.TheVariants as orders
+use Rattle.mcal_base.specs.declared.directive.Request.{Request}
+use Rattle.run_model.specs.declared.item.Stepped.{Stepped}
+use Rattle.run_model.specs.declared.reach.Reach.{Reach}
+use Rattle.run_model.specs.declared.reach.Reach.TheVariants.{Count, Until, Whole}
+use Rattle.run_model.specs.Entry as entry
+use Rattle.run_model.specs.Follows.{call_held, line_held, resets_chip, is_reached, FirstThen}
+use Rattle.run_model.specs.Frame.{Open}
+use Rattle.run_model.specs.Moment.{Setting, Moment, Deed, Begins, Enters, Steps, after}
+
+-- the item is a step after which the directive goes on: it neither resets the chip, nor ends the frame, nor is the last that is asked for
+abbrev pub IsStepBefore : {State Call : Type 0} → (line : ℕ) → Reach → (made : ℕ) → Moment State Call → entry.Entry → entry.Said → (Stepped → Type 0) → Type 0
+IsStepBefore line reach made m e (entry.Steps s) More = (e.line ≡ line) × (e.depth ≡ length m.opens) × (resets_chip s.made || (is_some s.ended || is_reached reach (made + 1) s) ≡ false) × More s
+IsStepBefore line reach made m e (entry.Happens o) More = ⊥
+IsStepBefore line reach made m e entry.Begins More = ⊥
+IsStepBefore line reach made m e (entry.Stays c) More = ⊥
+IsStepBefore line reach made m e (entry.Resets r k) More = ⊥
+
+-- the items are steps of the top frame, and the directive asks for one more; so many were made before
+abbrev pub GoesToStop : {State Call : Type 0} → Setting State Call → (line : ℕ) → Reach → (made : ℕ) → Moment State Call → List entry.Entry → Type 0
+GoesToStop g line reach made m [] = Unit {0}
+GoesToStop g line reach made m (e ∷ es) = IsStepBefore line reach made m e e.said (λ s. GoesToStop g line reach (made + 1) (after g m (Steps s)) es)
+
+-- the items of `run`, `upto` and `finish` up to the stop; without a frame they ask for no step, and neither does `run 0`
+abbrev pub StopsWithin : {State Call : Type 0} → Setting State Call → (line : ℕ) → Reach → Moment State Call → List (Open Call) → List entry.Entry → Type 0
+StopsWithin g line reach m [] items = ⊥
+StopsWithin g line (Count zero) m (o ∷ os) items = ⊥
+StopsWithin g line reach m (o ∷ os) items = GoesToStop g line reach 0 m items
+
+-- the items of `do` and `serve` up to the stop: the frame began
+pub record BeginsToStop {State Call : Type 0} (g : Setting State Call) (line : ℕ) (m : Moment State Call) (deed : Deed Call) (held : Option Held) (items : List entry.Entry) : Type 0 where
+  pub free : held ≡ None
+  pub steps : List entry.Entry
+  pub is : items ≡ (record { line = line; depth = length m.opens; said = entry.Begins }) ∷ steps
+  pub goes : GoesToStop g line Whole 0 (after g m deed) steps
+
+-- the items of a directive up to the stop; the directives that make no steps don't come to one
+abbrev pub GivesToStop : {State Call : Type 0} → Setting State Call → (Request → Call) → Moment State Call → (line : ℕ) → Order → List entry.Entry → Type 0
+GivesToStop g call_of m line (orders.Do level r) items = BeginsToStop g line m (Begins (call_of r) level) (call_held g m (call_of r) level) items
+GivesToStop g call_of m line (orders.Serve l) items = BeginsToStop g line m (Enters l) (line_held g m l) items
+GivesToStop g call_of m line (orders.Run n) items = StopsWithin g line (Count n) m m.opens items
+GivesToStop g call_of m line (orders.Upto stop) items = StopsWithin g line (Until stop) m m.opens items
+GivesToStop g call_of m line orders.Finish items = StopsWithin g line Whole m m.opens items
+GivesToStop g call_of m line _ items = ⊥
+
+-- the items are those of the directives, in their order, up to the stop
+abbrev pub FollowsToStop : {State Call : Type 0} → Setting State Call → (Request → Call) → Moment State Call → List Directive → List entry.Entry → Type 0
+FollowsToStop g call_of m [] items = ⊥
+FollowsToStop g call_of m (d ∷ ds) items = GivesToStop g call_of m d.line d.order items ⊎ FirstThen g call_of m d items (λ m1 later. FollowsToStop g call_of m1 ds later)
+
+-- the steps of a journal
+abbrev pub is_step : entry.Said → Bool
+is_step (entry.Steps s) = true
+is_step (entry.Happens o) = false
+is_step entry.Begins = false
+is_step (entry.Stays c) = false
+is_step (entry.Resets r k) = false
+
+abbrev pub steps_in : List entry.Entry → ℕ
+steps_in items = count_by (λ e. is_step e.said) items

@@ -1,0 +1,44 @@
+-- A run that stopped, and the steps that are counted.
+use Rattle.std.proofs.Common.{◌≡◌, ℕ, zero, suc, ◌+◌, false, cond, List, [], ◌∷◌, ◌++◌, refl, ◌∙◌, ap, inl, inr, arith, append_assoc}
+use Rattle.std.proofs.lemmas.List.Sums.{sum_by-append}
+use Rattle.mcal_base.specs.declared.directive.Directive.{Directive}
+use Rattle.mcal_base.specs.declared.directive.Request.{Request}
+use Rattle.run_model.specs.declared.reach.Reach.{Reach}
+use Rattle.run_model.specs.declared.reach.Reach.TheVariants.{Count, Until, Whole}
+use Rattle.run_model.specs.Entry.{Entry, Said, Written, written}
+use Rattle.run_model.specs.Frame.{Open}
+use Rattle.run_model.specs.Moment.{Setting, Moment}
+use Rattle.run_model.specs.Stops.{GoesToStop, StopsWithin, GivesToStop, FollowsToStop, is_step, steps_in}
+use Rattle.run_model.proofs.Following.{FollowsTo, Nothing_followed, Then_followed, Went, Not_yet, Step_on}
+use Rattle.script_runner.specs.Standing.{IsCounted}
+
+-- steps at none of which the directive stops
+pub goes_to_stop : {State Call : Type 0} (g : Setting State Call) (line : ℕ) (reach : Reach) {made made1 : ℕ} {m last : Moment State Call} {es : List Entry} → Went g line reach made m es made1 last → GoesToStop g line reach made m es
+goes_to_stop g line reach (Not_yet made m) = tt
+goes_to_stop g line reach (Step_on made m t es made1 last q k rest) = (refl, refl, rw (q, k) refl, goes_to_stop g line reach rest)
+
+-- the same as items of a directive that wants a step of a frame that is there
+pub stops_within : {State Call : Type 0} (g : Setting State Call) (line : ℕ) (reach : Reach) (m : Moment State Call) (items : List Entry) (o : Open Call) (os : List (Open Call)) → (reach ≡ Count 0 → ⊥) → GoesToStop g line reach 0 m items → StopsWithin g line reach m (o ∷ os) items
+stops_within g line (Count zero) m items o os not h = absurd (not refl)
+stops_within g line (Count (suc n)) m items o os not h = h
+stops_within g line (Until stop) m items o os not h = h
+stops_within g line Whole m items o os not h = h
+
+-- the items of some directives, and then those of the next up to the stop
+pub follows_to_stop : {State Call : Type 0} (g : Setting State Call) (call_of : Request → Call) {m last : Moment State Call} {ds : List Directive} {es : List Entry} (d : Directive) (later_ds : List Directive) (now : List Entry) → FollowsTo g call_of m ds es last → GivesToStop g call_of last d.line d.order now → FollowsToStop g call_of m (ds ++ d ∷ later_ds) (es ++ now)
+follows_to_stop g call_of d later_ds now (Nothing_followed m) gives = inl gives
+follows_to_stop g call_of d later_ds now (Then_followed m e ds first later last held rest) gives =
+    inr (record { first = first; later = later ++ now; is = append_assoc first later now; gives = held; rest = follows_to_stop g call_of d later_ds now rest gives })
+
+-- an item is counted where it is a step
+pub steps_written : (w : Written) (line depth : ℕ) (said : Said) (words : List ℕ) → steps_in (written w line depth said words).entries ≡ steps_in w.entries + cond (is_step said) 1 0
+steps_written w line depth said words =
+    let e : Entry = record { line = line; depth = depth; said = said } in
+    sum_by-append (λ x. cond (is_step x.said) 1 0) w.entries (e ∷ []) ∙ omega arith
+
+-- an item that is no step is not counted
+pub no_step_counted : (line n : ℕ) (said : Said) (taken taken1 : ℕ) (before after : Written) → is_step said ≡ false → taken1 ≡ taken → after ≡ written before line n said [] → IsCounted taken before taken1 after
+no_step_counted line n said taken taken1 before after other same is =
+    let more = ap (λ w. steps_in w.entries) is ∙ steps_written before line n said [] in
+    let none = ap {B = ℕ} (λ b. cond b 1 0) other in
+    omega (arith, more, none, same)
