@@ -14,17 +14,19 @@ use Rattle.mcal_base.specs.declared.directive.Order.TheVariants.{Tick}
 use Rattle.mcal_base.specs.declared.moves.Move.{Move}
 use Rattle.mcal_base.specs.declared.moves.Move.TheVariants.{Read, Write, Load, Store, Mask, Unmask, Note, Report}
 use Rattle.mcal_base.specs.declared.register.Reg.{Reg}
-use Rattle.mcal_base.specs.declared.register.Reg.TheVariants.{EnableSet, EnableClear, TimerTarget, TimerPrescaler, TimerOneShot, TimerGateSet, TimerGateClear, TimerFlags, TimerZero, TimerLow}
+use Rattle.mcal_base.specs.declared.register.Reg.TheVariants.{ResetRequest, EnableSet, EnableClear, TimerTarget, TimerPrescaler, TimerOneShot, TimerGateSet, TimerGateClear, TimerFlags, TimerZero, TimerLow}
 use Rattle.run_model.specs.World.{World, world_after}
 use Rattle.run_model.specs.Machine.{tells_nothing, outcome}
-use Rattle.run_model.specs.Frame.{Called, is_shared}
+use Rattle.run_model.specs.Frame.{Called, is_shared, resets_chip, is_reset_service}
 use Rattle.service_outline.specs.Outline.{IsGround}
 use Rattle.gpt_driver.specs.Ground.{Gap, settled, GptAgrees, IsClean, gpt_ground, gpt_owns, gpt_may, is_timer, owns_written, may_write, is_own_word, has_lines, is_for_lines, AreEnabled, CourseAgrees}
 use Rattle.gpt_driver.specs.Facts.{flagged_same}
 use Rattle.gpt_driver.specs.Machine.{channel_at, GptState, first_state, untouched, Course, Never, Running, Stopped, Mode, Off, Normal, Sleep, is_marked, expired, ready}
 use Rattle.gpt_driver.specs.Table.{channel_of}
 use Rattle.gpt_driver.specs.Words.{target_word, switches_word}
-use Rattle.gpt_driver.specs.declared.call.Call.TheVariants.{Init}
+use Rattle.gpt_driver.specs.declared.call.Call.{Call}
+use Rattle.gpt_driver.specs.declared.call.Call.TheVariants.{Init, DeInit, GetTimeElapsed, GetTimeRemaining, StartTimer, StopTimer, EnableNotification, DisableNotification, SetMode, EnableWakeup, DisableWakeup, CheckWakeup}
+use Rattle.gpt_driver.specs.Checks.{service_of}
 use Rattle.gpt_driver.specs.declared.driver.Channel.{Channel}
 use Rattle.gpt_driver.specs.declared.driver.GptDriver.{GptDriver}
 use Rattle.gpt_driver.specs.declared.words.TheConstants.{STATE}
@@ -258,6 +260,30 @@ may_owned : (made : Move) → gpt_may made ≡ true → gpt_owns made ≡ true
 may_owned (Write r v) e = written_owned r v e
 may_owned _ e = e
 
+-- ---- resets
+
+asks_none : (c : Call) → is_reset_service (service_of c) ≡ false
+asks_none Init = refl
+asks_none DeInit = refl
+asks_none (GetTimeElapsed c) = refl
+asks_none (GetTimeRemaining c) = refl
+asks_none (StartTimer c v) = refl
+asks_none (StopTimer c) = refl
+asks_none (EnableNotification c) = refl
+asks_none (DisableNotification c) = refl
+asks_none (SetMode m) = refl
+asks_none (EnableWakeup c) = refl
+asks_none (DisableWakeup c) = refl
+asks_none (CheckWakeup c) = refl
+
+written_none : (r : Reg) (v : ℕ) → gpt_may (Write r v) ≡ true → resets_chip (Write r v) ≡ false
+written_none ResetRequest v e = absurd (cc)
+written_none _ v e = refl
+
+resets_none : (made : Move) → gpt_may made ≡ true → resets_chip made ≡ false
+resets_none (Write r v) e = written_none r v e
+resets_none _ e = refl
+
 -- ---- what is due
 
 -- a configured channel is one of the eight
@@ -334,6 +360,8 @@ ground_right d = record {
   foot_apart = λ chip made e. timers_apart chip made (e (Called Init));
   may_owns = λ o made e. may_owned made e;
   owns_plain = λ o made e. owned_plain made e;
+  asks_none = λ c. asks_none c;
+  resets_none = λ o made e. resets_none made e;
   owns_called = λ line made e. (Init, e);
   used_lines = λ line used. below_test line (within d line used);
   due_used = λ chip w s line h e. due_used d chip w s line h e;

@@ -9,7 +9,8 @@ use Rattle.run_model.specs.declared.reach.Reach.{Reach}
 use Rattle.run_model.specs.Entry as entry
 use Rattle.run_model.specs.Moment.{Setting, Moment, Deed, Steps, after, after_all}
 use Rattle.run_model.specs.Script.{order_at, deed_of, deeds_of}
-use Rattle.run_model.specs.Follows.{is_reached, resets_chip, GoesOn, Gives, deeds_in, Follows}
+use Rattle.run_model.specs.Follows.{is_reached, GoesOn, Gives, deeds_in, Follows}
+use Rattle.run_model.specs.Frame.{resets_chip}
 
 pub after_all-append : {State Call : Type 0} (g : Setting State Call) (m : Moment State Call) (hs ks : List (Deed Call)) → after_all g m (hs ++ ks) ≡ after_all g (after_all g m hs) ks
 after_all-append g m [] ks = refl

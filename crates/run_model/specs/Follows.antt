@@ -13,14 +13,13 @@ use Rattle.mcal_base.specs.declared.directive.Stop.TheVariants as stops
 use Rattle.mcal_base.specs.declared.moves.Event.{Event}
 use Rattle.mcal_base.specs.declared.moves.Event.TheVariants.{Act}
 use Rattle.mcal_base.specs.declared.moves.Move.{Move}
-use Rattle.mcal_base.specs.declared.moves.Move.TheVariants.{Write, Mask, Unmask, Note}
-use Rattle.mcal_base.specs.declared.register.Reg.TheVariants.{ResetRequest}
+use Rattle.mcal_base.specs.declared.moves.Move.TheVariants.{Mask, Unmask, Note}
 use Rattle.run_model.specs.declared.item.Stepped.{Stepped}
 use Rattle.run_model.specs.declared.reach.Reach.{Reach}
 use Rattle.run_model.specs.declared.reach.Reach.TheVariants.{Count, Until, Whole}
 use Rattle.run_model.specs.Causes.{call_cause, line_cause, tags_of, top_noted}
 use Rattle.run_model.specs.Entry as entry
-use Rattle.run_model.specs.Frame.{Open}
+use Rattle.run_model.specs.Frame.{Open, resets_chip}
 use Rattle.run_model.specs.Moment.{Setting, Moment, Deed, Begins, Enters, Steps, after, after_all}
 use Rattle.run_model.specs.Script.{deed_of}
 
@@ -29,11 +28,6 @@ abbrev pub IsOne : {State Call : Type 0} → Moment State Call → (line : ℕ) 
 IsOne m line said items = items ≡ (record { line = line; depth = length m.opens; said = said }) ∷ []
 
 -- ---- steps of the top frame
-
--- the move resets the chip
-abbrev pub resets_chip : Move → Bool
-resets_chip (Write ResetRequest v) = true
-resets_chip _ = false
 
 -- the step is one at which `upto` stops
 abbrev pub is_act : Option Event → Bool

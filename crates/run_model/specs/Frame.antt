@@ -1,5 +1,5 @@
 -- A frame under way, by what it has done so far, and what a step adds to that.
-use Rattle.std.specs.Prelude.{ℕ, ◌+◌, Bool, true, false, ◌||◌, not, cond, List, [], ◌∷◌, ◌++◌, Option, Some, None}
+use Rattle.std.specs.Prelude.{ℕ, ◌+◌, Bool, true, false, ◌||◌, ◌&&◌, not, cond, is_some, List, [], ◌∷◌, ◌++◌, Option, Some, None}
 use Rattle.mcal_base.specs.declared.answer.Answer.{Answer}
 use Rattle.mcal_base.specs.declared.error_name.ErrorName.{ErrorName}
 use Rattle.mcal_base.specs.declared.moves.DevError.{DevError}
@@ -8,6 +8,9 @@ use Rattle.mcal_base.specs.declared.moves.Move.TheVariants.{Read, Write, Load, S
 use Rattle.mcal_base.specs.declared.moves.Event.{Event}
 use Rattle.mcal_base.specs.declared.moves.Event.TheVariants.{Act, Serve, Abort, Start}
 use Rattle.mcal_base.specs.declared.notice.Notice.{Notice}
+use Rattle.mcal_base.specs.declared.register.Reg.TheVariants.{ResetRequest}
+use Rattle.mcal_base.specs.declared.service.Service.{Service}
+use Rattle.mcal_base.specs.declared.service.Service.TheVariants.{McuPerformReset}
 use Rattle.run_model.specs.declared.class.Tag.{Tag}
 use Rattle.run_model.specs.World.{World}
 use Rattle.run_model.specs.Machine.{Happening, Acts, Serves, Starts, Aborts, Outcome, Machine}
@@ -189,6 +192,26 @@ open_after mac w s o made received e =
 abbrev pub top_after : {A : Type 0} → A → Option Answer → List A → List A
 top_after x None rest = x ∷ rest
 top_after x (Some answer) rest = rest
+
+-- the move resets the chip
+abbrev pub resets_chip : Move → Bool
+resets_chip (Write ResetRequest v) = true
+resets_chip _ = false
+
+-- the service asks for a reset
+abbrev pub is_reset_service : Service → Bool
+is_reset_service McuPerformReset = true
+is_reset_service _ = false
+
+-- a call acts that asks for a reset, and finds no error
+abbrev pub asks_reset : {State Call : Type 0} → Machine State Call → Origin Call → Option Event → Option (Outcome State) → Bool
+asks_reset mac (Called c) (Some Act) (Some out) = is_reset_service (mac.service_of c) && not (is_some out.told.error)
+asks_reset mac (Called c) (Some Act) None = false
+asks_reset mac (Called c) (Some (Serve k)) out = false
+asks_reset mac (Called c) (Some (Abort u)) out = false
+asks_reset mac (Called c) (Some (Start u)) out = false
+asks_reset mac (Called c) None out = false
+asks_reset mac (Entered l) e out = false
 
 -- a move that names no register and no word
 abbrev pub is_shared : Move → Bool

@@ -17,7 +17,7 @@ use Rattle.mcal_base.specs.declared.register.Reg.{Reg}
 use Rattle.mcal_base.specs.declared.register.Reg.TheVariants.{ConverterGo, ConverterAbort, SerialData}
 use Rattle.run_model.specs.declared.item.Stepped.{Stepped}
 use Rattle.run_model.specs.Machine.{Moves, Restarts, Outcome, Machine, no_answer}
-use Rattle.run_model.specs.Frame.{Origin, Called, Entered, Open, happening_at, outcome_of, report_by, open_after, is_shared}
+use Rattle.run_model.specs.Frame.{Origin, Called, Entered, Open, happening_at, outcome_of, report_by, open_after, is_shared, resets_chip, asks_reset}
 use Rattle.run_model.specs.Causes.{call_cause, line_cause, tags_of, top_noted}
 use Rattle.run_model.specs.Moment.{Setting, Moment, Deed, Begins, Enters, Steps, Happens, Resets, after}
 
@@ -122,6 +122,8 @@ pub record IsLegalStep {State Call : Type 0} (g : Setting State Call) (m : Momen
   pub halves : HalvesRight g m o s s.event o.origin
   -- the mask, the notices and the report: a notice is owed before the step, a report also by it
   pub move : MoveRight o.inside o.owed (report_by g.machine o.origin o.report s.event (outcome_of g.machine m.world m.state (happening_at o.origin s.received s.event))) s.made
+  -- the chip is reset exactly where a call acts that asks for it and finds no error
+  pub reset : resets_chip s.made ≡ asks_reset g.machine o.origin s.event (outcome_of g.machine m.world m.state (happening_at o.origin s.received s.event))
   -- the answer, where the frame ends
   pub ends : EndRight (open_after g.machine m.world m.state o s.made s.received s.event) s.ended
   -- the register or the word is there, and it is its module's

@@ -9,8 +9,8 @@ use Rattle.run_model.specs.declared.item.Stepped.{Stepped}
 use Rattle.run_model.specs.declared.reach.Reach.{Reach}
 use Rattle.run_model.specs.declared.reach.Reach.TheVariants.{Count, Until, Whole}
 use Rattle.run_model.specs.Entry as entry
-use Rattle.run_model.specs.Follows.{call_held, line_held, resets_chip, is_reached, FirstThen}
-use Rattle.run_model.specs.Frame.{Open}
+use Rattle.run_model.specs.Follows.{call_held, line_held, is_reached, FirstThen}
+use Rattle.run_model.specs.Frame.{resets_chip, Open}
 use Rattle.run_model.specs.Moment.{Setting, Moment, Deed, Begins, Enters, Steps, after}
 
 -- the item is a step after which the directive goes on: it neither resets the chip, nor ends the frame, nor is the last that is asked for

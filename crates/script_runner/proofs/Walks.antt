@@ -10,7 +10,8 @@ use Rattle.run_model.specs.declared.item.Stepped.{Stepped}
 use Rattle.run_model.specs.declared.reach.Reach.{Reach}
 use Rattle.mcal_base.specs.declared.directive.Reason.TheVariants.{Software}
 use Rattle.run_model.specs.Entry.{Entry, Steps, Resets, Written, written, words_of_answer}
-use Rattle.run_model.specs.Follows.{GoesOn, deeds_in, is_reached, resets_chip}
+use Rattle.run_model.specs.Follows.{GoesOn, deeds_in, is_reached}
+use Rattle.run_model.specs.Frame.{resets_chip}
 use Rattle.run_model.specs.Moment as moment
 use Rattle.run_model.specs.Moment.{Moment, Deed, after_all}
 use Rattle.run_model.proofs.Following.{after_all-append, deeds_in-append, Went, Not_yet, went_more, goes_on_to, goes_on_to_reset, went_deeds}

@@ -2,7 +2,8 @@ ghost use Rattle.std.specs.Prelude.{ℕ, ◌≡◌, ◌<◌, ◌≤◌, ◌+◌,
 ghost use Rattle.mcal_base.specs.declared.directive.Order.{Order};
 ghost use Rattle.run_model.specs.Entry as entry;
 ghost use Rattle.run_model.specs.Follows as follows;
-ghost use Rattle.run_model.specs.Follows.{GoesOn, is_reached, resets_chip};
+ghost use Rattle.run_model.specs.Follows.{GoesOn, is_reached};
+ghost use Rattle.run_model.specs.Frame.{resets_chip};
 ghost use Rattle.run_model.specs.Stops.{GoesToStop};
 ghost use Rattle.script_runner.specs.Standing.{IsStanding, HasRoom, TookStep, WentFar, IsStuck};
 

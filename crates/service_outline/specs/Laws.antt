@@ -10,7 +10,7 @@ use Rattle.mcal_base.specs.declared.moves.Move.TheVariants.{Load, Mask, Unmask, 
 use Rattle.mcal_base.specs.declared.notice.Notice.{Notice}
 use Rattle.run_model.specs.World.{World}
 use Rattle.run_model.specs.Machine.{Told, no_answer}
-use Rattle.run_model.specs.Frame.{Origin, Called, Entered, Open, missed_after, top_after, is_shared}
+use Rattle.run_model.specs.Frame.{Origin, Called, Entered, Open, missed_after, top_after, is_shared, resets_chip}
 use Rattle.run_model.specs.Legal.{MayEnd}
 use Rattle.step_runner.specs.Driver.{KeepsStep, stepped}
 use Rattle.service_outline.specs.declared.done.Owed.{Owed}
@@ -59,8 +59,8 @@ module _ {State Call Asked Body : Type 0} (d : Outlined State Call Asked Body) (
   missed_done rest l n e i = record { may = (e, ap (λ x. x.answer) i); owed = ap (λ x. notices_in x.owed) (sym i); report = ap (λ x. error_in x.owed) (sym i); inside = refl }
 
   load_by : (chip : Chip) (c : Call) (x : ℕ) (l : Looked Body) → d.basis.agrees d.basis.settled chip w s → LooksRight d chip w s c l → Keeps (driver_of d) chip w s (Loading (d.asked c)) (left_look l) (λ s1 o1. Relates d chip w (top_after (left_look l, o1) (gave_look l).ended ps) s1) (during d.basis.setting.machine r (Called c) None true) (Load d.word) x (gave_look l)
-  load_by chip c x (Refused n) agrees h = event_step (driver_of d) chip w s (Loading (d.asked c)) (Opening n) _ r (Called c) (Load d.word) x Act s h.told refl (law.own_word (Called c)) (look_fuel d.most d.bodies.fuel (d.asked c) (Refused n) tt) (look_room d.most d.bodies.fuel (d.asked c) (Refused n) tt) tt h.is h.low ((agrees, done_by (rest_after d.basis.setting.machine w s (during d.basis.setting.machine r (Called c) None true) (Load d.word)) (Called c) h.told n h.tells), waits)
-  load_by chip c x (Goes k) agrees h = plain_step (driver_of d) chip w s (Loading (d.asked c)) (Inside k) _ r (Called c) None [] [] None true (Load d.word) x refl (law.own_word (Called c)) (look_fuel d.most d.bodies.fuel (d.asked c) (Goes k) h.1) (λ e. look_room d.most d.bodies.fuel (d.asked c) (Goes k) h.1) (record { told = None; form = refl; at = h.0 }, waits)
+  load_by chip c x (Refused n) agrees h = event_step (driver_of d) chip w s (Loading (d.asked c)) (Opening n) _ r (Called c) (Load d.word) x Act s h.told refl refl law.basis.asks_none (law.own_word (Called c)) (look_fuel d.most d.bodies.fuel (d.asked c) (Refused n) tt) (look_room d.most d.bodies.fuel (d.asked c) (Refused n) tt) tt h.is h.low ((agrees, done_by (rest_after d.basis.setting.machine w s (during d.basis.setting.machine r (Called c) None true) (Load d.word)) (Called c) h.told n h.tells), waits)
+  load_by chip c x (Goes k) agrees h = plain_step (driver_of d) chip w s (Loading (d.asked c)) (Inside k) _ r (Called c) None [] [] None true (Load d.word) x refl refl (law.own_word (Called c)) (look_fuel d.most d.bodies.fuel (d.asked c) (Goes k) h.1) (λ e. look_room d.most d.bodies.fuel (d.asked c) (Goes k) h.1) (record { told = None; form = refl; at = h.0 }, waits)
 
   goes_by : (chip : Chip) (s1 : State) (rest : Open Call) (origin : Origin Call) (told : Option Told) (k : Body) (left : Option Done) → GoesOn d.basis d.bodies chip w s1 origin told rest.missed k left → Relates d chip w ((left_body k left, during d.basis.setting.machine rest origin told true) ∷ ps) s1
   goes_by chip s1 rest origin told k None h = (record { told = told; form = refl; at = h }, waits)
@@ -68,10 +68,10 @@ module _ {State Call Asked Body : Type 0} (d : Outlined State Call Asked Body) (
   goes_by chip s1 rest (Called c) None k (Some n) h = absurd h
   goes_by chip s1 rest (Entered l) None k (Some n) h = ((h.0, missed_done rest l n h.1 h.2), waits)
 
-  body_by : (chip chip1 : Chip) (x : ℕ) (f : Short Asked Body) (origin : Origin Call) (told : Option Told) (made : Move) (k : Body) (e : Option Event) (left : Option Done) → is_shared made ≡ false → d.basis.setting.may origin made ≡ true → short_fuel d.most d.bodies.fuel (left_body k left) < short_fuel d.most d.bodies.fuel f → short_room d.most d.bodies.fuel (left_body k left) < short_room d.most d.bodies.fuel f → StepsRight d.basis d.bodies chip1 w s origin made told (missed_after d.basis.setting.machine w s r.missed) k e left → Keeps (driver_of d) chip w s f (left_body k left) (λ s1 o1. Relates d chip1 w ((left_body k left, o1) ∷ ps) s1) (during d.basis.setting.machine r origin told true) made x (does e)
-  body_by chip chip1 x f origin told made k None left p own fuel room h = plain_step (driver_of d) chip w s f (left_body k left) _ r origin (acted_in told origin) (served_in told origin) (owed_in told) (report_in d.basis.setting.machine told origin) true made x p own fuel (λ e. room) (goes_by chip1 s (rest_after d.basis.setting.machine w s (during d.basis.setting.machine r origin told true) made) origin told k left h)
-  body_by chip chip1 x f origin None made k (Some e) left p own fuel room h = event_step (driver_of d) chip w s f (left_body k left) _ r origin made x e h.state h.told p own fuel room h.own h.is h.low (goes_by chip1 h.state (rest_after d.basis.setting.machine w s (during d.basis.setting.machine r origin None true) made) origin (Some h.told) k left h.next)
-  body_by chip chip1 x f origin (Some t) made k (Some e) left p own fuel room h = absurd h
+  body_by : (chip chip1 : Chip) (x : ℕ) (f : Short Asked Body) (origin : Origin Call) (told : Option Told) (made : Move) (k : Body) (e : Option Event) (left : Option Done) → is_shared made ≡ false → resets_chip made ≡ false → d.basis.setting.may origin made ≡ true → short_fuel d.most d.bodies.fuel (left_body k left) < short_fuel d.most d.bodies.fuel f → short_room d.most d.bodies.fuel (left_body k left) < short_room d.most d.bodies.fuel f → StepsRight d.basis d.bodies chip1 w s origin made told (missed_after d.basis.setting.machine w s r.missed) k e left → Keeps (driver_of d) chip w s f (left_body k left) (λ s1 o1. Relates d chip1 w ((left_body k left, o1) ∷ ps) s1) (during d.basis.setting.machine r origin told true) made x (does e)
+  body_by chip chip1 x f origin told made k None left p still own fuel room h = plain_step (driver_of d) chip w s f (left_body k left) _ r origin (acted_in told origin) (served_in told origin) (owed_in told) (report_in d.basis.setting.machine told origin) true made x p still own fuel (λ e. room) (goes_by chip1 s (rest_after d.basis.setting.machine w s (during d.basis.setting.machine r origin told true) made) origin told k left h)
+  body_by chip chip1 x f origin None made k (Some e) left p still own fuel room h = event_step (driver_of d) chip w s f (left_body k left) _ r origin made x e h.state h.told p still law.basis.asks_none own fuel room h.own h.is h.low (goes_by chip1 h.state (rest_after d.basis.setting.machine w s (during d.basis.setting.machine r origin None true) made) origin (Some h.told) k left h.next)
+  body_by chip chip1 x f origin (Some t) made k (Some e) left p still own fuel room h = absurd h
 
   more_done : (origin : Origin Call) (acted : Option Answer) (served : List ℕ) (owed owed1 : List Notice) (report report1 : Option DevError) (inside inside1 : Bool) (made : Move) (a : Answer) → MayEnd origin (form r origin acted served owed report inside) a → MayEnd origin (form (rest_after d.basis.setting.machine w s (form r origin acted served owed report inside) made) origin acted served owed1 report1 inside1) a
   more_done (Called c) acted served owed owed1 report report1 inside inside1 made a m = m
@@ -119,7 +119,7 @@ module _ {State Call Asked Body : Type 0} (d : Outlined State Call Asked Body) (
       let t = d.bodies.takes k x in
       let i = h.0 in
       let own = law.bodies.own chip w s k o.origin i.told i.at in
-      subst (λ y. KeepsAt d chip w (Inside k) y ps s) (sym i.form) (body_by d law ps h.1 s w o chip (chip_after chip made) x (Inside k) o.origin i.told made t.0 t.1.event t.1.done (law.basis.owns_plain o.origin made (law.basis.may_owns o.origin made own)) own (body_fuel d.most d.bodies.fuel (d.bodies.fuel k) t.0 t.1.done (law.bodies.shortens k x)) (body_room d.most d.bodies.fuel (d.bodies.fuel k) t.0 t.1.done (law.bodies.shortens k x)) (law.bodies.steps chip w s k o.origin i.told o.missed i.at))
+      subst (λ y. KeepsAt d chip w (Inside k) y ps s) (sym i.form) (body_by d law ps h.1 s w o chip (chip_after chip made) x (Inside k) o.origin i.told made t.0 t.1.event t.1.done (law.basis.owns_plain o.origin made (law.basis.may_owns o.origin made own)) (law.basis.resets_none o.origin made own) own (body_fuel d.most d.bodies.fuel (d.bodies.fuel k) t.0 t.1.done (law.bodies.shortens k x)) (body_room d.most d.bodies.fuel (d.bodies.fuel k) t.0 t.1.done (law.bodies.shortens k x)) (law.bodies.steps chip w s k o.origin i.told o.missed i.at))
   short_steps chip w (Opening n) o ps s h =
       let k = h.0.1 in
       let e = form_is o (notices_in n.owed) (error_in n.owed) true k.owed k.report k.inside in

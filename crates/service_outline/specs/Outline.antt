@@ -14,7 +14,7 @@ use Rattle.mcal_base.specs.declared.moves.Unit as units
 use Rattle.mcal_base.specs.declared.notice.Notice.{Notice}
 use Rattle.run_model.specs.World.{World, world_after}
 use Rattle.run_model.specs.Machine.{Acts, Moves, Restarts, Told, Outcome, Machine, no_answer, tells_nothing, outcome}
-use Rattle.run_model.specs.Frame.{Origin, Called, Entered, Open, happening_of, happening_at, outcome_of, state_by, reported, missed_after, is_shared}
+use Rattle.run_model.specs.Frame.{Origin, Called, Entered, Open, happening_of, happening_at, outcome_of, state_by, reported, missed_after, is_shared, resets_chip, is_reset_service}
 use Rattle.run_model.specs.Moment.{Setting}
 use Rattle.run_model.specs.Legal.{ReadsLow, MayEnd}
 use Rattle.step_runner.specs.Driver.{Driver}
@@ -106,6 +106,9 @@ pub record IsGround {State Call : Type 0} (g : Ground State Call) : Type 0 where
   -- what a frame may do names what is the driver's own, and that is a register or a word
   pub may_owns : (origin : Origin Call) (made : Move) → g.setting.may origin made ≡ true → g.setting.owns origin made ≡ true
   pub owns_plain : (origin : Origin Call) (made : Move) → g.setting.owns origin made ≡ true → is_shared made ≡ false
+  -- no call asks for a reset, and no frame may make one
+  pub asks_none : (c : Call) → is_reset_service (g.setting.machine.service_of c) ≡ false
+  pub resets_none : (origin : Origin Call) (made : Move) → g.setting.may origin made ≡ true → resets_chip made ≡ false
   -- what a handler owns some call owns
   pub owns_called : (line : ℕ) (made : Move) → g.setting.owns (Entered line) made ≡ true → (c : Call) × (g.setting.owns (Called c) made ≡ true)
   -- a line that an object uses is one of the modules' lines, and one that no object uses is not due

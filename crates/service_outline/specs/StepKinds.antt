@@ -1,6 +1,6 @@
 -- The kinds of step that a frame makes, for any driver. What is left is the relation after the step.
-use Rattle.std.proofs.Common.{◌≡◌, ℕ, ◌+◌, ◌<◌, ◌≤◌, Bool, true, false, ◌||◌, not, List, [], ◌∷◌, Option, Some, None, refl, sym, ◌∙◌, ap, subst, arith}
-use Rattle.std.specs.Prelude.{IsSome, ◌==◌}
+use Rattle.std.proofs.Common.{◌≡◌, ℕ, ◌+◌, ◌<◌, ◌≤◌, Bool, true, false, ◌&&◌, ◌||◌, not, List, [], ◌∷◌, Option, Some, None, refl, sym, ◌∙◌, ap, subst, arith}
+use Rattle.std.specs.Prelude.{IsSome, is_some, ◌==◌}
 use Rattle.std.specs.List.{list_any}
 use Rattle.std.proofs.lemmas.Bool.Decides.{nat_tests}
 use Rattle.chip_model.specs.Chip.{Chip}
@@ -14,7 +14,7 @@ use Rattle.mcal_base.specs.declared.notice.Notice.{Notice}
 use Rattle.mcal_base.specs.declared.routine.Taken.{Taken}
 use Rattle.run_model.specs.World.{World}
 use Rattle.run_model.specs.Machine.{Acts, Told, Outcome, Machine, no_answer, outcome}
-use Rattle.run_model.specs.Frame.{Origin, Called, Entered, Open, happening_of, outcome_of, state_by, acted_by, served_by, owed_by, owed_after, report_by, report_after, inside_after, window_after, is_note, missed_after, is_shared}
+use Rattle.run_model.specs.Frame.{Origin, Called, Entered, Open, happening_of, outcome_of, state_by, acted_by, served_by, owed_by, owed_after, report_by, report_after, inside_after, window_after, is_note, missed_after, is_shared, resets_chip, is_reset_service, asks_reset}
 use Rattle.run_model.specs.Legal.{ReadsLow, MayEnd, MoveRight}
 use Rattle.step_runner.specs.Driver.{Driver, KeepsStep, RoomRight, stepped}
 use Rattle.service_outline.specs.Short.{goes, does, ends}
@@ -102,6 +102,15 @@ more_missed true x b e = refl
 more_missed false true b e = refl
 more_missed false false b e = absurd (cc)
 
+-- a call of a service that asks for no reset asks for none
+pub asks_no : {State Call : Type 0} (mac : Machine State Call) (c : Call) (e : Option Event) (out : Option (Outcome State)) → is_reset_service (mac.service_of c) ≡ false → asks_reset mac (Called c) e out ≡ false
+asks_no mac c None out h = refl
+asks_no mac c (Some Act) None h = refl
+asks_no mac c (Some Act) (Some out) h = ap (λ b. b && not (is_some out.told.error)) h
+asks_no mac c (Some (Serve k)) out h = refl
+asks_no mac c (Some (Abort u)) out h = refl
+asks_no mac c (Some (Start u)) out h = refl
+
 -- a frame that may end may do so later
 pub may_more : {State Call : Type 0} (mac : Machine State Call) (w : World) (s : State) (o : Open Call) (made : Move) (origin : Origin Call) (a : Answer) → MayEnd origin o a → MayEnd origin (rest_after mac w s o made) a
 may_more mac w s o made (Called c) a h = h
@@ -119,23 +128,25 @@ module _ {State Call Frame : Type 0} (d : Driver State Call Frame) (chip : Chip)
   Keeps o made value taken = KeepsStep d (record { chip = chip; world = w; state = s; opens = [] }) f o later (stepped made value 0 taken) Kept
 
   -- a plain move with no event
-  pub plain_step : (r : Open Call) (origin : Origin Call) (acted : Option Answer) (served : List ℕ) (owed : List Notice) (report : Option DevError) (inside : Bool) (made : Move) (value : ℕ) → is_shared made ≡ false → d.setting.may origin made ≡ true → d.fuel later < d.fuel f → (inside ≡ true → d.room later < d.room f) → Kept s (form (rest_after d.setting.machine w s (form r origin acted served owed report inside) made) origin acted served owed report inside) → Keeps (form r origin acted served owed report inside) made value goes
-  plain_step r (Called c) acted served owed report inside made value p own fuel room k = record {
+  pub plain_step : (r : Open Call) (origin : Origin Call) (acted : Option Answer) (served : List ℕ) (owed : List Notice) (report : Option DevError) (inside : Bool) (made : Move) (value : ℕ) → is_shared made ≡ false → resets_chip made ≡ false → d.setting.may origin made ≡ true → d.fuel later < d.fuel f → (inside ≡ true → d.room later < d.room f) → Kept s (form (rest_after d.setting.machine w s (form r origin acted served owed report inside) made) origin acted served owed report inside) → Keeps (form r origin acted served owed report inside) made value goes
+  plain_step r (Called c) acted served owed report inside made value p still own fuel room k = record {
     event = tt;
     halves = tt;
     move = move_plain inside owed report made p;
     ends = tt;
     own = or_true (is_shared made) own;
+    reset = still;
     fuel = fuel;
     room = room_plain (d.setting.window_of (Called c)) inside (d.room f) (d.room later) made p room;
     kept = subst (λ x. Kept s x) (sym (plainly d.setting.machine w s (form r (Called c) acted served owed report inside) made None None p)) k;
   }
-  plain_step r (Entered l) acted served owed report inside made value p own fuel room k = record {
+  plain_step r (Entered l) acted served owed report inside made value p still own fuel room k = record {
     event = tt;
     halves = tt;
     move = move_plain inside owed report made p;
     ends = tt;
     own = or_true (is_shared made) own;
+    reset = still;
     fuel = fuel;
     room = room_plain (d.setting.window_of (Entered l)) inside (d.room f) (d.room later) made p room;
     kept = subst (λ x. Kept s x) (sym (plainly d.setting.machine w s (form r (Entered l) acted served owed report inside) made None None p)) k;
@@ -149,6 +160,7 @@ module _ {State Call Frame : Type 0} (d : Driver State Call Frame) (chip : Chip)
     move = tt;
     ends = (m, refl, refl, refl);
     own = own;
+    reset = refl;
     fuel = fuel;
     room = λ e. absurd (cc);
     kept = k;
@@ -159,6 +171,7 @@ module _ {State Call Frame : Type 0} (d : Driver State Call Frame) (chip : Chip)
     move = tt;
     ends = (may_more d.setting.machine w s (form r (Entered l) acted served [] None false) (Load word) (Entered l) a m, refl, refl, refl);
     own = own;
+    reset = refl;
     fuel = fuel;
     room = λ e. absurd (cc);
     kept = k;
@@ -166,32 +179,32 @@ module _ {State Call Frame : Type 0} (d : Driver State Call Frame) (chip : Chip)
 
   -- the mask is closed
   pub mask_step : (r : Open Call) (origin : Origin Call) (value : ℕ) → d.fuel later < d.fuel f → 1 + d.room later ≤ d.setting.window_of origin → Kept s (form (rest_after d.setting.machine w s (form r origin None [] [] None false) Mask) origin None [] [] None true) → Keeps (form r origin None [] [] None false) Mask value goes
-  mask_step r (Called c) value fuel room k = record { event = tt; halves = tt; move = refl; ends = tt; own = refl; fuel = fuel; room = room; kept = k }
-  mask_step r (Entered l) value fuel room k = record { event = tt; halves = tt; move = refl; ends = tt; own = refl; fuel = fuel; room = room; kept = k }
+  mask_step r (Called c) value fuel room k = record { event = tt; halves = tt; move = refl; ends = tt; own = refl; reset = refl; fuel = fuel; room = room; kept = k }
+  mask_step r (Entered l) value fuel room k = record { event = tt; halves = tt; move = refl; ends = tt; own = refl; reset = refl; fuel = fuel; room = room; kept = k }
 
   -- the mask is opened, and the frame goes on
   pub unmask_step : (r : Open Call) (origin : Origin Call) (acted : Option Answer) (served : List ℕ) (owed : List Notice) (report : Option DevError) (value : ℕ) → d.fuel later < d.fuel f → 1 ≤ d.room f → Kept s (form (rest_after d.setting.machine w s (form r origin acted served owed report true) Unmask) origin acted served owed report false) → Keeps (form r origin acted served owed report true) Unmask value goes
-  unmask_step r (Called c) acted served owed report value fuel room k = record { event = tt; halves = tt; move = refl; ends = tt; own = refl; fuel = fuel; room = room; kept = k }
-  unmask_step r (Entered l) acted served owed report value fuel room k = record { event = tt; halves = tt; move = refl; ends = tt; own = refl; fuel = fuel; room = room; kept = k }
+  unmask_step r (Called c) acted served owed report value fuel room k = record { event = tt; halves = tt; move = refl; ends = tt; own = refl; reset = refl; fuel = fuel; room = room; kept = k }
+  unmask_step r (Entered l) acted served owed report value fuel room k = record { event = tt; halves = tt; move = refl; ends = tt; own = refl; reset = refl; fuel = fuel; room = room; kept = k }
 
   -- the mask is opened, and the frame ends
   pub leave_step : (r : Open Call) (origin : Origin Call) (acted : Option Answer) (served : List ℕ) (value : ℕ) (a : Answer) → MayEnd origin (form r origin acted served [] None true) a → 1 ≤ d.fuel f → 1 ≤ d.room f → Kept s (form (rest_after d.setting.machine w s (form r origin acted served [] None true) Unmask) origin acted served [] None false) → Keeps (form r origin acted served [] None true) Unmask value (ends a)
-  leave_step r (Called c) acted served value a m fuel room k = record { event = tt; halves = tt; move = refl; ends = (m, refl, refl, refl); own = refl; fuel = fuel; room = room; kept = k }
-  leave_step r (Entered l) acted served value a m fuel room k = record { event = tt; halves = tt; move = refl; ends = (may_more d.setting.machine w s (form r (Entered l) acted served [] None true) Unmask (Entered l) a m, refl, refl, refl); own = refl; fuel = fuel; room = room; kept = k }
+  leave_step r (Called c) acted served value a m fuel room k = record { event = tt; halves = tt; move = refl; ends = (m, refl, refl, refl); own = refl; reset = refl; fuel = fuel; room = room; kept = k }
+  leave_step r (Entered l) acted served value a m fuel room k = record { event = tt; halves = tt; move = refl; ends = (may_more d.setting.machine w s (form r (Entered l) acted served [] None true) Unmask (Entered l) a m, refl, refl, refl); own = refl; reset = refl; fuel = fuel; room = room; kept = k }
 
   -- a report, the last step of its frame
   pub report_step : (r : Open Call) (origin : Origin Call) (acted : Option Answer) (served : List ℕ) (value : ℕ) (a : Answer) (e : DevError) → MayEnd origin (form r origin acted served [] (Some e) false) a → 1 ≤ d.fuel f → Kept s (form (rest_after d.setting.machine w s (form r origin acted served [] (Some e) false) (Report e)) origin acted served [] None false) → Keeps (form r origin acted served [] (Some e) false) (Report e) value (ends a)
-  report_step r (Called c) acted served value a x m fuel k = record { event = tt; halves = tt; move = refl; ends = (m, refl, refl, refl); own = refl; fuel = fuel; room = λ e. absurd (cc); kept = k }
-  report_step r (Entered l) acted served value a x m fuel k = record { event = tt; halves = tt; move = refl; ends = (may_more d.setting.machine w s (form r (Entered l) acted served [] (Some x) false) (Report x) (Entered l) a m, refl, refl, refl); own = refl; fuel = fuel; room = λ e. absurd (cc); kept = k }
+  report_step r (Called c) acted served value a x m fuel k = record { event = tt; halves = tt; move = refl; ends = (m, refl, refl, refl); own = refl; reset = refl; fuel = fuel; room = λ e. absurd (cc); kept = k }
+  report_step r (Entered l) acted served value a x m fuel k = record { event = tt; halves = tt; move = refl; ends = (may_more d.setting.machine w s (form r (Entered l) acted served [] (Some x) false) (Report x) (Entered l) a m, refl, refl, refl); own = refl; reset = refl; fuel = fuel; room = λ e. absurd (cc); kept = k }
 
   -- a notice
   pub note_step : (r : Open Call) (origin : Origin Call) (acted : Option Answer) (served : List ℕ) (n : Notice) (ns : List Notice) (value : ℕ) → d.fuel later < d.fuel f → Kept s (form (rest_after d.setting.machine w s (form r origin acted served (n ∷ ns) None false) (Note n)) origin acted served ns None false) → Keeps (form r origin acted served (n ∷ ns) None false) (Note n) value goes
-  note_step r (Called c) acted served n ns value fuel k = record { event = tt; halves = tt; move = (refl, refl); ends = tt; own = refl; fuel = fuel; room = λ e. absurd (cc); kept = k }
-  note_step r (Entered l) acted served n ns value fuel k = record { event = tt; halves = tt; move = (refl, refl); ends = tt; own = refl; fuel = fuel; room = λ e. absurd (cc); kept = k }
+  note_step r (Called c) acted served n ns value fuel k = record { event = tt; halves = tt; move = (refl, refl); ends = tt; own = refl; reset = refl; fuel = fuel; room = λ e. absurd (cc); kept = k }
+  note_step r (Entered l) acted served n ns value fuel k = record { event = tt; halves = tt; move = (refl, refl); ends = tt; own = refl; reset = refl; fuel = fuel; room = λ e. absurd (cc); kept = k }
 
   -- an act or a serving, at a plain move
-  act_step : (r : Open Call) (c : Call) (made : Move) (value : ℕ) (s1 : State) (t : Told) → is_shared made ≡ false → d.setting.may (Called c) made ≡ true → d.fuel later < d.fuel f → d.room later < d.room f → d.setting.machine.happens w s (Acts c) ≡ Some (outcome s1 t) → ReadsLow (d.setting.low_half c) true made (Some (outcome s1 t)) → Kept s1 (during d.setting.machine (rest_after d.setting.machine w s (during d.setting.machine r (Called c) None true) made) (Called c) (Some t) true) → Keeps (during d.setting.machine r (Called c) None true) made value (does (Some Act))
-  act_step r c made value s1 t p own fuel room is low k =
+  act_step : (r : Open Call) (c : Call) (made : Move) (value : ℕ) (s1 : State) (t : Told) → is_shared made ≡ false → resets_chip made ≡ false → is_reset_service (d.setting.machine.service_of c) ≡ false → d.setting.may (Called c) made ≡ true → d.fuel later < d.fuel f → d.room later < d.room f → d.setting.machine.happens w s (Acts c) ≡ Some (outcome s1 t) → ReadsLow (d.setting.low_half c) true made (Some (outcome s1 t)) → Kept s1 (during d.setting.machine (rest_after d.setting.machine w s (during d.setting.machine r (Called c) None true) made) (Called c) (Some t) true) → Keeps (during d.setting.machine r (Called c) None true) made value (does (Some Act))
+  act_step r c made value s1 t p still quiet own fuel room is low k =
       let mac = d.setting.machine in
       let o = during mac r (Called c) None true in
       record {
@@ -200,13 +213,14 @@ module _ {State Call Frame : Type 0} (d : Driver State Call Frame) (chip : Chip)
         move = move_plain true [] (report_by mac (Called c) None (Some Act) (mac.happens w s (Acts c))) made p;
         ends = tt;
         own = or_true (is_shared made) own;
+        reset = still ∙ sym (asks_no mac c (Some Act) (mac.happens w s (Acts c)) quiet);
         fuel = fuel;
         room = room_plain (d.setting.window_of (Called c)) true (d.room f) (d.room later) made p (λ e. room);
         kept = subst (λ x. Kept (state_by s x) (open_with mac w s o made (Some Act) x)) (sym is) (subst (λ x. Kept s1 x) (sym (plainly mac w s o made (Some Act) (Some (outcome s1 t)) p)) k);
       }
 
-  serve_step : (r : Open Call) (l : ℕ) (made : Move) (value : ℕ) (s1 : State) (t : Told) → is_shared made ≡ false → d.setting.may (Entered l) made ≡ true → d.fuel later < d.fuel f → d.room later < d.room f → outcome_of d.setting.machine w s (happening_of (Entered l) 0 (Serve l)) ≡ Some (outcome s1 t) → Kept s1 (during d.setting.machine (rest_after d.setting.machine w s (during d.setting.machine r (Entered l) None true) made) (Entered l) (Some t) true) → Keeps (during d.setting.machine r (Entered l) None true) made value (does (Some (Serve l)))
-  serve_step r l made value s1 t p own fuel room is k =
+  serve_step : (r : Open Call) (l : ℕ) (made : Move) (value : ℕ) (s1 : State) (t : Told) → is_shared made ≡ false → resets_chip made ≡ false → d.setting.may (Entered l) made ≡ true → d.fuel later < d.fuel f → d.room later < d.room f → outcome_of d.setting.machine w s (happening_of (Entered l) 0 (Serve l)) ≡ Some (outcome s1 t) → Kept s1 (during d.setting.machine (rest_after d.setting.machine w s (during d.setting.machine r (Entered l) None true) made) (Entered l) (Some t) true) → Keeps (during d.setting.machine r (Entered l) None true) made value (does (Some (Serve l)))
+  serve_step r l made value s1 t p still own fuel room is k =
       let mac = d.setting.machine in
       let o = during mac r (Entered l) None true in
       let out = outcome_of mac w s (happening_of (Entered l) 0 (Serve l)) in
@@ -216,19 +230,20 @@ module _ {State Call Frame : Type 0} (d : Driver State Call Frame) (chip : Chip)
         move = move_plain true [] (report_by mac (Entered l) None (Some (Serve l)) out) made p;
         ends = tt;
         own = or_true (is_shared made) own;
+        reset = still;
         fuel = fuel;
         room = room_plain (d.setting.window_of (Entered l)) true (d.room f) (d.room later) made p (λ e. room);
         kept = subst (λ x. Kept (state_by s x) (open_with mac w s o made (Some (Serve l)) x)) (sym is) (subst (λ x. Kept s1 x) (sym (plainly mac w s o made (Some (Serve l)) (Some (outcome s1 t)) p)) k);
       }
 
-  pub event_step : (r : Open Call) (origin : Origin Call) (made : Move) (value : ℕ) (e : Event) (s1 : State) (t : Told) → is_shared made ≡ false → d.setting.may origin made ≡ true → d.fuel later < d.fuel f → d.room later < d.room f → IsOwn origin e → outcome_of d.setting.machine w s (happening_of origin 0 e) ≡ Some (outcome s1 t) → LowAt d.setting origin made s1 t → Kept s1 (during d.setting.machine (rest_after d.setting.machine w s (during d.setting.machine r origin None true) made) origin (Some t) true) → Keeps (during d.setting.machine r origin None true) made value (does (Some e))
-  event_step r (Called c) made value Act s1 t p own fuel room is_own is low k = act_step r c made value s1 t p own fuel room is low k
-  event_step r (Called c) made value (Serve j) s1 t p own fuel room is_own is low k = absurd is_own
-  event_step r (Called c) made value (Abort u) s1 t p own fuel room is_own is low k = absurd is_own
-  event_step r (Called c) made value (Start u) s1 t p own fuel room is_own is low k = absurd is_own
-  event_step r (Entered l) made value Act s1 t p own fuel room is_own is low k = absurd is_own
-  event_step r (Entered l) made value (Serve j) s1 t p own fuel room is_own is low k =
+  pub event_step : (r : Open Call) (origin : Origin Call) (made : Move) (value : ℕ) (e : Event) (s1 : State) (t : Told) → is_shared made ≡ false → resets_chip made ≡ false → ((c : Call) → is_reset_service (d.setting.machine.service_of c) ≡ false) → d.setting.may origin made ≡ true → d.fuel later < d.fuel f → d.room later < d.room f → IsOwn origin e → outcome_of d.setting.machine w s (happening_of origin 0 e) ≡ Some (outcome s1 t) → LowAt d.setting origin made s1 t → Kept s1 (during d.setting.machine (rest_after d.setting.machine w s (during d.setting.machine r origin None true) made) origin (Some t) true) → Keeps (during d.setting.machine r origin None true) made value (does (Some e))
+  event_step r (Called c) made value Act s1 t p still quiet own fuel room is_own is low k = act_step r c made value s1 t p still (quiet c) own fuel room is low k
+  event_step r (Called c) made value (Serve j) s1 t p still quiet own fuel room is_own is low k = absurd is_own
+  event_step r (Called c) made value (Abort u) s1 t p still quiet own fuel room is_own is low k = absurd is_own
+  event_step r (Called c) made value (Start u) s1 t p still quiet own fuel room is_own is low k = absurd is_own
+  event_step r (Entered l) made value Act s1 t p still quiet own fuel room is_own is low k = absurd is_own
+  event_step r (Entered l) made value (Serve j) s1 t p still quiet own fuel room is_own is low k =
       let at = subst (λ x. outcome_of d.setting.machine w s (happening_of (Entered l) 0 (Serve x)) ≡ Some (outcome s1 t)) is_own is in
-      subst (λ x. Keeps (during d.setting.machine r (Entered l) None true) made value (does (Some (Serve x)))) (sym is_own) (serve_step r l made value s1 t p own fuel room at k)
-  event_step r (Entered l) made value (Abort u) s1 t p own fuel room is_own is low k = absurd is_own
-  event_step r (Entered l) made value (Start u) s1 t p own fuel room is_own is low k = absurd is_own
+      subst (λ x. Keeps (during d.setting.machine r (Entered l) None true) made value (does (Some (Serve x)))) (sym is_own) (serve_step r l made value s1 t p still own fuel room at k)
+  event_step r (Entered l) made value (Abort u) s1 t p still quiet own fuel room is_own is low k = absurd is_own
+  event_step r (Entered l) made value (Start u) s1 t p still quiet own fuel room is_own is low k = absurd is_own

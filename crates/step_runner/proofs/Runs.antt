@@ -122,6 +122,7 @@ module _ {State Call Frame : Type 0} (d : Driver State Call Frame) (move_of : Fr
           ends = x.ends;
           there = law.there chip w u.frame o (paired us os) s k.relates;
           own = x.own;
+          reset = x.reset;
           steps = steps_bound o.steps (d.fuel u.frame) (d.fuel u1.frame) bound taken.ended x.fuel here.steps;
           window = window_bound made o.inside o.owed (report_by d.setting.machine o.origin o.report taken.event out) o.window (d.room u.frame) (d.room u1.frame) wide x.move x.room here.window here.room;
         };

@@ -13,7 +13,7 @@ use Rattle.run_model.specs.declared.class.Tag.{Tag}
 use Rattle.run_model.specs.declared.item.Stepped.{Stepped}
 use Rattle.run_model.specs.World.{World, world_after}
 use Rattle.run_model.specs.Machine.{Moves, Restarts, Outcome}
-use Rattle.run_model.specs.Frame.{Origin, Called, Entered, Open, opened, state_after, open_after, report_by, outcome_of, happening_at, top_after, is_shared}
+use Rattle.run_model.specs.Frame.{Origin, Called, Entered, Open, opened, state_after, open_after, report_by, outcome_of, happening_at, top_after, is_shared, resets_chip, asks_reset}
 use Rattle.run_model.specs.Causes.{may_reenter}
 use Rattle.run_model.specs.Moment.{Setting, Moment, call_tag, line_tag}
 use Rattle.run_model.specs.Legal.{EventRight, HalvesRight, MoveRight, EndRight}
@@ -68,6 +68,7 @@ pub record KeepsStep {State Call Frame : Type 0} (d : Driver State Call Frame) (
   pub move : MoveRight o.inside o.owed (report_by d.setting.machine o.origin o.report s.event (outcome_of d.setting.machine m.world m.state (happening_at o.origin s.received s.event))) s.made
   pub ends : EndRight (open_after d.setting.machine m.world m.state o s.made s.received s.event) s.ended
   pub own : is_shared s.made || d.setting.may o.origin s.made ≡ true
+  pub reset : resets_chip s.made ≡ asks_reset d.setting.machine o.origin s.event (outcome_of d.setting.machine m.world m.state (happening_at o.origin s.received s.event))
   pub fuel : FuelRight (d.fuel f) (d.fuel later) s.ended
   pub room : RoomRight (d.setting.window_of o.origin) o.inside (d.room f) (d.room later) s.made
   pub kept : Kept (state_after d.setting.machine m.world m.state o s.received s.event) (open_after d.setting.machine m.world m.state o s.made s.received s.event)

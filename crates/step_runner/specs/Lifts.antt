@@ -1,6 +1,6 @@
 -- A step of a driver is one within a larger driver.
-use Rattle.std.proofs.Common.{◌≡◌, ℕ, ◌+◌, Bool, true, cond, not, ◌||◌, ◌==◌, List, [], Option, Some, None, refl, sym, ◌∙◌, ap, subst}
-use Rattle.std.specs.Prelude.{IsSome}
+use Rattle.std.proofs.Common.{◌≡◌, ℕ, ◌+◌, Bool, true, cond, not, ◌&&◌, ◌||◌, ◌==◌, List, [], Option, Some, None, refl, sym, ◌∙◌, ap, subst}
+use Rattle.std.specs.Prelude.{IsSome, is_some}
 use Rattle.std.specs.List.{list_any}
 use Rattle.chip_model.specs.Chip.{Chip}
 use Rattle.mcal_base.specs.declared.answer.Answer.{Answer}
@@ -16,7 +16,7 @@ use Rattle.mcal_base.specs.declared.service.Service.{Service}
 use Rattle.run_model.specs.declared.item.Stepped.{Stepped}
 use Rattle.run_model.specs.World.{World}
 use Rattle.run_model.specs.Machine.{Acts, Serves, Starts, Aborts, Outcome}
-use Rattle.run_model.specs.Frame.{Origin, Called, Entered, Open, happening_of, happening_at, outcome_of, state_by, acted_by, served_by, owed_by, reported, report_by, owed_after, report_after, inside_after, window_after, is_note, missed_after, open_after, is_shared}
+use Rattle.run_model.specs.Frame.{Origin, Called, Entered, Open, happening_of, happening_at, outcome_of, state_by, acted_by, served_by, owed_by, reported, report_by, owed_after, report_after, inside_after, window_after, is_note, missed_after, open_after, is_shared, is_reset_service, asks_reset}
 use Rattle.run_model.specs.Moment.{Setting}
 use Rattle.run_model.specs.Legal.{IsOwnEvent, EventRight, ReadsLow, HalvesRight, MoveRight, MayEnd, EndRight}
 use Rattle.step_runner.specs.Driver.{Driver, FuelRight, RoomRight, KeepsStep}
@@ -83,6 +83,15 @@ module _ {S C U E : Type 0} (g : Setting S C) (b : Setting U E) (put : S → U) 
   same-report (Entered l) r (Some (Serve j)) x = refl
   same-report (Entered l) r (Some (Abort u)) x = refl
   same-report (Entered l) r (Some (Start u)) x = refl
+
+  asks-lifted : (p : Origin C) (e : Option Event) (x : Option (Outcome S)) → asks_reset b.machine (lift_origin k p) e (lift_out put x) ≡ asks_reset g.machine p e x
+  asks-lifted (Called c) None x = refl
+  asks-lifted (Called c) (Some Act) None = refl
+  asks-lifted (Called c) (Some Act) (Some out) = ap (λ x. is_reset_service x && not (is_some out.told.error)) (lies.services c)
+  asks-lifted (Called c) (Some (Serve j)) x = refl
+  asks-lifted (Called c) (Some (Abort u)) x = refl
+  asks-lifted (Called c) (Some (Start u)) x = refl
+  asks-lifted (Entered l) e x = refl
 
   out-by : (o : Open C) (p : Origin C) (r : ℕ) (e : Event) → IsMine mine p → IsOwnEvent g.machine o e p → IsSome (outcome_of g.machine w s (happening_of p r e)) → outcome_of b.machine w (put s) (happening_of (lift_origin k p) r e) ≡ lift_out put (outcome_of g.machine w s (happening_of p r e))
   out-by o (Called c) r Act m own some = lies.acts c
@@ -195,6 +204,7 @@ lift-keeps d big put k into mine chip w s f later o missed st Kept Big lies fuel
       move = subst (λ r. MoveRight o.inside o.owed r st.made) (sym report_is) h.move;
       ends = subst (λ a. EndRight a st.ended) (sym o_is) (end-lifted g b put k mine w s lies o1 missed1 st.ended m same1 h.ends);
       own = ap (λ a. is_shared st.made || a) (lies.may o.origin st.made m) ∙ h.own;
+      reset = h.reset ∙ (sym (asks-lifted g b put k mine w s lies o.origin st.event x) ∙ sym (ap (asks_reset b.machine (lift_origin k o.origin) st.event) is));
       fuel = subst (λ n. FuelRight n (big.fuel (into later)) st.ended) (sym (fuels f)) (subst (λ n. FuelRight (d.fuel f) n st.ended) (sym (fuels later)) h.fuel);
       room = subst (λ n. RoomRight n o.inside (big.room (into f)) (big.room (into later)) st.made) (sym (lies.window o.origin m))
           (subst (λ n. RoomRight (g.window_of o.origin) o.inside n (big.room (into later)) st.made) (sym (rooms f)) (subst (λ n. RoomRight (g.window_of o.origin) o.inside (d.room f) n st.made) (sym (rooms later)) h.room));
