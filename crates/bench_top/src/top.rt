@@ -158,7 +158,7 @@ fn act<K: Sink>(alloc: Global, out: &mut K, form: Form, read: &BenchFile) -> Out
 {
     match form {
         Form::Check => check(alloc, out, &read.script),
-        Form::Run(traced) => run_built(alloc, out, traced, read),
+        Form::Run { traced } => run_built(alloc, out, traced, read),
     }
 }
 

@@ -6,8 +6,11 @@ ghost use Rattle.bench_top.specs.Words as spec;
 pub enum Form {
     /// Reads a bench file, and says that it is one.
     Check,
-    /// Runs a bench file, and prints the report: with a line for each step where it is traced.
-    Run(bool),
+    /// Runs a bench file, and prints the report.
+    Run {
+        /// Whether each step has a line of its own.
+        traced: bool,
+    },
 }
 
 /// The form of one word.
@@ -16,7 +19,7 @@ fn one_word(word: &str) -> Option<Form>
 {
     match word {
         "check" => Some(Form::Check),
-        "run" => Some(Form::Run(false)),
+        "run" => Some(Form::Run { traced: false }),
         _ => None,
     }
 }
@@ -26,7 +29,7 @@ fn two_words(word: &str, option: &str) -> Option<Form>
     ensures { result ≡ spec.two_words word.now option.now }
 {
     if word == "run" && option == "--trace" {
-        Some(Form::Run(true))
+        Some(Form::Run { traced: true })
     } else {
         None
     }
