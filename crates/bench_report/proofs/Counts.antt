@@ -10,7 +10,7 @@ use Rattle.bench_report.specs.Pages.{Page, counted, put, page_after}
 -- returned calls
 calls_one : (t : Tally) (l : Line) (n : ℕ) → (counted t l).calls + n ≡ t.calls + (cond (is_return l) 1 0 + n)
 calls_one t (Holds cause) n = omega arith
-calls_one t (Makes depth made value event) n = omega arith
+calls_one t (Makes depth made value received event) n = omega arith
 calls_one t (Notes notice) n = omega arith
 calls_one t (Errs found) n = omega arith
 calls_one t (Returns service head words) n = omega arith
@@ -25,7 +25,7 @@ calls_after page (l ∷ ls) = calls_after (put page l.number l.says) ls ∙ call
 -- ended handlers
 handlers_one : (t : Tally) (l : Line) (n : ℕ) → (counted t l).handlers + n ≡ t.handlers + (cond (is_leave l) 1 0 + n)
 handlers_one t (Holds cause) n = omega arith
-handlers_one t (Makes depth made value event) n = omega arith
+handlers_one t (Makes depth made value received event) n = omega arith
 handlers_one t (Notes notice) n = omega arith
 handlers_one t (Errs found) n = omega arith
 handlers_one t (Returns service head words) n = omega arith
@@ -40,7 +40,7 @@ handlers_after page (l ∷ ls) = handlers_after (put page l.number l.says) ls �
 -- held directives
 held_one : (t : Tally) (l : Line) (n : ℕ) → (counted t l).held + n ≡ t.held + (cond (is_hold l) 1 0 + n)
 held_one t (Holds cause) n = omega arith
-held_one t (Makes depth made value event) n = omega arith
+held_one t (Makes depth made value received event) n = omega arith
 held_one t (Notes notice) n = omega arith
 held_one t (Errs found) n = omega arith
 held_one t (Returns service head words) n = omega arith
@@ -55,7 +55,7 @@ held_after page (l ∷ ls) = held_after (put page l.number l.says) ls ∙ held_o
 -- error reports
 errors_one : (t : Tally) (l : Line) (n : ℕ) → (counted t l).errors + n ≡ t.errors + (cond (is_error l) 1 0 + n)
 errors_one t (Holds cause) n = omega arith
-errors_one t (Makes depth made value event) n = omega arith
+errors_one t (Makes depth made value received event) n = omega arith
 errors_one t (Notes notice) n = omega arith
 errors_one t (Errs found) n = omega arith
 errors_one t (Returns service head words) n = omega arith
@@ -70,7 +70,7 @@ errors_after page (l ∷ ls) = errors_after (put page l.number l.says) ls ∙ er
 -- notices
 notes_one : (t : Tally) (l : Line) (n : ℕ) → (counted t l).notes + n ≡ t.notes + (cond (is_note l) 1 0 + n)
 notes_one t (Holds cause) n = omega arith
-notes_one t (Makes depth made value event) n = omega arith
+notes_one t (Makes depth made value received event) n = omega arith
 notes_one t (Notes notice) n = omega arith
 notes_one t (Errs found) n = omega arith
 notes_one t (Returns service head words) n = omega arith

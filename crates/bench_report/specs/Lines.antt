@@ -1,5 +1,5 @@
 -- The lines of a report and how they are spelled.
-use Rattle.std.specs.Prelude.{ℕ, List, ◌++◌, Option, Some, None, codes, decimal, flat_map}
+use Rattle.std.specs.Prelude.{ℕ, List, ◌++◌, Option, Some, None, codes, decimal, flat_map, if◌then◌else◌}
 use Rattle.irq_control.specs.declared.held.Held.{Held}
 use Rattle.irq_control.specs.Spelling.{held_text}
 use Rattle.mcal_base.specs.declared.answer.Head.{Head}
@@ -12,6 +12,7 @@ use Rattle.mcal_base.specs.declared.moves.Event.TheVariants as events
 use Rattle.mcal_base.specs.declared.moves.Move.{Move}
 use Rattle.mcal_base.specs.declared.moves.Move.TheVariants as moves
 use Rattle.mcal_base.specs.declared.notice.Notice.{Notice}
+use Rattle.mcal_base.specs.declared.register.Reg.TheVariants as regs
 use Rattle.mcal_base.specs.declared.service.Service.{Service}
 use Rattle.mcal_base.specs.Names.{service_text, answer_text, notice_text}
 use Rattle.det_errors.specs.Spelling.{error_text}
@@ -24,11 +25,11 @@ use Rattle.bench_report.specs.declared.lines.Line.TheVariants as lines
 pub data Line : Type 0 where
   -- a directive was held
   Holds : Held → Line
-  -- a step: the frames there, its move, the value that this gave, and its event
-  Makes : ℕ → Move → ℕ → Option Event → Line
+  -- a step: the frames there, its move, the value that this gave, the word that came in, and its event
+  Makes : ℕ → Move → ℕ → ℕ → Option Event → Line
   -- a callback was called
   Notes : Notice → Line
-  -- a development error was reported
+  -- an error was reported
   Errs : DevError → Line
   -- a call returned, with a head and numbers
   Returns : Service → Head → List ℕ → Line
@@ -42,7 +43,7 @@ pub data Line : Type 0 where
 -- a line as the code has it
 abbrev pub line_of : written.Line → Line
 line_of (lines.Holds cause) = Holds cause
-line_of (lines.Makes depth made value event) = Makes depth made value event
+line_of (lines.Makes depth made value received event) = Makes depth made value received event
 line_of (lines.Notes notice) = Notes notice
 line_of (lines.Errs error) = Errs error
 line_of (lines.Returns service head words) = Returns service head words.now
@@ -60,7 +61,7 @@ reason_text reasons.Software = codes "MCU_SW_RESET"
 abbrev pub event_text : Option Event → List ℕ
 event_text None = codes ""
 event_text (Some events.Act) = codes " act"
-event_text (Some (events.Serve line)) = codes " serve"
+event_text (Some (events.Serve line)) = codes " serve " ++ decimal line
 event_text (Some (events.Abort unit)) = codes " abort"
 event_text (Some (events.Start unit)) = codes " start"
 
@@ -68,9 +69,9 @@ event_text (Some (events.Start unit)) = codes " start"
 abbrev pub note_text : Notice → List ℕ
 note_text notice = notice_text notice.kind ++ (codes " " ++ decimal notice.id)
 
--- a service and the error that it reported
-abbrev pub report_text : DevError → List ℕ
-report_text found = service_text found.service ++ (codes " " ++ error_text found.error)
+-- a reported error, with its service: behind `runtime` where it is a runtime error, else behind the word for a development error
+abbrev pub report_text : List ℕ → DevError → List ℕ
+report_text word found = (if found.runtime then codes "runtime" else word) ++ (codes " " ++ (service_text found.service ++ (codes " " ++ error_text found.error)))
 
 -- a move with the value that it gave
 abbrev pub move_text : Move → ℕ → List ℕ
@@ -81,7 +82,12 @@ move_text (moves.Store word stored) value = codes "store w" ++ (decimal word ++ 
 move_text moves.Mask value = codes "mask"
 move_text moves.Unmask value = codes "unmask"
 move_text (moves.Note notice) value = codes "note " ++ note_text notice
-move_text (moves.Report found) value = codes "report " ++ report_text found
+move_text (moves.Report found) value = report_text (codes "report") found
+
+-- the word that came in at a write that begins a serial word, with a space before it
+abbrev pub incoming_text : Move → ℕ → List ℕ
+incoming_text (moves.Write (regs.SerialData unit) sent) received = codes " got " ++ decimal received
+incoming_text _ received = codes ""
 
 -- what an answer begins with, with a space before it
 abbrev pub head_text : Head → List ℕ
@@ -97,9 +103,10 @@ words_text words = flat_map (λ word. codes " " ++ decimal word) words
 -- what a line says
 abbrev pub line_text : Line → List ℕ
 line_text (Holds cause) = codes "held " ++ held_text cause
-line_text (Makes depth made value event) = codes "step " ++ (decimal depth ++ (codes " " ++ (move_text made value ++ event_text event)))
+line_text (Makes depth made value received event) =
+    codes "step " ++ (decimal depth ++ (codes " " ++ (move_text made value ++ (event_text event ++ incoming_text made received))))
 line_text (Notes notice) = codes "note " ++ note_text notice
-line_text (Errs found) = codes "error " ++ report_text found
+line_text (Errs found) = report_text (codes "error") found
 line_text (Returns service head words) = codes "return " ++ (service_text service ++ (head_text head ++ words_text words))
 line_text (Leaves line) = codes "left " ++ decimal line
 line_text (Restarts reason dropped) = codes "reset " ++ (reason_text reason ++ (codes " " ++ decimal dropped))

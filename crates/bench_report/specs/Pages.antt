@@ -12,7 +12,7 @@ use Rattle.bench_report.specs.Report.{Numbered, frames_after, frames_after_end, 
 -- one more line is counted
 abbrev pub counted : Tally → Line → Tally
 counted tally (Holds cause) = record tally { held = tally.held + 1 }
-counted tally (Makes depth made value event) = tally
+counted tally (Makes depth made value received event) = tally
 counted tally (Notes notice) = record tally { notes = tally.notes + 1 }
 counted tally (Errs found) = record tally { errors = tally.errors + 1 }
 counted tally (Returns service head words) = record tally { calls = tally.calls + 1 }

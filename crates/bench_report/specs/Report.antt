@@ -37,7 +37,7 @@ frames_after order frames (Resets reason dropped) = []
 -- the line of a step itself
 abbrev pub step_lines : Bool → ℕ → Stepped → List Line
 step_lines false depth step = []
-step_lines true depth step = Makes depth step.made step.value step.event ∷ []
+step_lines true depth step = Makes depth step.made step.value step.received step.event ∷ []
 
 -- the line of a move
 abbrev pub move_lines : Move → List Line
@@ -71,7 +71,7 @@ chapter_frames order frames (entry ∷ entries) = chapter_frames order (frames_a
 
 -- the line of a step itself, beside which a directive may print ok
 abbrev pub is_step : Line → Bool
-is_step (Makes depth made value event) = true
+is_step (Makes depth made value received event) = true
 is_step _ = false
 
 -- a directive that prints nothing else prints ok

@@ -1,4 +1,5 @@
-ghost use Rattle.std.specs.Prelude.{ℕ, List, ◌≡◌, ◌++◌, [], OnOk, IfOk, Some, string_bytes};
+ghost use Rattle.std.specs.Prelude.{ℕ, List, ◌≡◌, ◌++◌, [], OnOk, IfOk, Some, false, string_bytes};
+ghost use Rattle.std.specs.Bool.{OnTrue};
 ghost use Rattle.run_model.specs.Entry.{entries, entry_at, words_at, answer_at, step_at};
 ghost use Rattle.bench_report.specs.Lines.{line_of, end_text};
 ghost use Rattle.bench_report.specs.Report as spec;
@@ -21,9 +22,16 @@ fn stretch(words: &[u32], span: Span) -> &[u32]
     &rest[..rest.len().min(span.count as usize)]
 }
 
+/// Whether a step prints nothing where steps aren't traced.
+fn is_silent(logged: &Logged) -> bool
+    ensures { (c : pages.Course) (number depth : ℕ) (words : List ℕ) → OnTrue result (pages.step_put false c number depth (step_at words logged.now) ≡ c) }
+{
+    logged.ended.is_none() && !matches!(logged.made, Move::Note(_) | Move::Report(_))
+}
+
 /// A report under way: its lines, what the frames were begun for, and whether the directive printed nothing but steps yet.
 #[derive(Drop)]
-pub struct Course {
+pub(crate) struct Course {
     page: Page,
     frames: Frames,
     silent: bool,
@@ -39,7 +47,7 @@ impl Model for Course {
 
 impl Course {
     /// The beginning of a report.
-    pub fn new(alloc: Global) -> Course
+    pub(crate) fn new(alloc: Global) -> Course
         ensures { result ≡ pages.beginning }
     {
         Course {
@@ -70,7 +78,13 @@ impl Course {
         if traced {
             self.say(
                 number,
-                Line::Makes(depth, logged.made, logged.value, logged.event),
+                Line::Makes(
+                    depth,
+                    logged.made,
+                    logged.value,
+                    logged.received,
+                    logged.event,
+                ),
             )?;
         }
         Ok(())
@@ -101,8 +115,8 @@ impl Course {
         }
     }
 
-    /// Prints the lines of a step.
-    fn step(
+    /// Prints the lines of a step that has some.
+    fn step_lines(
         &mut self,
         traced: bool,
         number: u32,
@@ -120,8 +134,25 @@ impl Course {
         }
     }
 
-    /// Prints the lines of an item of a directive.
-    fn entry(
+    /// Prints the lines of a step.
+    fn step(
+        &mut self,
+        traced: bool,
+        number: u32,
+        depth: u32,
+        words: &[u32],
+        logged: &Logged,
+    ) -> Result<(), AllocError>
+        ensures { OnOk result (self.new ≡ pages.step_put traced self.old number depth (step_at words.now logged.now)) }
+    {
+        if !traced && is_silent(logged) {
+            return Ok(());
+        }
+        self.step_lines(traced, number, depth, words, logged)
+    }
+
+    /// Prints the lines of an item that is no step.
+    fn other(
         &mut self,
         traced: bool,
         directive: &Directive,
@@ -139,6 +170,22 @@ impl Course {
                 self.frames.clear();
                 self.say(directive.line, Line::Restarts(*reason, *dropped))
             }
+        }
+    }
+
+    /// Prints the lines of an item of a directive.
+    fn entry(
+        &mut self,
+        traced: bool,
+        directive: &Directive,
+        words: &[u32],
+        item: &Item,
+    ) -> Result<(), AllocError>
+        ensures { OnOk result (self.new ≡ pages.entry_put traced directive.now self.old (entry_at words.now item.now)) }
+    {
+        match &item.what {
+            What::Stepped(logged) => self.step(traced, directive.line, item.depth, words, logged),
+            _ => self.other(traced, directive, words, item),
         }
     }
 
@@ -175,7 +222,7 @@ impl Course {
     }
 
     /// Prints the lines of a directive, and gives the items behind its own.
-    pub fn chapter<'a>(
+    pub(crate) fn chapter<'a>(
         &mut self,
         traced: bool,
         directive: &Directive,
@@ -192,7 +239,7 @@ impl Course {
     }
 
     /// The whole text.
-    pub fn end(self) -> Result<String, AllocError>
+    pub(crate) fn end(self) -> Result<String, AllocError>
         ensures { IfOk result (λ s. string_bytes s ≡ self.page.text ++ end_text self.page.tally) }
     {
         self.page.end()

@@ -6,8 +6,8 @@ use std::alloc::{AllocError, Global};
 use std::marker::Model;
 
 /// What a frame was begun for.
-#[derive(Clone, Copy, Debug, PartialEq, Eq)]
-pub enum Purpose {
+#[derive(Clone, Copy)]
+pub(crate) enum Purpose {
     /// A call of a service.
     Call(Service),
     /// The handler of a line.
@@ -15,7 +15,7 @@ pub enum Purpose {
 }
 
 /// What a directive begins a frame for.
-pub fn purpose_of(order: &Order) -> Option<Purpose>
+pub(crate) fn purpose_of(order: &Order) -> Option<Purpose>
     ensures { result ≡ spec.purpose_of order.now }
 {
     match order {
@@ -27,7 +27,7 @@ pub fn purpose_of(order: &Order) -> Option<Purpose>
 
 /// What the frames under way were begun for, the topmost first.
 #[derive(Drop)]
-pub struct Frames {
+pub(crate) struct Frames {
     purposes: Vec<Purpose>,
 }
 
@@ -42,7 +42,7 @@ impl Model for Frames {
 
 impl Frames {
     /// No frames.
-    pub fn new(alloc: Global) -> Frames
+    pub(crate) fn new(alloc: Global) -> Frames
         ensures { result ≡ [] }
     {
         Frames {
@@ -51,7 +51,7 @@ impl Frames {
     }
 
     /// One more frame, where the purpose is known.
-    pub fn begin(&mut self, purpose: Option<Purpose>) -> Result<(), AllocError>
+    pub(crate) fn begin(&mut self, purpose: Option<Purpose>) -> Result<(), AllocError>
         ensures { OnOk result (self.new ≡ option_to_list purpose ++ self.old) }
     {
         if let Some(purpose) = purpose {
@@ -61,7 +61,7 @@ impl Frames {
     }
 
     /// Takes the topmost frame off.
-    pub fn end(&mut self) -> Option<Purpose>
+    pub(crate) fn end(&mut self) -> Option<Purpose>
         ensures top { result ≡ slice_get self.old 0 }
         ensures rest { self.new ≡ drop 1 self.old }
     {
@@ -69,7 +69,7 @@ impl Frames {
     }
 
     /// Takes all frames off.
-    pub fn clear(&mut self)
+    pub(crate) fn clear(&mut self)
         ensures { self.new ≡ [] }
     {
         self.purposes.clear();

@@ -10,12 +10,5 @@ mod tally;
 mod texts;
 mod whole;
 
-pub use frames::Purpose;
-pub use lines::Line;
 pub use registers::RegisterName;
-pub use tally::Tally;
-pub use texts::{Answered, Found, MoveMade, Noticed};
 pub use whole::report;
-
-#[cfg(test)]
-mod tests;

@@ -1,21 +1,21 @@
 ghost use Rattle.std.specs.Prelude.{Some};
 ghost use Rattle.bench_report.specs.Lines as spec;
 
-use crate::texts::{Answered, Found, MoveMade, Noticed, event_text, reason_text};
+use crate::texts::{Answered, EventThere, Found, Incoming, MoveMade, Noticed, reason_text};
 use irq_control::Held;
 use mcal_base::{DevError, Event, Head, Move, Notice, Reason, Service};
 use std::fmt;
 
 /// What a line of a report says, behind the number of its script line.
-#[derive(Clone, Copy, Debug)]
-pub enum Line<'a> {
+#[derive(Clone, Copy)]
+pub(crate) enum Line<'a> {
     /// A directive was held.
     Holds(Held),
-    /// A step: the frames there, its move, the value that this gave, and its event.
-    Makes(u32, Move, u32, Option<Event>),
+    /// A step: the frames there, its move, the value that this gave, the word that came in, and its event.
+    Makes(u32, Move, u32, u32, Option<Event>),
     /// A callback was called.
     Notes(Notice),
-    /// A development error was reported.
+    /// An error was reported.
     Errs(DevError),
     /// A call returned, with a head and numbers.
     Returns(Service, Head, &'a [u32]),
@@ -36,18 +36,22 @@ impl fmt::Display for Line<'_> {
                 let cause = cause.text();
                 write!(f, "held {cause}")
             }
-            Line::Makes(depth, made, value, event) => {
-                let made = MoveMade { made, value };
-                let event = event_text(event);
-                write!(f, "step {depth} {made}{event}")
+            Line::Makes(depth, made, value, received, event) => {
+                let moved = MoveMade { made, value };
+                let event = EventThere(event);
+                let incoming = Incoming { made, received };
+                write!(f, "step {depth} {moved}{event}{incoming}")
             }
             Line::Notes(notice) => {
                 let noticed = Noticed(notice);
                 write!(f, "note {noticed}")
             }
             Line::Errs(found) => {
-                let found = Found(found);
-                write!(f, "error {found}")
+                let found = Found {
+                    development: "error",
+                    error: found,
+                };
+                write!(f, "{found}")
             }
             Line::Returns(service, head, words) => {
                 let service = service.text();

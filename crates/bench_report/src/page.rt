@@ -9,7 +9,7 @@ use std::marker::Model;
 
 /// The lines of a report so far, and what they count.
 #[derive(Drop)]
-pub struct Page {
+pub(crate) struct Page {
     text: String,
     tally: Tally,
 }
@@ -27,7 +27,7 @@ impl Model for Page {
 
 impl Page {
     /// No lines.
-    pub fn new(alloc: Global) -> Page
+    pub(crate) fn new(alloc: Global) -> Page
         ensures { result ≡ record { text = []; tally = record { calls = 0; handlers = 0; held = 0; errors = 0; notes = 0 } } }
     {
         Page {
@@ -37,7 +37,7 @@ impl Page {
     }
 
     /// Writes a line with its number, and counts it.
-    pub fn put(&mut self, number: u32, line: Line<'_>) -> Result<(), AllocError>
+    pub(crate) fn put(&mut self, number: u32, line: Line<'_>) -> Result<(), AllocError>
         ensures { OnOk result (self.new ≡ put self.old number (line_of line.entry)) }
     {
         if let Err(error) = write!(self.text, "{number} {line}\n") {
@@ -57,7 +57,7 @@ impl Page {
     }
 
     /// The text with its last line.
-    pub fn end(self) -> Result<String, AllocError>
+    pub(crate) fn end(self) -> Result<String, AllocError>
         ensures { IfOk result (λ s. string_bytes s ≡ self.text ++ end_text self.tally) }
     {
         let Page { mut text, tally } = self;

@@ -5,7 +5,7 @@ use mcal_base::Reg;
 use std::fmt;
 
 /// A register by the name that the chip gives it.
-#[derive(Clone, Copy, Debug, PartialEq, Eq)]
+#[derive(Clone, Copy, Debug)]
 pub struct RegisterName(pub Reg);
 
 impl fmt::Display for RegisterName {

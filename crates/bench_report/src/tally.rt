@@ -4,18 +4,18 @@ ghost use Rattle.bench_report.specs.Lines as spec;
 use std::fmt;
 
 /// How many lines of a report there are of each kind that its last line counts.
-#[derive(Clone, Copy, Debug, PartialEq, Eq, Default)]
-pub struct Tally {
+#[derive(Clone, Copy, Default)]
+pub(crate) struct Tally {
     /// Returned calls.
-    pub calls: u64,
+    pub(crate) calls: u64,
     /// Ended handlers.
-    pub handlers: u64,
+    pub(crate) handlers: u64,
     /// Held directives.
-    pub held: u64,
+    pub(crate) held: u64,
     /// Error reports.
-    pub errors: u64,
+    pub(crate) errors: u64,
     /// Notices.
-    pub notes: u64,
+    pub(crate) notes: u64,
 }
 
 /// The last line of a report.

@@ -2,11 +2,11 @@ ghost use Rattle.std.specs.Prelude.{◌≡◌, ◌++◌, Some};
 ghost use Rattle.bench_report.specs.Lines as spec;
 
 use crate::registers::RegisterName;
-use mcal_base::{DevError, Event, Head, Move, Notice, Reason};
+use mcal_base::{DevError, Event, Head, Move, Notice, Reason, Reg};
 use std::fmt;
 
 /// How the reason of a reset is spelled.
-pub fn reason_text(reason: Reason) -> &'static str
+pub(crate) fn reason_text(reason: Reason) -> &'static str
     ensures { result.now ≡ spec.reason_text reason }
 {
     match reason {
@@ -16,22 +16,27 @@ pub fn reason_text(reason: Reason) -> &'static str
     }
 }
 
-/// How the event of a step is spelled, with a space before it.
-pub fn event_text(event: Option<Event>) -> &'static str
-    ensures { result.now ≡ spec.event_text event }
-{
-    match event {
-        None => "",
-        Some(Event::Act) => " act",
-        Some(Event::Serve(_)) => " serve",
-        Some(Event::Abort(_)) => " abort",
-        Some(Event::Start(_)) => " start",
+/// The event of a step, with a space before it.
+#[derive(Clone, Copy)]
+pub(crate) struct EventThere(pub(crate) Option<Event>);
+
+impl fmt::Display for EventThere {
+    ghost output = { λ e. Some (spec.event_text e.0) };
+
+    fn fmt<W: fmt::Write>(&self, f: &mut fmt::Formatter<W>) -> fmt::Result {
+        match self.0 {
+            None => f.write_str(""),
+            Some(Event::Act) => f.write_str(" act"),
+            Some(Event::Serve(line)) => write!(f, " serve {line}"),
+            Some(Event::Abort(_)) => f.write_str(" abort"),
+            Some(Event::Start(_)) => f.write_str(" start"),
+        }
     }
 }
 
 /// A callback with the number of its object.
-#[derive(Clone, Copy, Debug, PartialEq, Eq)]
-pub struct Noticed(pub Notice);
+#[derive(Clone, Copy)]
+pub(crate) struct Noticed(pub(crate) Notice);
 
 impl fmt::Display for Noticed {
     ghost output = { λ n. Some (spec.note_text n.0) };
@@ -43,27 +48,37 @@ impl fmt::Display for Noticed {
     }
 }
 
-/// A service and the error that it reported.
-#[derive(Clone, Copy, Debug, PartialEq, Eq)]
-pub struct Found(pub DevError);
+/// A reported error with its service, behind the word for what it is.
+#[derive(Clone, Copy)]
+pub(crate) struct Found {
+    /// The word for a development error; a runtime error has its own.
+    pub(crate) development: &'static str,
+    /// The error.
+    pub(crate) error: DevError,
+}
 
 impl fmt::Display for Found {
-    ghost output = { λ e. Some (spec.report_text e.0) };
+    ghost output = { λ e. Some (spec.report_text e.development.now e.error) };
 
     fn fmt<W: fmt::Write>(&self, f: &mut fmt::Formatter<W>) -> fmt::Result {
-        let service = self.0.service.text();
-        let error = det_errors::text(self.0.error);
-        write!(f, "{service} {error}")
+        let word = if self.error.runtime {
+            "runtime"
+        } else {
+            self.development
+        };
+        let service = self.error.service.text();
+        let error = det_errors::text(self.error.error);
+        write!(f, "{word} {service} {error}")
     }
 }
 
 /// A move with the value that it gave.
-#[derive(Clone, Copy, Debug, PartialEq, Eq)]
-pub struct MoveMade {
+#[derive(Clone, Copy)]
+pub(crate) struct MoveMade {
     /// The move.
-    pub made: Move,
+    pub(crate) made: Move,
     /// What a read or a load gave.
-    pub value: u32,
+    pub(crate) value: u32,
 }
 
 impl fmt::Display for MoveMade {
@@ -89,9 +104,33 @@ impl fmt::Display for MoveMade {
                 write!(f, "note {noticed}")
             }
             Move::Report(found) => {
-                let found = Found(found);
-                write!(f, "report {found}")
+                let found = Found {
+                    development: "report",
+                    error: found,
+                };
+                write!(f, "{found}")
             }
+        }
+    }
+}
+
+/// The word that came in at a move, where this is a write that begins a serial word, with a space before it.
+#[derive(Clone, Copy)]
+pub(crate) struct Incoming {
+    /// The move.
+    pub(crate) made: Move,
+    /// The word that came in.
+    pub(crate) received: u32,
+}
+
+impl fmt::Display for Incoming {
+    ghost output = { λ i. Some (spec.incoming_text i.made i.received) };
+
+    fn fmt<W: fmt::Write>(&self, f: &mut fmt::Formatter<W>) -> fmt::Result {
+        let received = self.received;
+        match self.made {
+            Move::Write(Reg::SerialData(_), _) => write!(f, " got {received}"),
+            _ => f.write_str(""),
         }
     }
 }
@@ -131,12 +170,12 @@ impl fmt::Display for Listed<'_> {
 }
 
 /// An answer, with a space before each of its parts.
-#[derive(Clone, Copy, Debug)]
-pub struct Answered<'a> {
+#[derive(Clone, Copy)]
+pub(crate) struct Answered<'a> {
     /// What it begins with.
-    pub head: Head,
+    pub(crate) head: Head,
     /// The numbers that follow.
-    pub words: &'a [u32],
+    pub(crate) words: &'a [u32],
 }
 
 impl fmt::Display for Answered<'_> {

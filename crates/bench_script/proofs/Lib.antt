@@ -5,5 +5,6 @@ pub mod Parts
 pub mod Readings
 pub mod Requests
 pub mod Rest
+pub mod Scanned
 pub mod Values
 pub mod Whole

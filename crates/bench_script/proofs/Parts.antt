@@ -104,7 +104,7 @@ from_word xs n h =
     rw (drop-cons xs n 0 within) (rw p (search rules))
 
 -- a part that is no empty one is the first word
-first_word : (y : ℕ) (ys : List ℕ) (parts : List (List ℕ)) → filter (λ (w : List ℕ). not (length w == 0)) ((y ∷ ys) ∷ parts) ≡ (y ∷ ys) ∷ filter (λ (w : List ℕ). not (length w == 0)) parts
+pub first_word : (y : ℕ) (ys : List ℕ) (parts : List (List ℕ)) → filter (λ (w : List ℕ). not (length w == 0)) ((y ∷ ys) ∷ parts) ≡ (y ∷ ys) ∷ filter (λ (w : List ℕ). not (length w == 0)) parts
 first_word y ys parts = let e : (length (y ∷ ys) == 0) ≡ false = ne_eqb _ _ (λ (z : length (y ∷ ys) ≡ 0). omega arith) in rw e refl
 
 -- a word that ends at a blank

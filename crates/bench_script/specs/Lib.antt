@@ -4,6 +4,7 @@ pub mod Lines
 pub mod Numbers
 pub mod Orders
 pub mod Productions
+pub mod Scanned
 pub mod Script
 pub mod Steps
 pub mod Tables

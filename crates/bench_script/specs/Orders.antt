@@ -1,5 +1,5 @@
 -- What the words of a line are read as, and why they are refused.
-use Rattle.std.specs.Prelude.{ℕ, ◌==◌, ◌&&◌, nat_le, List, [], ◌∷◌, length, Option, Some, None, Result, Ok, Err, if◌then◌else◌}
+use Rattle.std.specs.Prelude.{ℕ, ◌==◌, ◌&&◌, nat_le, Bool, true, false, List, [], ◌∷◌, length, Option, Some, None, Result, Ok, Err, if◌then◌else◌}
 use Rattle.mcal_base.specs.Names.{service_text}
 use Rattle.mcal_base.specs.declared.service.Service.{Service}
 use Rattle.mcal_base.specs.declared.directive.Request.{Request}
@@ -14,6 +14,20 @@ use Rattle.bench_script.specs.declared.fault.LineFault.{LineFault}
 use Rattle.bench_script.specs.declared.fault.LineFault.TheVariants.{Word, Count}
 use Rattle.bench_script.specs.declared.words.Keyword.{Keyword}
 use Rattle.bench_script.specs.declared.words.Keyword.TheVariants as keywords
+
+-- what a function gives that writes its answer to a place
+abbrev pub put : {X A : Type 0} → Result A LineFault → X → Result X LineFault
+put (Ok a) x = Ok x
+put (Err fault) x = Err fault
+
+-- the same, where it tells whether there is one
+abbrev pub there_if : {X : Type 0} → Bool → X → Option X
+there_if true x = Some x
+there_if false x = None
+
+abbrev pub put_if : {X F : Type 0} → Result Bool F → X → Result (Option X) F
+put_if (Ok b) x = Ok (there_if b x)
+put_if (Err fault) x = Err fault
 
 -- a word that must be known
 abbrev pub known : {T : Type 0} → Option T → Result T LineFault

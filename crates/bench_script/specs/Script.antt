@@ -42,16 +42,12 @@ directives_from number count (line ∷ others) = do
 abbrev pub script : List ℕ → Result (List Directive) ScriptFault
 script text = directives_from 1 0 (lines text)
 
--- a reading of a line ends so; it may end for want of memory
-abbrev pub GivesOrder : Result (Option Order) ScriptFault → ℕ → List ℕ → Type 0
-GivesOrder (Err NoMemory) number line = Unit {0}
-GivesOrder result number line = numbered number (read_line line) ≡ result
-
--- a reading of a line that keeps its directive ends so: what it adds stands before what the lines after it give
-abbrev pub KeepsLine : Result (Unit {0}) ScriptFault → List Directive → List Directive → ℕ → List ℕ → Type 0
-KeepsLine (Err NoMemory) old new number line = Unit {0}
-KeepsLine (Err fault) old new number line = (rest : ℕ → Result (List Directive) ScriptFault) → (numbered number (read_line line) >>= with_rest number (length old) rest) ≡ Err fault
-KeepsLine (Ok done) old new number line = (added : List Directive) × (new ≡ old ++ added) × ((rest : ℕ → Result (List Directive) ScriptFault) → (numbered number (read_line line) >>= with_rest number (length old) rest) ≡ prepended added (rest (length new)))
+-- A line that is read as told, and whose directive is kept, ends so: what it adds stands before what the lines after it give.
+-- It may end for want of memory.
+abbrev pub KeepsLine : {A : Type 0} → Result A ScriptFault → List Directive → List Directive → ℕ → Result (Option Order) LineFault → Type 0
+KeepsLine (Err NoMemory) old new number read = Unit {0}
+KeepsLine (Err fault) old new number read = (rest : ℕ → Result (List Directive) ScriptFault) → (numbered number read >>= with_rest number (length old) rest) ≡ Err fault
+KeepsLine (Ok done) old new number read = (added : List Directive) × (new ≡ old ++ added) × ((rest : ℕ → Result (List Directive) ScriptFault) → (numbered number read >>= with_rest number (length old) rest) ≡ prepended added (rest (length new)))
 
 -- a reading of a script ends so
 abbrev pub GivesScript : {V : Type 0} → (V → List Directive) → Result V ScriptFault → List ℕ → Type 0

@@ -17,6 +17,3 @@ pub use fault::ScriptFault;
 pub use grammar::reads_the_grammar;
 pub use lines::split_file;
 pub use script::read_script;
-
-#[cfg(test)]
-mod tests;

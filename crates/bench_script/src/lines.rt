@@ -1,7 +1,8 @@
-ghost use Rattle.std.specs.Prelude.{◌≡◌, ◌==◌, ◌<◌, ◌≤◌, ◌∷◌, [], Some, MatchOption, IfSome, IfOk, length, map, not, option_map};
-ghost use Rattle.std.specs.List.{position};
-ghost use Rattle.std.specs.Str.Lines.{lines, strip_carriage_return};
+ghost use Rattle.std.specs.Prelude.{◌≡◌, ◌==◌, ◌+◌, ◌<◌, ◌≤◌, [], ◌∷◌, false, Some, None, MatchOption, IfSome, IfOk, length, take, drop, map, not, option_map};
+ghost use Rattle.std.specs.List.{position, position_or_len};
+ghost use Rattle.std.specs.Str.Lines.{strip_carriage_return};
 ghost use Rattle.bench_script.specs.Lines as spec;
+ghost use Rattle.bench_script.specs.Scanned as scanned;
 
 use std::alloc::{AllocError, Global};
 
@@ -46,36 +47,50 @@ pub fn split_file(text: &[u8]) -> Option<(&[u8], &[u8])>
     }
 }
 
-/// The first line of a text, and what comes after it.
-pub(crate) fn next_line(text: &[u8]) -> Option<(&[u8], &[u8])>
-    ensures line { MatchOption result (lines text.now ≡ []) (λ p. lines text.now ≡ p.0.now ∷ lines p.1.now) }
-    ensures shorter { IfSome result (λ p. length p.1.now < length text.now) }
+/// What comes after the line feed of a line of which the rest is a comment.
+fn after_comment(text: &[u8]) -> &[u8]
+    ensures { result.now ≡ scanned.after_line text.now }
 {
-    if text.is_empty() {
-        return None;
-    }
     match place_of(b'\n', text) {
-        Some(feed) => Some((without_return(&text[..feed]), &text[feed + 1..])),
-        None => Some((text, &[])),
+        Some(feed) => &text[feed + 1..],
+        None => &[],
     }
 }
 
-/// What stands before a comment.
-pub(crate) fn before_comment(line: &[u8]) -> &[u8]
-    ensures { result.now ≡ spec.before_comment line.now }
+/// What comes after a line feed at the front of a text.
+fn after_feed(text: &[u8]) -> Option<&[u8]>
+    ensures { MatchOption result (scanned.begins (λ b. b == 10) text.now ≡ false) (λ after. text.now ≡ 10 ∷ after.now) }
 {
-    match place_of(b'#', line) {
-        Some(place) => &line[..place],
-        None => line,
+    match text {
+        [b'\n', after @ ..] => Some(after),
+        _ => None,
     }
 }
 
-/// Whether each byte may stand before a comment.
-pub(crate) fn is_text(text: &[u8]) -> bool
-    ensures { result ≡ spec.is_text text.now }
+/// What comes after a line that ends at a byte, or goes on there with a comment; none where that byte is no text.
+fn after_end(byte: u8, rest: &[u8]) -> Option<&[u8]>
+    requires blank { spec.is_blank byte ≡ false }
+    requires letter { scanned.is_letter byte ≡ false }
+    ensures { MatchOption result (scanned.line_words (byte ∷ rest.now) ≡ None) (λ after. (scanned.line_words (byte ∷ rest.now) ≡ Some []) × (after.now ≡ scanned.after_line (byte ∷ rest.now))) }
 {
-    text.iter()
-        .all(|b| (b' ' <= *b && *b <= b'~') || *b == b'\t')
+    match byte {
+        b'\n' => Some(rest),
+        b'\r' => after_feed(rest),
+        b'#' => Some(after_comment(rest)),
+        _ => None,
+    }
+}
+
+/// What comes after a line of which no more words are there; none where it goes on with a byte that is no text.
+fn end_of_line(text: &[u8]) -> Option<&[u8]>
+    requires blank { scanned.begins spec.is_blank text.now ≡ false }
+    requires letter { scanned.begins scanned.is_letter text.now ≡ false }
+    ensures { MatchOption result (scanned.line_words text.now ≡ None) (λ after. (scanned.line_words text.now ≡ Some []) × (after.now ≡ scanned.after_line text.now)) }
+{
+    match text {
+        [] => Some(&[]),
+        [byte, rest @ ..] => after_end(*byte, rest),
+    }
 }
 
 /// Whether a byte stands between words.
@@ -85,54 +100,75 @@ fn is_blank(byte: u8) -> bool
     byte == b' ' || byte == b'\t'
 }
 
-/// The place of the first byte that stands between words.
-fn place_of_blank(text: &[u8]) -> Option<usize>
-    ensures place { result ≡ position spec.is_blank text.now }
-    ensures within { IfSome result (λ n. n < length text.now) }
+/// Whether a byte stands in words.
+fn is_letter(byte: u8) -> bool
+    ensures { result ≡ scanned.is_letter byte }
 {
-    text.iter().position(|b| is_blank(*b))
+    b'!' <= byte && byte <= b'~' && byte != b'#'
 }
 
-/// The place of the first byte that does not stand between words.
+/// The place of the first byte that is no blank.
 fn place_of_word(text: &[u8]) -> Option<usize>
-    ensures place { result ≡ position (λ b. not (spec.is_blank b)) text.now }
-    ensures within { IfSome result (λ n. n < length text.now) }
+    ensures { result ≡ position (λ b. not (spec.is_blank b)) text.now }
 {
     text.iter().position(|b| !is_blank(*b))
 }
 
-/// A word at the front of a text, and what comes after it.
-fn front_word(text: &[u8]) -> (&[u8], &[u8])
-    requires { position (λ b. not (spec.is_blank b)) text.now ≡ Some 0 }
-    ensures word { spec.words_of text.now ≡ result.0.now ∷ spec.words_of result.1.now }
-    ensures shorter { length result.1.now < length text.now }
+/// A text from its first byte on that is no blank.
+fn without_blanks(text: &[u8]) -> &[u8]
+    ensures { result.now ≡ drop (position_or_len (λ b. not (spec.is_blank b)) text.now) text.now }
 {
-    match place_of_blank(text) {
-        Some(end) => (&text[..end], &text[end + 1..]),
+    match place_of_word(text) {
+        Some(start) => &text[start..],
+        None => &[],
+    }
+}
+
+/// The place of the first byte that is no letter.
+fn place_after_word(text: &[u8]) -> Option<usize>
+    ensures { result ≡ position (λ b. not (scanned.is_letter b)) text.now }
+{
+    text.iter().position(|b| !is_letter(*b))
+}
+
+/// The letters at the front of a text, and what comes after them.
+fn front_word(text: &[u8]) -> (&[u8], &[u8])
+    ensures word { result.0.now ≡ take (position_or_len (λ b. not (scanned.is_letter b)) text.now) text.now }
+    ensures after { result.1.now ≡ drop (position_or_len (λ b. not (scanned.is_letter b)) text.now) text.now }
+{
+    match place_after_word(text) {
+        Some(end) => (&text[..end], &text[end..]),
         None => (text, &[]),
     }
 }
 
-/// The first word of a text, and what comes after it.
-fn next_word(text: &[u8]) -> Option<(&[u8], &[u8])>
-    ensures word { MatchOption result (spec.words_of text.now ≡ []) (λ p. spec.words_of text.now ≡ p.0.now ∷ spec.words_of p.1.now) }
-    ensures shorter { IfSome result (λ p. length p.1.now < length text.now) }
+/// The next word of a line, empty where there is none, and what comes after it.
+fn next_word(text: &[u8]) -> (&[u8], &[u8])
+    ensures word { scanned.line_words text.now ≡ scanned.with_word result.0.now (scanned.line_words result.1.now) }
+    ensures after { scanned.after_line text.now ≡ scanned.after_line result.1.now }
+    ensures shorter { length result.0.now + length result.1.now ≤ length text.now }
+    ensures letter { scanned.begins scanned.is_letter result.1.now ≡ false }
+    ensures blank { length result.0.now ≡ 0 → scanned.begins spec.is_blank result.1.now ≡ false }
 {
-    match place_of_word(text) {
-        Some(start) => Some(front_word(&text[start..])),
-        None => None,
-    }
+    front_word(without_blanks(text))
 }
 
-/// The words of a text.
-pub(crate) fn words_of(alloc: Global, text: &[u8]) -> Result<Vec<&[u8]>, AllocError>
-    ensures { IfOk result (λ v. map (λ w. w.now) v.items ≡ spec.words_of text.now) }
+/// Puts the words of the first line of a text in the place of others, and gives what comes after the line; none where a
+/// byte before its comment is no text.
+pub(crate) fn line_words<'a>(
+    words: &mut Vec<&'a [u8]>,
+    text: &'a [u8],
+) -> Result<Option<&'a [u8]>, AllocError>
+    ensures { IfOk result (λ r. MatchOption r (scanned.line_words text.now ≡ None) (λ after. (scanned.line_words text.now ≡ Some (map (λ w. w.now) words.new.items)) × (after.now ≡ scanned.after_line text.now))) }
 {
-    let mut words = Vec::new(alloc);
+    words.clear();
     let mut rest = text;
-    while let Some((word, after)) = next_word(rest) {
+    loop {
+        let (word, after) = next_word(rest);
+        if word.is_empty() {
+            return Ok(end_of_line(after));
+        }
         words.push(word)?;
         rest = after;
     }
-    Ok(words)
 }

@@ -1,10 +1,13 @@
 ghost use Rattle.std.specs.Prelude.{◌≡◌, ◌≤◌, length, map};
+ghost use Rattle.mcal_base.specs.Names.{service_text};
 ghost use Rattle.bench_script.specs.Orders as spec;
+ghost use Rattle.bench_script.specs.Words.{all_services};
+ghost use Rattle.bench_script.specs.declared.words.Keyword.{Keyword};
 
 use crate::arguments::arguments;
 use crate::fault::LineFault;
 use crate::numbers::number_up_to;
-use crate::services::services;
+use crate::services::service_named;
 use crate::spelled::{Spelled, named};
 use crate::tables::arguments_of;
 use crate::words::{Keyword, keywords, reasons, sights, stops};
@@ -106,11 +109,21 @@ fn request_to(service: Service, level: &[u8], words: &[&[u8]]) -> Result<(u32, R
     Ok((level, Request { service, arguments }))
 }
 
+/// The service that a word must name.
+fn service(name: &[u8]) -> Result<Service, LineFault>
+    ensures { result ≡ spec.choice service_text all_services name.now }
+{
+    match service_named(name) {
+        Some(service) => Ok(service),
+        None => Err(LineFault::Word),
+    }
+}
+
 /// A level, and a service by its name with its arguments.
 fn request_by_name(level: &[u8], name: &[u8], words: &[&[u8]]) -> Result<(u32, Request), LineFault>
     ensures { result ≡ spec.request_by_name level.now name.now (map (λ w. w.now) words.now) }
 {
-    let service = choice(services(), name)?;
+    let service = service(name)?;
     request_to(service, level, words)
 }
 
@@ -134,65 +147,81 @@ fn nothing(words: &[&[u8]]) -> Result<(), LineFault>
     }
 }
 
-/// The order that a keyword and the words after it are.
-fn order_by_keyword(keyword: Keyword, words: &[&[u8]]) -> Result<Order, LineFault>
-    ensures { result ≡ spec.order_by_keyword keyword (map (λ w. w.now) words.now) }
+/// Words for a serial unit, written to a place.
+fn miso(words: &[&[u8]], order: &mut Order) -> Result<(), LineFault>
+    ensures { spec.put result order.new ≡ spec.order_by_keyword Keyword.Miso (map (λ w. w.now) words.now) }
 {
-    Ok(match keyword {
+    let (unit, words) = several(1, 65_535, words)?;
+    *order = Order::Miso(unit, words);
+    Ok(())
+}
+
+/// The first places of a channel's source array, written to a place.
+fn fill(words: &[&[u8]], order: &mut Order) -> Result<(), LineFault>
+    ensures { spec.put result order.new ≡ spec.order_by_keyword Keyword.Fill (map (λ w. w.now) words.now) }
+{
+    let (channel, words) = several(u32::MAX, u32::MAX, words)?;
+    *order = Order::Fill(channel, words);
+    Ok(())
+}
+
+/// The order that a keyword and the words after it are, written to a place.
+fn order_by_keyword(keyword: Keyword, words: &[&[u8]], order: &mut Order) -> Result<(), LineFault>
+    ensures { spec.put result order.new ≡ spec.order_by_keyword keyword (map (λ w. w.now) words.now) }
+{
+    match keyword {
         Keyword::Call => {
             let (level, request) = request(words)?;
-            Order::Call(level, request)
+            *order = Order::Call(level, request);
         }
         Keyword::Do => {
             let (level, request) = request(words)?;
-            Order::Do(level, request)
+            *order = Order::Do(level, request);
         }
-        Keyword::Enter => Order::Enter(one(31, words)?),
-        Keyword::Serve => Order::Serve(one(31, words)?),
-        Keyword::Run => Order::Run(one(u32::MAX, words)?),
-        Keyword::Upto => Order::Upto(one_of(stops(), words)?),
+        Keyword::Enter => *order = Order::Enter(one(31, words)?),
+        Keyword::Serve => *order = Order::Serve(one(31, words)?),
+        Keyword::Run => *order = Order::Run(one(u32::MAX, words)?),
+        Keyword::Upto => *order = Order::Upto(one_of(stops(), words)?),
         Keyword::Finish => {
             nothing(words)?;
-            Order::Finish
+            *order = Order::Finish;
         }
-        Keyword::Tick => Order::Tick(one(1_000_000, words)?),
+        Keyword::Tick => *order = Order::Tick(one(1_000_000, words)?),
         Keyword::Level => {
             let (pin, level) = two(63, 1, words)?;
-            Order::Level(pin, level == 1)
+            *order = Order::Level(pin, level == 1);
         }
         Keyword::Analog => {
             let (input, value) = two(31, 4095, words)?;
-            Order::Analog(input, value)
+            *order = Order::Analog(input, value);
         }
-        Keyword::Trigger => Order::Trigger(one(3, words)?),
-        Keyword::Miso => {
-            let (unit, words) = several(1, 65_535, words)?;
-            Order::Miso(unit, words)
-        }
-        Keyword::SpiFault => Order::SpiFault(one(1, words)?),
-        Keyword::Fill => {
-            let (channel, words) = several(u32::MAX, u32::MAX, words)?;
-            Order::Fill(channel, words)
-        }
-        Keyword::Reset => Order::Reset(one_of(reasons(), words)?),
-        Keyword::Show => Order::Show(one_of(sights(), words)?),
-    })
+        Keyword::Trigger => *order = Order::Trigger(one(3, words)?),
+        Keyword::Miso => miso(words, order)?,
+        Keyword::SpiFault => *order = Order::SpiFault(one(1, words)?),
+        Keyword::Fill => fill(words, order)?,
+        Keyword::Reset => *order = Order::Reset(one_of(reasons(), words)?),
+        Keyword::Show => *order = Order::Show(one_of(sights(), words)?),
+    }
+    Ok(())
 }
 
-/// The order that a word and those after it are.
-fn order_by_word(word: &[u8], words: &[&[u8]]) -> Result<Order, LineFault>
-    ensures { result ≡ spec.order_by_word word.now (map (λ w. w.now) words.now) }
+/// The order that a word and those after it are, written to a place.
+fn order_by_word(word: &[u8], words: &[&[u8]], order: &mut Order) -> Result<(), LineFault>
+    ensures { spec.put result order.new ≡ spec.order_by_word word.now (map (λ w. w.now) words.now) }
 {
     let keyword = choice(keywords(), word)?;
-    order_by_keyword(keyword, words)
+    order_by_keyword(keyword, words, order)
 }
 
-/// The order that the words of a line are, if there are any.
-pub(crate) fn order_of(words: &[&[u8]]) -> Result<Option<Order>, LineFault>
-    ensures { result ≡ spec.order_of (map (λ w. w.now) words.now) }
+/// The order that the words of a line are, written to a place; tells whether there are any words.
+pub(crate) fn order_of(words: &[&[u8]], order: &mut Order) -> Result<bool, LineFault>
+    ensures { spec.put_if result order.new ≡ spec.order_of (map (λ w. w.now) words.now) }
 {
     match words {
-        [] => Ok(None),
-        [word, words @ ..] => Ok(Some(order_by_word(word, words)?)),
+        [] => Ok(false),
+        [word, words @ ..] => {
+            order_by_word(word, words, order)?;
+            Ok(true)
+        }
     }
 }

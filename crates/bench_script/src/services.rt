@@ -1,9 +1,11 @@
-ghost use Rattle.std.specs.Prelude.{◌≡◌};
-ghost use Rattle.bench_script.specs.Words as spec;
+ghost use Rattle.std.specs.Prelude.{◌≡◌, ℕ, List, ◌∷◌};
+ghost use Rattle.mcal_base.specs.Names.{service_text};
+ghost use Rattle.bench_script.specs.Words.{named, all_services};
 
+use crate::spelled::named;
 use mcal_base::Service;
 
-/// The services that a script may name.
+/// The services that a script may name, module by module.
 const SERVICES: [Service; 76] = [
     Service::McuInit,
     Service::McuInitRamSection,
@@ -83,9 +85,27 @@ const SERVICES: [Service; 76] = [
     Service::SpiMainFunctionHandling,
 ];
 
-/// The services that a script may name.
-pub(crate) fn services() -> &'static [Service]
-    ensures { result.now ≡ spec.all_services }
+/// The services whose names may begin with a letter, or all. The names of a module's services begin alike.
+fn services_under(letter: u8) -> &'static [Service]
+    ensures { (rest : List ℕ) → named service_text result.now (letter ∷ rest) ≡ named service_text all_services (letter ∷ rest) }
 {
-    &SERVICES
+    match letter {
+        b'M' => &SERVICES[..8],
+        b'P' => &SERVICES[8..32],
+        b'G' => &SERVICES[12..24],
+        b'I' => &SERVICES[32..51],
+        b'A' => &SERVICES[51..63],
+        b'S' => &SERVICES[63..],
+        _ => &SERVICES,
+    }
+}
+
+/// The service that a word names.
+pub(crate) fn service_named(word: &[u8]) -> Option<Service>
+    ensures { result ≡ named service_text all_services word.now }
+{
+    match word {
+        [] => None,
+        [letter, ..] => named(services_under(*letter), word),
+    }
 }

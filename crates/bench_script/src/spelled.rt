@@ -18,10 +18,10 @@ pub(crate) trait Spelled: Copy {
 pub(crate) fn named<T: Spelled>(choices: &[T], word: &[u8]) -> Option<T>
     ensures { result ≡ spec.named T.spelling choices.now word.now }
 {
-    choices
-        .iter()
-        .copied()
-        .find(|choice| choice.spelled().as_bytes() == word)
+    choices.iter().copied().find(|choice| {
+        let text = choice.spelled().as_bytes();
+        text.len() == word.len() && text == word
+    })
 }
 
 impl Spelled for Keyword {

@@ -81,10 +81,11 @@ checks_of (Some bytes) form j status entries before after faults now h c still =
     λ ending e m. printed_of j status entries ending (c.ends (λ s. still (c.fault s)) m) (sym h.judges ∙ e)
 
 -- a run that stopped, and the line that says so
-pub stopped_concludes : (traced : Bool) (config : Config) (script : List Directive) (status : ℕ) (entries : List Entry) (before after : Option (List ℕ)) (faults now : ℕ) (text : List ℕ) → text ≡ too_many_steps.text →
+pub stopped_concludes : (traced : Bool) (config : Config) (script : List Directive) (status : ℕ) (entries : List Entry) (before after : Option (List ℕ)) (faults now : ℕ) (text : List ℕ) → text ≡ too_many_steps.text → status ≤ 7 →
     IsStoppedRun config script entries → (status ≢ 3 → status ≡ too_many_steps.status) → (status ≢ 3 → Appends before after text) → (status ≢ 3 → now ≡ faults) → (status ≡ 3 → Rose faults now) → (status ≡ 3 → WritesFront before after text)
     → Concludes (Runs traced config script) status entries before after faults now
-stopped_concludes traced config script status entries before after faults now text said run is wrote still fault front = record {
+stopped_concludes traced config script status entries before after faults now text said known run is wrote still fault front = record {
+  known = known;
   ends = λ a b. inr (is a, run);
   written = λ a b. subst (λ (n : ℕ). Appends before after (output (Runs traced config script) n entries)) (sym (is a)) (subst (Appends before after) said (wrote a));
   front = λ e. record { status = too_many_steps.status; ends = inr (refl, run); front = subst (WritesFront before after) said (front e) };

@@ -1,4 +1,5 @@
 pub mod Board
 pub mod Judging
 pub mod Known
+pub mod Running
 pub mod Scripts

@@ -35,6 +35,7 @@ FrontOf judgement failed entries before after = IsCutOff judgement entries befor
 
 -- How a call ends: its status, the items of its journal, what the sink had and has taken, and the count of the sink's faults before and after.
 pub record Concludes (judgement : Judgement) (status : ℕ) (entries : List Entry) (before after : Option (List ℕ)) (faults now : ℕ) : Type 0 where
+  pub known : status ≤ 7
   pub ends : status ≢ 3 → status ≢ 4 → Ends judgement status entries
   pub written : status ≢ 3 → status ≢ 4 → Appends before after (output judgement status entries)
   pub front : status ≡ 3 → IsCutOff judgement entries before after

@@ -18,6 +18,3 @@ pub use refusal::Refusal;
 pub use run::MOST_STEPS;
 pub use top::{Outcome, bench};
 pub use words::{Form, form_of};
-
-#[cfg(test)]
-mod tests;

@@ -1,4 +1,4 @@
-ghost use Rattle.std.specs.Prelude.{◌≡◌, IfOk, string_bytes};
+ghost use Rattle.std.specs.Prelude.{◌≡◌, ◌≤◌, IfOk, string_bytes};
 ghost use Rattle.bench_top.specs.Judged.{ending_of};
 
 use bench_script::ScriptFault;
@@ -24,7 +24,8 @@ pub enum Refusal {
 impl Refusal {
     /// The status.
     pub fn status(self) -> u8
-        ensures { result ≡ (ending_of self).status }
+        ensures status { result ≡ (ending_of self).status }
+        ensures known { result ≤ 7 }
     {
         match self {
             Refusal::Script(ScriptFault::Long(_)) => 5,

@@ -49,7 +49,9 @@ pub struct Outcome {
 
 /// Writes all of a text. Where the sink meets a fault the status is 3.
 fn finish<K: Sink>(out: &mut K, status: u8, text: &[u8], journal: Journal) -> Outcome
-    requires { status ≢ 3 }
+    requires fault { status ≢ 3 }
+    requires known { status ≤ 7 }
+    ensures known { result.status ≤ 7 }
     ensures status { result.status ≢ 3 → result.status ≡ status }
     ensures written { result.status ≢ 3 → Appends (K.taken out.old) (K.taken out.new) text.now }
     ensures still { result.status ≢ 3 → K.faults out.new ≡ K.faults out.old }
@@ -78,6 +80,7 @@ fn no_memory(alloc: Global) -> Outcome
 fn print<K: Sink>(alloc: Global, out: &mut K, status: u8, text: &str) -> Outcome
     requires fault { status ≢ 3 }
     requires memory { status ≢ 4 }
+    requires known { status ≤ 7 }
     ensures remembers { result.status ≢ 4 }
     ensures concludes { Concludes (Prints (record { status = status; text = text.now })) result.status result.journal.entries (K.taken out.old) (K.taken out.new) (K.faults out.old) (K.faults out.new) }
 {
@@ -185,9 +188,13 @@ pub fn bench<S: Source, K: Sink>(
     ensures exact { result.status ≢ 2 → result.status ≢ 3 → result.status ≢ 4 → IfSome (S.left input.old) (λ bytes.
         let judgement = judged (form_of (map string_bytes words.now)) bytes in
         Ends judgement result.status result.journal.entries × Appends (K.taken out.old) (K.taken out.new) (output judgement result.status result.journal.entries)) }
-    // The words alone decide on status 1.
+    // There are no other statuses.
+    ensures known { result.status ≤ 7 }
+    // The words alone decide on status 1, and on the line that is printed then.
     ensures refused { form_of (map string_bytes words.now) ≡ None → result.status ≢ 3 → result.status ≡ 1 }
     ensures usage { result.status ≡ 1 → form_of (map string_bytes words.now) ≡ None }
+    ensures usage_line { form_of (map string_bytes words.now) ≡ None → result.status ≢ 3 → Appends (K.taken out.old) (K.taken out.new) spec.usage.text }
+    ensures usage_front { form_of (map string_bytes words.now) ≡ None → result.status ≡ 3 → WritesFront (K.taken out.old) (K.taken out.new) spec.usage.text × (result.journal.entries ≡ []) }
     // A fault of the source.
     ensures read { result.status ≡ 2 → Rose (S.faults input.old) (S.faults input.new) × Appends (K.taken out.old) (K.taken out.new) (codes "read fault\n") × (result.journal.entries ≡ []) }
     ensures read_only { S.faults input.new ≢ S.faults input.old → result.status ≢ 2 → result.status ≢ 3 → result.status ≡ 4 }

@@ -23,6 +23,7 @@ fn nothing() -> Config {
         },
         gpt: GptConfig {
             dev_error_detect: true,
+            classification: 1,
             channels: Short::new(),
         },
         pwm: PwmConfig {
@@ -31,10 +32,12 @@ fn nothing() -> Config {
         },
         icu: IcuConfig {
             dev_error_detect: true,
+            classification: 1,
             channels: Short::new(),
         },
         adc: AdcConfig {
             dev_error_detect: true,
+            classification: 1,
             priority_implementation: AdcPriorityImplementation::None,
             enable_queuing: false,
             units: Short::new(),
@@ -42,6 +45,7 @@ fn nothing() -> Config {
         },
         spi: SpiConfig {
             dev_error_detect: true,
+            classification: 1,
             levels: Short::new(),
             channels: Short::new(),
             jobs: Short::new(),

@@ -18,7 +18,7 @@ use Rattle.chip_timers.specs.declared.timer.Count.TheVariants.{Still, Since}
 use Rattle.chip_timers.specs.declared.timer.Timer.{Timer}
 use Rattle.chip_timers.proofs.TimerLaws.{timer_at-with_timer_same, timer_at-with_timer_other, timer_at-acted, timer_at-acted_on, timer_at-acted_off, length-after_read, length-after_write, timer_at-after_read, time-after_read, time-after_write}
 
-same_or_other : (c k : ℕ) → (c ≡ k) ⊎ (c ≢ k)
+pub same_or_other : (c k : ℕ) → (c ≡ k) ⊎ (c ≢ k)
 same_or_other c k = grind arith
 
 -- ---- the channels stay
@@ -31,7 +31,7 @@ has_channel-after b c (accesses.Passes n) h = record { all = h.all; within = h.w
 -- ---- what leaves a counter alone
 
 -- what another change of a channel leaves of it, seen through a function
-with_seen : {A : Type 0} (see : Timer → A) (b : Timers) (k c : ℕ) (t : Timer) → HasChannel b c → see t ≡ see (timer_at b k)
+pub with_seen : {A : Type 0} (see : Timer → A) (b : Timers) (k c : ℕ) (t : Timer) → HasChannel b c → see t ≡ see (timer_at b k)
     → (c ≡ k) ⊎ (c ≢ k) → see (timer_at (with_timer b k t) c) ≡ see (timer_at b c)
 with_seen see b k c t h e (inl at) = rw (← at) (ap see (timer_at-with_timer_same b c t h) ∙ rw (← at) at e)
 with_seen see b k c t h e (inr ne) = ap see (timer_at-with_timer_other b k c t ne)
@@ -121,7 +121,7 @@ counter-since_start b c bits xs h left =
 not_since_now : (n : ℕ) → nat_lt n n ≡ false
 not_since_now n = grind (arith, nat_tests)
 
-or_false : (q : Bool) → (q || false) ≡ q
+pub or_false : (q : Bool) → (q || false) ≡ q
 or_false true = refl
 or_false false = refl
 

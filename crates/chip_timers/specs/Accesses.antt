@@ -1,9 +1,11 @@
 -- Histories of the timer block, and what in them leaves a channel's counter and flag alone.
-use Rattle.std.specs.Prelude.{◌≡◌, ℕ, ◌<◌, true, false, List, [], ◌∷◌, length}
+use Rattle.std.specs.Prelude.{◌≡◌, ℕ, ◌+◌, ◌<◌, Bool, true, false, ◌||◌, List, [], ◌∷◌, length}
 use Rattle.mcal_base.specs.Bits.{has_bit}
 use Rattle.mcal_base.specs.declared.register.Reg.{Reg}
 use Rattle.mcal_base.specs.declared.register.Reg.TheVariants.{TimerGateSet, TimerGateClear, TimerFlags, TimerZero}
-use Rattle.chip_timers.specs.Timers.{Timers, timer_at, after_read, after_write, ticked}
+use Rattle.chip_timers.specs.Run.{Run, run_goes_on}
+use Rattle.chip_timers.specs.declared.timer.Count.TheVariants.{Since}
+use Rattle.chip_timers.specs.Timers.{Timers, timer_at, expired_between, after_read, after_write, ticked}
 
 -- An access of the block, or the passing of so many ticks.
 pub data Access : Type 0 where
@@ -33,6 +35,21 @@ abbrev pub LeavesFlag : ℕ → Access → Type 0
 LeavesFlag c (Writes TimerFlags bits) = has_bit bits c ≡ false
 LeavesFlag c x = LeavesCount c x
 
+-- clears no flag of the channel, whatever else it does
+abbrev pub LeavesStanding : ℕ → Access → Type 0
+LeavesStanding c (Writes TimerFlags bits) = has_bit bits c ≡ false
+LeavesStanding c _ = Unit {0}
+
+-- an expiry of the channel comes while time passes, by the counter that it then has
+abbrev pub expires_by : ℕ → Timers → Access → Bool
+expires_by c b (Passes n) = expired_between (timer_at b c).count b.time (b.time + n)
+expires_by c b _ = false
+
+-- an expiry of the channel comes in a history
+abbrev pub expires_in : ℕ → Timers → List Access → Bool
+expires_in c b [] = false
+expires_in c b (x ∷ xs) = expires_by c b x || expires_in c (after b x) xs
+
 -- the block has all its channels, and this is one of them
 pub record HasChannel (b : Timers) (c : ℕ) : Type 0 where
   pub all : length b.timers ≡ 8
@@ -44,3 +61,9 @@ pub record Starts (b : Timers) (c bits : ℕ) : Type 0 where
   pub chosen : has_bit bits c ≡ true
   pub target : 0 < (timer_at b c).target
   pub prescaler : 0 < (timer_at b c).prescaler
+
+-- the channel counts, by this start, target, prescaler and one-shot bit
+pub record Counting (b : Timers) (c : ℕ) (r : Run) : Type 0 where
+  pub there : HasChannel b c
+  pub since : (timer_at b c).count ≡ Since r
+  pub runs : run_goes_on r b.time ≡ true

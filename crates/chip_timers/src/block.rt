@@ -1,7 +1,7 @@
 ghost use Rattle.std.specs.Prelude.{◌≡◌, ◌+◌, ◌<◌, ◌^◌};
-ghost use Rattle.mcal_base.specs.Bits.{has_bit};
-ghost use Rattle.chip_timers.specs.Timers.{timers_fresh, timer_at, with_timer, acting, acted, running_of, flags_of, read_of, after_read, after_write, ticked};
+ghost use Rattle.chip_timers.specs.Timers.{timers_fresh, timer_at, is_running, is_flagged, counter, acted, running_of, flags_of, read_of, after_read, after_write, ticked};
 
+use crate::bits::is_set;
 use crate::timer::{Act, Timer};
 use mcal_base::{Config, Reg};
 use std::marker::Model;
@@ -67,7 +67,7 @@ impl TimerBlock {
             Reg::TimerRun => self.running(),
             Reg::TimerFlags => self.flags(),
             Reg::TimerLow(channel) => {
-                let count = self.timer(channel).counter(self.time);
+                let count = self.counter(channel);
                 self.latch = count / 65_536;
                 count % 65_536
             }
@@ -106,7 +106,7 @@ impl TimerBlock {
     {
         let mut bits = 0;
         for channel in 0..CHANNELS {
-            if self.timer(channel).flagged(self.time) {
+            if self.flagged(channel) {
                 bits |= 1 << channel;
             }
         }
@@ -118,65 +118,62 @@ impl TimerBlock {
     {
         let mut bits = 0;
         for channel in 0..CHANNELS {
-            if self.timer(channel).running(self.time) {
+            if self.is_running(channel) {
                 bits |= 1 << channel;
             }
         }
         bits
     }
 
-    fn timer(&self, channel: u32) -> Timer
-        ensures { result ≡ timer_at self.now channel }
+    fn is_running(&self, channel: u32) -> bool
+        requires { channel < 8 }
+        ensures { result ≡ is_running (timer_at self.now channel) self.now.time }
     {
-        if channel < CHANNELS {
-            self.timers[channel as usize]
-        } else {
-            Timer::new()
-        }
+        self.timers[channel as usize].running(self.time)
     }
 
-    fn set_timer(&mut self, channel: u32, timer: Timer)
-        ensures { self.new ≡ with_timer self.old channel timer }
+    fn flagged(&self, channel: u32) -> bool
+        requires { channel < 8 }
+        ensures { result ≡ is_flagged (timer_at self.now channel) self.now.time }
+    {
+        self.timers[channel as usize].flagged(self.time)
+    }
+
+    fn counter(&self, channel: u32) -> u32
+        ensures { result ≡ counter (timer_at self.now channel) self.now.time }
     {
         if channel < CHANNELS {
-            self.timers[channel as usize] = timer;
+            self.timers[channel as usize].counter(self.time)
+        } else {
+            0
         }
     }
 
     fn set_target(&mut self, channel: u32, value: u32)
         ensures { self.new ≡ after_write self.old (Reg.TimerTarget channel) value }
     {
-        let mut timer = self.timer(channel);
-        timer.target = value;
-        self.set_timer(channel, timer);
+        if channel < CHANNELS {
+            self.timers[channel as usize].target = value;
+        }
     }
 
     fn set_prescaler(&mut self, channel: u32, value: u32)
         ensures { self.new ≡ after_write self.old (Reg.TimerPrescaler channel) value }
     {
-        let mut timer = self.timer(channel);
-        timer.prescaler = value;
-        self.set_timer(channel, timer);
+        if channel < CHANNELS {
+            self.timers[channel as usize].prescaler = value;
+        }
     }
 
     fn act(&mut self, act: Act, bits: u32)
         ensures { self.new ≡ acted act self.old bits }
     {
         let time = self.time;
+        let one_shot = self.one_shot;
         for channel in 0..CHANNELS {
-            if has(bits, channel) {
-                let mut timer = self.timer(channel);
-                timer.act(act, has(self.one_shot, channel), time);
-                self.set_timer(channel, timer);
+            if is_set(bits, channel) {
+                self.timers[channel as usize].act(act, is_set(one_shot, channel), time);
             }
         }
     }
-}
-
-/// Whether a bit is set.
-fn has(bits: u32, place: u32) -> bool
-    requires { place < 32 }
-    ensures { result ≡ has_bit bits place }
-{
-    (bits >> place) % 2 == 1
 }

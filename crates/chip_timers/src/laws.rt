@@ -4,9 +4,10 @@ ghost use Rattle.std.specs.Prelude.{◌≡◌, ◌≤◌, ℕ, true, false, Bool
 ghost use Rattle.std.specs.List.{AllByRecursion};
 ghost use Rattle.mcal_base.specs.Bits.{has_bit};
 ghost use Rattle.mcal_base.specs.Expiry.{count_of};
-ghost use Rattle.mcal_base.specs.declared.register.Reg.TheVariants.{TimerGateSet, TimerFlags};
+ghost use Rattle.mcal_base.specs.declared.register.Reg.TheVariants.{TimerGateSet, TimerZero, TimerFlags};
 ghost use Rattle.chip_timers.specs.Timers.{Timers, timer_at, counter, is_running, is_flagged, expired_between, gate_set, gate_clear, zeroed, flag_clear, after_write};
-ghost use Rattle.chip_timers.specs.Accesses.{Access, after_all, LeavesCount, LeavesFlag, HasChannel, Starts};
+ghost use Rattle.chip_timers.specs.Run.{Run};
+ghost use Rattle.chip_timers.specs.Accesses.{Access, after_all, LeavesCount, LeavesFlag, LeavesStanding, expires_in, HasChannel, Starts, Counting};
 ghost use Rattle.chip_timers.specs.declared.timer.Timer.{Timer};
 
 /// A counter counts from its last start, with the target, the prescaler and the one-shot bit that stood
@@ -19,13 +20,27 @@ pub fn counter_since_start()
         ≡ count_of (has_bit b.one_shot c) b.time (timer_at b c).target (timer_at b c).prescaler end.time }
 {}
 
-/// A flag stands exactly where the counter that was under way at its last clearing has expired since, once
-/// or several times.
+/// A flag stands exactly where an expiry came since its last clearing, once or several times, whatever was
+/// started, stopped or zeroed since. Where nothing was, it is one of the counter that was under way at the clearing.
 pub fn flag_since_clearing()
-    ensures { (b : Timers) (c bits : ℕ) (history : List Access)
+    ensures any { (b : Timers) (c bits : ℕ) (history : List Access)
+        → HasChannel b c → has_bit bits c ≡ true → AllByRecursion (LeavesStanding c) history
+        → let cleared = after_write b TimerFlags bits in
+        let end = after_all cleared history in
+        is_flagged (timer_at end c) end.time ≡ expires_in c cleared history }
+    ensures counting { (b : Timers) (c bits : ℕ) (history : List Access)
         → HasChannel b c → has_bit bits c ≡ true → AllByRecursion (LeavesFlag c) history
         → let end = after_all (after_write b TimerFlags bits) history in
         is_flagged (timer_at end c) end.time ≡ expired_between (timer_at b c).count b.time end.time }
+{}
+
+/// A running counter that is zeroed counts on from there, with the target, the prescaler and the one-shot bit
+/// that it has.
+pub fn counter_since_zero()
+    ensures { (b : Timers) (c bits : ℕ) (r : Run) (history : List Access)
+        → Counting b c r → has_bit bits c ≡ true → AllByRecursion (LeavesCount c) history
+        → let end = after_all (after_write b TimerZero bits) history in
+        counter (timer_at end c) end.time ≡ count_of r.one_shot b.time r.target r.prescaler end.time }
 {}
 
 /// To start, to stop or to zero a counter neither sets nor clears its flag, and to clear the flag clears it

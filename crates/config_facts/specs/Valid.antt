@@ -114,6 +114,7 @@ pub record IsTimer (c : GptChannel) : Type 0 where
   pub level : InRange 1 7 c.level
 
 pub record IsGpt (gpt : GptConfig) : Type 0 where
+  pub classification : InRange 1 2 gpt.classification
   pub channels : IsTable IsTimer timer_id 8 gpt.channels
 
 -- the module Pwm
@@ -143,6 +144,7 @@ pub record IsInput (c : IcuChannel) : Type 0 where
   pub level : InRange 1 7 c.level
 
 pub record IsIcu (icu : IcuConfig) : Type 0 where
+  pub classification : InRange 1 2 icu.classification
   pub channels : IsTable IsInput input_id 8 icu.channels
 
 -- the module Adc
@@ -161,6 +163,7 @@ pub record IsGroup (g : AdcGroup) : Type 0 where
   pub level : InRange 1 7 g.level
 
 pub record HasAdcTables (adc : AdcConfig) : Type 0 where
+  pub classification : InRange 1 2 adc.classification
   pub units : IsTable IsUnit unit_id 2 adc.units
   pub groups : IsTable IsGroup group_id 16 adc.groups
 
@@ -202,6 +205,7 @@ pub record IsSequence (s : SpiSequence) : Type 0 where
   pub job_assignment : IsList 1 16 0 15 s.job_assignment
 
 pub record HasSpiTables (spi : SpiConfig) : Type 0 where
+  pub classification : InRange 1 2 spi.classification
   pub levels : IsList 2 2 1 7 spi.levels
   pub channels : IsTable IsChannel channel_id 16 spi.channels
   pub jobs : IsTable IsJob job_id 16 spi.jobs

@@ -2,3 +2,4 @@ pub mod Ids
 pub mod Least
 pub mod Giving
 pub mod Sound
+pub mod Recorded

@@ -58,6 +58,7 @@ key_text keys.PortPinMode = codes "PortPinMode"
 key_text keys.PortPinModeChangeable = codes "PortPinModeChangeable"
 key_text keys.PortPinLevelValue = codes "PortPinLevelValue"
 key_text keys.GptDevErrorDetect = codes "GptDevErrorDetect"
+key_text keys.Classification = codes "Classification"
 key_text keys.GptChannelConfiguration = codes "GptChannelConfiguration"
 key_text keys.GptChannelId = codes "GptChannelId"
 key_text keys.GptChannelMode = codes "GptChannelMode"
@@ -164,7 +165,7 @@ abbrev pub conversion_mode_named : List ℕ → Option AdcConversionMode
 conversion_mode_named text = if bytes_eq text (codes "ADC_CONV_MODE_ONESHOT") then Some adc_conversion_mode.OneShot else if bytes_eq text (codes "ADC_CONV_MODE_CONTINUOUS") then Some adc_conversion_mode.Continuous else None
 
 abbrev pub replacement_named : List ℕ → Option AdcGroupReplacement
-replacement_named text = if bytes_eq text (codes "ADC_GROUP_REPL_ABORT_RESTART") then Some adc_group_replacement.AbortRestart else None
+replacement_named text = if bytes_eq text (codes "ADC_GROUP_REPL_ABORT_RESTART") then Some adc_group_replacement.AbortRestart else if bytes_eq text (codes "ADC_GROUP_REPL_SUSPEND_RESUME") then Some adc_group_replacement.SuspendResume else None
 
 abbrev pub trigger_source_named : List ℕ → Option AdcTriggerSource
 trigger_source_named text = if bytes_eq text (codes "ADC_TRIGG_SRC_SW") then Some adc_trigger_source.Software else if bytes_eq text (codes "ADC_TRIGG_SRC_HW") then Some adc_trigger_source.Hardware else None

@@ -45,6 +45,8 @@ pub enum KeyName {
     PortPinLevelValue,
     /// `GptDevErrorDetect`
     GptDevErrorDetect,
+    /// `Classification`
+    Classification,
     /// `GptChannelConfiguration`
     GptChannelConfiguration,
     /// `GptChannelId`
@@ -203,6 +205,7 @@ impl KeyName {
             KeyName::PortPinModeChangeable => "PortPinModeChangeable",
             KeyName::PortPinLevelValue => "PortPinLevelValue",
             KeyName::GptDevErrorDetect => "GptDevErrorDetect",
+            KeyName::Classification => "Classification",
             KeyName::GptChannelConfiguration => "GptChannelConfiguration",
             KeyName::GptChannelId => "GptChannelId",
             KeyName::GptChannelMode => "GptChannelMode",

@@ -208,6 +208,7 @@ impl Named for AdcGroupReplacement {
     fn from_name(text: &str) -> Option<AdcGroupReplacement> {
         match text {
             "ADC_GROUP_REPL_ABORT_RESTART" => Some(AdcGroupReplacement::AbortRestart),
+            "ADC_GROUP_REPL_SUSPEND_RESUME" => Some(AdcGroupReplacement::SuspendResume),
             _ => None,
         }
     }

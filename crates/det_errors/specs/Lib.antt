@@ -1,2 +1,4 @@
+pub mod First
+pub mod Reports
 pub mod Rows
 pub mod Spelling

@@ -1,9 +1,10 @@
 -- A driver that was made of a sound configuration is as it has to be.
-use Rattle.std.proofs.Common.{◌≡◌, ℕ, zero, suc, ◌<◌, ◌^◌, Bool, true, false, ◌==◌, List, [], ◌∷◌, Some, refl, ap, subst, arith}
+use Rattle.std.proofs.Common.{◌≡◌, ℕ, suc, ◌<◌, ◌^◌, Bool, true, false, ◌==◌, List, [], ◌∷◌, Some, refl, ap, subst, arith}
 use Rattle.std.specs.Prelude.{All, if◌then◌else◌, is_some}
 use Rattle.mcal_base.specs.declared.config.gpt.GptChannel.{GptChannel}
 use Rattle.mcal_base.specs.declared.config.gpt.GptConfig.{GptConfig}
-use Rattle.gpt_driver.specs.GroundLaws.{within}
+use Rattle.gpt_driver.specs.laws.Ground.{within}
+use Rattle.gpt_driver.specs.laws.Parts.{by_eight}
 use Rattle.gpt_driver.specs.Table.{channel_in, driver_of, channel_of, taken, FitsGpt}
 use Rattle.gpt_driver.specs.declared.driver.Channel.{Channel}
 
@@ -28,16 +29,12 @@ found : (xs : List GptChannel) (c : ℕ) (k : Channel) → All IsSound xs → ch
 found [] c k sound e = absurd (cc)
 found (x ∷ xs) c k sound e = found_by x xs c k (x.id == c) (sound 0 x (omega arith)) (λ f. found xs c k (λ i y lt. sound (suc i) y (omega arith)) f) e
 
+-- a channel of the driver is one that was found
+in_table : (g : GptConfig) (k : Channel) (c : ℕ) → c < 8 → channel_of (driver_of g) c ≡ Some k → channel_in g.channels c ≡ Some k
+in_table g k = by_eight (λ c. channel_of (driver_of g) c ≡ Some k → channel_in g.channels c ≡ Some k) (λ e. e) (λ e. e) (λ e. e) (λ e. e) (λ e. e) (λ e. e) (λ e. e) (λ e. e)
+
 table_of : (g : GptConfig) (c : ℕ) (k : Channel) → channel_of (driver_of g) c ≡ Some k → channel_in g.channels c ≡ Some k
-table_of g zero k e = e
-table_of g (suc zero) k e = e
-table_of g (suc (suc zero)) k e = e
-table_of g (suc (suc (suc zero))) k e = e
-table_of g (suc (suc (suc (suc zero)))) k e = e
-table_of g (suc (suc (suc (suc (suc zero))))) k e = e
-table_of g (suc (suc (suc (suc (suc (suc zero)))))) k e = e
-table_of g (suc (suc (suc (suc (suc (suc (suc zero))))))) k e = e
-table_of g (suc (suc (suc (suc (suc (suc (suc (suc c)))))))) k e = absurd (omega (arith, within (driver_of g) (suc (suc (suc (suc (suc (suc (suc (suc c)))))))) (ap (λ x. is_some x) e)))
+table_of g c k e = in_table g k c (within (driver_of g) c (ap (λ x. is_some x) e)) e
 
 -- the driver of a configuration with sound channels
 pub fits_of : (g : GptConfig) → All IsSound g.channels → FitsGpt (driver_of g)

@@ -1,55 +1,40 @@
 -- How words and registers stand for the machine's state.
-use Rattle.std.specs.Prelude.{◌≡◌, ℕ, ◌<◌, ◌^◌, ◌%◌, ◌==◌, nat_lt, Bool, true, false, ◌&&◌, ◌||◌, not, length, Option, Some, None, is_some}
-use Rattle.chip_model.specs.Chip.{Chip, word_of}
-use Rattle.chip_timers.specs.Timers.{Timers, timer_at}
+use Rattle.std.specs.Prelude.{◌≡◌, ℕ, ◌+◌, ◌*◌, ◌<◌, ◌^◌, ◌%◌, ◌==◌, nat_lt, Bool, true, false, ◌&&◌, ◌||◌, not, Option, Some, None, is_some}
+use Rattle.chip_model.specs.Chip.{Chip, IsWhole, word_of}
+use Rattle.chip_timers.specs.Timers.{Timers, timer_at, expired_between}
+use Rattle.chip_timers.specs.declared.timer.Count.{Count}
 use Rattle.chip_timers.specs.declared.timer.Count.TheVariants.{Still, Since}
 use Rattle.chip_timers.specs.declared.timer.Timer.{Timer}
-use Rattle.mcal_base.specs.Bits.{has_bit}
-use Rattle.mcal_base.specs.Expiry.{expiries}
-use Rattle.mcal_base.specs.declared.TheConstants.{WORDS}
+use Rattle.mcal_base.specs.Bits.{has_bit, bit_of}
 use Rattle.mcal_base.specs.declared.module_name.ModuleName.TheVariants.{Gpt}
 use Rattle.mcal_base.specs.declared.moves.Move.{Move}
-use Rattle.mcal_base.specs.declared.moves.Move.TheVariants.{Read, Write, Load, Store, Mask, Unmask, Note, Report}
+use Rattle.mcal_base.specs.declared.moves.Move.TheVariants.{Read, Write, Load, Store}
 use Rattle.mcal_base.specs.declared.register.Reg.{Reg}
 use Rattle.mcal_base.specs.declared.register.Reg.TheVariants.{EnableSet, EnableClear, TimerTarget, TimerPrescaler, TimerOneShot, TimerGateSet, TimerGateClear, TimerRun, TimerFlags, TimerZero, TimerLow, TimerHigh}
 use Rattle.run_model.specs.declared.class.Class.{Class}
 use Rattle.run_model.specs.declared.class.Kind.TheVariants.{Exclusive, Keyed}
-use Rattle.run_model.specs.declared.class.KeyKind.TheVariants.{Channel}
+use Rattle.run_model.specs.declared.class.KeyKind.TheVariants as keys
 use Rattle.run_model.specs.World.{World}
-use Rattle.run_model.specs.Moment.{Setting}
+use Rattle.run_model.specs.Frame.{Origin, Called}
+use Rattle.run_model.specs.Moment.{Halves, Setting}
 use Rattle.service_outline.specs.Outline.{Ground}
-use Rattle.gpt_driver.specs.Machine.{channel_at, Course, Never, Running, Stopped, Timing, Mode, Off, Normal, Sleep, GptState, first_state, untouched, prescaler_of, target_of, gpt_machine}
+use Rattle.service_outline.specs.There.{names_there}
+use Rattle.gpt_driver.specs.Machine.{Course, Never, Running, Stopped, Timing, Mode, Off, Normal, Sleep, is_off, GptState, channel_at, first_state, untouched, prescaler_of, target_of, gpt_machine}
 use Rattle.gpt_driver.specs.Table.{channel_of, one_shot_of}
 use Rattle.gpt_driver.specs.Words.{target_word, switches_word, word_of as packed}
 use Rattle.gpt_driver.specs.declared.call.Call.{Call}
-use Rattle.gpt_driver.specs.declared.call.Call.TheVariants.{Init, DeInit, GetTimeElapsed, GetTimeRemaining, StartTimer, StopTimer, EnableNotification, DisableNotification, SetMode, EnableWakeup, DisableWakeup, CheckWakeup}
+use Rattle.gpt_driver.specs.declared.call.Call.TheVariants.{Init, DeInit, Channel}
+use Rattle.gpt_driver.specs.declared.call.ChannelCall.TheVariants.{GetTimeElapsed, GetTimeRemaining}
 use Rattle.gpt_driver.specs.declared.driver.Channel as configured
 use Rattle.gpt_driver.specs.declared.driver.GptDriver.{GptDriver}
 use Rattle.gpt_driver.specs.declared.words.TheConstants.{STATE}
 
 -- ---- the setting
 
--- the class of a call that nothing of the module may run beside, and of a call about a channel
-abbrev pub exclusive : Class
-exclusive = record { kind = Exclusive; «module» = Gpt; key = None }
-
-abbrev pub keyed : ℕ → Class
-keyed c = record { kind = Keyed; «module» = Gpt; key = Some (record { kind = Channel; number = c }) }
-
--- the class of a call
+-- the class of a call: one about a channel has that channel as its key, and beside any other nothing of the module may run
 abbrev pub class_of : Call → Class
-class_of Init = exclusive
-class_of DeInit = exclusive
-class_of (SetMode m) = exclusive
-class_of (GetTimeElapsed c) = keyed c
-class_of (GetTimeRemaining c) = keyed c
-class_of (StartTimer c v) = keyed c
-class_of (StopTimer c) = keyed c
-class_of (EnableNotification c) = keyed c
-class_of (DisableNotification c) = keyed c
-class_of (EnableWakeup c) = keyed c
-class_of (DisableWakeup c) = keyed c
-class_of (CheckWakeup c) = keyed c
+class_of (Channel c call) = record { kind = Keyed; «module» = Gpt; key = Some (record { kind = keys.Channel; number = c }) }
+class_of _ = record { kind = Exclusive; «module» = Gpt; key = None }
 
 -- the level of a channel's line
 abbrev pub level_by : Option configured.Channel → ℕ
@@ -90,10 +75,7 @@ gpt_owns (Read r) = is_timer r
 gpt_owns (Write r v) = owns_written r v
 gpt_owns (Load k) = is_own_word k
 gpt_owns (Store k v) = is_own_word k
-gpt_owns Mask = false
-gpt_owns Unmask = false
-gpt_owns (Note n) = false
-gpt_owns (Report e) = false
+gpt_owns _ = false
 
 -- the value has bits of timer lines, and of no other
 abbrev pub is_for_lines : ℕ → Bool
@@ -105,16 +87,35 @@ may_write EnableSet v = is_for_lines v
 may_write EnableClear v = is_for_lines v
 may_write r v = is_timer r
 
--- a move that a frame of the module may make
-abbrev pub gpt_may : Move → Bool
-gpt_may (Write r v) = may_write r v
-gpt_may made = gpt_owns made
+abbrev pub may_name : Move → Bool
+may_name (Write r v) = may_write r v
+may_name made = gpt_owns made
 
--- the low half of the counter that a call reads
-abbrev pub low_half : Call → Option Reg
-low_half (GetTimeElapsed c) = Some (TimerLow c)
-low_half (GetTimeRemaining c) = Some (TimerLow c)
-low_half _ = None
+-- a move that a frame of the module may make: it names what is the module's and is there
+abbrev pub gpt_may : Move → Bool
+gpt_may made = may_name made && names_there made
+
+-- the halves of the counter that a call reads
+abbrev pub halves : Call → Option Halves
+halves (Channel c GetTimeElapsed) = Some (record { low = TimerLow c; high = TimerHigh c })
+halves (Channel c GetTimeRemaining) = Some (record { low = TimerLow c; high = TimerHigh c })
+halves _ = None
+
+-- the number of configured channels
+abbrev pub counted : GptDriver → ℕ → ℕ
+counted d c = bit_of (is_some (channel_of d c))
+
+abbrev pub channel_count : GptDriver → ℕ
+channel_count d = counted d 0 + counted d 1 + counted d 2 + counted d 3 + counted d 4 + counted d 5 + counted d 6 + counted d 7
+
+-- the most steps of a frame: of a call about the whole module 48 more for each configured channel
+abbrev pub whole_steps : GptDriver → ℕ
+whole_steps d = 64 + 48 * channel_count d
+
+abbrev pub gpt_steps : GptDriver → Origin Call → ℕ
+gpt_steps d (Called Init) = whole_steps d
+gpt_steps d (Called DeInit) = whole_steps d
+gpt_steps d _ = 64
 
 -- what a run of the driver is over
 abbrev pub gpt_setting : GptDriver → Setting GptState Call
@@ -125,110 +126,131 @@ gpt_setting d = record {
   level_of = λ l. level_by (channel_of d l);
   owner_of = λ l. Gpt;
   used = λ l. is_some (channel_of d l);
-  lines = λ l. nat_lt l 8;
-  steps_of = λ o. 64;
+  steps_of = gpt_steps d;
   window_of = λ o. 32;
   may = λ o made. gpt_may made;
-  owns = λ o made. gpt_owns made;
-  low_half = low_half;
+  halves = halves;
+  begins_word = λ w s line. None;
+  fills = λ c. false;
+  fill_busy = λ w s origins c. false;
+  receives = λ chip w number received. Unit {0};
+  selects = λ origin chip w s e number. Unit {0};
+  rest = λ chip w s. Unit {0};
+  shows = λ origin n chip s. Unit {0};
 }
 
 -- ---- what the top frame may have under work
 
--- what is not yet, or no longer, as the machine has it: the state word and the enable bits, and of each channel the
--- timer, the target word and the switches word; and whether the lines are enabled already
+-- what is not yet, or no longer, as the machine has it: timers by channel, words by number, and what all enable bits are, where that isn't what they are to be
 pub record Gap : Type 0 where
-  pub state : Bool
-  pub enabled : Bool
-  pub armed : Bool
-  pub timer : ℕ → Bool
-  pub target : ℕ → Bool
-  pub switches : ℕ → Bool
+  pub block : ℕ → Bool
+  pub words : ℕ → Bool
+  pub lines : Option Bool
 
--- no channel, and only this one
 abbrev pub none : ℕ → Bool
-none c = false
-
--- nothing is under work
-abbrev pub settled : Gap
-settled = record { state = false; enabled = false; armed = false; timer = none; target = none; switches = none }
+none k = false
 
 abbrev pub only : ℕ → ℕ → Bool
-only c k = k == c
+only j k = k == j
 
--- of one channel the timer, the target word or the switches word
-abbrev pub timer_open : ℕ → Gap
-timer_open c = record settled { timer = only c }
+-- nothing is under work, one channel's timer is, one word is behind
+abbrev pub settled : Gap
+settled = record { block = none; words = none; lines = None }
 
-abbrev pub target_behind : ℕ → Gap
-target_behind c = record settled { target = only c }
+abbrev pub open_at : ℕ → Gap
+open_at c = record settled { block = only c }
 
-abbrev pub switches_behind : ℕ → Gap
-switches_behind c = record settled { switches = only c }
+abbrev pub behind : ℕ → Gap
+behind j = record settled { words = only j }
 
--- the state word
-abbrev pub state_behind : Gap
-state_behind = record settled { state = true }
+-- ---- the timer block
 
--- the lines are enabled already
-abbrev pub armed : Gap
-armed = record settled { armed = true }
+-- the counter of a channel
+abbrev pub counts : Option configured.Channel → Course → Count
+counts k Never = Still 0
+counts k (Running s v) = Since (record { start = s; target = v; prescaler = prescaler_of k; one_shot = one_shot_of k })
+counts k (Stopped e v) = Still e
 
--- ---- the agreement
+-- values fit a register; a channel that was started has a target and a prescaler, and its one-shot bit is as configured
+abbrev pub IsSet : Option configured.Channel → (one_shot : Bool) → Course → Type 0
+IsSet k bit Never = Unit {0}
+IsSet k bit (Running s v) = (0 < v) × (v < 2 ^ 32) × (0 < prescaler_of k) × (bit ≡ one_shot_of k)
+IsSet k bit (Stopped e v) = e < 2 ^ 32
 
--- a channel's timer, and what the channel is about; its mark was last dropped then, and as many expiries had come when the flag was last cleared
-abbrev pub CourseAgrees : Option configured.Channel → Timer → Course → (dropped : ℕ) → Type 0
-CourseAgrees k t Never dropped = (t.count ≡ Still 0) × (t.kept ≡ false)
-CourseAgrees k t (Running s v) dropped = (t.count ≡ Since (record { start = s; target = v; prescaler = prescaler_of k; one_shot = one_shot_of k })) × (t.kept ≡ false) × (expiries (one_shot_of k) s v (prescaler_of k) t.watched ≡ expiries (one_shot_of k) s v (prescaler_of k) dropped) × (0 < v) × (v < 2 ^ 32) × (0 < prescaler_of k)
-CourseAgrees k t (Stopped e v) dropped = (t.count ≡ Still e) × (t.kept ≡ false) × (e < 2 ^ 32)
+-- a timer counts as the machine has it, and the expiries since its flag was cleared are those since the mark was dropped
+pub record TimerAgrees (k : Option configured.Channel) (bit : Bool) (t : Timer) (x : Timing) : Type 0 where
+  pub count : t.count ≡ counts k x.course
+  pub kept : t.kept ≡ false
+  pub flag : (now : ℕ) → expired_between t.count t.watched now ≡ expired_between t.count x.dropped now
+  pub set : IsSet k bit x.course
 
--- the state word of a mode
+abbrev pub BlockAgrees : GptDriver → (opened : ℕ → Bool) → Timers → GptState → Type 0
+BlockAgrees d opened b s = (c : ℕ) → c < 8 → opened c ≡ false → TimerAgrees (channel_of d c) (has_bit b.one_shot c) (timer_at b c) (channel_at s c)
+
+-- ---- the words
+
+-- the words that the module uses: its number, that it is there, and what stands in it
+pub data Word : Type 0 where
+  TheState : Word
+  TargetOf : ℕ → Word
+  SwitchesOf : ℕ → Word
+
+abbrev pub number_of : Word → ℕ
+number_of TheState = STATE
+number_of (TargetOf c) = target_word c
+number_of (SwitchesOf c) = switches_word c
+
+abbrev pub IsWord : Word → Type 0
+IsWord TheState = Unit {0}
+IsWord (TargetOf c) = c < 8
+IsWord (SwitchesOf c) = c < 8
+
 abbrev pub state_word : Mode → ℕ
 state_word Off = 0
 state_word Normal = 1
 state_word Sleep = 2
 
--- the bits of all timer lines are set
-abbrev pub AreAllSet : ℕ → Type 0
-AreAllSet bits = (c : ℕ) → c < 8 → has_bit bits c ≡ true
+abbrev pub value_in : GptState → Word → ℕ
+value_in s TheState = state_word s.mode
+value_in s (TargetOf c) = target_of (channel_at s c).course
+value_in s (SwitchesOf c) = packed (channel_at s c).switches
 
--- the lines are enabled where the module is initialised
-abbrev pub AreEnabled : Mode → ℕ → Type 0
-AreEnabled Off bits = Unit {0}
-AreEnabled Normal bits = AreAllSet bits
-AreEnabled Sleep bits = AreAllSet bits
+abbrev pub WordsAgree : (behind : ℕ → Bool) → Chip → GptState → Type 0
+WordsAgree behind chip s = (x : Word) → IsWord x → behind (number_of x) ≡ false → word_of chip (number_of x) ≡ value_in s x
 
--- an uninitialised module has no channel under way
-abbrev pub IsClean : Mode → (ℕ → Timing) → Type 0
-IsClean Off ch = (c : ℕ) → ch c ≡ untouched
-IsClean Normal ch = Unit {0}
-IsClean Sleep ch = Unit {0}
+-- ---- the lines
 
--- a channel's timer and words, but for what is under work of it
-pub record ChannelAgrees (k : Option configured.Channel) (timer_open target_behind switches_behind : Bool) (chip : Chip) (c : ℕ) (x : Timing) : Type 0 where
-  pub timer : timer_open ≡ false → CourseAgrees k (timer_at chip.timers c) x.course x.dropped
-  pub target : target_behind ≡ false → word_of chip (target_word c) ≡ target_of x.course
-  pub switches : switches_behind ≡ false → word_of chip (switches_word c) ≡ packed x.switches
+-- the enable bits of all lines are set while the module is initialised, and clear while it isn't
+abbrev pub all_are : Option Bool → Mode → Bool
+all_are None m = not (is_off m)
+all_are (Some b) m = b
 
--- the words and registers agree with the state, but for what is under work
+abbrev pub LinesAgree : Option Bool → Mode → (enabled : ℕ) → Type 0
+LinesAgree lines m enabled = (c : ℕ) → c < 8 → has_bit enabled c ≡ all_are lines m
+
+-- ---- the agreement
+
+-- the words and registers agree with the state, but for what is under work; an uninitialised module has touched no channel
 pub record GptAgrees (d : GptDriver) (gap : Gap) (chip : Chip) (w : World) (s : GptState) : Type 0 where
+  pub whole : IsWhole chip
   pub time : chip.timers.time ≡ w.now
-  pub timers : length chip.timers.timers ≡ 8
-  pub words : length chip.words ≡ WORDS
-  pub clean : IsClean s.mode (channel_at s)
-  pub state : gap.state ≡ false → word_of chip STATE ≡ state_word s.mode
-  pub enabled : gap.enabled ≡ false → AreEnabled s.mode chip.control.enabled
-  pub armed : gap.armed ≡ true → AreAllSet chip.control.enabled
-  pub each : (c : ℕ) → c < 8 → ChannelAgrees (channel_of d c) (gap.timer c) (gap.target c) (gap.switches c) chip c (channel_at s c)
+  pub block : BlockAgrees d gap.block chip.timers s
+  pub words : WordsAgree gap.words chip s
+  pub lines : LinesAgree gap.lines s.mode chip.control.enabled
+  pub clean : is_off s.mode ≡ true → (c : ℕ) → channel_at s c ≡ untouched
 
 -- what all services of the driver stand on
 abbrev pub gpt_ground : GptDriver → Ground GptState Call
 gpt_ground d = record {
   setting = gpt_setting d;
+  lines = λ l. nat_lt l 8;
+  owns = λ o made. gpt_owns made;
+  count = λ s. 0;
   later = λ w s order. s;
   Gap = Gap;
   settled = settled;
   agrees = GptAgrees d;
+  -- the timer block but for its time
   Foot = Timers;
-  foot = λ chip. chip.timers;
+  foot = λ chip. record chip.timers { time = 0 };
 }

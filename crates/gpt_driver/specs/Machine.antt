@@ -1,9 +1,9 @@
 -- The timers as the standard has them, by times: what each call and each serving does.
-use Rattle.std.specs.Prelude.{ℕ, ◌-◌, ◌==◌, nat_lt, Bool, true, false, ◌&&◌, if◌then◌else◌, List, [], ◌∷◌, Option, Some, None, slice_index_or}
+use Rattle.std.specs.Prelude.{ℕ, ◌-◌, ◌==◌, nat_lt, Bool, true, false, ◌&&◌, not, if◌then◌else◌, List, [], ◌∷◌, Option, Some, None, slice_index_or}
 use Rattle.std.specs.List.{list_any}
+use Rattle.det_errors.specs.Reports.{Reporting}
 use Rattle.mcal_base.specs.Expiry.{count_of, expiries, runs_on}
 use Rattle.mcal_base.specs.declared.error_name.ErrorName.{ErrorName}
-use Rattle.mcal_base.specs.declared.notice.Notice.{Notice}
 use Rattle.mcal_base.specs.declared.notice.NoticeKind.{NoticeKind}
 use Rattle.mcal_base.specs.declared.notice.NoticeKind.TheVariants.{GptNotification, EcuMCheckWakeup, EcuMSetWakeupEvent}
 use Rattle.run_model.specs.World.{World}
@@ -12,7 +12,12 @@ use Rattle.service_outline.specs.Done.{number}
 use Rattle.gpt_driver.specs.Checks.{service_of, error_by, answer_refused}
 use Rattle.gpt_driver.specs.Table.{channel_of, one_shot_of}
 use Rattle.gpt_driver.specs.declared.call.Call.{Call}
-use Rattle.gpt_driver.specs.declared.call.Call.TheVariants.{Init, DeInit, GetTimeElapsed, GetTimeRemaining, StartTimer, StopTimer, EnableNotification, DisableNotification, SetMode, EnableWakeup, DisableWakeup, CheckWakeup}
+use Rattle.gpt_driver.specs.declared.call.Call.TheVariants.{Init, DeInit, SetMode}
+use Rattle.gpt_driver.specs.declared.call.Call.TheVariants as calls
+use Rattle.gpt_driver.specs.declared.call.ChannelCall.TheVariants.{GetTimeElapsed, GetTimeRemaining, StartTimer, StopTimer}
+use Rattle.gpt_driver.specs.declared.call.ChannelCall.TheVariants as asks
+use Rattle.gpt_driver.specs.declared.call.Change.{Change}
+use Rattle.gpt_driver.specs.declared.call.Change.TheVariants.{Notification, Wakeup, Check}
 use Rattle.gpt_driver.specs.declared.call.GptMode.TheVariants as modes
 use Rattle.gpt_driver.specs.declared.driver.Channel.{Channel}
 use Rattle.gpt_driver.specs.declared.driver.GptDriver.{GptDriver}
@@ -42,13 +47,9 @@ pub record GptState : Type 0 where
   pub mode : Mode
   pub channels : List Timing
 
--- all switches off
-abbrev pub all_off : Switches
-all_off = record { notification = false; wakeup = false; woken = false }
-
--- a channel after Gpt_Init
+-- a channel after Gpt_Init: never started, all switches off
 abbrev pub untouched : Timing
-untouched = record { course = Never; dropped = 0; switches = all_off }
+untouched = record { course = Never; dropped = 0; switches = record { notification = false; wakeup = false; woken = false } }
 
 -- no channel was touched
 abbrev pub fresh_state : Mode → GptState
@@ -58,11 +59,10 @@ fresh_state m = record { mode = m; channels = [] }
 abbrev pub first_state : GptState
 first_state = fresh_state Off
 
--- a channel
+-- a channel, and all eight
 abbrev pub channel_at : GptState → ℕ → Timing
 channel_at s c = slice_index_or s.channels c untouched
 
--- the eight channels
 abbrev pub table : (ℕ → Timing) → List Timing
 table f = f 0 ∷ f 1 ∷ f 2 ∷ f 3 ∷ f 4 ∷ f 5 ∷ f 6 ∷ f 7 ∷ []
 
@@ -129,17 +129,42 @@ stopped k now t = if runs k now t.course then record t { course = Stopped (elaps
 abbrev pub unmarked : ℕ → Timing → Timing
 unmarked now t = record t { dropped = now }
 
+-- in sleep mode only channels run whose wakeup is on, and no other keeps its mark
+abbrev pub slept : Option Channel → ℕ → Timing → Timing
+slept k now t = if t.switches.wakeup then t else unmarked now (stopped k now t)
+
+-- ---- a channel's switches
+
+-- what a service makes of them
+abbrev pub changed : Change → Switches → Switches
+changed (Notification on) x = record x { notification = on }
+changed (Wakeup on) x = record x { wakeup = on }
+changed Check x = record x { woken = false }
+
+-- the service tells of a wakeup that came
+abbrev pub tells_event : Change → Switches → Bool
+tells_event Check x = x.woken
+tells_event _ x = false
+
+-- a serving wakes, and else it notifies
+abbrev pub wakes : Mode → Switches → Bool
+wakes m x = is_asleep m && x.wakeup
+
+abbrev pub notifies : Mode → Switches → Bool
+notifies m x = not (is_asleep m) && x.notification
+
 -- ---- the module
 
--- the state with this mode, with this channel, and with these switches of a channel
-abbrev pub with_mode : GptState → Mode → GptState
-with_mode s m = record s { mode = m }
-
+-- the state with this channel, and with these switches of a channel
 abbrev pub with_channel : GptState → ℕ → Timing → GptState
 with_channel s c t = record s { channels = table (λ k. if k == c then t else channel_at s k) }
 
 abbrev pub with_switches : GptState → ℕ → Switches → GptState
 with_switches s c x = with_channel s c (record (channel_at s c) { switches = x })
+
+-- the module falls asleep
+abbrev pub slept_all : GptDriver → World → GptState → GptState
+slept_all d w s = record { mode = Sleep; channels = table (λ c. slept (channel_of d c) w.now (channel_at s c)) }
 
 -- the numbers of all channels
 abbrev pub all_channels : List ℕ
@@ -151,49 +176,34 @@ runs_at d w s c = runs (channel_of d c) w.now (channel_at s c).course
 
 -- what a call finds busy: its channel, and Gpt_DeInit any one
 abbrev pub is_busy : GptDriver → World → GptState → Call → Bool
-is_busy d w s DeInit = list_any (λ c. runs_at d w s c) all_channels
-is_busy d w s (StartTimer c v) = runs_at d w s c
-is_busy d w s _ = false
+is_busy d w s (calls.Channel c call) = runs_at d w s c
+is_busy d w s _ = list_any (λ c. runs_at d w s c) all_channels
 
--- in sleep mode only channels run whose wakeup is on
-abbrev pub slept : Option Channel → ℕ → Timing → Timing
-slept k now t = if t.switches.wakeup then t else unmarked now (stopped k now t)
-
--- the module falls asleep
-abbrev pub slept_all : GptDriver → World → GptState → GptState
-slept_all d w s = record { mode = Sleep; channels = table (λ c. slept (channel_of d c) w.now (channel_at s c)) }
-
--- what a call or a serving tells: a notice, a number, or a notice if there is one
-abbrev pub notice : NoticeKind → ℕ → Notice
-notice kind c = record { kind = kind; id = c }
-
+-- what is told: a number, or a notice if there is one
 abbrev pub answers_number : ℕ → Told
 answers_number n = record { answer = number n; error = None; notices = [] }
 
 abbrev pub notes : Bool → NoticeKind → ℕ → Told
-notes b kind c = record { answer = no_answer; error = None; notices = if b then notice kind c ∷ [] else [] }
+notes b kind c = record { answer = no_answer; error = None; notices = if b then (record { kind = kind; id = c }) ∷ [] else [] }
 
--- the wakeup mark of a configured channel is taken
-abbrev pub checked : Option Channel → GptState → ℕ → Outcome GptState
-checked None s c = outcome s tells_nothing
-checked (Some k) s c = outcome (with_switches s c (record (channel_at s c).switches { woken = false })) (notes (channel_at s c).switches.woken EcuMSetWakeupEvent c)
+-- ---- what a call without an error does
 
--- what a call without an error does
+-- the changes of a configured channel's switches
+abbrev pub switches : Option Channel → GptState → ℕ → Change → Outcome GptState
+switches None s c by = outcome s tells_nothing
+switches (Some k) s c by = outcome (with_switches s c (changed by (channel_at s c).switches)) (notes (tells_event by (channel_at s c).switches) EcuMSetWakeupEvent c)
+
 abbrev pub work : GptDriver → World → GptState → Call → Outcome GptState
 work d w s Init = outcome (fresh_state Normal) tells_nothing
 work d w s DeInit = outcome first_state tells_nothing
-work d w s (GetTimeElapsed c) = outcome s (answers_number (elapsed (channel_of d c) w.now (channel_at s c).course))
-work d w s (GetTimeRemaining c) = outcome s (answers_number (remaining (channel_of d c) w.now (channel_at s c).course))
-work d w s (StartTimer c v) = outcome (with_channel s c (started w.now v (channel_at s c))) tells_nothing
-work d w s (StopTimer c) = outcome (with_channel s c (stopped (channel_of d c) w.now (channel_at s c))) tells_nothing
-work d w s (EnableNotification c) = outcome (with_switches s c (record (channel_at s c).switches { notification = true })) tells_nothing
-work d w s (DisableNotification c) = outcome (with_switches s c (record (channel_at s c).switches { notification = false })) tells_nothing
 work d w s (SetMode None) = outcome s tells_nothing
-work d w s (SetMode (Some modes.Normal)) = outcome (with_mode s Normal) tells_nothing
+work d w s (SetMode (Some modes.Normal)) = outcome (record s { mode = Normal }) tells_nothing
 work d w s (SetMode (Some modes.Sleep)) = outcome (slept_all d w s) tells_nothing
-work d w s (EnableWakeup c) = outcome (with_switches s c (record (channel_at s c).switches { wakeup = true })) tells_nothing
-work d w s (DisableWakeup c) = outcome (with_switches s c (record (channel_at s c).switches { wakeup = false })) tells_nothing
-work d w s (CheckWakeup c) = checked (channel_of d c) s c
+work d w s (calls.Channel c GetTimeElapsed) = outcome s (answers_number (elapsed (channel_of d c) w.now (channel_at s c).course))
+work d w s (calls.Channel c GetTimeRemaining) = outcome s (answers_number (remaining (channel_of d c) w.now (channel_at s c).course))
+work d w s (calls.Channel c (StartTimer v)) = outcome (with_channel s c (started w.now v (channel_at s c))) tells_nothing
+work d w s (calls.Channel c StopTimer) = outcome (with_channel s c (stopped (channel_of d c) w.now (channel_at s c))) tells_nothing
+work d w s (calls.Channel c (asks.Change by)) = switches (channel_of d c) s c by
 
 -- an error changes nothing
 abbrev pub acts_by : GptDriver → World → GptState → Call → Option ErrorName → Outcome GptState
@@ -204,27 +214,39 @@ acts_by d w s call (Some e) = outcome s (record { answer = answer_refused call; 
 abbrev pub acts : GptDriver → World → GptState → Call → Outcome GptState
 acts d w s call = acts_by d w s call (error_by d call (is_off s.mode) (is_asleep s.mode) (is_busy d w s call))
 
+-- ---- what a serving does
+
 -- a line's mark
 abbrev pub ready : GptDriver → World → GptState → ℕ → Bool
 ready d w s c = nat_lt c 8 && is_marked (channel_of d c) w.now (channel_at s c)
 
--- a serving drops the mark: in normal mode it notifies, and in sleep mode it wakes
-abbrev pub served : World → GptState → ℕ → Mode → Outcome GptState
-served w s c Off = outcome (with_channel s c (unmarked w.now (channel_at s c))) tells_nothing
-served w s c Normal = outcome (with_channel s c (unmarked w.now (channel_at s c))) (notes (channel_at s c).switches.notification GptNotification c)
-served w s c Sleep =
-    if (channel_at s c).switches.wakeup
-    then outcome (with_channel s c (record (channel_at s c) { dropped = w.now; switches = record (channel_at s c).switches { woken = true } })) (notes true EcuMCheckWakeup c)
-    else outcome (with_channel s c (unmarked w.now (channel_at s c))) tells_nothing
+-- the channel without its mark, and with its wakeup mark where it wakes
+abbrev pub served_channel : (wakes : Bool) → ℕ → Timing → Timing
+served_channel true now t = record t { dropped = now; switches = record t.switches { woken = true } }
+served_channel false now t = unmarked now t
+
+-- in sleep mode it wakes, and in normal mode it notifies; an uninitialised module has no mark
+abbrev pub served_by : World → GptState → ℕ → (wakes notifies : Bool) → Outcome GptState
+served_by w s c true n = outcome (with_channel s c (served_channel true w.now (channel_at s c))) (notes true EcuMCheckWakeup c)
+served_by w s c false n = outcome (with_channel s c (served_channel false w.now (channel_at s c))) (notes n GptNotification c)
+
+abbrev pub served : World → GptState → ℕ → Outcome GptState
+served w s c = served_by w s c (wakes s.mode (channel_at s c).switches) (notifies s.mode (channel_at s c).switches)
+
+-- ---- the machine
 
 -- what happens
 abbrev pub happens : GptDriver → World → GptState → Happening Call → Option (Outcome GptState)
-happens d w s (Acts call) = Some (acts d w s call)
-happens d w s (Serves c received) = if ready d w s c then Some (served w s c s.mode) else None
+happens d w s (Acts call times) = Some (acts d w s call)
+happens d w s (Serves c received) = if ready d w s c then Some (served w s c) else None
 happens d w s (Starts u received) = None
 happens d w s (Aborts u) = None
 happens d w s (Moves order) = Some (outcome s tells_nothing)
 happens d w s (Restarts reason) = Some (outcome first_state tells_nothing)
+
+-- how errors are reported
+abbrev pub reporting : GptDriver → Reporting
+reporting d = record { detect = d.detect; classification = d.classification }
 
 -- The machine of the timers under a configuration. It leaves the peripheral rate alone.
 abbrev pub gpt_machine : GptDriver → Machine GptState Call
@@ -235,6 +257,7 @@ gpt_machine d = record {
   startable = λ w s u. false;
   rate = λ s. 1;
   service_of = service_of;
-  detects = λ call. d.detects;
-  polls = λ call. [];
+  expires = λ w s. None;
+  reporting = λ call. reporting d;
+  polls = λ w s call. [];
 }

@@ -23,7 +23,8 @@ channel_in (x ∷ xs) c = if x.id == c then Some (taken x c) else channel_in xs 
 -- the driver under a configuration
 abbrev pub driver_of : GptConfig → GptDriver
 driver_of g = record {
-  detects = g.dev_error_detect;
+  detect = g.dev_error_detect;
+  classification = g.classification;
   channels = channel_in g.channels 0 ∷ channel_in g.channels 1 ∷ channel_in g.channels 2 ∷ channel_in g.channels 3 ∷ channel_in g.channels 4 ∷ channel_in g.channels 5 ∷ channel_in g.channels 6 ∷ channel_in g.channels 7 ∷ [];
 }
 

@@ -1,12 +1,14 @@
 pub mod Base
-pub mod Check
+pub mod Bodies
 pub mod Count
+pub mod Courses
 pub mod DeInit
+pub mod Ground
 pub mod Init
 pub mod Lawful
-pub mod Looks
+pub mod Look
 pub mod Mode
-pub mod Passed
+pub mod Parts
 pub mod Serve
 pub mod Start
 pub mod Stop

@@ -1,9 +1,12 @@
 ghost use Rattle.std.specs.Prelude.{◌≡◌, ◌<◌};
 ghost use Rattle.mcal_base.specs.Bits.{bits_of};
+ghost use Rattle.service_outline.specs.Done.{owed_error};
+ghost use Rattle.gpt_driver.specs.Machine.{reporting};
 ghost use Rattle.gpt_driver.specs.Table as spec;
 
 use crate::words::{CHANNELS, bit};
-use mcal_base::{Config, GptChannel, GptChannelMode};
+use mcal_base::{Config, ErrorName, GptChannel, GptChannelMode, Service};
+use service_outline::Owed;
 
 /// A configured channel.
 #[derive(Clone, Copy, Debug, PartialEq, Eq)]
@@ -28,7 +31,9 @@ pub struct Channel {
 #[derive(Clone, Copy, Debug)]
 pub struct GptDriver {
     /// `GptDevErrorDetect`.
-    pub detects: bool,
+    pub detect: bool,
+    /// `Classification` of state errors.
+    pub classification: u32,
     /// The channels by number, where they are configured.
     pub channels: [Option<Channel>; 8],
 }
@@ -40,7 +45,8 @@ impl GptDriver {
     {
         let channels = config.gpt.channels.as_slice();
         GptDriver {
-            detects: config.gpt.dev_error_detect,
+            detect: config.gpt.dev_error_detect,
+            classification: config.gpt.classification,
             channels: [
                 find(channels, 0),
                 find(channels, 1),
@@ -52,6 +58,13 @@ impl GptDriver {
                 find(channels, 7),
             ],
         }
+    }
+
+    /// What a call of a service owes for an error.
+    pub fn owed(&self, service: Service, error: ErrorName) -> Owed
+        ensures { result ≡ owed_error (reporting self.now) service error }
+    {
+        service_outline::error(self.detect, self.classification, service, error)
     }
 
     /// The channel of a number, where it is configured.

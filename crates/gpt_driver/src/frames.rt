@@ -1,12 +1,10 @@
-ghost use Rattle.std.specs.Prelude.{◌≡◌};
-ghost use Rattle.gpt_driver.specs.Ground as setting;
-
-use crate::call::{Asked, Call};
+use crate::asked::Asked;
+use crate::call::Call;
 use crate::driver::GptDriver;
-use crate::service::handler::ServeBody;
-use crate::service::{GptBody, bodies};
+use crate::service::serve::ServeBody;
+use crate::service::{self, GptBody};
 use mcal_base::ModuleName;
-use run_model::{Class, Key, KeyKind, Kind};
+use run_model::Class;
 use service_outline::Short;
 use std::marker::Model;
 use step_runner::Module;
@@ -32,10 +30,9 @@ impl Module for GptDriver {
 
     type State = GptMachine;
 
-    ghost use Rattle.service_outline.specs.Outline.{driver_of};
-    ghost use Rattle.service_outline.specs.Lawful.{short_lawful};
-    ghost use Rattle.gpt_driver.specs.Gpt.{gpt};
-    ghost use Rattle.gpt_driver.specs.laws.Lawful.{lawful};
+    ghost use Rattle.service_outline.specs.ShortServices.{driver_of};
+    ghost use Rattle.service_outline.specs.laws.ShortServices.{short_lawful};
+    ghost use Rattle.gpt_driver.specs.laws.Lawful.{gpt, lawful};
 
     ghost spec = { λ d. driver_of (gpt d) };
 
@@ -50,7 +47,7 @@ impl Module for GptDriver {
         match self.channel(line) {
             Some(channel) => {
                 let body = ServeBody::Look(channel.number);
-                Some(Short::Entering(bodies::serve(body)))
+                Some(Short::Entering(service::serve_body(body)))
             }
             None => None,
         }
@@ -72,47 +69,4 @@ impl Module for GptDriver {
     }
 
     ghost laws = { λ d fits. short_lawful (gpt d) (lawful d fits) };
-}
-
-impl Call {
-    /// The class of the call.
-    pub fn class(self) -> Class
-        ensures { result ≡ setting.class_of self }
-    {
-        match self {
-            Call::Init | Call::DeInit | Call::SetMode(_) => exclusive(),
-            Call::GetTimeElapsed(channel)
-            | Call::GetTimeRemaining(channel)
-            | Call::StartTimer(channel, _)
-            | Call::StopTimer(channel)
-            | Call::EnableNotification(channel)
-            | Call::DisableNotification(channel)
-            | Call::EnableWakeup(channel)
-            | Call::DisableWakeup(channel)
-            | Call::CheckWakeup(channel) => keyed(channel),
-        }
-    }
-}
-
-fn exclusive() -> Class
-    ensures { result ≡ setting.exclusive }
-{
-    Class {
-        kind: Kind::Exclusive,
-        module: ModuleName::Gpt,
-        key: None,
-    }
-}
-
-fn keyed(channel: u32) -> Class
-    ensures { result ≡ setting.keyed channel }
-{
-    Class {
-        kind: Kind::Keyed,
-        module: ModuleName::Gpt,
-        key: Some(Key {
-            kind: KeyKind::Channel,
-            number: channel,
-        }),
-    }
 }

@@ -4,6 +4,7 @@
 //! elapsed value in every state, and its flag is the mark of an expiry that wasn't served.
 #![tactic(auto)]
 
+mod asked;
 mod call;
 mod driver;
 mod frames;
@@ -12,20 +13,17 @@ mod service;
 mod switches;
 mod words;
 
-pub use call::{Asked, Call, GptMode};
+pub use asked::Asked;
+pub use call::{Call, Change, ChannelCall, GptMode};
 pub use driver::{Channel, GptDriver};
 pub use frames::{GptFrame, GptMachine};
 pub use service::GptBody;
-pub use service::check::CheckBody;
 pub use service::count::CountBody;
 pub use service::deinit::DeInitBody;
-pub use service::handler::ServeBody;
 pub use service::init::InitBody;
 pub use service::mode::ModeBody;
+pub use service::serve::ServeBody;
 pub use service::start::{Start, StartBody};
 pub use service::stop::StopBody;
-pub use service::switch::{Switch, SwitchBody};
+pub use service::switch::SwitchBody;
 pub use switches::Switches;
-
-#[cfg(test)]
-mod tests;

@@ -1,9 +1,10 @@
-ghost use Rattle.std.specs.Prelude.{◌≡◌, slice_get};
+ghost use Rattle.std.specs.Prelude.{◌≡◌, ◌≤◌, slice_get};
+ghost use Rattle.gpt_driver.specs.Ground.{whole_steps, counted};
 ghost use Rattle.gpt_driver.specs.Requests as spec;
 
-use crate::call::{Call, GptMode};
+use crate::call::{Call, Change, ChannelCall, GptMode};
 use crate::driver::GptDriver;
-use mcal_base::{Argument, ArgumentName, Request, Service};
+use mcal_base::{Argument, ArgumentName, ModuleName, Request, Service};
 use script_runner::Caller;
 
 /// A number that is asked with, 0 where there is none.
@@ -41,33 +42,81 @@ fn call_by(service: Service, first: Option<Argument>, second: Option<Argument>) 
 {
     match service {
         Service::GptDeInit => Call::DeInit,
-        Service::GptGetTimeElapsed => Call::GetTimeElapsed(number(first)),
-        Service::GptGetTimeRemaining => Call::GetTimeRemaining(number(first)),
-        Service::GptStartTimer => Call::StartTimer(number(first), number(second)),
-        Service::GptStopTimer => Call::StopTimer(number(first)),
-        Service::GptEnableNotification => Call::EnableNotification(number(first)),
-        Service::GptDisableNotification => Call::DisableNotification(number(first)),
         Service::GptSetMode => Call::SetMode(mode(first)),
-        Service::GptEnableWakeup => Call::EnableWakeup(number(first)),
-        Service::GptDisableWakeup => Call::DisableWakeup(number(first)),
-        Service::GptCheckWakeup => Call::CheckWakeup(number(first)),
+        Service::GptGetTimeElapsed => on(first, ChannelCall::GetTimeElapsed),
+        Service::GptGetTimeRemaining => on(first, ChannelCall::GetTimeRemaining),
+        Service::GptStartTimer => on(first, ChannelCall::StartTimer(number(second))),
+        Service::GptStopTimer => on(first, ChannelCall::StopTimer),
+        Service::GptEnableNotification => changes(first, Change::Notification(true)),
+        Service::GptDisableNotification => changes(first, Change::Notification(false)),
+        Service::GptEnableWakeup => changes(first, Change::Wakeup(true)),
+        Service::GptDisableWakeup => changes(first, Change::Wakeup(false)),
+        Service::GptCheckWakeup => changes(first, Change::Check),
         _ => Call::Init,
     }
 }
 
+fn on(channel: Option<Argument>, call: ChannelCall) -> Call
+    ensures { result ≡ spec.on channel call }
+{
+    Call::Channel(number(channel), call)
+}
+
+fn changes(channel: Option<Argument>, change: Change) -> Call
+    ensures { result ≡ spec.changes channel change }
+{
+    on(channel, ChannelCall::Change(change))
+}
+
 impl Caller for GptDriver {
-    ghost use Rattle.gpt_driver.specs.Requests.{call_of};
-    ghost use Rattle.gpt_driver.specs.Slow.{slow_timers};
+    ghost use Rattle.gpt_driver.specs.Requests.{call_of, has_service};
+    ghost use Rattle.gpt_driver.specs.laws.Lawful.{slow_timers};
+
+    ghost has_service = { λ _. has_service };
 
     ghost call_of = { λ _. call_of };
+
+    fn has(&self, service: Service) -> bool {
+        matches!(service.module(), ModuleName::Gpt)
+    }
 
     fn call(&self, request: &Request) -> Call {
         call_by(request.service, argument(request, 0), argument(request, 1))
     }
 
-    fn most_steps(&self) -> u32 {
-        64
+    fn call_steps(&self, call: &Call) -> u32 {
+        match call {
+            Call::Init | Call::DeInit => self.whole_steps(),
+            Call::SetMode(_) | Call::Channel(..) => MOST_STEPS,
+        }
+    }
+
+    fn line_steps(&self, _line: u32) -> u32 {
+        MOST_STEPS
     }
 
     ghost slow = { slow_timers };
+}
+
+/// The most steps of a call about a channel, and of a handler.
+const MOST_STEPS: u32 = 64;
+
+impl GptDriver {
+    /// The most steps of a call about the whole module: 48 more for each configured channel.
+    fn whole_steps(&self) -> u32
+        ensures is { result ≡ whole_steps self.now }
+        ensures few { result ≤ 448 }
+    {
+        let below = self.counted(0) + self.counted(1) + self.counted(2) + self.counted(3);
+        let above = self.counted(4) + self.counted(5) + self.counted(6) + self.counted(7);
+        MOST_STEPS + 48 * (below + above)
+    }
+
+    /// 1 where the channel is configured, and 0 where it isn't.
+    fn counted(&self, number: u32) -> u32
+        ensures is { result ≡ counted self.now number }
+        ensures few { result ≤ 1 }
+    {
+        u32::from(self.channel(number).is_some())
+    }
 }

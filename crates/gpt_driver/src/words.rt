@@ -11,6 +11,9 @@ pub const TARGETS: u32 = 16_392;
 /// From here on the switches of each channel.
 pub const SWITCHES: u32 = 16_400;
 
+/// The last word of a channel.
+pub const LAST_WORD: u32 = 16_407;
+
 /// How many channels the chip has.
 pub const CHANNELS: u32 = 8;
 

@@ -2,4 +2,5 @@ pub mod Bits
 pub mod Causes
 pub mod Expiry
 pub mod Faults
+pub mod Layout
 pub mod Names

@@ -1,7 +1,8 @@
-ghost use Rattle.std.specs.Prelude.{ℕ, ◌≡◌, ◌<◌, ◌≤◌, ◌+◌, ◌++◌, [], IfOk, Some, length, take, drop};
+ghost use Rattle.std.specs.Prelude.{ℕ, ◌≡◌, ◌<◌, ◌≤◌, ◌+◌, ◌++◌, [], true, false, min, IfOk, IsErr, Some, length, take, drop};
 ghost use Rattle.std.specs.Bool.{OnTrue, OnFalse};
-ghost use Rattle.mcal_base.specs.Causes.{Rises};
-ghost use Rattle.mcal_base.specs.Faults.{failing_calls, faults_of, last, source_faults, sink_faults};
+ghost use Rattle.std.specs.Io.KnownBytes.{ReadConsumes, WriteAppends};
+ghost use Rattle.mcal_base.specs.Causes.{Rises, HasCause};
+ghost use Rattle.mcal_base.specs.Faults.{failing_calls, faults_of, last, next_call, fails_at, source_faults, read_fails, given, after_read, sink_faults, write_fails, accepted, after_write};
 
 use crate::ends::{Failed, NoMemory, Sink, Source};
 use std::alloc::Global;
@@ -9,6 +10,8 @@ use std::marker::Model;
 
 /// Counts one more call, and tells whether it is one that fails.
 fn counts_as_failing(calls: &mut u64, failing: &[u64]) -> bool
+    ensures number { calls.new ≡ next_call calls.old }
+    ensures which { result ≡ fails_at failing.now calls.new }
     ensures within { (full : ℕ) → failing_calls failing.now calls.old + full ≤ calls.old → failing_calls failing.now calls.new + full ≤ calls.new }
     ensures fails { OnTrue result ((full : ℕ) → failing_calls failing.now calls.old + full ≤ calls.old → Rises (faults_of failing.now calls.old full) (faults_of failing.now calls.new full)) }
     ensures goes { OnFalse result ((calls.new ≡ calls.old + 1) × (calls.new < last) × (failing_calls failing.now calls.new ≡ failing_calls failing.now calls.old)) }
@@ -23,6 +26,7 @@ fn counts_as_failing(calls: &mut u64, failing: &[u64]) -> bool
 /// Copies the front of the bytes, at most so many, to the front of the buffer.
 fn copy_front(buf: &mut [u8], bytes: &[u8], most: usize) -> usize
     requires { 0 < most }
+    ensures count { result ≡ min (min most (length buf.old)) (length bytes.now) }
     ensures room { result ≤ length buf.new }
     ensures within { result ≤ length bytes.now }
     ensures front { bytes.now ≡ take result buf.new ++ drop result bytes.now }
@@ -75,7 +79,14 @@ impl Source for ListSource {
 
     ghost faults = { source_faults };
 
-    fn read(&mut self, buf: &mut [u8]) -> Result<usize, Failed> {
+    fn read(&mut self, buf: &mut [u8]) -> Result<usize, Failed>
+        ensures bound { IfOk result (λ n. n ≤ length buf.new) }
+        ensures bytes { ReadConsumes (Some self.old.left) (Some self.new.left) result buf.new }
+        ensures cause { HasCause (source_faults self.old) (source_faults self.new) result }
+        ensures fault { read_fails self.old ≡ true → IsErr result }
+        ensures gives { read_fails self.old ≡ false → result ≡ Ok (given self.old (length buf.old)) }
+        ensures after { self.new ≡ after_read self.old (length buf.old) }
+    {
         if counts_as_failing(&mut self.calls, &self.failing) {
             return Err(Failed);
         }
@@ -97,14 +108,14 @@ pub struct ListSink {
 }
 
 impl Model for ListSink {
-    ghost use Rattle.std.specs.Prelude.{◌+◌, ◌<◌, ◌≤◌, ◌^◌, vec_len, vec_capacity};
+    ghost use Rattle.std.specs.Prelude.{◌≡◌, ◌+◌, ◌<◌, ◌≤◌, ◌^◌, vec_len, vec_capacity};
     ghost use Rattle.mcal_base.specs.Faults.{Filling, failing_calls};
 
     ghost Value = { Filling };
 
     ghost view = { λ s. record { taken = s.bytes.items; most = s.most; room = s.room; failing = s.failing.items; calls = s.calls; full = s.full } };
 
-    ghost invariant = { λ s. (vec_len s.bytes ≤ s.room) × (s.room ≤ vec_capacity s.bytes) × (0 < s.most) × (failing_calls s.failing.items s.calls + s.full ≤ s.calls) };
+    ghost invariant = { λ s. (vec_len s.bytes ≤ s.room) × (s.room ≤ vec_capacity s.bytes) × (0 < s.most) × (failing_calls s.failing.items s.calls + s.full ≤ s.calls) × (vec_len s.bytes < s.room → s.full ≡ 0) };
 }
 
 impl ListSink {
@@ -146,7 +157,16 @@ impl Sink for ListSink {
 
     ghost faults = { sink_faults };
 
-    fn write(&mut self, piece: &[u8]) -> Result<usize, Failed> {
+    fn write(&mut self, piece: &[u8]) -> Result<usize, Failed>
+        ensures bound { IfOk result (λ n. n ≤ length piece.now) }
+        ensures some { IfOk result (λ n. 0 < length piece.now → 0 < n) }
+        ensures bytes { WriteAppends (Some self.old.taken) (Some self.new.taken) result piece.now }
+        ensures cause { HasCause (sink_faults self.old) (sink_faults self.new) result }
+        ensures fault { write_fails self.old ≡ true → IsErr result }
+        ensures takes { write_fails self.old ≡ false → result ≡ Ok (accepted self.old (length piece.now)) }
+        ensures after { self.new ≡ after_write self.old piece.now }
+        ensures room_left { length self.new.taken < self.new.room → self.new.full ≡ 0 }
+    {
         if counts_as_failing(&mut self.calls, &self.failing) {
             return Err(Failed);
         }

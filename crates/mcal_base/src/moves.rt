@@ -3,13 +3,15 @@ use crate::notice::Notice;
 use crate::register::Reg;
 use crate::service::Service;
 
-/// A development error with the service that found it, as `Det_ReportError` is told.
+/// An error with the service that found it, as it is reported.
 #[derive(Clone, Copy, Debug, PartialEq, Eq)]
 pub struct DevError {
     /// The service that found the error.
     pub service: Service,
     /// The error.
     pub error: ErrorName,
+    /// Whether it is a runtime error, which `Det_ReportRuntimeError` is told, or a development error, for `Det_ReportError`.
+    pub runtime: bool,
 }
 
 /// One move of a frame: all that a step does to the world.
@@ -29,7 +31,7 @@ pub enum Move {
     Unmask,
     /// Calls a callback.
     Note(Notice),
-    /// Reports a development error.
+    /// Reports an error.
     Report(DevError),
 }
 

@@ -1,4 +1,4 @@
-ghost use Rattle.std.specs.Prelude.{ℕ, ◌≡◌};
+ghost use Rattle.std.specs.Prelude.{ℕ, ◌≡◌, None};
 ghost use Rattle.mcal_base.specs.declared.moves.Move.{Move};
 ghost use Rattle.mcal_base.specs.declared.routine.Taken.{Taken};
 
@@ -34,4 +34,17 @@ pub trait Routine {
     fn took(&mut self, value: u32) -> Taken
         ensures state { self.new ≡ left self.old value }
         ensures taken { result ≡ gave self.old value };
+
+    /// Takes what the move gave, as `took` does, and tells the event. The answer is written to a place that holds none,
+    /// where the routine ended; nothing is written where it goes on.
+    fn took_into(&mut self, value: u32, ended: &mut Option<Answer>) -> Option<Event>
+        requires free { ended.old ≡ None }
+        ensures state { self.new ≡ left self.old value }
+        ensures event { result ≡ (gave self.old value).event }
+        ensures answer { ended.new ≡ (gave self.old value).ended }
+    {
+        let taken = self.took(value);
+        *ended = taken.ended;
+        taken.event
+    }
 }

@@ -23,14 +23,17 @@ nothing_kept breaks = λ k d l. absurd (omega arith)
 pub ones : IsList 2 2 1 7 (1 ∷ 1 ∷ [])
 ones = record { enough = omega arith; few = omega arith; each = All-cons (InRange 1 7) 1 (1 ∷ []) (in_range 1 7 1 (omega arith) (omega arith)) (All-cons (InRange 1 7) 1 [] (in_range 1 7 1 (omega arith) (omega arith)) (All-nil (InRange 1 7))) }
 
+first_class : InRange 1 2 1
+first_class = in_range 1 2 1 (omega arith) (omega arith)
+
 pub board_is_valid : IsValid default_board
 unfolding default_board
 board_is_valid = record {
   mcu = record { tables = record { clock_settings = no_elements _ _ 8; modes = no_elements _ _ 8; ram_sections = no_elements _ _ 8 }; rules = record { ends = nothing_kept ends_past; apart = nothing_kept overlaps } };
   port = record { tables = record { pins = no_elements _ _ 64 }; rules = record { initial = nothing_kept initial_not_allowed } };
-  gpt = record { channels = one_element _ _ 8 _ (omega arith) (record { id = in_range 0 7 0 (omega arith) (omega arith); tick_value_max = in_range 1 4294967295 4294967295 (omega arith) (omega arith); prescaler = in_range 1 65535 1 (omega arith) (omega arith); level = in_range 1 7 1 (omega arith) (omega arith) }) };
+  gpt = record { classification = first_class; channels = one_element _ _ 8 _ (omega arith) (record { id = in_range 0 7 0 (omega arith) (omega arith); tick_value_max = in_range 1 4294967295 4294967295 (omega arith) (omega arith); prescaler = in_range 1 65535 1 (omega arith) (omega arith); level = in_range 1 7 1 (omega arith) (omega arith) }) };
   pwm = record { tables = record { channels = no_elements _ _ 8 }; rules = record { pins = nothing_kept shares_pin } };
-  icu = record { channels = no_elements _ _ 8 };
-  adc = record { tables = record { units = no_elements _ _ 2; groups = no_elements _ _ 16 }; units = All-nil _; rules = record { hardware = nothing_kept hardware_continuous; triggers = nothing_kept shares_trigger; single = nothing_kept single_with_samples; streaming = nothing_kept streaming_once } };
-  spi = record { tables = record { levels = ones; channels = no_elements _ _ 16; jobs = no_elements _ _ 16; sequences = no_elements _ _ 8 }; references = record { channels = All-nil _; jobs = All-nil _ }; rules = record { channels_once = nothing_kept names_channel_twice; jobs_once = nothing_kept names_job_twice; one_unit = nothing_kept (mixes_units []); shared = nothing_kept shares_channel } };
+  icu = record { classification = first_class; channels = no_elements _ _ 8 };
+  adc = record { tables = record { classification = first_class; units = no_elements _ _ 2; groups = no_elements _ _ 16 }; units = All-nil _; rules = record { hardware = nothing_kept hardware_continuous; triggers = nothing_kept shares_trigger; single = nothing_kept single_with_samples; streaming = nothing_kept streaming_once } };
+  spi = record { tables = record { classification = first_class; levels = ones; channels = no_elements _ _ 16; jobs = no_elements _ _ 16; sequences = no_elements _ _ 8 }; references = record { channels = All-nil _; jobs = All-nil _ }; rules = record { channels_once = nothing_kept names_channel_twice; jobs_once = nothing_kept names_job_twice; one_unit = nothing_kept (mixes_units []); shared = nothing_kept shares_channel } };
 }

@@ -90,6 +90,7 @@ unit_references all i (g ∷ gs) = reference unit_id all (of_key (of_element gro
 unfoldable pub key_checks : Members → Checks
 key_checks ms =
     allowed at keys.AdcDevErrorDetect truth ms
+    ⨾ allowed at keys.Classification (whole 1 2) ms
     ⨾ allowed at keys.AdcPriorityImplementation (name priority_implementation_named) ms
     ⨾ allowed at keys.AdcEnableQueuing truth ms
     ⨾ array_checks units 2 ms
@@ -98,11 +99,12 @@ key_checks ms =
 unfoldable pub value_of : Members → Option AdcConfig
 value_of ms = do
   detect ← read_or true keys.AdcDevErrorDetect truth ms
+  classification ← read_or 1 keys.Classification (whole 1 2) ms
   priority ← read_or priorities.None keys.AdcPriorityImplementation (name priority_implementation_named) ms
   queuing ← read_or false keys.AdcEnableQueuing truth ms
   units ← array_value units ms
   groups ← array_value groups ms
-  Some (record { dev_error_detect = detect; priority_implementation = priority; enable_queuing = queuing; units = units; groups = groups })
+  Some (record { dev_error_detect = detect; classification = classification; priority_implementation = priority; enable_queuing = queuing; units = units; groups = groups })
 
 unfoldable pub rule_checks : AdcConfig → Checks
 rule_checks adc =

@@ -46,13 +46,15 @@ channels = record { place = of_key at keys.GptChannelConfiguration; key = keys.G
 unfoldable pub checks : Members → Checks
 checks ms =
     allowed at keys.GptDevErrorDetect truth ms
+    ⨾ allowed at keys.Classification (whole 1 2) ms
     ⨾ array_checks channels 8 ms
 
 unfoldable pub value_of : Members → Option GptConfig
 value_of ms = do
   detect ← read_or true keys.GptDevErrorDetect truth ms
+  classification ← read_or 1 keys.Classification (whole 1 2) ms
   channels ← array_value channels ms
-  Some (record { dev_error_detect = detect; channels = channels })
+  Some (record { dev_error_detect = detect; classification = classification; channels = channels })
 
 abbrev pub part : Part GptConfig
 part = record { name = modules.Gpt; checks = checks; value = value_of }

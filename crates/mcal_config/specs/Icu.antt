@@ -65,13 +65,15 @@ channels = record { place = of_key at keys.IcuChannel; key = keys.IcuChannel; id
 unfoldable pub checks : Members → Checks
 checks ms =
     allowed at keys.IcuDevErrorDetect truth ms
+    ⨾ allowed at keys.Classification (whole 1 2) ms
     ⨾ array_checks channels 8 ms
 
 unfoldable pub value_of : Members → Option IcuConfig
 value_of ms = do
   detect ← read_or true keys.IcuDevErrorDetect truth ms
+  classification ← read_or 1 keys.Classification (whole 1 2) ms
   channels ← array_value channels ms
-  Some (record { dev_error_detect = detect; channels = channels })
+  Some (record { dev_error_detect = detect; classification = classification; channels = channels })
 
 abbrev pub part : Part IcuConfig
 part = record { name = modules.Icu; checks = checks; value = value_of }

@@ -34,16 +34,16 @@ is_bare (member k d ms) = false
 
 -- the board of a tree without keys: one timer channel
 abbrev pub one_timer : GptConfig
-one_timer = record { dev_error_detect = true; channels = record { id = 0; mode = OneShot; tick_value_max = 4294967295; enable_wakeup = false; notification = false; prescaler = 1; level = 1 } ∷ [] }
+one_timer = record { dev_error_detect = true; classification = 1; channels = record { id = 0; mode = OneShot; tick_value_max = 4294967295; enable_wakeup = false; notification = false; prescaler = 1; level = 1 } ∷ [] }
 
 abbrev pub no_clock : McuConfig
 no_clock = record { dev_error_detect = true; clock_settings = []; modes = []; ram_sections = [] }
 
 abbrev pub no_converter : AdcConfig
-no_converter = record { dev_error_detect = true; priority_implementation = priorities.None; enable_queuing = false; units = []; groups = [] }
+no_converter = record { dev_error_detect = true; classification = 1; priority_implementation = priorities.None; enable_queuing = false; units = []; groups = [] }
 
 abbrev pub no_serial : SpiConfig
-no_serial = record { dev_error_detect = true; levels = 1 ∷ 1 ∷ []; channels = []; jobs = []; sequences = [] }
+no_serial = record { dev_error_detect = true; classification = 1; levels = 1 ∷ 1 ∷ []; channels = []; jobs = []; sequences = [] }
 
 unfoldable pub default_board : Config
 default_board = record {
@@ -51,7 +51,7 @@ default_board = record {
   port = record { dev_error_detect = true; pins = [] };
   gpt = one_timer;
   pwm = record { dev_error_detect = true; channels = [] };
-  icu = record { dev_error_detect = true; channels = [] };
+  icu = record { dev_error_detect = true; classification = 1; channels = [] };
   adc = no_converter;
   spi = no_serial;
 }

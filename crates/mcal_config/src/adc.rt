@@ -227,6 +227,7 @@ fn keys(table: &Table) -> Result<AdcConfig, ConfigFault>
     ensures tables { IfOk result valid.HasAdcTables }
 {
     let dev_error_detect = truth_or(table, HERE, KeyName::AdcDevErrorDetect, true)?;
+    let classification = whole_or(table, HERE, KeyName::Classification, 1, 2, 1)?;
     let priority_implementation = name_or(
         table,
         HERE,
@@ -238,6 +239,7 @@ fn keys(table: &Table) -> Result<AdcConfig, ConfigFault>
     let groups = elements::<Groups, 16>(table)?;
     Ok(AdcConfig {
         dev_error_detect,
+        classification,
         priority_implementation,
         enable_queuing,
         units,

@@ -24,6 +24,7 @@ fn one_timer() -> GptConfig
     });
     GptConfig {
         dev_error_detect: true,
+        classification: 1,
         channels,
     }
 }
@@ -46,6 +47,7 @@ fn no_converter() -> AdcConfig
 {
     AdcConfig {
         dev_error_detect: true,
+        classification: 1,
         priority_implementation: AdcPriorityImplementation::None,
         enable_queuing: false,
         units: Short::new(),
@@ -59,6 +61,7 @@ fn no_serial() -> SpiConfig
 {
     SpiConfig {
         dev_error_detect: true,
+        classification: 1,
         levels: both_at_one(),
         channels: Short::new(),
         jobs: Short::new(),
@@ -84,6 +87,7 @@ fn all_modules() -> Config
         },
         icu: IcuConfig {
             dev_error_detect: true,
+            classification: 1,
             channels: Short::new(),
         },
         adc: no_converter(),

@@ -83,9 +83,11 @@ fn keys(table: &Table) -> Result<GptConfig, ConfigFault>
     ensures tables { IfOk result valid.IsGpt }
 {
     let dev_error_detect = truth_or(table, HERE, KeyName::GptDevErrorDetect, true)?;
+    let classification = whole_or(table, HERE, KeyName::Classification, 1, 2, 1)?;
     let channels = elements::<Channels, 8>(table)?;
     Ok(GptConfig {
         dev_error_detect,
+        classification,
         channels,
     })
 }

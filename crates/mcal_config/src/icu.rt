@@ -104,9 +104,11 @@ fn keys(table: &Table) -> Result<IcuConfig, ConfigFault>
     ensures tables { IfOk result valid.IsIcu }
 {
     let dev_error_detect = truth_or(table, HERE, KeyName::IcuDevErrorDetect, true)?;
+    let classification = whole_or(table, HERE, KeyName::Classification, 1, 2, 1)?;
     let channels = elements::<Channels, 8>(table)?;
     Ok(IcuConfig {
         dev_error_detect,
+        classification,
         channels,
     })
 }

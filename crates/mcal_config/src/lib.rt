@@ -5,16 +5,16 @@ mod adc;
 mod bare;
 mod gpt;
 mod icu;
+mod laws;
 mod mcu;
 mod port;
 mod pwm;
 mod spi;
 mod spi_rules;
 mod spi_tables;
-#[cfg(test)]
-mod tests;
 mod whole;
 
 pub use bare::default_board;
 pub use config_rows::{ConfigFault, KeyName, Path, Printed};
+pub use laws::faultless_has_record;
 pub use whole::read_config;

@@ -7,7 +7,7 @@ ghost use Rattle.mcal_config.specs.Spi as spec;
 
 use crate::spi_rules::{references, rules};
 use crate::spi_tables::{Channels, HERE, Jobs, Sequences};
-use config_rows::{ConfigFault, KeyName, Module, elements, numbers_or, truth_or};
+use config_rows::{ConfigFault, KeyName, Module, elements, numbers_or, truth_or, whole_or};
 use mcal_base::{ModuleName, Short, SpiConfig};
 use toml::Table;
 
@@ -29,12 +29,14 @@ fn keys(table: &Table) -> Result<SpiConfig, ConfigFault>
     ensures tables { IfOk result valid.HasSpiTables }
 {
     let dev_error_detect = truth_or(table, HERE, KeyName::SpiDevErrorDetect, true)?;
+    let classification = whole_or(table, HERE, KeyName::Classification, 1, 2, 1)?;
     let levels = numbers_or(table, HERE, KeyName::Levels, 2, 1, 7, both_at_one())?;
     let channels = elements::<Channels, 16>(table)?;
     let jobs = elements::<Jobs, 16>(table)?;
     let sequences = elements::<Sequences, 8>(table)?;
     Ok(SpiConfig {
         dev_error_detect,
+        classification,
         levels,
         channels,
         jobs,

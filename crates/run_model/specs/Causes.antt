@@ -1,8 +1,8 @@
 -- When a call or a handler may begin, and the first cause that keeps it off.
-use Rattle.std.specs.Prelude.{ℕ, Bool, true, false, ◌&&◌, ◌||◌, not, ◌==◌, nat_lt, cond, List, [], ◌∷◌, length, Option, Some, None}
+use Rattle.std.specs.Prelude.{ℕ, Bool, true, false, ◌&&◌, ◌||◌, not, ◌==◌, nat_lt, nat_le, cond, List, [], ◌∷◌, length, Option, Some, None}
 use Rattle.std.specs.List.{list_all}
 use Rattle.irq_control.specs.declared.held.Held.{Held}
-use Rattle.irq_control.specs.declared.held.Held.TheVariants.{Masked, Level, Reentry, Idle, Full}
+use Rattle.irq_control.specs.declared.held.Held.TheVariants.{Masked, Level, Reentry, Idle, Full, Unknown, Busy}
 use Rattle.mcal_base.specs.Names.{module_number}
 use Rattle.run_model.specs.declared.class.Kind.{Kind}
 use Rattle.run_model.specs.declared.class.Kind.TheVariants.{Exclusive, Keyed, Guarded, Query}
@@ -11,7 +11,7 @@ use Rattle.run_model.specs.declared.class.KeyKind.TheVariants as kinds
 use Rattle.run_model.specs.declared.class.Key.{Key}
 use Rattle.run_model.specs.declared.class.Class.{Class}
 use Rattle.run_model.specs.declared.class.Tag.{Tag}
-use Rattle.run_model.specs.Frame.{Open}
+use Rattle.run_model.specs.Frame.{Origin, Open}
 
 abbrev pub kind_number : KeyKind → ℕ
 kind_number kinds.Section = 0
@@ -69,6 +69,17 @@ abbrev pub line_level_allows : List Tag → ℕ → Bool
 line_level_allows [] level = true
 line_level_allows (top ∷ below) level = nat_lt top.level level
 
+-- no frame is of a higher level, and each one is of a lower level
+abbrev pub none_above : List Tag → ℕ → Bool
+none_above tags level = list_all (λ t. nat_le t.level level) tags
+
+abbrev pub all_below : List Tag → ℕ → Bool
+all_below tags level = list_all (λ t. nat_lt t.level level) tags
+
+-- why a fill of a source array is held
+abbrev pub fill_cause : (masked there busy : Bool) → Option Held
+fill_cause masked there busy = cond there (cond (masked || busy) (Some Busy) None) (Some Unknown)
+
 -- the first cause that holds, by whether each one holds
 abbrev pub first_cause : (masked level reentry idle full : Bool) → Option Held
 first_cause masked level reentry idle full =
@@ -90,6 +101,11 @@ line_cause masked tags level pending = first_cause masked (not (line_level_allow
 abbrev pub tags_of : {Call : Type 0} → List (Open Call) → List Tag
 tags_of [] = []
 tags_of (o ∷ os) = o.tag ∷ tags_of os
+
+-- what frames under way were begun for
+abbrev pub origins_of : {Call : Type 0} → List (Open Call) → List (Origin Call)
+origins_of [] = []
+origins_of (o ∷ os) = o.origin ∷ origins_of os
 
 -- the top frame's last move is a notice
 abbrev pub top_noted : {Call : Type 0} → List (Open Call) → Bool

@@ -1,12 +1,12 @@
 -- When a journal follows a script: directive by directive its items are those that the bench language gives.
-use Rattle.std.specs.Prelude.{◌≡◌, ℕ, zero, suc, ◌+◌, Bool, true, false, ◌||◌, ◌&&◌, ◌==◌, List, [], ◌∷◌, ◌++◌, length, Option, Some, None, is_some, MatchBool}
+use Rattle.std.specs.Prelude.{◌≡◌, ℕ, zero, suc, ◌+◌, ◌-◌, nat_lt, Bool, true, false, ◌||◌, ◌&&◌, ◌==◌, List, [], ◌∷◌, ◌++◌, length, Option, Some, None, is_some, MatchBool}
 use Rattle.chip_model.specs.Chip.{is_pending, is_masked}
 use Rattle.irq_control.specs.declared.held.Held.{Held}
-use Rattle.irq_control.specs.declared.held.Held.TheVariants.{Empty, Frames, Unknown}
+use Rattle.irq_control.specs.declared.held.Held.TheVariants.{Empty, Frames}
 use Rattle.mcal_base.specs.declared.directive.Directive.{Directive}
 use Rattle.mcal_base.specs.declared.directive.Order.{Order}
 use Rattle.mcal_base.specs.declared.directive.Order.TheVariants as orders
-use Rattle.mcal_base.specs.declared.directive.Reason.TheVariants.{Software}
+use Rattle.mcal_base.specs.declared.directive.Reason.TheVariants.{Watchdog, Software}
 use Rattle.mcal_base.specs.declared.directive.Request.{Request}
 use Rattle.mcal_base.specs.declared.directive.Stop.{Stop}
 use Rattle.mcal_base.specs.declared.directive.Stop.TheVariants as stops
@@ -20,12 +20,32 @@ use Rattle.run_model.specs.declared.reach.Reach.TheVariants.{Count, Until, Whole
 use Rattle.run_model.specs.Causes.{call_cause, line_cause, tags_of, top_noted}
 use Rattle.run_model.specs.Entry as entry
 use Rattle.run_model.specs.Frame.{Open, resets_chip}
+use Rattle.run_model.specs.Legal.{hardware_held}
 use Rattle.run_model.specs.Moment.{Setting, Moment, Deed, Begins, Enters, Steps, after, after_all}
 use Rattle.run_model.specs.Script.{deed_of}
 
 -- the items are this one alone, with the directive's line and the number of frames before it
 abbrev pub IsOne : {State Call : Type 0} → Moment State Call → (line : ℕ) → entry.Said → List entry.Entry → Type 0
 IsOne m line said items = items ≡ (record { line = line; depth = length m.opens; said = said }) ∷ []
+
+-- ---- ticks
+
+-- the ticks that are left after a reset, if any
+abbrev pub ticks_left : (line rest : ℕ) → List entry.Entry
+ticks_left line zero = []
+ticks_left line (suc n) = (record { line = line; depth = 0; said = entry.Happens (orders.Tick (suc n)) }) ∷ []
+
+-- the items of ticks in which the watchdog's time ends: the ticks up to there, its reset, and the ticks that are left
+abbrev pub ticks_through : (line depth left rest : ℕ) → List entry.Entry
+ticks_through line depth left rest =
+    (record { line = line; depth = depth; said = entry.Happens (orders.Tick left) })
+    ∷ (record { line = line; depth = depth; said = entry.Resets Watchdog depth })
+    ∷ ticks_left line rest
+
+-- the items of ticks, by how many there are until the watchdog's time ends
+abbrev pub Ticks : {State Call : Type 0} → Moment State Call → (line n : ℕ) → (left : Option ℕ) → List entry.Entry → Type 0
+Ticks m line n None items = IsOne m line (entry.Happens (orders.Tick n)) items
+Ticks m line n (Some left) items = MatchBool (nat_lt n left) (IsOne m line (entry.Happens (orders.Tick n)) items) (items ≡ ticks_through line (length m.opens) left (n - left))
 
 -- ---- steps of the top frame
 
@@ -65,8 +85,9 @@ ThenComes g line reach made m s items More =
     (IsOne (after g m (Steps s)) line (entry.Resets Software (length (after g m (Steps s)).opens)) items)
     (MatchBool (is_some s.ended || is_reached reach (made + 1) s) (items ≡ []) More)
 
-abbrev pub IsStep : {State Call : Type 0} → Setting State Call → (line : ℕ) → Reach → (made : ℕ) → Moment State Call → entry.Entry → (items : List entry.Entry) → entry.Said → (Stepped → Type 0) → Type 0
-IsStep g line reach made m e items (entry.Steps s) More = (e.line ≡ line) × (e.depth ≡ length m.opens) × ThenComes g line reach made m s items (More s)
+-- the item is a step, with which so many were made, and more comes after its deed; ticks for which the bus stalls a step will be a deed here too, and no step
+abbrev pub IsStep : {State Call : Type 0} → Setting State Call → (line : ℕ) → Reach → (made : ℕ) → Moment State Call → entry.Entry → (items : List entry.Entry) → entry.Said → ((made : ℕ) → Deed Call → Type 0) → Type 0
+IsStep g line reach made m e items (entry.Steps s) More = (e.line ≡ line) × (e.depth ≡ length m.opens) × ThenComes g line reach made m s items (More (made + 1) (Steps s))
 IsStep g line reach made m e items (entry.Happens o) More = ⊥
 IsStep g line reach made m e items entry.Begins More = ⊥
 IsStep g line reach made m e items (entry.Stays c) More = ⊥
@@ -75,7 +96,7 @@ IsStep g line reach made m e items (entry.Resets r k) More = ⊥
 -- the items are steps of the top frame as far as the directive reaches, or to the frame's end, or to a reset; so many were made before
 abbrev pub GoesOn : {State Call : Type 0} → Setting State Call → (line : ℕ) → Reach → (made : ℕ) → Moment State Call → List entry.Entry → Type 0
 GoesOn g line reach made m [] = ⊥
-GoesOn g line reach made m (e ∷ es) = IsStep g line reach made m e es e.said (λ s. GoesOn g line reach (made + 1) (after g m (Steps s)) es)
+GoesOn g line reach made m (e ∷ es) = IsStep g line reach made m e es e.said (λ n deed. GoesOn g line reach n (after g m deed) es)
 
 -- the items of `run`, `upto` and `finish`: held without a frame, and `run 0` makes no step
 abbrev pub Goes : {State Call : Type 0} → Setting State Call → (line : ℕ) → Reach → Moment State Call → List (Open Call) → List entry.Entry → Type 0
@@ -116,6 +137,11 @@ abbrev pub Shows : {State Call : Type 0} → Moment State Call → (line : ℕ) 
 Shows m line order [] items = IsOne m line (entry.Happens order) items
 Shows m line order (o ∷ os) items = IsOne m line (entry.Stays Frames) items
 
+-- a held hardware event gives its cause, and another one `Happened`
+abbrev pub HappensOnly : {State Call : Type 0} → Moment State Call → (line : ℕ) → Order → Option Held → List entry.Entry → Type 0
+HappensOnly m line order (Some c) items = IsOne m line (entry.Stays c) items
+HappensOnly m line order None items = IsOne m line (entry.Happens order) items
+
 -- the items that a directive gives
 abbrev pub Gives : {State Call : Type 0} → Setting State Call → (Request → Call) → Moment State Call → (line : ℕ) → Order → List entry.Entry → Type 0
 Gives g call_of m line (orders.Call level r) items = BeginsOnly m line (call_held g m (call_of r) level) items
@@ -125,14 +151,13 @@ Gives g call_of m line (orders.Serve l) items = BeginsWhole g m line (Enters l) 
 Gives g call_of m line (orders.Run n) items = Goes g line (Count n) m m.opens items
 Gives g call_of m line (orders.Upto stop) items = Goes g line (Until stop) m m.opens items
 Gives g call_of m line orders.Finish items = Goes g line Whole m m.opens items
-Gives g call_of m line (orders.Tick n) items = IsOne m line (entry.Happens (orders.Tick n)) items
+Gives g call_of m line (orders.Tick n) items = Ticks m line n (g.machine.expires m.world m.state) items
 Gives g call_of m line (orders.Level p v) items = IsOne m line (entry.Happens (orders.Level p v)) items
 Gives g call_of m line (orders.Analog i v) items = IsOne m line (entry.Happens (orders.Analog i v)) items
 Gives g call_of m line (orders.Trigger i) items = IsOne m line (entry.Happens (orders.Trigger i)) items
 Gives g call_of m line (orders.Miso u ws) items = IsOne m line (entry.Happens (orders.Miso u ws)) items
 Gives g call_of m line (orders.SpiFault u) items = IsOne m line (entry.Happens (orders.SpiFault u)) items
--- a source array is there for configured serial channels alone
-Gives g call_of m line (orders.Fill c ws) items = IsOne m line (entry.Stays Unknown) items
+Gives g call_of m line (orders.Fill c ws) items = HappensOnly m line (orders.Fill c ws) (hardware_held g m (orders.Fill c ws)) items
 -- a script asks for no software reset
 Gives g call_of m line (orders.Reset Software) items = ⊥
 Gives g call_of m line (orders.Reset reason) items = IsOne m line (entry.Resets reason (length m.opens)) items

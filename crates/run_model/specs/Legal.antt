@@ -1,8 +1,9 @@
 -- When a run is legal: what each of its deeds has to be, in the moment before it.
-use Rattle.std.specs.Prelude.{◌≡◌, ℕ, ◌≤◌, Bool, true, false, ◌||◌, ◌==◌, List, [], ◌∷◌, Option, Some, None, IsSome}
-use Rattle.std.specs.List.{list_any}
-use Rattle.chip_model.specs.Chip.{value_of, is_pending, is_masked}
+use Rattle.std.specs.Prelude.{◌≡◌, ℕ, ◌<◌, ◌≤◌, Bool, true, false, ◌||◌, ◌==◌, cond, List, [], ◌∷◌, Option, Some, None, IsSome}
+use Rattle.std.specs.List.{Contains, list_any, list_all}
+use Rattle.chip_model.specs.Chip.{Chip, value_of, is_pending, is_masked}
 use Rattle.chip_model.specs.Reach.{CanApply}
+use Rattle.irq_control.specs.declared.held.Held.{Held}
 use Rattle.mcal_base.specs.declared.answer.Answer.{Answer}
 use Rattle.mcal_base.specs.declared.error_name.ErrorName.{ErrorName}
 use Rattle.mcal_base.specs.declared.moves.DevError.{DevError}
@@ -16,21 +17,38 @@ use Rattle.mcal_base.specs.declared.notice.Notice.{Notice}
 use Rattle.mcal_base.specs.declared.register.Reg.{Reg}
 use Rattle.mcal_base.specs.declared.register.Reg.TheVariants.{ConverterGo, ConverterAbort, SerialData}
 use Rattle.run_model.specs.declared.item.Stepped.{Stepped}
-use Rattle.run_model.specs.Machine.{Moves, Restarts, Outcome, Machine, no_answer}
-use Rattle.run_model.specs.Frame.{Origin, Called, Entered, Open, happening_at, outcome_of, report_by, open_after, is_shared, resets_chip, asks_reset}
-use Rattle.run_model.specs.Causes.{call_cause, line_cause, tags_of, top_noted}
-use Rattle.run_model.specs.Moment.{Setting, Moment, Deed, Begins, Enters, Steps, Happens, Resets, after}
+use Rattle.mcal_base.specs.declared.directive.Order.{Order}
+use Rattle.mcal_base.specs.declared.directive.Order.TheVariants as orders
+use Rattle.mcal_base.specs.declared.directive.Reason.TheVariants.{Watchdog}
+use Rattle.run_model.specs.World.{World}
+use Rattle.run_model.specs.Machine.{Moves, Restarts, Machine, no_answer}
+use Rattle.run_model.specs.Frame.{Origin, Called, Entered, Owing, ActedAt, Open, outcome_at, report_by, open_after, is_shared, resets_chip, asks_reset}
+use Rattle.run_model.specs.Causes.{call_cause, line_cause, fill_cause, tags_of, origins_of, top_noted}
+use Rattle.run_model.specs.Moment.{Halves, Setting, Moment, Deed, Begins, Enters, Steps, Happens, Resets, after}
 
 -- ---- the events of a step
 
--- a frame acts once; a handler doesn't act, and serves its own line, once; a call serves only lines that it polls, each once
-abbrev pub IsOwnEvent : {State Call : Type 0} → Machine State Call → Open Call → Event → Origin Call → Type 0
-IsOwnEvent mac o Act (Called c) = o.acted ≡ None
-IsOwnEvent mac o Act (Entered l) = ⊥
-IsOwnEvent mac o (Serve k) (Called c) = (list_any (λ l. l == k) (mac.polls c) ≡ true) × (list_any (λ l. l == k) o.served ≡ false) × (o.inside ≡ true)
-IsOwnEvent mac o (Serve k) (Entered l) = (k ≡ l) × (o.served ≡ []) × (o.inside ≡ true)
-IsOwnEvent mac o (Abort u) origin = o.owed ≡ []
-IsOwnEvent mac o (Start u) origin = o.owed ≡ []
+-- the line is one of these
+abbrev pub has_line : List ℕ → ℕ → Bool
+has_line ls k = list_any (λ l. l == k) ls
+
+-- the lines of a list from this one on
+abbrev pub lines_from : ℕ → List ℕ → List ℕ
+lines_from k [] = []
+lines_from k (l ∷ ls) = cond (l == k) (l ∷ ls) (lines_from k ls)
+
+-- the line is one that is polled, and neither it nor one that comes after it was served
+abbrev pub IsNext : (polls served : List ℕ) → ℕ → Type 0
+IsNext polls served k = (has_line polls k ≡ true) × (list_any (has_line served) (lines_from k polls) ≡ false)
+
+-- a frame acts once; a handler doesn't act, and serves its own line, once; a call serves lines that it polls, in their order, each once
+abbrev pub IsOwnEvent : {State Call : Type 0} → Machine State Call → World → State → Open Call → Event → Origin Call → Type 0
+IsOwnEvent mac w s o Act (Called c) = o.acted ≡ None
+IsOwnEvent mac w s o Act (Entered l) = ⊥
+IsOwnEvent mac w s o (Serve k) (Called c) = IsNext (mac.polls w s c) o.served k × (o.inside ≡ true)
+IsOwnEvent mac w s o (Serve k) (Entered l) = (k ≡ l) × (o.served ≡ []) × (o.inside ≡ true)
+IsOwnEvent mac w s o (Abort u) origin = o.owed ≡ []
+IsOwnEvent mac w s o (Start u) origin = o.owed ≡ []
 
 -- the number of a unit among those of its kind
 abbrev pub unit_number : units.Unit → ℕ
@@ -45,6 +63,20 @@ is_converter Adc1 = true
 is_converter Spi0 = false
 is_converter Spi1 = false
 
+-- a serving that begins a word stands at the write of that word, under the select of its job
+abbrev pub BeginsRight : {State Call : Type 0} → Setting State Call → Origin Call → Chip → World → State → Event → (unit : Option ℕ) → Move → Type 0
+BeginsRight g origin chip w s e None made = Unit {0}
+BeginsRight g origin chip w s e (Some u) (Write (SerialData k) v) = (k ≡ u) × g.selects origin chip w s e u
+BeginsRight g origin chip w s e (Some u) _ = ⊥
+
+-- a word begins only under the select of its job, at a start of a serial unit and at a serving
+abbrev pub SelectsRight : {State Call : Type 0} → Setting State Call → Origin Call → Chip → World → State → Event → Move → Type 0
+SelectsRight g origin chip w s (Start u) (Write (SerialData k) v) = g.selects origin chip w s (Start u) k
+SelectsRight g origin chip w s (Start u) _ = Unit {0}
+SelectsRight g origin chip w s (Serve l) made = BeginsRight g origin chip w s (Serve l) (g.begins_word w s l) made
+SelectsRight g origin chip w s Act made = Unit {0}
+SelectsRight g origin chip w s (Abort u) made = Unit {0}
+
 -- a unit is started at the write of its own register that does it, and aborted at the read that did it
 abbrev pub StandsAt : Event → Move → (value : ℕ) → Type 0
 StandsAt Act made value = Unit {0}
@@ -58,35 +90,56 @@ StandsAt (Abort u) _ value = ⊥
 -- the machine allows the event here
 abbrev pub EventRight : {State Call : Type 0} → Setting State Call → Moment State Call → Open Call → Stepped → Option Event → Type 0
 EventRight g m o s None = Unit {0}
-EventRight g m o s (Some e) = IsOwnEvent g.machine o e o.origin × StandsAt e s.made s.value × IsSome (outcome_of g.machine m.world m.state (happening_at o.origin s.received (Some e)))
+EventRight g m o s (Some e) = IsOwnEvent g.machine m.world m.state o e o.origin × StandsAt e s.made s.value × SelectsRight g o.origin m.chip m.world m.state e s.made × IsSome (outcome_at g.machine m.world m.state o s.made s.received (Some e))
 
--- a call that reads a counter in halves acts at the read of the low half, under the mask, if it finds no error
-abbrev pub StandsLow : Reg → (inside : Bool) → Move → Option ErrorName → Type 0
-StandsLow r inside made (Some e) = Unit {0}
-StandsLow r inside made None = (made ≡ Read r) × (inside ≡ true)
+-- ---- where a frame acts, and what it does besides
 
-abbrev pub ReadsLow : {State : Type 0} → Option Reg → (inside : Bool) → Move → Option (Outcome State) → Type 0
-ReadsLow None inside made out = Unit {0}
-ReadsLow (Some r) inside made None = Unit {0}
-ReadsLow (Some r) inside made (Some out) = StandsLow r inside made out.told.error
+-- a call that acted without an error and has read both halves of its counter acted at a read of the low half, with the mask closed
+abbrev pub ActsLow : Halves → List Reg → ActedAt → Option ErrorName → Type 0
+ActsLow h reads at (Some e) = Unit {0}
+ActsLow h reads at None = Contains reads h.low → Contains reads h.high → (at.made ≡ Read h.low) × (at.inside ≡ true)
 
-abbrev pub HalvesRight : {State Call : Type 0} → Setting State Call → Moment State Call → Open Call → Stepped → Option Event → Origin Call → Type 0
-HalvesRight g m o s (Some Act) (Called c) = ReadsLow (g.low_half c) o.inside s.made (outcome_of g.machine m.world m.state (happening_at (Called c) s.received (Some Act)))
-HalvesRight g m o s (Some Act) (Entered l) = Unit {0}
-HalvesRight g m o s (Some (Serve k)) origin = Unit {0}
-HalvesRight g m o s (Some (Abort u)) origin = Unit {0}
-HalvesRight g m o s (Some (Start u)) origin = Unit {0}
-HalvesRight g m o s None origin = Unit {0}
+abbrev pub HalvesRight : Option Halves → List Reg → Option ActedAt → Type 0
+HalvesRight None reads at = Unit {0}
+HalvesRight (Some h) reads None = Unit {0}
+HalvesRight (Some h) reads (Some at) = ActsLow h reads at at.error
+
+abbrev pub halves_of : {State Call : Type 0} → Setting State Call → Origin Call → Option Halves
+halves_of g (Called c) = g.halves c
+halves_of g (Entered l) = None
+
+-- a call whose act finds an error writes nothing, before it and after it
+abbrev pub WritesNothing : (wrote : Bool) → Option ErrorName → Type 0
+WritesNothing wrote None = Unit {0}
+WritesNothing wrote (Some e) = wrote ≡ false
+
+abbrev pub ErrorsRight : (wrote : Bool) → Option ActedAt → Type 0
+ErrorsRight wrote None = Unit {0}
+ErrorsRight wrote (Some at) = WritesNothing wrote at.error
+
+-- ---- the word that comes in
+
+-- no word comes in but at a write that begins a serial word; there it may be any of 16 bits, or 65,536, where a device failed
+abbrev pub ReceivedRight : {State Call : Type 0} → Setting State Call → Chip → World → Move → (received : ℕ) → Type 0
+ReceivedRight g chip w (Write (SerialData u) v) received = (received ≤ 65536) × g.receives chip w u received
+ReceivedRight g chip w (Write r v) received = received ≡ 0
+ReceivedRight g chip w (Read r) received = received ≡ 0
+ReceivedRight g chip w (Load k) received = received ≡ 0
+ReceivedRight g chip w (Store k v) received = received ≡ 0
+ReceivedRight g chip w Mask received = received ≡ 0
+ReceivedRight g chip w Unmask received = received ≡ 0
+ReceivedRight g chip w (Note n) received = received ≡ 0
+ReceivedRight g chip w (Report e) received = received ≡ 0
 
 -- ---- the moves of a step
 
 -- the notice is the next one that is owed
-abbrev pub Owes : List Notice → Notice → Type 0
+abbrev pub Owes : List Owing → Notice → Type 0
 Owes [] n = ⊥
-Owes (k ∷ ks) n = k ≡ n
+Owes (k ∷ ks) n = k.notice ≡ n
 
 -- the mask is closed and opened in turn, a notice is one that is owed, with the mask open, and a report is the act's
-abbrev pub MoveRight : (inside : Bool) → List Notice → Option DevError → Move → Type 0
+abbrev pub MoveRight : (inside : Bool) → List Owing → Option DevError → Move → Type 0
 MoveRight inside owed report Mask = inside ≡ false
 MoveRight inside owed report Unmask = inside ≡ true
 MoveRight inside owed report (Note n) = (inside ≡ false) × Owes owed n
@@ -96,12 +149,31 @@ MoveRight inside owed report (Write r v) = Unit {0}
 MoveRight inside owed report (Load k) = Unit {0}
 MoveRight inside owed report (Store k v) = Unit {0}
 
+-- at a notice that is owed by a serving, the user arrays of its object are the machine's
+abbrev pub ShowsFirst : {State : Type 0} → (Notice → Chip → State → Type 0) → Chip → State → List Owing → Type 0
+ShowsFirst shows chip s [] = Unit {0}
+ShowsFirst shows chip s (k ∷ ks) = k.served ≡ true → shows k.notice chip s
+
+abbrev pub ShowsRight : {State Call : Type 0} → Setting State Call → Chip → State → Origin Call → List Owing → Move → Type 0
+ShowsRight g chip s origin owed (Note n) = ShowsFirst (g.shows origin) chip s owed
+ShowsRight g chip s origin owed Mask = Unit {0}
+ShowsRight g chip s origin owed Unmask = Unit {0}
+ShowsRight g chip s origin owed (Report e) = Unit {0}
+ShowsRight g chip s origin owed (Read r) = Unit {0}
+ShowsRight g chip s origin owed (Write r v) = Unit {0}
+ShowsRight g chip s origin owed (Load k) = Unit {0}
+ShowsRight g chip s origin owed (Store k v) = Unit {0}
+
 -- ---- the end of a frame
 
--- a call ends with the answer of its act; a handler has served its line, or that wasn't ready at a step of its own, and it answers nothing
+-- it served the line, or that wasn't ready at a step of its own
+abbrev pub has_met : {Call : Type 0} → Open Call → ℕ → Bool
+has_met o l = has_line o.served l || o.missed l
+
+-- a call ends with the answer of its act, and has met the lines that it polled there; a handler has met its line, and it answers nothing
 abbrev pub MayEnd : {Call : Type 0} → Origin Call → Open Call → Answer → Type 0
-MayEnd (Called c) o answer = o.acted ≡ Some answer
-MayEnd (Entered l) o answer = (list_any (λ k. k == l) o.served || o.missed l ≡ true) × (answer ≡ no_answer)
+MayEnd (Called c) o answer = (o.acted ≡ Some answer) × (list_all (has_met o) o.polled ≡ true)
+MayEnd (Entered l) o answer = (has_met o l ≡ true) × (answer ≡ no_answer)
 
 -- a frame that ends owes nothing and holds no mask
 abbrev pub EndRight : {Call : Type 0} → Open Call → Option Answer → Type 0
@@ -114,16 +186,21 @@ EndRight o (Some answer) = MayEnd o.origin o answer × (o.owed ≡ []) × (o.rep
 pub record IsLegalStep {State Call : Type 0} (g : Setting State Call) (m : Moment State Call) (o : Open Call) (s : Stepped) : Type 0 where
   -- the value read is the chip's
   pub value : s.value ≡ value_of m.chip s.made
-  -- no word comes in but to a serial unit
-  pub received : s.received ≡ 0
+  -- the word that comes in is the one of that moment
+  pub received : ReceivedRight g m.chip m.world s.made s.received
   -- the machine allows the event, and it is one that the frame may have
   pub event : EventRight g m o s s.event
-  -- a counter's halves are read in one window
-  pub halves : HalvesRight g m o s s.event o.origin
+  -- a counter that was read in halves was read at the act, with the mask closed
+  pub halves : let o1 = open_after g.machine m.world m.state o s.made s.received s.event in HalvesRight (halves_of g o.origin) o1.reads o1.acted_at
+  -- a call that finds an error leaves the chip alone
+  pub errors : let o1 = open_after g.machine m.world m.state o s.made s.received s.event in ErrorsRight o1.wrote o1.acted_at
   -- the mask, the notices and the report: a notice is owed before the step, a report also by it
-  pub move : MoveRight o.inside o.owed (report_by g.machine o.origin o.report s.event (outcome_of g.machine m.world m.state (happening_at o.origin s.received s.event))) s.made
-  -- the chip is reset exactly where a call acts that asks for it and finds no error
-  pub reset : resets_chip s.made ≡ asks_reset g.machine o.origin s.event (outcome_of g.machine m.world m.state (happening_at o.origin s.received s.event))
+  pub move : MoveRight o.inside o.owed (report_by g.machine o.origin o.report s.event (outcome_at g.machine m.world m.state o s.made s.received s.event)) s.made
+  -- what a notice shows
+  pub shows : ShowsRight g m.chip m.state o.origin o.owed s.made
+  -- the chip is reset exactly where a call acts that asks for it and finds no error, and that call never returns
+  pub reset : resets_chip s.made ≡ asks_reset g.machine o.origin s.event (outcome_at g.machine m.world m.state o s.made s.received s.event)
+  pub stays : resets_chip s.made ≡ true → s.ended ≡ None
   -- the answer, where the frame ends
   pub ends : EndRight (open_after g.machine m.world m.state o s.made s.received s.event) s.ended
   -- the register or the word is there, and it is its module's
@@ -139,22 +216,38 @@ LegalStep g m (o ∷ os) s = IsLegalStep g m o s
 
 -- ---- a run
 
+-- why a hardware event is held: a fill may be
+abbrev pub order_held : {State Call : Type 0} → Setting State Call → (masked : Bool) → World → State → List (Origin Call) → Order → Option Held
+order_held g masked w s origins (orders.Fill c ws) = fill_cause masked (g.fills c) (g.fill_busy w s origins c)
+order_held g masked w s origins _ = None
+
+abbrev pub hardware_held : {State Call : Type 0} → Setting State Call → Moment State Call → Order → Option Held
+hardware_held g m order = order_held g (is_masked m.chip) m.world m.state (origins_of m.opens) order
+
+-- while the watchdog's time runs no tick passes its end, and there nothing comes but its reset
+abbrev pub InTime : {Call : Type 0} → (left : Option ℕ) → Deed Call → Type 0
+InTime None d = Unit {0}
+InTime (Some left) (Happens (orders.Tick n)) = (0 < left) × (n ≤ left)
+InTime (Some left) (Resets Watchdog) = Unit {0}
+InTime (Some left) _ = 0 < left
+
 -- a deed is legal in the moment before it
 abbrev pub IsLegalDeed : {State Call : Type 0} → Setting State Call → Moment State Call → Deed Call → Type 0
 IsLegalDeed g m (Begins c level) = call_cause (is_masked m.chip) (tags_of m.opens) (top_noted m.opens) (g.class_of c) level ≡ None
 IsLegalDeed g m (Enters l) = (g.used l ≡ true) × (line_cause (is_masked m.chip) (tags_of m.opens) (g.level_of l) (is_pending m.chip l) ≡ None)
 IsLegalDeed g m (Steps s) = LegalStep g m m.opens s
-IsLegalDeed g m (Happens order) = IsSome (g.machine.happens m.world m.state (Moves order))
+IsLegalDeed g m (Happens order) = (hardware_held g m order ≡ None) × IsSome (g.machine.happens m.world m.state (Moves order))
 IsLegalDeed g m (Resets reason) = IsSome (g.machine.happens m.world m.state (Restarts reason))
 
 -- wherever the mask is open, each line that is due is pending
 abbrev pub DueIsPending : {State Call : Type 0} → Setting State Call → Moment State Call → Type 0
-DueIsPending g m = is_masked m.chip ≡ false → (l : ℕ) → g.lines l ≡ true → g.machine.due m.world m.state l ≡ true → is_pending m.chip l ≡ true
+DueIsPending g m = is_masked m.chip ≡ false → (l : ℕ) → g.machine.due m.world m.state l ≡ true → is_pending m.chip l ≡ true
 
--- at rest no unit waits for a start, and a line, used or not, is pending exactly where it is due
+-- at rest no unit waits for a start, each line is pending exactly where it is due, and the rest is the machine's too
 pub record IsQuiet {State Call : Type 0} (g : Setting State Call) (m : Moment State Call) : Type 0 where
   pub units : (u : units.Unit) → g.machine.startable m.world m.state u ≡ false
-  pub lines : (l : ℕ) → g.lines l ≡ true → is_pending m.chip l ≡ g.machine.due m.world m.state l
+  pub lines : (l : ℕ) → is_pending m.chip l ≡ g.machine.due m.world m.state l
+  pub rest : g.rest m.chip m.world m.state
 
 abbrev pub QuietAtRest : {State Call : Type 0} → Setting State Call → Moment State Call → List (Open Call) → Type 0
 QuietAtRest g m [] = IsQuiet g m
@@ -165,7 +258,7 @@ pub record IsServed {State Call : Type 0} (g : Setting State Call) (m : Moment S
   pub due : DueIsPending g m
   pub quiet : QuietAtRest g m m.opens
 
--- each deed is legal in the moment before it, and each moment is served
+-- each deed is legal in the moment before it, and comes in time, and each moment is served
 abbrev pub IsLegal : {State Call : Type 0} → Setting State Call → Moment State Call → List (Deed Call) → Type 0
 IsLegal g m [] = IsServed g m
-IsLegal g m (d ∷ ds) = IsServed g m × IsLegalDeed g m d × IsLegal g (after g m d) ds
+IsLegal g m (d ∷ ds) = IsServed g m × InTime (g.machine.expires m.world m.state) d × IsLegalDeed g m d × IsLegal g (after g m d) ds

@@ -1,5 +1,6 @@
 -- A machine of the specifications: what happens to a module, and what comes of it. It knows no register, no mask and no place in a program.
 use Rattle.std.specs.Prelude.{ℕ, List, [], Bool, Option, None}
+use Rattle.det_errors.specs.Reports.{Reporting}
 use Rattle.mcal_base.specs.declared.answer.Answer.{Answer}
 use Rattle.mcal_base.specs.declared.answer.Head.TheVariants.{Nothing}
 use Rattle.mcal_base.specs.declared.directive.Order.{Order}
@@ -12,8 +13,8 @@ use Rattle.run_model.specs.World.{World}
 
 -- what happens to a machine
 pub data Happening (Call : Type 0) : Type 0 where
-  -- a call acts
-  Acts : Call → Happening Call
+  -- a call acts; its frame wrote the commit register of each pulse channel last at these times
+  Acts : Call → (committed : ℕ → ℕ) → Happening Call
   -- a line is served; a serial word that begins there has this incoming word
   Serves : (line received : ℕ) → Happening Call
   -- a unit starts its next round or job; its first word has this incoming word
@@ -58,8 +59,10 @@ pub record Machine (State Call : Type 0) : Type 0 where
   pub startable : World → State → units.Unit → Bool
   -- the peripheral ticks of a tick of the oscillator
   pub rate : State → ℕ
-  -- the service of a call, and whether its module reports errors
+  -- the ticks of the oscillator that are left until the watchdog's time ends, where it runs
+  pub expires : World → State → Option ℕ
+  -- the service of a call, and how its module reports errors
   pub service_of : Call → Service
-  pub detects : Call → Bool
-  -- the lines that a call may serve
-  pub polls : Call → List ℕ
+  pub reporting : Call → Reporting
+  -- the lines that a call polls, in the order in which it serves them
+  pub polls : World → State → Call → List ℕ

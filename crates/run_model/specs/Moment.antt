@@ -1,9 +1,11 @@
 -- A moment of a run: the chip, the outside, the machine's state and the frames under way; and what comes after it.
-use Rattle.std.specs.Prelude.{ℕ, Bool, List, [], ◌∷◌, Option, Some, None}
+use Rattle.std.specs.Prelude.{ℕ, ◌+◌, Bool, List, [], ◌∷◌, Option, Some, None}
 use Rattle.chip_model.specs.Chip.{Chip, chip_after, happened, reset_chip, fresh}
+use Rattle.mcal_base.specs.declared.notice.Notice.{Notice}
 use Rattle.mcal_base.specs.declared.directive.Order.{Order}
 use Rattle.mcal_base.specs.declared.directive.Reason.{Reason}
 use Rattle.mcal_base.specs.declared.module_name.ModuleName.{ModuleName}
+use Rattle.mcal_base.specs.declared.moves.Event.{Event}
 use Rattle.mcal_base.specs.declared.moves.Move.{Move}
 use Rattle.mcal_base.specs.declared.register.Reg.{Reg}
 use Rattle.run_model.specs.declared.class.Class.{Class}
@@ -13,8 +15,13 @@ use Rattle.run_model.specs.World.{World, world_start, world_after}
 use Rattle.run_model.specs.Machine.{Machine, Moves, Restarts}
 use Rattle.run_model.specs.Frame.{Origin, Called, Entered, Open, opened, state_by, state_after, open_after, top_after}
 
+-- the registers of a counter that is read in halves
+pub record Halves : Type 0 where
+  pub low : Reg
+  pub high : Reg
+
 -- What a run is over: a machine, its calls and lines, and the bounds of its frames.
-pub record Setting (State Call : Type 0) : Type 0 where
+pub record Setting (State Call : Type 0) : Type 1 where
   pub machine : Machine State Call
   -- the state after power on
   pub first : State
@@ -23,17 +30,26 @@ pub record Setting (State Call : Type 0) : Type 0 where
   pub level_of : ℕ → ℕ
   pub owner_of : ℕ → ModuleName
   pub used : ℕ → Bool
-  -- the lines of the modules' units, whether an object uses them or not
-  pub lines : ℕ → Bool
   -- the most steps of a frame, and the most moves of its windows
   pub steps_of : Origin Call → ℕ
   pub window_of : Origin Call → ℕ
   -- whether a frame may make a move: it names a register or a word of its module, or lines of its module alone
   pub may : Origin Call → Move → Bool
-  -- whether a move names anything of a frame's module, so that another module's would disturb it
-  pub owns : Origin Call → Move → Bool
-  -- the low half at whose read a call acts that reads a counter in halves
-  pub low_half : Call → Option Reg
+  -- the halves of the counter that a call reads
+  pub halves : Call → Option Halves
+  -- the source arrays that there are, and whether one is in use, by the frames under way
+  pub fills : (channel : ℕ) → Bool
+  pub fill_busy : World → State → List (Origin Call) → (channel : ℕ) → Bool
+  -- the words that may come in on a serial unit: its next waiting word, or whatever the selected device answers
+  pub receives : Chip → World → (number received : ℕ) → Type 0
+  -- the serial unit on which the serving of a line begins a word
+  pub begins_word : World → State → (line : ℕ) → Option ℕ
+  -- where a word begins on a serial unit by this event of a frame: the unit selects the device of the word's job
+  pub selects : Origin Call → Chip → World → State → Event → (number : ℕ) → Type 0
+  -- with no frame: pins, RAM, user arrays and what was sent and received are the machine's
+  pub rest : Chip → World → State → Type 0
+  -- at a notice of a frame of this origin: the user arrays of the object that it names are the machine's
+  pub shows : Origin Call → Notice → Chip → State → Type 0
 
 -- what is done in a run: a call begins at a level, a handler begins, the top frame makes a step, the hardware moves, the chip is reset
 pub data Deed (Call : Type 0) : Type 0 where
@@ -50,6 +66,8 @@ pub record Moment (State Call : Type 0) : Type 0 where
   pub state : State
   -- the frames under way, the newest first
   pub opens : List (Open Call)
+  -- the steps that were made so far
+  pub steps : ℕ
 
 -- the tag of a call's frame, and of a handler's
 abbrev pub call_tag : {State Call : Type 0} → Setting State Call → Call → ℕ → Tag
@@ -60,7 +78,7 @@ line_tag g l = record { level = g.level_of l; owner = g.owner_of l; class = None
 
 -- at power on
 abbrev pub start_moment : {State Call : Type 0} → Setting State Call → Moment State Call
-start_moment g = record { chip = fresh 0 0; world = world_start; state = g.first; opens = [] }
+start_moment g = record { chip = fresh 0 0; world = world_start 0; state = g.first; opens = []; steps = 0 }
 
 -- after a step of the top frame
 abbrev pub after_step : {State Call : Type 0} → Setting State Call → Moment State Call → List (Open Call) → Stepped → Moment State Call
@@ -68,8 +86,9 @@ after_step g m [] s = m
 after_step g m (o ∷ os) s = record {
   chip = chip_after m.chip s.made;
   world = m.world;
-  state = state_after g.machine m.world m.state o s.received s.event;
+  state = state_after g.machine m.world m.state o s.made s.received s.event;
   opens = top_after (open_after g.machine m.world m.state o s.made s.received s.event) s.ended os;
+  steps = m.steps + 1;
 }
 
 -- after the hardware moved: the machine is told before the time goes on
@@ -79,6 +98,7 @@ after_hardware g m order = record {
   world = world_after m.world (g.machine.rate m.state) order;
   state = state_by m.state (g.machine.happens m.world m.state (Moves order));
   opens = m.opens;
+  steps = m.steps;
 }
 
 -- after a reset: every frame is dropped, and the time goes on
@@ -88,6 +108,7 @@ after_reset g m reason = record {
   world = m.world;
   state = state_by m.state (g.machine.happens m.world m.state (Restarts reason));
   opens = [];
+  steps = m.steps;
 }
 
 abbrev pub after : {State Call : Type 0} → Setting State Call → Moment State Call → Deed Call → Moment State Call

@@ -13,12 +13,12 @@ order_at [] line = None
 order_at (d ∷ ds) line = cond (d.line == line) (Some d.order) (order_at ds line)
 
 -- what begins by an order: a call, or the handler of a line
-abbrev pub begun_by : {Call : Type 0} → (Request → Call) → Option Order → List (Deed Call)
-begun_by call_of (Some (orders.Call level r)) = Begins (call_of r) level ∷ []
-begun_by call_of (Some (orders.Do level r)) = Begins (call_of r) level ∷ []
-begun_by call_of (Some (orders.Enter line)) = Enters line ∷ []
-begun_by call_of (Some (orders.Serve line)) = Enters line ∷ []
-begun_by call_of _ = []
+abbrev pub beginnings_of : {Call : Type 0} → (Request → Call) → Option Order → List (Deed Call)
+beginnings_of call_of (Some (orders.Call level r)) = Begins (call_of r) level ∷ []
+beginnings_of call_of (Some (orders.Do level r)) = Begins (call_of r) level ∷ []
+beginnings_of call_of (Some (orders.Enter line)) = Enters line ∷ []
+beginnings_of call_of (Some (orders.Serve line)) = Enters line ∷ []
+beginnings_of call_of _ = []
 
 -- what moves the hardware; to show moves nothing
 abbrev pub moved_by : {Call : Type 0} → Order → List (Deed Call)
@@ -28,7 +28,7 @@ moved_by order = Happens order ∷ []
 -- the deed of an item, where it is one
 abbrev pub deed_of : {Call : Type 0} → (Request → Call) → Option Order → entry.Said → List (Deed Call)
 deed_of call_of order (entry.Happens o) = moved_by o
-deed_of call_of order entry.Begins = begun_by call_of order
+deed_of call_of order entry.Begins = beginnings_of call_of order
 deed_of call_of order (entry.Stays c) = []
 deed_of call_of order (entry.Steps s) = Steps s ∷ []
 deed_of call_of order (entry.Resets r k) = Resets r ∷ []

@@ -5,7 +5,6 @@ use Rattle.mcal_base.specs.declared.directive.Directive.{Directive}
 use Rattle.mcal_base.specs.declared.directive.Order.{Order}
 use Rattle.mcal_base.specs.declared.directive.Order.TheVariants as orders
 use Rattle.mcal_base.specs.declared.directive.Request.{Request}
-use Rattle.run_model.specs.declared.item.Stepped.{Stepped}
 use Rattle.run_model.specs.declared.reach.Reach.{Reach}
 use Rattle.run_model.specs.declared.reach.Reach.TheVariants.{Count, Until, Whole}
 use Rattle.run_model.specs.Entry as entry
@@ -14,8 +13,8 @@ use Rattle.run_model.specs.Frame.{resets_chip, Open}
 use Rattle.run_model.specs.Moment.{Setting, Moment, Deed, Begins, Enters, Steps, after}
 
 -- the item is a step after which the directive goes on: it neither resets the chip, nor ends the frame, nor is the last that is asked for
-abbrev pub IsStepBefore : {State Call : Type 0} → (line : ℕ) → Reach → (made : ℕ) → Moment State Call → entry.Entry → entry.Said → (Stepped → Type 0) → Type 0
-IsStepBefore line reach made m e (entry.Steps s) More = (e.line ≡ line) × (e.depth ≡ length m.opens) × (resets_chip s.made || (is_some s.ended || is_reached reach (made + 1) s) ≡ false) × More s
+abbrev pub IsStepBefore : {State Call : Type 0} → (line : ℕ) → Reach → (made : ℕ) → Moment State Call → entry.Entry → entry.Said → ((made : ℕ) → Deed Call → Type 0) → Type 0
+IsStepBefore line reach made m e (entry.Steps s) More = (e.line ≡ line) × (e.depth ≡ length m.opens) × (resets_chip s.made || (is_some s.ended || is_reached reach (made + 1) s) ≡ false) × More (made + 1) (Steps s)
 IsStepBefore line reach made m e (entry.Happens o) More = ⊥
 IsStepBefore line reach made m e entry.Begins More = ⊥
 IsStepBefore line reach made m e (entry.Stays c) More = ⊥
@@ -24,7 +23,7 @@ IsStepBefore line reach made m e (entry.Resets r k) More = ⊥
 -- the items are steps of the top frame, and the directive asks for one more; so many were made before
 abbrev pub GoesToStop : {State Call : Type 0} → Setting State Call → (line : ℕ) → Reach → (made : ℕ) → Moment State Call → List entry.Entry → Type 0
 GoesToStop g line reach made m [] = Unit {0}
-GoesToStop g line reach made m (e ∷ es) = IsStepBefore line reach made m e e.said (λ s. GoesToStop g line reach (made + 1) (after g m (Steps s)) es)
+GoesToStop g line reach made m (e ∷ es) = IsStepBefore line reach made m e e.said (λ n deed. GoesToStop g line reach n (after g m deed) es)
 
 -- the items of `run`, `upto` and `finish` up to the stop; without a frame they ask for no step, and neither does `run 0`
 abbrev pub StopsWithin : {State Call : Type 0} → Setting State Call → (line : ℕ) → Reach → Moment State Call → List (Open Call) → List entry.Entry → Type 0

@@ -1,3 +1,5 @@
+ghost use Rattle.std.specs.Prelude.{◌≡◌, None};
+
 use irq_control::Held;
 use mcal_base::{Answer, Event, Head, Move, Reason, Shown};
 
@@ -23,6 +25,21 @@ pub struct Stepped {
     pub event: Option<Event>,
     /// The answer, where the frame ended with the step.
     pub ended: Option<Answer>,
+}
+
+impl Stepped {
+    /// A place for a step, with no answer.
+    pub fn blank() -> Stepped
+        ensures { result.ended ≡ None }
+    {
+        Stepped {
+            made: Move::Mask,
+            value: 0,
+            received: 0,
+            event: None,
+            ended: None,
+        }
+    }
 }
 
 /// An answer whose words stand among the journal's.

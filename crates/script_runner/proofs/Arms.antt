@@ -10,7 +10,7 @@ use Rattle.run_model.specs.Entry.{Entry, Begins, Stays, Written}
 use Rattle.run_model.specs.Frame as frame
 use Rattle.run_model.specs.Follows.{GoesOn, deeds_in, IsOne, BeginsOnly, BeginsWhole}
 use Rattle.run_model.specs.Moment.{Moment, Deed, after, after_all, start_moment}
-use Rattle.run_model.specs.Script.{deeds_of, deed_of, begun_by, order_at}
+use Rattle.run_model.specs.Script.{deeds_of, deed_of, beginnings_of, order_at}
 use Rattle.run_model.specs.Stops.{GoesToStop, BeginsToStop}
 use Rattle.run_model.proofs.Following.{after_all-append, deeds_of-append}
 use Rattle.step_runner.specs.Driver.{Driver}
@@ -41,14 +41,14 @@ module _ {State Call Frame : Type 0} (d : Driver State Call Frame) (call_of : Re
   moment_more es e deeds h = ap (λ ds. after_all d.setting (start_moment d.setting) ds) (deeds_more es e deeds h) ∙ after_all-append d.setting (start_moment d.setting) (deeds_of call_of script es) deeds
 
   -- a call or a handler that began, and does no more
-  pub begins_only : (line : ℕ) (order : Order) (deed : Deed Call) (held : Option Held) (chip : Chip) (k : Kept Frame) (before : Written) (k1 : Kept Frame) (after : Written) → begun_by call_of (Some order) ≡ deed ∷ [] → IsStanding d call_of script chip k.frames before.entries → Began d call_of script line deed held chip k before k1 after → Adds d call_of script order before after chip k1.frames (λ m items. BeginsOnly m line held items)
+  pub begins_only : (line : ℕ) (order : Order) (deed : Deed Call) (held : Option Held) (chip : Chip) (k : Kept Frame) (before : Written) (k1 : Kept Frame) (after : Written) → beginnings_of call_of (Some order) ≡ deed ∷ [] → IsStanding d call_of script chip k.frames before.entries → Began d call_of script line deed held chip k before k1 after → Adds d call_of script order before after chip k1.frames (λ m items. BeginsOnly m line held items)
   begins_only line order deed held chip k before k1 after at stands h =
       let n = depth_is chip k.frames before.entries stands in
       record {
         items = (record { line = line; depth = length k.frames; said = Begins }) ∷ [];
         is = ap (λ w. w.entries) h.written;
         right = subst (λ c. BeginsOnly (moment_of d call_of script before.entries) line c ((record { line = line; depth = length k.frames; said = Begins }) ∷ [])) (sym h.free) (ap (λ x. let e : Entry = record { line = line; depth = x; said = Begins } in e ∷ []) n);
-        leads = ap (λ ds. after_all d.setting (moment_of d call_of script before.entries) ds) (append-nil (begun_by call_of (Some order)) ∙ at) ∙ sym h.leads;
+        leads = ap (λ ds. after_all d.setting (moment_of d call_of script before.entries) ds) (append-nil (beginnings_of call_of (Some order)) ∙ at) ∙ sym h.leads;
         stands = h.stands;
       }
 
@@ -71,18 +71,18 @@ module _ {State Call Frame : Type 0} (d : Driver State Call Frame) (call_of : Re
       is ∙ ap (λ w. w.entries ++ items) h.written ∙ append_assoc before.entries ((record { line = line; depth = length k.frames; said = Begins }) ∷ []) items
 
   -- the item of a beginning, as the moment sees it
-  begun_at : (line : ℕ) (chip : Chip) (k : Kept Frame) (before : Written) (items : List Entry) → IsStanding d call_of script chip k.frames before.entries → (let first : Entry = record { line = line; depth = length k.frames; said = Begins } in first ∷ items) ≡ (record { line = line; depth = length (moment_of d call_of script before.entries).opens; said = Begins }) ∷ items
-  begun_at line chip k before items stands = ap (λ x. (record { line = line; depth = x; said = Begins }) ∷ items) (depth_is chip k.frames before.entries stands)
+  first_is : (line : ℕ) (chip : Chip) (k : Kept Frame) (before : Written) (items : List Entry) → IsStanding d call_of script chip k.frames before.entries → (let first : Entry = record { line = line; depth = length k.frames; said = Begins } in first ∷ items) ≡ (record { line = line; depth = length (moment_of d call_of script before.entries).opens; said = Begins }) ∷ items
+  first_is line chip k before items stands = ap (λ x. (record { line = line; depth = x; said = Begins }) ∷ items) (depth_is chip k.frames before.entries stands)
 
   -- a call or a handler that began, and was run to its end
-  pub begins_whole : (line : ℕ) (order : Order) (deed : Deed Call) (held : Option Held) (chip : Chip) (k : Kept Frame) (before : Written) (k1 : Kept Frame) (between : Written) (chip2 : Chip) (us2 : List (Under Frame)) (after : Written) → begun_by call_of (Some order) ≡ deed ∷ [] → IsStanding d call_of script chip k.frames before.entries → Began d call_of script line deed held chip k before k1 between → Adds d call_of script order between after chip2 us2 (λ m items. GoesOn d.setting line Whole 0 m items) → Adds d call_of script order before after chip2 us2 (λ m items. BeginsWhole d.setting m line deed held items)
+  pub begins_whole : (line : ℕ) (order : Order) (deed : Deed Call) (held : Option Held) (chip : Chip) (k : Kept Frame) (before : Written) (k1 : Kept Frame) (between : Written) (chip2 : Chip) (us2 : List (Under Frame)) (after : Written) → beginnings_of call_of (Some order) ≡ deed ∷ [] → IsStanding d call_of script chip k.frames before.entries → Began d call_of script line deed held chip k before k1 between → Adds d call_of script order between after chip2 us2 (λ m items. GoesOn d.setting line Whole 0 m items) → Adds d call_of script order before after chip2 us2 (λ m items. BeginsWhole d.setting m line deed held items)
   begins_whole line order deed held chip k before k1 between chip2 us2 after at stands h steps =
       let m = moment_of d call_of script before.entries in
       let first : Entry = record { line = line; depth = length k.frames; said = Begins } in
       record {
         items = first ∷ steps.items;
         is = begun_items line deed held chip k before k1 between after steps.items h steps.is;
-        right = subst (λ c. BeginsWhole d.setting m line deed c (first ∷ steps.items)) (sym h.free) (record { steps = steps.items; is = begun_at line chip k before steps.items stands; goes = subst (λ x. GoesOn d.setting line Whole 0 x steps.items) h.leads steps.right });
+        right = subst (λ c. BeginsWhole d.setting m line deed c (first ∷ steps.items)) (sym h.free) (record { steps = steps.items; is = first_is line chip k before steps.items stands; goes = subst (λ x. GoesOn d.setting line Whole 0 x steps.items) h.leads steps.right });
         leads =
             ap (λ ds. after_all d.setting m (ds ++ deeds_in call_of order steps.items)) at
             ∙ ap (λ x. after_all d.setting x (deeds_in call_of order steps.items)) (sym h.leads)
@@ -97,7 +97,7 @@ module _ {State Call Frame : Type 0} (d : Driver State Call Frame) (call_of : Re
       record {
         items = (record { line = line; depth = length k.frames; said = Begins }) ∷ stuck.items;
         is = begun_items line deed (held (moment_of d call_of script before.entries)) chip k before k1 between after stuck.items h stuck.is;
-        right = record { free = h.free; steps = stuck.items; is = begun_at line chip k before stuck.items stands; goes = subst (λ x. GoesToStop d.setting line Whole 0 x stuck.items) h.leads stuck.right };
+        right = record { free = h.free; steps = stuck.items; is = first_is line chip k before stuck.items stands; goes = subst (λ x. GoesToStop d.setting line Whole 0 x stuck.items) h.leads stuck.right };
         stands = stuck.stands;
         steps = stuck.steps;
         counted = omega (arith, begun, stuck.counted);

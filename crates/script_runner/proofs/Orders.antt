@@ -13,16 +13,17 @@ use Rattle.run_model.specs.declared.reach.Reach.{Reach}
 use Rattle.run_model.specs.declared.reach.Reach.TheVariants.{Count, Until, Whole}
 use Rattle.run_model.specs.Causes.{call_cause, line_cause, first_cause, line_level_allows, is_full, tags_of, top_noted}
 use Rattle.run_model.specs.Entry as entry
-use Rattle.run_model.specs.Entry.{Entry, Begins, Stays, Steps, Happens, Written, written}
+use Rattle.run_model.specs.Entry.{Entry, Begins, Stays, Happens, Written, written}
 use Rattle.run_model.specs.Frame as frame
-use Rattle.run_model.specs.Follows.{GoesOn, Goes, BeginsOnly, BeginsWhole, call_held, line_held}
+use Rattle.run_model.specs.World.{World}
+use Rattle.run_model.specs.Follows.{Ticks, GoesOn, Goes, BeginsOnly, BeginsWhole, call_held, line_held}
 use Rattle.run_model.specs.Moment as moment
-use Rattle.run_model.specs.Moment.{Moment, Deed, after_all, line_tag}
-use Rattle.run_model.specs.Script.{deeds_of, begun_by, order_at}
+use Rattle.run_model.specs.Moment.{Moment, Deed, line_tag}
+use Rattle.run_model.specs.Script.{deeds_of, beginnings_of, order_at}
 use Rattle.run_model.specs.Stops.{GoesToStop, StopsWithin, is_step}
 use Rattle.step_runner.specs.Driver.{Driver}
 use Rattle.step_runner.specs.Kept.{Kept, tags_under, top_is_noted, beginning, enter_by}
-use Rattle.step_runner.specs.Stands.{Stands, AreFramesOf}
+use Rattle.step_runner.specs.Stands.{Stands, AreFramesOf, paired}
 use Rattle.step_runner.specs.declared.stack.Under.{Under}
 use Rattle.script_runner.specs.Standing.{moment_of, IsStanding, IsFilled, WentFar, Began, StayedOff, ObeyedBy, Obeyed, IsStuck, makes_no_step, work_of, bound_of, bounds_of}
 use Rattle.script_runner.proofs.Stops.{stops_within, no_step_counted}
@@ -65,7 +66,7 @@ module _ {State Call Frame : Type 0} (d : Driver State Call Frame) (call_of : Re
 
   -- ---- beginnings
 
-  pub began : (line n : ℕ) (deed : Deed Call) (held : Option Held) (chip : Chip) (k : Kept Frame) (before : Written) (u : Under Frame) (k1 : Kept Frame) (after : Written) → begun_by call_of (order_at script line) ≡ deed ∷ [] → None ≡ held → n ≡ length k.frames → k1 ≡ record { frames = u ∷ k.frames; steps = k.steps } → after ≡ written before line n Begins [] → Stands d chip k1.frames (deeds_of call_of script before.entries ++ deed ∷ []) → d.fuel u.frame ≤ bound_of d.setting deed → Began d call_of script line deed held chip k before k1 after
+  pub began : (line n : ℕ) (deed : Deed Call) (held : Option Held) (chip : Chip) (k : Kept Frame) (before : Written) (u : Under Frame) (k1 : Kept Frame) (after : Written) → beginnings_of call_of (order_at script line) ≡ deed ∷ [] → None ≡ held → n ≡ length k.frames → k1 ≡ record { frames = u ∷ k.frames; steps = k.steps } → after ≡ written before line n Begins [] → Stands d chip k1.frames (deeds_of call_of script before.entries ++ deed ∷ []) → d.fuel u.frame ≤ bound_of d.setting deed → Began d call_of script line deed held chip k before k1 after
   began line n deed held chip k before u k1 after at free n_is k1_is is stands fuel =
       let e : Entry = record { line = line; depth = n; said = Begins } in
       record {
@@ -74,6 +75,7 @@ module _ {State Call Frame : Type 0} (d : Driver State Call Frame) (call_of : Re
         leads = ap (λ w. moment_of d call_of script w.entries) is ∙ moment_more d call_of script before.entries e (deed ∷ []) at;
         stands = subst (λ w. IsStanding d call_of script chip k1.frames w.entries) (sym is) (subst (λ h. Stands d chip k1.frames h) (sym (deeds_more d call_of script before.entries e (deed ∷ []) at)) stands);
         steps = ap (λ k. k.steps) k1_is;
+        counted = let c = no_step_counted line n Begins k.steps k.steps before after refl refl is in omega (arith, c);
         frame = subst (λ k. 0 < length k.frames) (sym k1_is) (omega arith);
         spent = subst (λ x. work_of d x ≤ work_of d k + bound_of d.setting deed) (sym k1_is) (omega (arith, fuel));
       }
@@ -90,7 +92,7 @@ module _ {State Call Frame : Type 0} (d : Driver State Call Frame) (call_of : Re
         steps = ap (λ k. k.steps) k1_is;
       }
 
-  pub began_call : (line n level : ℕ) (c c1 : Call) (chip : Chip) (k : Kept Frame) (before : Written) (u : Under Frame) (k1 : Kept Frame) (after : Written) → c ≡ c1 → begun_by call_of (order_at script line) ≡ moment.Begins c1 level ∷ [] → None ≡ call_cause (is_masked chip) (tags_under k.frames) (top_is_noted k.frames) (d.setting.class_of c) level → n ≡ length k.frames → k1 ≡ record { frames = u ∷ k.frames; steps = k.steps } → after ≡ written before line n Begins [] → Stands d chip k1.frames (deeds_of call_of script before.entries ++ moment.Begins c level ∷ []) → IsStanding d call_of script chip k.frames before.entries → d.fuel u.frame ≤ d.setting.steps_of (frame.Called c) → Began d call_of script line (moment.Begins c1 level) (call_held d.setting (moment_of d call_of script before.entries) c1 level) chip k before k1 after
+  pub began_call : (line n level : ℕ) (c c1 : Call) (chip : Chip) (k : Kept Frame) (before : Written) (u : Under Frame) (k1 : Kept Frame) (after : Written) → c ≡ c1 → beginnings_of call_of (order_at script line) ≡ moment.Begins c1 level ∷ [] → None ≡ call_cause (is_masked chip) (tags_under k.frames) (top_is_noted k.frames) (d.setting.class_of c) level → n ≡ length k.frames → k1 ≡ record { frames = u ∷ k.frames; steps = k.steps } → after ≡ written before line n Begins [] → Stands d chip k1.frames (deeds_of call_of script before.entries ++ moment.Begins c level ∷ []) → IsStanding d call_of script chip k.frames before.entries → d.fuel u.frame ≤ d.setting.steps_of (frame.Called c) → Began d call_of script line (moment.Begins c1 level) (call_held d.setting (moment_of d call_of script before.entries) c1 level) chip k before k1 after
   began_call line n level c c1 chip k before u k1 after same at free n_is k1_is is moved stands fuel =
       began line n (moment.Begins c1 level) (call_held d.setting (moment_of d call_of script before.entries) c1 level) chip k before u k1 after at
       (free ∙ ap (λ x. call_cause (is_masked chip) (tags_under k.frames) (top_is_noted k.frames) (d.setting.class_of x) level) same ∙ call_held_is chip k.frames before.entries c1 level stands)
@@ -107,7 +109,7 @@ module _ {State Call Frame : Type 0} (d : Driver State Call Frame) (call_of : Re
   handler_of (Some f) due masked tags level h = (f, refl)
   handler_of None due masked tags level h = absurd (no_handler masked (line_level_allows tags level) (is_full tags) h)
 
-  pub began_line : (line n irq : ℕ) (chip : Chip) (k : Kept Frame) (before : Written) (k1 : Kept Frame) (after : Written) → is_some (d.handler_of irq) ≡ d.setting.used irq → begun_by call_of (order_at script line) ≡ moment.Enters irq ∷ [] → None ≡ line_cause (is_masked chip) (tags_under k.frames) (d.setting.level_of irq) (is_some (d.handler_of irq) && is_pending chip irq) → n ≡ length k.frames → k1 ≡ enter_by {A = Unit {0}} (Ok tt) (d.handler_of irq) (line_tag d.setting irq) k → after ≡ written before line n Begins [] → Stands d chip k1.frames (deeds_of call_of script before.entries ++ moment.Enters irq ∷ []) → IsStanding d call_of script chip k.frames before.entries → ((f : Frame) → d.handler_of irq ≡ Some f → d.fuel f ≤ d.setting.steps_of (frame.Entered irq)) → Began d call_of script line (moment.Enters irq) (line_held d.setting (moment_of d call_of script before.entries) irq) chip k before k1 after
+  pub began_line : (line n irq : ℕ) (chip : Chip) (k : Kept Frame) (before : Written) (k1 : Kept Frame) (after : Written) → is_some (d.handler_of irq) ≡ d.setting.used irq → beginnings_of call_of (order_at script line) ≡ moment.Enters irq ∷ [] → None ≡ line_cause (is_masked chip) (tags_under k.frames) (d.setting.level_of irq) (is_some (d.handler_of irq) && is_pending chip irq) → n ≡ length k.frames → k1 ≡ enter_by {A = Unit {0}} (Ok tt) (d.handler_of irq) (line_tag d.setting irq) k → after ≡ written before line n Begins [] → Stands d chip k1.frames (deeds_of call_of script before.entries ++ moment.Enters irq ∷ []) → IsStanding d call_of script chip k.frames before.entries → ((f : Frame) → d.handler_of irq ≡ Some f → d.fuel f ≤ d.setting.steps_of (frame.Entered irq)) → Began d call_of script line (moment.Enters irq) (line_held d.setting (moment_of d call_of script before.entries) irq) chip k before k1 after
   began_line line n irq chip k before k1 after handled at free n_is k1_is is moved stands fuel =
       let f = handler_of (d.handler_of irq) (is_pending chip irq) (is_masked chip) (tags_under k.frames) (d.setting.level_of irq) free in
       began line n (moment.Enters irq) (line_held d.setting (moment_of d call_of script before.entries) irq) chip k before (beginning f.0 (line_tag d.setting irq)) k1 after at
@@ -138,7 +140,7 @@ module _ {State Call Frame : Type 0} (d : Driver State Call Frame) (call_of : Re
         words = rw words_are (omega arith);
       }
 
-  pub alone : (most line : ℕ) (order : Order) (deed : Deed Call) (chip : Chip) (k : Kept Frame) (before : Written) (k1 : Kept Frame) (after : Written) (held : Moment State Call → Option Held) (b : Bool) → k.steps ≤ most → begun_by call_of (Some order) ≡ deed ∷ [] → IsStanding d call_of script chip k.frames before.entries → OnTrue b (Began d call_of script line deed (held (moment_of d call_of script before.entries)) chip k before k1 after) → OnFalse b (StayedOff d call_of script line (held (moment_of d call_of script before.entries)) chip k before k1 after) → ObeyedBy d call_of script most order chip k before chip k1 after (λ m items. BeginsOnly m line (held m) items)
+  pub alone : (most line : ℕ) (order : Order) (deed : Deed Call) (chip : Chip) (k : Kept Frame) (before : Written) (k1 : Kept Frame) (after : Written) (held : Moment State Call → Option Held) (b : Bool) → k.steps ≤ most → beginnings_of call_of (Some order) ≡ deed ∷ [] → IsStanding d call_of script chip k.frames before.entries → OnTrue b (Began d call_of script line deed (held (moment_of d call_of script before.entries)) chip k before k1 after) → OnFalse b (StayedOff d call_of script line (held (moment_of d call_of script before.entries)) chip k before k1 after) → ObeyedBy d call_of script most order chip k before chip k1 after (λ m items. BeginsOnly m line (held m) items)
   alone most line order deed chip k before k1 after held true few at stands on off =
       let a = begins_only d call_of script line order deed (held (moment_of d call_of script before.entries)) chip k before k1 after at stands on in
       record {
@@ -158,7 +160,7 @@ module _ {State Call Frame : Type 0} (d : Driver State Call Frame) (call_of : Re
         spent = omega (arith, off.spent);
       }
 
-  pub whole : (most line : ℕ) (order : Order) (deed : Deed Call) (chip : Chip) (k : Kept Frame) (before : Written) (k1 : Kept Frame) (between : Written) (chip2 : Chip) (k2 : Kept Frame) (after : Written) (held : Moment State Call → Option Held) → k.steps ≤ most → begun_by call_of (Some order) ≡ deed ∷ [] → IsStanding d call_of script chip k.frames before.entries → Began d call_of script line deed (held (moment_of d call_of script before.entries)) chip k before k1 between → WentFar d call_of script most line Whole chip k1 between chip2 k2 after → ObeyedBy d call_of script most order chip k before chip2 k2 after (λ m items. BeginsWhole d.setting m line deed (held m) items)
+  pub whole : (most line : ℕ) (order : Order) (deed : Deed Call) (chip : Chip) (k : Kept Frame) (before : Written) (k1 : Kept Frame) (between : Written) (chip2 : Chip) (k2 : Kept Frame) (after : Written) (held : Moment State Call → Option Held) → k.steps ≤ most → beginnings_of call_of (Some order) ≡ deed ∷ [] → IsStanding d call_of script chip k.frames before.entries → Began d call_of script line deed (held (moment_of d call_of script before.entries)) chip k before k1 between → WentFar d call_of script most line Whole chip k1 between chip2 k2 after → ObeyedBy d call_of script most order chip k before chip2 k2 after (λ m items. BeginsWhole d.setting m line deed (held m) items)
   whole most line order deed chip k before k1 between chip2 k2 after held few at stands b w =
       let a = begins_whole d call_of script line order deed (held (moment_of d call_of script before.entries)) chip k before k1 between chip2 k2.frames after at stands b (w.adds order) in
       let e : Entry = record { line = line; depth = length k.frames; said = Begins } in
@@ -283,11 +285,11 @@ module _ {State Call Frame : Type 0} (d : Driver State Call Frame) (call_of : Re
 
   -- ---- ticks
 
-  pub slow_chip : (chip : Chip) (us : List (Under Frame)) (es : List Entry) → ((s : State) → d.setting.machine.rate s ≤ 16) → IsStanding d call_of script chip us es → chip.rate ≤ 16
+  pub slow_chip : (chip : Chip) (us : List (Under Frame)) (es : List Entry) → ((chip : Chip) (w : World) (ps : List (Frame × frame.Open Call)) (s : State) → d.relates chip w ps s → d.setting.machine.rate s ≤ 16) → IsStanding d call_of script chip us es → chip.rate ≤ 16
   slow_chip chip us es slow h =
       let m = moment_of d call_of script es in
       let e : chip.rate ≡ d.setting.machine.rate m.state = ap (λ x. x.rate) h.matches.chip_is ∙ h.matches.rate in
-      let k = slow m.state in
+      let k = slow m.chip m.world (paired us m.opens) m.state h.matches.relates in
       omega (arith, e, k)
 
   pub ticks : (most line n : ℕ) (k : ℕ) (chip : Chip) (kept : Kept Frame) (before : Written) (chip1 : Chip) (after : Written) → kept.steps ≤ most → n ≤ 1000000 → chip.rate ≤ 16 → k ≡ length kept.frames → chip1 ≡ happened chip (orders.Tick n) → after ≡ written before line k (Happens (orders.Tick n)) [] → Stands d chip1 kept.frames (deeds_of call_of script before.entries ++ moment.Happens (orders.Tick n) ∷ []) → IsStanding d call_of script chip kept.frames before.entries → Obeyed d call_of script most line (orders.Tick n) chip kept before chip1 kept after
@@ -299,7 +301,8 @@ module _ {State Call Frame : Type 0} (d : Driver State Call Frame) (call_of : Re
         adds = record {
           items = e ∷ [];
           is = ap (λ w. w.entries) is;
-          right = ap (λ x. let i : Entry = record { line = line; depth = x; said = Happens (orders.Tick n) } in i ∷ []) (k_is ∙ depth_is d call_of script chip kept.frames before.entries stands);
+          right = subst (λ t. Ticks m line n t (e ∷ [])) (sym (stands.covers.unwatched m.world m.state))
+              (ap (λ x. let i : Entry = record { line = line; depth = x; said = Happens (orders.Tick n) } in i ∷ []) (k_is ∙ depth_is d call_of script chip kept.frames before.entries stands));
           leads = sym (moment_more d call_of script before.entries e (moment.Happens (orders.Tick n) ∷ []) refl) ∙ ap (λ w. moment_of d call_of script w.entries) (sym is);
           stands = subst (λ w. IsStanding d call_of script chip1 kept.frames w.entries) (sym is) (subst (λ h. Stands d chip1 kept.frames h) (sym (deeds_more d call_of script before.entries e (moment.Happens (orders.Tick n) ∷ []) refl)) moved);
         };

@@ -4,19 +4,16 @@ use Rattle.std.specs.Prelude.{slice_get, slice_index_or, ◌==◌}
 use Rattle.std.proofs.lemmas.Bool.Decides.{nat_tests}
 use Rattle.chip_model.specs.Chip.{Chip, fresh, now_of}
 use Rattle.mcal_base.specs.declared.directive.Directive.{Directive}
-use Rattle.mcal_base.specs.declared.directive.Order.{Order}
-use Rattle.mcal_base.specs.declared.directive.Order.TheVariants as orders
 use Rattle.mcal_base.specs.declared.directive.Request.{Request}
 use Rattle.run_model.specs.Entry.{Written}
-use Rattle.run_model.specs.Frame.{Origin, Called, Entered}
 use Rattle.run_model.specs.Moment.{start_moment}
-use Rattle.run_model.specs.Script.{order_at, begun_by}
+use Rattle.run_model.specs.Script.{order_at, beginnings_of}
 use Rattle.run_model.specs.Stops.{FollowsToStop, steps_in}
 use Rattle.run_model.proofs.Following.{FollowsTo, Nothing_followed, follows_more}
 use Rattle.step_runner.specs.Driver.{Driver}
 use Rattle.step_runner.specs.Kept.{Kept, kept_empty}
 use Rattle.step_runner.specs.Stands.{Stands}
-use Rattle.script_runner.specs.Scripts.{LinesRise, AllBuilt, script_bound, begins_frame}
+use Rattle.script_runner.specs.Scripts.{LinesRise, AllBuilt, script_bound}
 use Rattle.script_runner.specs.Standing.{moment_of, IsStanding, Obeyed, Stuck, is_built, work_of, bounds_of}
 use Rattle.script_runner.proofs.Stops.{follows_to_stop}
 
@@ -64,7 +61,7 @@ split_at [] k d e = cc
 split_at (x ∷ xs) zero d e = let i : x ≡ d = cc in ap (λ y. y ∷ xs) i
 split_at (x ∷ xs) (suc k) d e = rw add-one (ap (λ ys. x ∷ ys) (rw add-one at (split_at xs k d e)))
 
-script_bound-append : {State Call Frame : Type 0} (d : Driver State Call Frame) (call_of : Request → Call) (ds : List Directive) (e : Directive) → script_bound d.setting call_of (ds ++ e ∷ []) ≡ script_bound d.setting call_of ds + bounds_of d.setting (begun_by call_of (Some e.order))
+script_bound-append : {State Call Frame : Type 0} (d : Driver State Call Frame) (call_of : Request → Call) (ds : List Directive) (e : Directive) → script_bound d.setting call_of (ds ++ e ∷ []) ≡ script_bound d.setting call_of ds + bounds_of d.setting (beginnings_of call_of (Some e.order))
 script_bound-append d call_of [] e = omega arith
 script_bound-append d call_of (x ∷ xs) e = let h = script_bound-append d call_of xs e in omega (arith, h)
 
@@ -105,7 +102,7 @@ module _ {State Call Frame : Type 0} (d : Driver State Call Frame) (call_of : Re
       }
 
   -- a run that would pass a number of steps has frames whose bounds pass it
-  pub passes : (most at work : ℕ) (directive : Directive) → slice_get script at ≡ Some directive → work ≤ script_bound d.setting call_of (take at script) → most < work + bounds_of d.setting (begun_by call_of (Some directive.order)) → most < script_bound d.setting call_of script
+  pub passes : (most at work : ℕ) (directive : Directive) → slice_get script at ≡ Some directive → work ≤ script_bound d.setting call_of (take at script) → most < work + bounds_of d.setting (beginnings_of call_of (Some directive.order)) → most < script_bound d.setting call_of script
   passes most at work directive e spent wants =
       let taken = script_bound-take d call_of (at + 1) script in
       let more = ap (script_bound d.setting call_of) (take_more script at directive e) ∙ script_bound-append d call_of (take at script) directive in
@@ -143,31 +140,6 @@ module _ {State Call Frame : Type 0} (d : Driver State Call Frame) (call_of : Re
         now = subst (λ c. now_of c ≤ 0) (sym chip_is) (omega arith);
       }
 
--- ---- a bound that is summed up
-
--- what an order begins takes no more steps than any frame does
-each_bound : {State Call Frame : Type 0} (d : Driver State Call Frame) (call_of : Request → Call) (each : ℕ) → ((origin : Origin Call) → d.setting.steps_of origin ≤ each) → (order : Order) → bounds_of d.setting (begun_by call_of (Some order)) ≤ each
-each_bound d call_of each most (orders.Call level r) = let h = most (Called (call_of r)) in omega (arith, h)
-each_bound d call_of each most (orders.Do level r) = let h = most (Called (call_of r)) in omega (arith, h)
-each_bound d call_of each most (orders.Enter line) = let h = most (Entered line) in omega (arith, h)
-each_bound d call_of each most (orders.Serve line) = let h = most (Entered line) in omega (arith, h)
-each_bound d call_of each most _ = omega arith
-
-no_bound : {State Call Frame : Type 0} (d : Driver State Call Frame) (call_of : Request → Call) (order : Order) → begins_frame order ≡ false → bounds_of d.setting (begun_by call_of (Some order)) ≤ 0
-no_bound d call_of (orders.Call level r) h = cc
-no_bound d call_of (orders.Do level r) h = cc
-no_bound d call_of (orders.Enter line) h = cc
-no_bound d call_of (orders.Serve line) h = cc
-no_bound d call_of _ h = omega arith
-
-module _ {State Call Frame : Type 0} (d : Driver State Call Frame) (call_of : Request → Call) (script : List Directive) where
-  one_more : (at most more : ℕ) (directive : Directive) → slice_get script at ≡ Some directive → bounds_of d.setting (begun_by call_of (Some directive.order)) ≤ more → script_bound d.setting call_of (take at script) ≤ most → script_bound d.setting call_of (take (at + 1) script) ≤ most + more
-  one_more at most more directive e h spent =
-      let k = ap (script_bound d.setting call_of) (take_more script at directive e) ∙ script_bound-append d call_of (take at script) directive in
-      omega (arith, k, h, spent)
-
-  pub frame_more : (at most each : ℕ) (directive : Directive) → slice_get script at ≡ Some directive → ((origin : Origin Call) → d.setting.steps_of origin ≤ each) → script_bound d.setting call_of (take at script) ≤ most → script_bound d.setting call_of (take (at + 1) script) ≤ most + each
-  frame_more at most each directive e h spent = one_more at most each directive e (each_bound d call_of each h directive.order) spent
-
-  pub none_more : (at most : ℕ) (directive : Directive) → slice_get script at ≡ Some directive → begins_frame directive.order ≡ false → script_bound d.setting call_of (take at script) ≤ most → script_bound d.setting call_of (take (at + 1) script) ≤ most
-  none_more at most directive e h spent = let k = one_more at most 0 directive e (no_bound d call_of directive.order h) spent in omega (arith, k)
+-- the bounds with one directive more
+pub bound_more : {State Call Frame : Type 0} (d : Driver State Call Frame) (call_of : Request → Call) (script : List Directive) (at : ℕ) (directive : Directive) → slice_get script at ≡ Some directive → script_bound d.setting call_of (take (at + 1) script) ≡ script_bound d.setting call_of (take at script) + bounds_of d.setting (beginnings_of call_of (Some directive.order))
+bound_more d call_of script at directive e = ap (script_bound d.setting call_of) (take_more script at directive e) ∙ script_bound-append d call_of (take at script) directive

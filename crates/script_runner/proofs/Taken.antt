@@ -14,7 +14,9 @@ use Rattle.run_model.specs.Moment as moment
 use Rattle.run_model.specs.Moment.{Deed, start_moment, after_all}
 use Rattle.step_runner.proofs.Runs.{goes-on}
 use Rattle.run_model.specs.Script.{deeds_of}
-use Rattle.step_runner.specs.Driver.{Driver, IsLawful, stepped}
+use Rattle.run_model.specs.Stops.{steps_in}
+use Rattle.run_model.proofs.Counts.{steps_counted}
+use Rattle.step_runner.specs.Driver.{Driver, most_steps, IsLawful, stepped}
 use Rattle.step_runner.specs.Kept.{Kept, TakesStep, total_fuel}
 use Rattle.step_runner.specs.Stands.{Stands, FuelFalls}
 use Rattle.step_runner.specs.declared.stack.Under.{Under}
@@ -48,7 +50,11 @@ module _ {State Call Frame : Type 0} (d : Driver State Call Frame) (call_of : Re
         spent = omega (arith, t.steps_are, falls);
       }
 
+  -- the moment has no more steps than the journal
+  pub few_steps : (es : List Entry) (taken most : ℕ) → steps_in es ≡ taken → taken ≤ most → most < 4294967295 → (after_all d.setting (start_moment d.setting) (deeds_of call_of script es)).steps < most_steps
+  few_steps es taken most is few limit = let k = steps_counted d.setting call_of script (start_moment d.setting) es in omega (arith, k, is, few, limit)
+
   -- a frame that is there has a step left
-  pub has_fuel : IsLawful d move_of left gave → (chip : Chip) (us : List (Under Frame)) (h : List (Deed Call)) → Stands d chip us h → 0 < length us → 0 < total_fuel d.fuel us
-  has_fuel law chip [] h st some = absurd (omega arith)
-  has_fuel law chip (u ∷ us) h st some = let k = goes-on d move_of left gave law chip u us (after_all d.setting (start_moment d.setting) h) st.matches in omega (arith, k.fuel)
+  pub has_fuel : IsLawful d move_of left gave → (chip : Chip) (us : List (Under Frame)) (h : List (Deed Call)) → (after_all d.setting (start_moment d.setting) h).steps < most_steps → Stands d chip us h → 0 < length us → 0 < total_fuel d.fuel us
+  has_fuel law chip [] h few st some = absurd (omega arith)
+  has_fuel law chip (u ∷ us) h few st some = let k = goes-on d move_of left gave law chip u us (after_all d.setting (start_moment d.setting) h) st.covers few st.matches in omega (arith, k.fuel)

@@ -13,7 +13,7 @@ use Rattle.run_model.specs.Entry.{Entry, Steps, Resets, Written, written, words_
 use Rattle.run_model.specs.Follows.{GoesOn, deeds_in, is_reached}
 use Rattle.run_model.specs.Frame.{resets_chip}
 use Rattle.run_model.specs.Moment as moment
-use Rattle.run_model.specs.Moment.{Moment, Deed, after_all}
+use Rattle.run_model.specs.Moment.{after_all}
 use Rattle.run_model.proofs.Following.{after_all-append, deeds_in-append, Went, Not_yet, went_more, goes_on_to, goes_on_to_reset, went_deeds}
 use Rattle.step_runner.specs.Driver.{Driver, IsLawful}
 use Rattle.step_runner.specs.Kept.{Kept}
@@ -21,7 +21,7 @@ use Rattle.run_model.specs.Script.{deeds_of}
 use Rattle.run_model.specs.Stops.{GoesToStop, steps_in}
 use Rattle.step_runner.specs.Stands.{Stands}
 use Rattle.script_runner.specs.Standing.{moment_of, IsStanding, SameTime, TookStep, WentFar, IsStuck, work_of}
-use Rattle.script_runner.proofs.Taken.{has_fuel}
+use Rattle.script_runner.proofs.Taken.{has_fuel, few_steps}
 use Rattle.script_runner.proofs.Arms.{depth_is, deeds_more, moment_more}
 use Rattle.script_runner.proofs.Stops.{goes_to_stop, steps_written, no_step_counted}
 
@@ -157,9 +157,10 @@ module _ {State Call Frame : Type 0} (d : Driver State Call Frame) (call_of : Re
       }
 
   -- one more step is wanted than may be taken
-  pub stuck : (move_of : Frame → Move) (left : Frame → ℕ → Frame) (gave : Frame → ℕ → Taken) → IsLawful d move_of left gave → (chip : Chip) (k : Kept Frame) (before : Written) (made : ℕ) (chip1 : Chip) (k1 : Kept Frame) (after : Written) (chip2 : Chip) (k2 : Kept Frame) (after2 : Written) → Walked d call_of script most line reach chip k before made chip1 k1 after → (k2 ≡ k1) × (chip2 ≡ chip1) × (after2 ≡ after) × (k1.steps ≡ most) → IsStuck d call_of script most 0 k before chip2 k2 after2 (λ m items. GoesToStop d.setting line reach 0 m items)
-  stuck move_of left gave law chip k before made chip1 k1 after chip2 k2 after2 w same =
-      let some = has_fuel d call_of script move_of left gave law chip1 k1.frames (deeds_of call_of script after.entries) w.stands w.frame in
+  pub stuck : (move_of : Frame → Move) (left : Frame → ℕ → Frame) (gave : Frame → ℕ → Taken) → IsLawful d move_of left gave → most < 4294967295 → (chip : Chip) (k : Kept Frame) (before : Written) (made : ℕ) (chip1 : Chip) (k1 : Kept Frame) (after : Written) (chip2 : Chip) (k2 : Kept Frame) (after2 : Written) → steps_in before.entries ≡ k.steps → Walked d call_of script most line reach chip k before made chip1 k1 after → (k2 ≡ k1) × (chip2 ≡ chip1) × (after2 ≡ after) × (k1.steps ≡ most) → IsStuck d call_of script most 0 k before chip2 k2 after2 (λ m items. GoesToStop d.setting line reach 0 m items)
+  stuck move_of left gave law limit chip k before made chip1 k1 after chip2 k2 after2 begun w same =
+      let few = few_steps d call_of script move_of left gave after.entries k1.steps most (omega (arith, begun, w.counted, w.taken)) w.few limit in
+      let some = has_fuel d call_of script move_of left gave law chip1 k1.frames (deeds_of call_of script after.entries) few w.stands w.frame in
       let k_is = same.0 in
       let chip_is = same.1 in
       let after_is = same.2 in

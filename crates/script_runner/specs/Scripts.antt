@@ -1,14 +1,12 @@
 -- A script that may be run.
-use Rattle.std.specs.Prelude.{◌≡◌, ℕ, ◌+◌, ◌<◌, ◌≤◌, Bool, true, false, Some, List, [], ◌∷◌, length}
+use Rattle.std.specs.Prelude.{◌≡◌, ℕ, ◌+◌, ◌<◌, ◌≤◌, true, Some, List, [], ◌∷◌, length}
 use Rattle.mcal_base.specs.declared.directive.Directive.{Directive}
-use Rattle.mcal_base.specs.declared.directive.Order.{Order}
-use Rattle.mcal_base.specs.declared.directive.Order.TheVariants as orders
 use Rattle.mcal_base.specs.declared.directive.Request.{Request}
 use Rattle.run_model.specs.Entry.{Entry}
 use Rattle.run_model.specs.Follows.{Follows}
 use Rattle.run_model.specs.Legal.{IsLegal}
 use Rattle.run_model.specs.Moment.{Setting, start_moment}
-use Rattle.run_model.specs.Script.{deeds_of, begun_by}
+use Rattle.run_model.specs.Script.{deeds_of, beginnings_of}
 use Rattle.run_model.specs.Stops.{FollowsToStop, steps_in}
 use Rattle.script_runner.specs.Standing.{is_built, bounds_of}
 
@@ -31,15 +29,7 @@ pub record IsScript (script : List Directive) : Type 0 where
 -- the most steps of all frames that a script's directives begin
 abbrev pub script_bound : {State Call : Type 0} → Setting State Call → (Request → Call) → List Directive → ℕ
 script_bound g call_of [] = 0
-script_bound g call_of (x ∷ xs) = bounds_of g (begun_by call_of (Some x.order)) + script_bound g call_of xs
-
--- a frame may begin by an order
-abbrev pub begins_frame : Order → Bool
-begins_frame (orders.Call level r) = true
-begins_frame (orders.Do level r) = true
-begins_frame (orders.Enter line) = true
-begins_frame (orders.Serve line) = true
-begins_frame _ = false
+script_bound g call_of (x ∷ xs) = bounds_of g (beginnings_of call_of (Some x.order)) + script_bound g call_of xs
 
 -- A journal is a run of a script from power on: it says what the directives ask for, one after another, and what happened is legal.
 pub record IsRun {State Call : Type 0} (setting : Setting State Call) (call_of : Request → Call) (script : List Directive) (journal : List Entry) : Type 0 where

@@ -15,7 +15,7 @@ use Rattle.run_model.specs.Stops.{GivesToStop, steps_in}
 use Rattle.run_model.specs.Moment as moment
 use Rattle.run_model.specs.Moment.{Setting, Moment, Deed, start_moment, after_all}
 use Rattle.run_model.specs.Frame as frame
-use Rattle.run_model.specs.Script.{deeds_of, begun_by}
+use Rattle.run_model.specs.Script.{deeds_of, beginnings_of}
 use Rattle.step_runner.specs.Driver.{Driver}
 use Rattle.step_runner.specs.Kept.{Kept, total_fuel}
 use Rattle.step_runner.specs.Stands.{Stands}
@@ -34,6 +34,8 @@ pub record HasRoom (most taken : ℕ) (others : ℕ) (w : Written) : Type 0 wher
   pub steps : taken ≤ most
   pub items : length w.entries + (most - taken) + others ≤ w.room
   pub words : length w.words + 64 ≤ w.words_room
+  -- as many steps were taken as the journal has
+  pub counted : steps_in w.entries ≡ taken
 
 -- as many steps were counted as items that are steps were added
 abbrev pub IsCounted : (taken : ℕ) → Written → (taken1 : ℕ) → Written → Type 0
@@ -102,6 +104,7 @@ pub record Began {State Call Frame : Type 0} (d : Driver State Call Frame) (call
   pub leads : moment_of d call_of script after.entries ≡ moment.after d.setting (moment_of d call_of script before.entries) deed
   pub stands : IsStanding d call_of script chip k1.frames after.entries
   pub steps : k1.steps ≡ k.steps
+  pub counted : steps_in after.entries ≡ steps_in before.entries
   pub frame : 0 < length k1.frames
   pub spent : work_of d k1 ≤ work_of d k + bound_of d.setting deed
 
@@ -120,7 +123,7 @@ pub record ObeyedBy {State Call Frame : Type 0} (d : Driver State Call Frame) (c
   pub filled : IsFilled most k.steps before 2 k1.steps after
   pub osc : chip1.osc ≤ chip.osc + 1000000
   pub now : now_of chip1 ≤ now_of chip + 16000000
-  pub spent : work_of d k1 ≤ work_of d k + bounds_of d.setting (begun_by call_of (Some order))
+  pub spent : work_of d k1 ≤ work_of d k + bounds_of d.setting (beginnings_of call_of (Some order))
 
 abbrev pub Obeyed : {State Call Frame : Type 0} → Driver State Call Frame → (Request → Call) → List Directive → (most line : ℕ) → Order → Chip → Kept Frame → Written → Chip → Kept Frame → Written → Type 0
 Obeyed d call_of script most line order chip k before chip1 k1 after = ObeyedBy d call_of script most order chip k before chip1 k1 after (λ m items. Gives d.setting call_of m line order items)
@@ -156,4 +159,4 @@ pub record IsStuck {State Call Frame : Type 0} (d : Driver State Call Frame) (ca
   pub wants : most < work_of d k + more
 
 abbrev pub Stuck : {State Call Frame : Type 0} → Driver State Call Frame → (Request → Call) → List Directive → (most line : ℕ) → Order → Kept Frame → Written → Chip → Kept Frame → Written → Type 0
-Stuck d call_of script most line order k before chip1 k1 after = IsStuck d call_of script most (bounds_of d.setting (begun_by call_of (Some order))) k before chip1 k1 after (λ m items. GivesToStop d.setting call_of m line order items)
+Stuck d call_of script most line order k before chip1 k1 after = IsStuck d call_of script most (bounds_of d.setting (beginnings_of call_of (Some order))) k before chip1 k1 after (λ m items. GivesToStop d.setting call_of m line order items)

@@ -5,6 +5,7 @@ mod caller;
 mod obeying;
 mod run;
 mod steps;
+mod union;
 mod within;
 
 pub use caller::Caller;

@@ -4,7 +4,7 @@ ghost use Rattle.chip_model.specs.Chip.{now_of};
 ghost use Rattle.mcal_base.specs.declared.directive.Order.{Order};
 ghost use Rattle.run_model.specs.Follows.{call_held, line_held, Goes, BeginsOnly, BeginsWhole};
 ghost use Rattle.run_model.specs.Moment.{Begins, Enters};
-ghost use Rattle.run_model.specs.Script.{order_at, begun_by};
+ghost use Rattle.run_model.specs.Script.{order_at, beginnings_of};
 ghost use Rattle.run_model.specs.Stops.{BeginsToStop, StopsWithin};
 ghost use Rattle.script_runner.specs.Standing.{moment_of, IsStanding, HasRoom, Began, StayedOff, ObeyedBy, Obeyed, IsStuck, Stuck, is_built, makes_no_step, bounds_of};
 
@@ -28,11 +28,18 @@ fn obey_call<M: Caller>(
     journal: &mut Journal,
 ) -> bool
     requires fits { (M.spec driver.now).fits }
-    requires at { begun_by (M.call_of driver.now) (order_at script.now line) ≡ Begins (M.call_of driver.now request.now) level ∷ [] }
+    requires at { let calls = M.call_of driver.now in
+        beginnings_of calls (order_at script.now line) ≡ Begins (calls request.now) level ∷ [] }
     requires room { length journal.old.entries < journal.old.room }
-    requires stands { IsStanding (M.spec driver.now) (M.call_of driver.now) script.now bus.now stack.old.frames journal.old.entries }
-    ensures began { OnTrue result (Began (M.spec driver.now) (M.call_of driver.now) script.now line (Begins (M.call_of driver.now request.now) level) (call_held (M.spec driver.now).setting (moment_of (M.spec driver.now) (M.call_of driver.now) script.now journal.old.entries) (M.call_of driver.now request.now) level) bus.now stack.old journal.old stack.new journal.new) }
-    ensures held { OnFalse result (StayedOff (M.spec driver.now) (M.call_of driver.now) script.now line (call_held (M.spec driver.now).setting (moment_of (M.spec driver.now) (M.call_of driver.now) script.now journal.old.entries) (M.call_of driver.now request.now) level) bus.now stack.old journal.old stack.new journal.new) }
+    requires stands { let d = M.spec driver.now in let calls = M.call_of driver.now in
+        IsStanding d calls script.now bus.now stack.old.frames journal.old.entries }
+    ensures began { let d = M.spec driver.now in let calls = M.call_of driver.now in
+        let held = call_held d.setting (moment_of d calls script.now journal.old.entries) (calls request.now) level in
+        let deed = Begins (calls request.now) level in
+        OnTrue result (Began d calls script.now line deed held bus.now stack.old journal.old stack.new journal.new) }
+    ensures held { let d = M.spec driver.now in let calls = M.call_of driver.now in
+        let held = call_held d.setting (moment_of d calls script.now journal.old.entries) (calls request.now) level in
+        OnFalse result (StayedOff d calls script.now line held bus.now stack.old journal.old stack.new journal.new) }
 {
     let depth = stack.depth();
     let call = driver.call(request);
@@ -59,11 +66,17 @@ fn obey_enter<M: Caller>(
     journal: &mut Journal,
 ) -> bool
     requires fits { (M.spec driver.now).fits }
-    requires at { begun_by (M.call_of driver.now) (order_at script.now line) ≡ Enters irq ∷ [] }
+    requires at { beginnings_of (M.call_of driver.now) (order_at script.now line) ≡ Enters irq ∷ [] }
     requires room { length journal.old.entries < journal.old.room }
-    requires stands { IsStanding (M.spec driver.now) (M.call_of driver.now) script.now bus.now stack.old.frames journal.old.entries }
-    ensures began { OnTrue result (Began (M.spec driver.now) (M.call_of driver.now) script.now line (Enters irq) (line_held (M.spec driver.now).setting (moment_of (M.spec driver.now) (M.call_of driver.now) script.now journal.old.entries) irq) bus.now stack.old journal.old stack.new journal.new) }
-    ensures held { OnFalse result (StayedOff (M.spec driver.now) (M.call_of driver.now) script.now line (line_held (M.spec driver.now).setting (moment_of (M.spec driver.now) (M.call_of driver.now) script.now journal.old.entries) irq) bus.now stack.old journal.old stack.new journal.new) }
+    requires stands { let d = M.spec driver.now in let calls = M.call_of driver.now in
+        IsStanding d calls script.now bus.now stack.old.frames journal.old.entries }
+    ensures began { let d = M.spec driver.now in let calls = M.call_of driver.now in
+        let held = line_held d.setting (moment_of d calls script.now journal.old.entries) irq in
+        OnTrue result (Began d calls script.now line (Enters irq) held bus.now stack.old journal.old stack.new
+        journal.new) }
+    ensures held { let d = M.spec driver.now in let calls = M.call_of driver.now in
+        let held = line_held d.setting (moment_of d calls script.now journal.old.entries) irq in
+        OnFalse result (StayedOff d calls script.now line held bus.now stack.old journal.old stack.new journal.new) }
 {
     let depth = stack.depth();
     match enter(stack, driver, bus, irq) {
@@ -91,10 +104,15 @@ fn obey_call_alone<M: Caller>(
     journal: &mut Journal,
 )
     requires fits { (M.spec driver.now).fits }
-    requires at { begun_by (M.call_of driver.now) (order_at script.now line) ≡ Begins (M.call_of driver.now request.now) level ∷ [] }
+    requires at { let calls = M.call_of driver.now in
+        beginnings_of calls (order_at script.now line) ≡ Begins (calls request.now) level ∷ [] }
     requires room { HasRoom most stack.old.steps 2 journal.old }
-    requires stands { IsStanding (M.spec driver.now) (M.call_of driver.now) script.now bus.now stack.old.frames journal.old.entries }
-    ensures { (order : Order) → begun_by (M.call_of driver.now) (Some order) ≡ Begins (M.call_of driver.now request.now) level ∷ [] → ObeyedBy (M.spec driver.now) (M.call_of driver.now) script.now most order bus.now stack.old journal.old bus.now stack.new journal.new (λ m items. BeginsOnly m line (call_held (M.spec driver.now).setting m (M.call_of driver.now request.now) level) items) }
+    requires stands { let d = M.spec driver.now in let calls = M.call_of driver.now in
+        IsStanding d calls script.now bus.now stack.old.frames journal.old.entries }
+    ensures { let d = M.spec driver.now in let calls = M.call_of driver.now in
+        (order : Order) → beginnings_of calls (Some order) ≡ Begins (calls request.now) level ∷ [] →
+        ObeyedBy d calls script.now most order bus.now stack.old journal.old bus.now stack.new journal.new
+        (λ m items. BeginsOnly m line (call_held d.setting m (calls request.now) level) items) }
 {
     let _began = obey_call(driver, script, line, level, request, stack, bus, journal);
 }
@@ -113,11 +131,21 @@ fn obey_call_whole<M: Caller>(
 ) -> Result<(), TooLong>
     requires fits { (M.spec driver.now).fits }
     requires limit { most < 4294967295 }
-    requires at { begun_by (M.call_of driver.now) (order_at script.now line) ≡ Begins (M.call_of driver.now request.now) level ∷ [] }
+    requires at { let calls = M.call_of driver.now in
+        beginnings_of calls (order_at script.now line) ≡ Begins (calls request.now) level ∷ [] }
     requires room { HasRoom most stack.old.steps 2 journal.old }
-    requires stands { IsStanding (M.spec driver.now) (M.call_of driver.now) script.now bus.old stack.old.frames journal.old.entries }
-    ensures obeyed { OnOk result ((order : Order) → begun_by (M.call_of driver.now) (Some order) ≡ Begins (M.call_of driver.now request.now) level ∷ [] → ObeyedBy (M.spec driver.now) (M.call_of driver.now) script.now most order bus.old stack.old journal.old bus.new stack.new journal.new (λ m items. BeginsWhole (M.spec driver.now).setting m line (Begins (M.call_of driver.now request.now) level) (call_held (M.spec driver.now).setting m (M.call_of driver.now request.now) level) items)) }
-    ensures too_long { OnErr result (IsStuck (M.spec driver.now) (M.call_of driver.now) script.now most (bounds_of (M.spec driver.now).setting (Begins (M.call_of driver.now request.now) level ∷ [])) stack.old journal.old bus.new stack.new journal.new (λ m items. BeginsToStop (M.spec driver.now).setting line m (Begins (M.call_of driver.now request.now) level) (call_held (M.spec driver.now).setting m (M.call_of driver.now request.now) level) items)) }
+    requires stands { let d = M.spec driver.now in let calls = M.call_of driver.now in
+        IsStanding d calls script.now bus.old stack.old.frames journal.old.entries }
+    ensures obeyed { let d = M.spec driver.now in let calls = M.call_of driver.now in
+        let deed = Begins (calls request.now) level in
+        OnOk result ((order : Order) → beginnings_of calls (Some order) ≡ deed ∷ [] →
+        ObeyedBy d calls script.now most order bus.old stack.old journal.old bus.new stack.new journal.new
+        (λ m items. BeginsWhole d.setting m line deed (call_held d.setting m (calls request.now) level) items)) }
+    ensures too_long { let d = M.spec driver.now in let calls = M.call_of driver.now in
+        let deed = Begins (calls request.now) level in
+        OnErr result (IsStuck d calls script.now most (bounds_of d.setting (deed ∷ []))
+        stack.old journal.old bus.new stack.new journal.new
+        (λ m items. BeginsToStop d.setting line m deed (call_held d.setting m (calls request.now) level) items)) }
 {
     if obey_call(driver, script, line, level, request, stack, bus, journal) {
         run_steps(
@@ -147,10 +175,14 @@ fn obey_enter_alone<M: Caller>(
     journal: &mut Journal,
 )
     requires fits { (M.spec driver.now).fits }
-    requires at { begun_by (M.call_of driver.now) (order_at script.now line) ≡ Enters irq ∷ [] }
+    requires at { beginnings_of (M.call_of driver.now) (order_at script.now line) ≡ Enters irq ∷ [] }
     requires room { HasRoom most stack.old.steps 2 journal.old }
-    requires stands { IsStanding (M.spec driver.now) (M.call_of driver.now) script.now bus.now stack.old.frames journal.old.entries }
-    ensures { (order : Order) → begun_by (M.call_of driver.now) (Some order) ≡ Enters irq ∷ [] → ObeyedBy (M.spec driver.now) (M.call_of driver.now) script.now most order bus.now stack.old journal.old bus.now stack.new journal.new (λ m items. BeginsOnly m line (line_held (M.spec driver.now).setting m irq) items) }
+    requires stands { let d = M.spec driver.now in let calls = M.call_of driver.now in
+        IsStanding d calls script.now bus.now stack.old.frames journal.old.entries }
+    ensures { let d = M.spec driver.now in let calls = M.call_of driver.now in
+        (order : Order) → beginnings_of calls (Some order) ≡ Enters irq ∷ [] →
+        ObeyedBy d calls script.now most order bus.now stack.old journal.old bus.now stack.new journal.new
+        (λ m items. BeginsOnly m line (line_held d.setting m irq) items) }
 {
     let _began = obey_enter(driver, script, line, irq, stack, bus, journal);
 }
@@ -168,11 +200,18 @@ fn obey_enter_whole<M: Caller>(
 ) -> Result<(), TooLong>
     requires fits { (M.spec driver.now).fits }
     requires limit { most < 4294967295 }
-    requires at { begun_by (M.call_of driver.now) (order_at script.now line) ≡ Enters irq ∷ [] }
+    requires at { beginnings_of (M.call_of driver.now) (order_at script.now line) ≡ Enters irq ∷ [] }
     requires room { HasRoom most stack.old.steps 2 journal.old }
-    requires stands { IsStanding (M.spec driver.now) (M.call_of driver.now) script.now bus.old stack.old.frames journal.old.entries }
-    ensures obeyed { OnOk result ((order : Order) → begun_by (M.call_of driver.now) (Some order) ≡ Enters irq ∷ [] → ObeyedBy (M.spec driver.now) (M.call_of driver.now) script.now most order bus.old stack.old journal.old bus.new stack.new journal.new (λ m items. BeginsWhole (M.spec driver.now).setting m line (Enters irq) (line_held (M.spec driver.now).setting m irq) items)) }
-    ensures too_long { OnErr result (IsStuck (M.spec driver.now) (M.call_of driver.now) script.now most (bounds_of (M.spec driver.now).setting (Enters irq ∷ [])) stack.old journal.old bus.new stack.new journal.new (λ m items. BeginsToStop (M.spec driver.now).setting line m (Enters irq) (line_held (M.spec driver.now).setting m irq) items)) }
+    requires stands { let d = M.spec driver.now in let calls = M.call_of driver.now in
+        IsStanding d calls script.now bus.old stack.old.frames journal.old.entries }
+    ensures obeyed { let d = M.spec driver.now in let calls = M.call_of driver.now in
+        OnOk result ((order : Order) → beginnings_of calls (Some order) ≡ Enters irq ∷ [] →
+        ObeyedBy d calls script.now most order bus.old stack.old journal.old bus.new stack.new journal.new
+        (λ m items. BeginsWhole d.setting m line (Enters irq) (line_held d.setting m irq) items)) }
+    ensures too_long { let d = M.spec driver.now in let calls = M.call_of driver.now in
+        OnErr result (IsStuck d calls script.now most (bounds_of d.setting (Enters irq ∷ []))
+        stack.old journal.old bus.new stack.new journal.new
+        (λ m items. BeginsToStop d.setting line m (Enters irq) (line_held d.setting m irq) items)) }
 {
     if obey_enter(driver, script, line, irq, stack, bus, journal) {
         run_steps(
@@ -211,9 +250,15 @@ fn obey_steps<M: Caller>(
     requires fits { (M.spec driver.now).fits }
     requires limit { most < 4294967295 }
     requires room { HasRoom most stack.old.steps 2 journal.old }
-    requires stands { IsStanding (M.spec driver.now) (M.call_of driver.now) script.now bus.old stack.old.frames journal.old.entries }
-    ensures obeyed { OnOk result ((order : Order) → ObeyedBy (M.spec driver.now) (M.call_of driver.now) script.now most order bus.old stack.old journal.old bus.new stack.new journal.new (λ m items. Goes (M.spec driver.now).setting line reach m m.opens items)) }
-    ensures too_long { OnErr result (IsStuck (M.spec driver.now) (M.call_of driver.now) script.now most 0 stack.old journal.old bus.new stack.new journal.new (λ m items. StopsWithin (M.spec driver.now).setting line reach m m.opens items)) }
+    requires stands { let d = M.spec driver.now in let calls = M.call_of driver.now in
+        IsStanding d calls script.now bus.old stack.old.frames journal.old.entries }
+    ensures obeyed { let d = M.spec driver.now in let calls = M.call_of driver.now in
+        OnOk result ((order : Order) →
+        ObeyedBy d calls script.now most order bus.old stack.old journal.old bus.new stack.new journal.new
+        (λ m items. Goes d.setting line reach m m.opens items)) }
+    ensures too_long { let d = M.spec driver.now in let calls = M.call_of driver.now in
+        OnErr result (IsStuck d calls script.now most 0 stack.old journal.old bus.new stack.new journal.new
+        (λ m items. StopsWithin d.setting line reach m m.opens items)) }
 {
     if stack.depth() == 0 {
         journal.held(line, 0, Held::Empty);
@@ -242,8 +287,11 @@ fn obey_tick<M: Caller>(
     requires time { bus.old.osc + 1000000 < 2 ^ 64 }
     requires late { now_of bus.old + 16000000 < 2 ^ 64 }
     requires room { HasRoom most stack.now.steps 2 journal.old }
-    requires stands { IsStanding (M.spec driver.now) (M.call_of driver.now) script.now bus.old stack.now.frames journal.old.entries }
-    ensures { Obeyed (M.spec driver.now) (M.call_of driver.now) script.now most directive.now.line (Order.Tick ticks) bus.old stack.now journal.old bus.new stack.now journal.new }
+    requires stands { let d = M.spec driver.now in let calls = M.call_of driver.now in
+        IsStanding d calls script.now bus.old stack.now.frames journal.old.entries }
+    ensures { let d = M.spec driver.now in let calls = M.call_of driver.now in
+        Obeyed d calls script.now most directive.now.line (Order.Tick ticks) bus.old stack.now journal.old bus.new
+        stack.now journal.new }
 {
     hardware(stack, bus, directive);
     journal.ticked(directive.line, stack.depth(), ticks);
@@ -266,9 +314,14 @@ pub(crate) fn obey_one<M: Caller>(
     requires time { bus.old.osc + 1000000 < 2 ^ 64 }
     requires late { now_of bus.old + 16000000 < 2 ^ 64 }
     requires room { HasRoom most stack.old.steps 2 journal.old }
-    requires stands { IsStanding (M.spec driver.now) (M.call_of driver.now) script.now bus.old stack.old.frames journal.old.entries }
-    ensures obeyed { OnOk result (Obeyed (M.spec driver.now) (M.call_of driver.now) script.now most directive.now.line directive.now.order bus.old stack.old journal.old bus.new stack.new journal.new) }
-    ensures too_long { OnErr result (Stuck (M.spec driver.now) (M.call_of driver.now) script.now most directive.now.line directive.now.order stack.old journal.old bus.new stack.new journal.new) }
+    requires stands { let d = M.spec driver.now in let calls = M.call_of driver.now in
+        IsStanding d calls script.now bus.old stack.old.frames journal.old.entries }
+    ensures obeyed { let d = M.spec driver.now in let calls = M.call_of driver.now in
+        OnOk result (Obeyed d calls script.now most directive.now.line directive.now.order bus.old
+        stack.old journal.old bus.new stack.new journal.new) }
+    ensures too_long { let d = M.spec driver.now in let calls = M.call_of driver.now in
+        OnErr result (Stuck d calls script.now most directive.now.line directive.now.order
+        stack.old journal.old bus.new stack.new journal.new) }
 {
     let line = directive.line;
     match &directive.order {

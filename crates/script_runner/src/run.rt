@@ -6,6 +6,7 @@ ghost use Rattle.run_model.specs.Moment.{start_moment};
 ghost use Rattle.run_model.specs.Script.{deeds_of};
 ghost use Rattle.run_model.specs.Stops.{FollowsToStop, steps_in};
 ghost use Rattle.script_runner.specs.Scripts.{IsScript, script_bound};
+ghost use Rattle.step_runner.specs.Driver.{Covers};
 
 use crate::caller::Caller;
 use crate::obeying::obey_one;
@@ -53,18 +54,26 @@ pub fn run_script<M: Caller>(
     most: u32,
 ) -> Result<Ran, NoMemory>
     requires fits { (M.spec driver.now).fits }
+    requires covers { Covers (M.spec driver.now) }
     requires script { IsScript script.now }
     requires limit { most < 4294967295 }
-    ensures follows { IfOk result (λ ran. OnFalse ran.too_long (Follows (M.spec driver.now).setting (M.call_of driver.now) (start_moment (M.spec driver.now).setting) script.now ran.journal.entries)) }
+    ensures follows { let d = M.spec driver.now in let calls = M.call_of driver.now in
+        IfOk result (λ ran. OnFalse ran.too_long (Follows d.setting calls (start_moment d.setting) script.now
+        ran.journal.entries)) }
     // A run that stopped says what the directives ask for up to there, where one more step is asked for.
-    ensures stops { IfOk result (λ ran. OnTrue ran.too_long (FollowsToStop (M.spec driver.now).setting (M.call_of driver.now) (start_moment (M.spec driver.now).setting) script.now ran.journal.entries)) }
-    ensures legal { IfOk result (λ ran. IsLegal (M.spec driver.now).setting (start_moment (M.spec driver.now).setting) (deeds_of (M.call_of driver.now) script.now ran.journal.entries)) }
+    ensures stops { let d = M.spec driver.now in let calls = M.call_of driver.now in
+        IfOk result (λ ran. OnTrue ran.too_long (FollowsToStop d.setting calls (start_moment d.setting) script.now
+        ran.journal.entries)) }
+    ensures legal { let d = M.spec driver.now in let calls = M.call_of driver.now in
+        IfOk result (λ ran. IsLegal d.setting (start_moment d.setting) (deeds_of calls script.now
+        ran.journal.entries)) }
     ensures few { IfOk result (λ ran. steps_in ran.journal.entries ≤ most) }
     ensures most_taken { IfOk result (λ ran. OnTrue ran.too_long (steps_in ran.journal.entries ≡ most)) }
     // The room is for so many steps, and for two other items of each directive.
     ensures room { IfOk result (λ ran. ran.journal.room ≡ most + 2 * length script.now) }
     // The limit is not met where the bounds of all frames that may begin are within it.
-    ensures within { IfOk result (λ ran. OnTrue ran.too_long (most < script_bound (M.spec driver.now).setting (M.call_of driver.now) script.now)) }
+    ensures within { let d = M.spec driver.now in let calls = M.call_of driver.now in
+        IfOk result (λ ran. OnTrue ran.too_long (most < script_bound d.setting calls script.now)) }
 {
     let mut journal = journal_for(alloc, most, script.len())?;
     let mut stack = Stack::new(alloc)?;

@@ -1,4 +1,4 @@
-ghost use Rattle.std.specs.Prelude.{ℕ, ◌≡◌, ◌<◌, ◌≤◌, ◌+◌, ◌∷◌, length, OnOk, OnErr, IfOk, None, ◌||◌, is_some};
+ghost use Rattle.std.specs.Prelude.{ℕ, ◌≡◌, ◌<◌, ◌≤◌, ◌+◌, ◌∷◌, length, OnOk, OnErr, None, ◌||◌, is_some};
 ghost use Rattle.mcal_base.specs.declared.directive.Order.{Order};
 ghost use Rattle.run_model.specs.Entry as entry;
 ghost use Rattle.run_model.specs.Follows as follows;
@@ -11,7 +11,7 @@ use crate::caller::Caller;
 use chip_model::Bus;
 use mcal_base::{Directive, Event, Move, Reason, Reg, Stop};
 use run_model::{Journal, Reach, Stepped};
-use step_runner::{Stack, reset, step};
+use step_runner::{Stack, reset, step_into};
 
 /// A step past the most of a run would be taken.
 #[derive(Clone, Copy, Debug, PartialEq, Eq)]
@@ -64,7 +64,8 @@ fn answer_is_short(stepped: &Stepped) -> usize
     }
 }
 
-/// Takes a step of the top frame, and notes it, unless so many were taken.
+/// Takes a step of the top frame, and notes it, unless so many were taken. The step is written to a place that holds
+/// no answer.
 pub(crate) fn take_step<M: Caller>(
     driver: &M,
     script: &[Directive],
@@ -73,24 +74,30 @@ pub(crate) fn take_step<M: Caller>(
     stack: &mut Stack<M>,
     bus: &mut Bus,
     journal: &mut Journal,
-) -> Result<Stepped, TooLong>
+    stepped: &mut Stepped,
+) -> Result<(), TooLong>
     requires fits { (M.spec driver.now).fits }
     requires limit { most < 4294967295 }
     requires frame { 0 < length stack.old.frames }
     requires room { HasRoom most stack.old.steps 1 journal.old }
-    requires stands { IsStanding (M.spec driver.now) (M.call_of driver.now) script.now bus.old stack.old.frames journal.old.entries }
-    ensures took { IfOk result (λ s. TookStep (M.spec driver.now) (M.call_of driver.now) script.now most line bus.old stack.old journal.old s bus.new stack.new journal.new) }
-    ensures too_long { OnErr result ((stack.new ≡ stack.old) × (bus.new ≡ bus.old) × (journal.new ≡ journal.old) × (stack.old.steps ≡ most)) }
+    requires stands { let d = M.spec driver.now in let calls = M.call_of driver.now in
+        IsStanding d calls script.now bus.old stack.old.frames journal.old.entries }
+    requires free { stepped.old.ended ≡ None }
+    ensures took { let d = M.spec driver.now in let calls = M.call_of driver.now in
+        OnOk result (TookStep d calls script.now most line bus.old stack.old journal.old stepped.new bus.new
+        stack.new journal.new) }
+    ensures too_long { OnErr result ((stack.new ≡ stack.old) × (bus.new ≡ bus.old) × (journal.new ≡ journal.old) × (stack.old.steps
+        ≡ most)) }
 {
     if stack.steps() == most {
         return Err(TooLong);
     }
     let depth = stack.depth();
-    match step(stack, bus) {
-        Ok(stepped) => {
-            let _words = answer_is_short(&stepped);
-            journal.stepped(line, depth, &stepped);
-            Ok(stepped)
+    match step_into(stack, bus, stepped) {
+        Ok(()) => {
+            let _words = answer_is_short(stepped);
+            journal.stepped(line, depth, stepped);
+            Ok(())
         }
         Err(_) => unreachable!(),
     }
@@ -111,16 +118,31 @@ pub(crate) fn run_steps<M: Caller>(
     requires limit { most < 4294967295 }
     requires frame { 0 < length stack.old.frames }
     requires room { HasRoom most stack.old.steps 1 journal.old }
-    requires stands { IsStanding (M.spec driver.now) (M.call_of driver.now) script.now bus.old stack.old.frames journal.old.entries }
-    ensures went { OnOk result (WentFar (M.spec driver.now) (M.call_of driver.now) script.now most line reach bus.old stack.old journal.old bus.new stack.new journal.new) }
-    ensures too_long { OnErr result (IsStuck (M.spec driver.now) (M.call_of driver.now) script.now most 0 stack.old journal.old bus.new stack.new journal.new (λ m items. GoesToStop (M.spec driver.now).setting line reach 0 m items)) }
+    requires stands { let d = M.spec driver.now in let calls = M.call_of driver.now in
+        IsStanding d calls script.now bus.old stack.old.frames journal.old.entries }
+    ensures went { let d = M.spec driver.now in let calls = M.call_of driver.now in
+        OnOk result (WentFar d calls script.now most line reach bus.old
+        stack.old journal.old bus.new stack.new journal.new) }
+    ensures too_long { let d = M.spec driver.now in let calls = M.call_of driver.now in
+        OnErr result (IsStuck d calls script.now most 0 stack.old journal.old bus.new stack.new journal.new
+        (λ m items. GoesToStop d.setting line reach 0 m items)) }
 {
     let mut made = 0u32;
+    let mut stepped = Stepped::blank();
     loop {
-        let stepped = match take_step(driver, script, most, line, stack, bus, journal) {
-            Ok(stepped) => stepped,
+        match take_step(
+            driver,
+            script,
+            most,
+            line,
+            stack,
+            bus,
+            journal,
+            &mut stepped,
+        ) {
+            Ok(()) => {}
             Err(TooLong) => return Err(TooLong),
-        };
+        }
         made += 1;
         if is_reset(&stepped.made) {
             let depth = stack.depth();

@@ -1,36 +1,40 @@
-ghost use Rattle.std.specs.Prelude.{◌≡◌, ◌<◌, ◌≤◌, ◌+◌, ◌*◌, length, IfOk};
+ghost use Rattle.std.specs.Prelude.{◌≡◌, ◌<◌, ◌≤◌, ◌+◌, ◌*◌, min, length, IfOk, Some};
 ghost use Rattle.std.specs.Bool.{OnFalse, OnTrue};
+ghost use Rattle.run_model.specs.Script.{beginnings_of};
 ghost use Rattle.run_model.specs.Stops.{steps_in};
-ghost use Rattle.script_runner.specs.Scripts as scripts;
 ghost use Rattle.script_runner.specs.Scripts.{IsScript, IsRun, IsStopped, script_bound};
+ghost use Rattle.script_runner.specs.Standing.{bounds_of};
+ghost use Rattle.step_runner.specs.Driver.{Covers};
 
 use crate::caller::Caller;
 use crate::run::{Ran, run_script};
 use mcal_base::{Config, Directive, NoMemory, Order};
 use std::alloc::Global;
 
-/// Whether a frame may begin by an order.
-fn begins_frame(order: &Order) -> bool
-    ensures { result ≡ scripts.begins_frame order.now }
+/// The most steps of the frame that an order may begin, 0 where it begins none.
+fn steps_by<M: Caller>(driver: &M, order: &Order) -> u32
+    ensures bound { let d = M.spec driver.now in let calls = M.call_of driver.now in
+        result ≡ bounds_of d.setting (beginnings_of calls (Some order.now)) }
+    ensures few { result ≤ 10176 }
 {
-    matches!(
-        order,
-        Order::Call(..) | Order::Do(..) | Order::Enter(_) | Order::Serve(_)
-    )
+    match order {
+        Order::Call(_, request) | Order::Do(_, request) => {
+            driver.call_steps(&driver.call(request))
+        }
+        Order::Enter(line) | Order::Serve(line) => driver.line_steps(*line),
+        _ => 0,
+    }
 }
 
-/// A number that the steps of a script's frames don't pass.
-fn most_steps<M: Caller>(driver: &M, script: &[Directive]) -> u32
+/// The most steps of all frames that a script may begin.
+fn steps_of<M: Caller>(driver: &M, script: &[Directive]) -> u64
     requires { length script.now ≤ 1100000 }
-    ensures bound { script_bound (M.spec driver.now).setting (M.call_of driver.now) script.now ≤ result }
-    ensures few { result ≤ 2000 * length script.now }
+    ensures bound { result ≡ script_bound (M.spec driver.now).setting (M.call_of driver.now) script.now }
+    ensures few { result ≤ 10176 * length script.now }
 {
-    let each = driver.most_steps();
     let mut most = 0;
     for directive in script {
-        if begins_frame(&directive.order) {
-            most += each;
-        }
+        most += u64::from(steps_by(driver, &directive.order));
     }
     most
 }
@@ -45,17 +49,23 @@ pub fn run_within<M: Caller>(
     limit: u32,
 ) -> Result<Ran, NoMemory>
     requires fits { (M.spec driver.now).fits }
+    requires covers { Covers (M.spec driver.now) }
     requires script { IsScript script.now }
     requires limit { limit < 4294967295 }
-    ensures whole { IfOk result (λ ran. OnFalse ran.too_long (IsRun (M.spec driver.now).setting (M.call_of driver.now) script.now ran.journal.entries)) }
+    ensures whole { let d = M.spec driver.now in let calls = M.call_of driver.now in
+        IfOk result (λ ran. OnFalse ran.too_long (IsRun d.setting calls script.now ran.journal.entries)) }
     ensures few { IfOk result (λ ran. steps_in ran.journal.entries ≤ limit) }
-    ensures stopped { IfOk result (λ ran. OnTrue ran.too_long (IsStopped (M.spec driver.now).setting (M.call_of driver.now) limit script.now ran.journal.entries)) }
-    // The room is for no more steps than the limit, and than 2000 of each directive.
-    ensures room { IfOk result (λ ran. ran.journal.room ≤ limit + 2 * length script.now) }
-    ensures small { IfOk result (λ ran. ran.journal.room ≤ 2002 * length script.now) }
+    ensures stopped { let d = M.spec driver.now in let calls = M.call_of driver.now in
+        IfOk result (λ ran. OnTrue ran.too_long (IsStopped d.setting calls limit script.now ran.journal.entries)) }
+    // The room is for no more steps than the limit, and than those frames may take, which are at most 10,176 each.
+    ensures room { let d = M.spec driver.now in let calls = M.call_of driver.now in
+        IfOk result (λ ran. ran.journal.room ≡ min limit (script_bound d.setting calls script.now) + 2 * length
+        script.now) }
+    ensures small { IfOk result (λ ran. ran.journal.room ≤ 10178 * length script.now) }
     // The limit is not met where the bounds of all frames that may begin are within it.
-    ensures within { IfOk result (λ ran. OnTrue ran.too_long (limit < script_bound (M.spec driver.now).setting (M.call_of driver.now) script.now)) }
+    ensures within { let d = M.spec driver.now in let calls = M.call_of driver.now in
+        IfOk result (λ ran. OnTrue ran.too_long (limit < script_bound d.setting calls script.now)) }
 {
-    let most = limit.min(most_steps(driver, script));
+    let most = u64::from(limit).min(steps_of(driver, script)) as u32;
     run_script(alloc, driver, config, script, most)
 }

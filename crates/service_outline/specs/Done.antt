@@ -1,10 +1,17 @@
--- What a step of a body is, and plain answers.
+-- What a step of a body is, plain answers, and what is owed for an error.
 use Rattle.std.specs.Prelude.{ℕ, Option, Some, None, [], ◌∷◌}
 use Rattle.mcal_base.specs.declared.answer.Answer.{Answer}
 use Rattle.mcal_base.specs.declared.answer.Head.TheVariants.{Numbers}
 use Rattle.mcal_base.specs.declared.moves.Event.{Event}
 use Rattle.mcal_base.specs.declared.moves.Event.TheVariants.{Act}
+use Rattle.mcal_base.specs.declared.error_name.ErrorName.{ErrorName}
+use Rattle.mcal_base.specs.declared.moves.DevError.{DevError}
+use Rattle.mcal_base.specs.declared.service.Service.{Service}
+use Rattle.det_errors.specs.Reports.{Reporting, reported}
+use Rattle.run_model.specs.Machine.{Told}
+use Rattle.run_model.specs.Frame.{report_as}
 use Rattle.service_outline.specs.declared.done.Owed.{Owed}
+use Rattle.service_outline.specs.declared.done.Owed.TheVariants.{Nothing, Error}
 use Rattle.service_outline.specs.declared.done.BodyTaken.{BodyTaken}
 
 -- the answer that is a number
@@ -22,3 +29,16 @@ acts = record { event = Some Act; done = None }
 -- it is done
 abbrev pub ends : Option Event → Answer → Owed → BodyTaken
 ends e a w = record { event = e; done = Some (record { answer = a; owed = w }) }
+
+-- a report, where there is one
+abbrev pub owed_report : Option DevError → Owed
+owed_report None = Nothing
+owed_report (Some e) = Error e
+
+-- what is owed for an error of a service, by the one rule of reports
+abbrev pub owed_error : Reporting → Service → ErrorName → Owed
+owed_error r s e = owed_report (report_as s e (reported r e))
+
+-- an act that finds an error, and answers this
+abbrev pub tells_error : Answer → ErrorName → Told
+tells_error a e = record { answer = a; error = Some e; notices = [] }

@@ -42,6 +42,16 @@ does e = record { event = e; ended = None }
 abbrev pub ends : Answer → Taken
 ends a = record { event = None; ended = Some a }
 
+-- after its first step, where it is a call or a handler before its window
+abbrev pub begun : {Call Body : Type 0} → Short Call Body → Short Call Body
+begun (Calling c) = Loading c
+begun (Entering k) = Inside k
+begun (Loading c) = Loading c
+begun (Inside k) = Inside k
+begun (Opening n) = Opening n
+begun (Telling n) = Telling n
+begun (Returning a) = Returning a
+
 abbrev pub left_look : {Call Body : Type 0} → Looked Body → Short Call Body
 left_look (Refused n) = Opening n
 left_look (Goes k) = Inside k

@@ -15,7 +15,8 @@ pub enum Looked<B> {
     Goes(B),
 }
 
-/// The moves of a window, between its first one and its last one, and what they decide.
+/// The moves of a frame between the closing of the mask and its last opening, and what they decide. A body may open
+/// and close the mask itself, and give notices while it is open; it begins and ends with the mask closed.
 pub trait Body: Drop {
     /// What it does next.
     ghost work_of: { Self → Move };

@@ -3,7 +3,43 @@ ghost use Rattle.mcal_base.specs.declared.moves.Event.TheVariants.{Act};
 ghost use Rattle.run_model.specs.Machine.{no_answer};
 ghost use Rattle.service_outline.specs.Done as spec;
 
-use mcal_base::{Answer, DevError, Event, Head, Notice, Words};
+use det_errors::reported;
+use mcal_base::{Answer, DevError, ErrorName, Event, Head, Notice, Service, Words};
+use std::marker::Model;
+
+/// An answer of at most one number, as a frame keeps it; contracts see the answer.
+#[derive(Clone, Copy, Debug)]
+pub struct Reply {
+    head: Head,
+    number: Option<u32>,
+}
+
+impl Model for Reply {
+    ghost use Rattle.std.specs.Prelude.{option_to_list, slice_get};
+    ghost use Rattle.mcal_base.specs.declared.answer.Answer.{Answer};
+
+    ghost Value = { Answer };
+
+    ghost view = { λ r. record { head = r.head; words = option_to_list r.number } };
+
+    ghost inverse = { λ a. record { head = a.head; number = slice_get a.words 0 } };
+}
+
+impl Reply {
+    /// The answer, in full.
+    pub fn answer(&self) -> Answer
+        ensures { result ≡ self.now }
+    {
+        let mut words = Words::new();
+        if let Some(number) = self.number {
+            words.push(number);
+        }
+        Answer {
+            head: self.head,
+            words,
+        }
+    }
+}
 
 /// What a frame tells after its window.
 #[derive(Clone, Copy, Debug, PartialEq, Eq)]
@@ -19,16 +55,16 @@ pub enum Owed {
 }
 
 /// What stands after the work of a window.
-#[derive(Debug, Drop, PartialEq)]
+#[derive(Clone, Copy, Debug)]
 pub struct Done {
     /// The answer that the frame ends with.
-    pub answer: Answer,
+    pub answer: Reply,
     /// What it tells before.
     pub owed: Owed,
 }
 
 /// What a step of a body was, beside its move.
-#[derive(Debug, Drop, PartialEq)]
+#[derive(Clone, Copy, Debug)]
 pub struct BodyTaken {
     /// The event that stands at the step.
     pub event: Option<Event>,
@@ -37,24 +73,37 @@ pub struct BodyTaken {
 }
 
 /// The answer of a service that answers nothing.
-pub fn nothing() -> Answer
+pub fn nothing() -> Reply
     ensures { result ≡ no_answer }
 {
-    Answer {
+    Reply {
         head: Head::Nothing,
-        words: Words::new(),
+        number: None,
     }
 }
 
 /// The answer that is a number.
-pub fn number(value: u32) -> Answer
+pub fn number(value: u32) -> Reply
     ensures { result ≡ spec.number value }
 {
-    let mut words = Words::new();
-    words.push(value);
-    Answer {
+    Reply {
         head: Head::Numbers,
-        words,
+        number: Some(value),
+    }
+}
+
+/// What is told of an error: its report, where a module that detects development errors or doesn't, and classifies state
+/// errors so, reports it.
+pub fn error(detect: bool, classification: u32, service: Service, error: ErrorName) -> Owed
+    ensures { result ≡ spec.owed_error (record { detect = detect; classification = classification }) service error }
+{
+    match reported(detect, classification, error) {
+        Some(runtime) => Owed::Error(DevError {
+            service,
+            error,
+            runtime,
+        }),
+        None => Owed::Nothing,
     }
 }
 
@@ -79,7 +128,7 @@ pub fn acts() -> BodyTaken
 }
 
 /// The last step of a body.
-pub fn ends(event: Option<Event>, answer: Answer, owed: Owed) -> BodyTaken
+pub fn ends(event: Option<Event>, answer: Reply, owed: Owed) -> BodyTaken
     ensures { result ≡ spec.ends event answer owed }
 {
     BodyTaken {
@@ -89,7 +138,7 @@ pub fn ends(event: Option<Event>, answer: Answer, owed: Owed) -> BodyTaken
 }
 
 /// The last step of a body, with its act.
-pub fn acts_with(answer: Answer, owed: Owed) -> BodyTaken
+pub fn acts_with(answer: Reply, owed: Owed) -> BodyTaken
     ensures { result ≡ spec.ends (Some Act) answer owed }
 {
     ends(Some(Event::Act), answer, owed)

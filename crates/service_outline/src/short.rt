@@ -3,7 +3,7 @@ ghost use Rattle.mcal_base.specs.declared.moves.Event.{Event};
 ghost use Rattle.service_outline.specs.Short as spec;
 
 use crate::body::{Body, Looked, Service};
-use crate::done::{BodyTaken, Done, Owed, nothing};
+use crate::done::{BodyTaken, Done, Owed, Reply, nothing};
 use mcal_base::{Answer, Event, Move, Routine, Taken};
 use std::mem;
 
@@ -23,31 +23,7 @@ pub enum Short<C, B> {
     /// It tells what it owes.
     Telling(Done),
     /// The closing load.
-    Returning(Answer),
-}
-
-fn goes() -> Taken
-    ensures { result ≡ spec.goes }
-{
-    Taken {
-        event: None,
-        ended: None,
-    }
-}
-
-fn does(event: Option<Event>) -> Taken
-    ensures { result ≡ spec.does event }
-{
-    Taken { event, ended: None }
-}
-
-fn ends(answer: Answer) -> Taken
-    ensures { result ≡ spec.ends answer }
-{
-    Taken {
-        event: None,
-        ended: Some(answer),
-    }
+    Returning(Reply),
 }
 
 impl<C: Service> Routine for Short<C, C::Body> {
@@ -74,35 +50,83 @@ impl<C: Service> Routine for Short<C, C::Body> {
     }
 
     fn took(&mut self, value: u32) -> Taken {
-        let (after, taken) = match mem::replace(self, Short::Returning(nothing())) {
-            Short::Calling(call) => (Short::Loading(call), goes()),
-            Short::Loading(call) => match call.look(value) {
-                Looked::Refused(done) => (Short::Opening(done), does(Some(Event::Act))),
-                Looked::Goes(body) => (Short::Inside(body), goes()),
-            },
-            Short::Entering(body) => (Short::Inside(body), goes()),
-            Short::Inside(mut body) => {
+        let mut ended = None;
+        let event = self.took_into(value, &mut ended);
+        Taken { event, ended }
+    }
+
+    fn took_into(&mut self, value: u32, ended: &mut Option<Answer>) -> Option<Event> {
+        match self {
+            Short::Inside(body) => {
                 let BodyTaken { event, done } = body.took(value);
-                match done {
-                    None => (Short::Inside(body), does(event)),
-                    Some(done) => (Short::Opening(done), does(event)),
+                if let Some(done) = done {
+                    *self = Short::Opening(done);
                 }
+                event
             }
-            Short::Opening(Done { answer, owed }) => match owed {
-                Owed::Nothing => (Short::Returning(nothing()), ends(answer)),
-                _ => (Short::Telling(Done { answer, owed }), goes()),
-            },
-            Short::Telling(Done { answer, owed }) => match owed {
-                Owed::Nothing | Owed::Error(_) => (Short::Returning(nothing()), ends(answer)),
-                Owed::One(_) => (Short::Returning(answer), goes()),
-                Owed::Two(_, second) => {
-                    let owed = Owed::One(second);
-                    (Short::Telling(Done { answer, owed }), goes())
+            Short::Loading(call) => match call.look(value) {
+                Looked::Refused(done) => {
+                    *self = Short::Opening(done);
+                    Some(Event::Act)
+                }
+                Looked::Goes(body) => {
+                    *self = Short::Inside(body);
+                    None
                 }
             },
-            Short::Returning(answer) => (Short::Returning(nothing()), ends(answer)),
+            Short::Opening(done) => {
+                let Done { answer, owed } = *done;
+                match owed {
+                    Owed::Nothing => {
+                        *self = Short::Returning(nothing());
+                        *ended = Some(answer.answer());
+                    }
+                    _ => {
+                        *self = Short::Telling(Done { answer, owed });
+                    }
+                }
+                None
+            }
+            Short::Telling(done) => {
+                let Done { answer, owed } = *done;
+                match owed {
+                    Owed::Nothing | Owed::Error(_) => {
+                        *self = Short::Returning(nothing());
+                        *ended = Some(answer.answer());
+                    }
+                    Owed::One(_) => {
+                        *self = Short::Returning(answer);
+                    }
+                    Owed::Two(_, second) => {
+                        let owed = Owed::One(second);
+                        *self = Short::Telling(Done { answer, owed });
+                    }
+                }
+                None
+            }
+            Short::Returning(answer) => {
+                let answer = *answer;
+                *self = Short::Returning(nothing());
+                *ended = Some(answer.answer());
+                None
+            }
+            Short::Calling(_) | Short::Entering(_) => {
+                self.begins();
+                None
+            }
+        }
+    }
+}
+
+impl<C: Service> Short<C, C::Body> {
+    /// The first step of a call or of a handler.
+    fn begins(&mut self)
+        ensures { self.new ≡ spec.begun self.old }
+    {
+        *self = match mem::replace(self, Short::Returning(nothing())) {
+            Short::Calling(call) => Short::Loading(call),
+            Short::Entering(body) => Short::Inside(body),
+            other => other,
         };
-        *self = after;
-        taken
     }
 }

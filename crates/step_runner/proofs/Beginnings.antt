@@ -1,22 +1,26 @@
 -- A beginning and a held one, the hardware and a reset, as deeds.
-use Rattle.std.proofs.Common.{◌≡◌, ℕ, ◌≤◌, Bool, true, false, not, ◌&&◌, is_some, List, [], ◌∷◌, ◌++◌, Option, Some, None, refl, sym, ◌∙◌, ap, subst, arith}
+use Rattle.std.proofs.Common.{◌≡◌, ℕ, ◌≤◌, ◌==◌, nat_lt, nat_le, ◌||◌, Bool, true, false, not, ◌&&◌, is_some, List, [], ◌∷◌, ◌++◌, Option, Some, None, refl, sym, ◌∙◌, ap, subst, arith}
 use Rattle.std.specs.Prelude.{IsSome, Result, Ok, Err}
 use Rattle.std.proofs.lemmas.List.{append-nil}
+use Rattle.std.proofs.lemmas.Bool.Decides.{nat_tests}
 use Rattle.chip_model.specs.Chip.{Chip, happened, reset_chip, is_masked, is_pending}
 use Rattle.irq_control.specs.declared.held.Held.{Held}
 use Rattle.mcal_base.specs.declared.directive.Order.{Order}
+use Rattle.mcal_base.specs.declared.directive.Order.TheVariants as orders
 use Rattle.mcal_base.specs.declared.directive.Reason.{Reason}
 use Rattle.mcal_base.specs.declared.moves.Move.{Move}
 use Rattle.mcal_base.specs.declared.routine.Taken.{Taken}
 use Rattle.run_model.specs.declared.class.Tag.{Tag}
-use Rattle.run_model.specs.World.{world_after}
+use Rattle.run_model.specs.World.{World, world_after}
 use Rattle.run_model.specs.Machine.{Moves}
 use Rattle.run_model.specs.Frame.{Origin, Called, Entered, Open, opened, state_by}
-use Rattle.run_model.specs.Causes.{may_reenter, call_level_allows, line_level_allows, first_cause, is_full, call_cause, line_cause, tags_of, top_noted}
+use Rattle.run_model.specs.Causes.{may_reenter, none_above, all_below, call_level_allows, line_level_allows, first_cause, is_full, call_cause, line_cause, fill_cause, tags_of, origins_of, top_noted}
+use Rattle.run_model.specs.Legal.{order_held, hardware_held}
 use Rattle.run_model.specs.Moment.{Moment, Deed, Begins, Enters, Happens, Resets, call_tag, line_tag, start_moment, after_all}
-use Rattle.step_runner.specs.Driver.{Driver, IsLawful, AllOutside, tags_in}
+use Rattle.step_runner.specs.Driver.{Driver, Covers, IsLawful, AllOutside, tags_in, origins_in, TicksFit, IsFree}
+use Rattle.step_runner.specs.Lifts.{and-left, and-right}
 use Rattle.step_runner.specs.Kept.{Kept, tags_under, top_is_noted, cause_of, beginning, put_by, enter_by}
-use Rattle.step_runner.specs.Stands.{paired, AreFramesOf, IsGuarded, Matches, Stands, done}
+use Rattle.step_runner.specs.Stands.{paired, AreFramesOf, IsGuarded, LevelsRise, Matches, Stands, done}
 use Rattle.step_runner.specs.declared.stack.Under.{Under}
 use Rattle.step_runner.proofs.ChipFacts.{mask-happened, rate-happened}
 use Rattle.step_runner.proofs.Runs.{none-inside, outside-paired, stands-on}
@@ -24,16 +28,67 @@ use Rattle.step_runner.proofs.Runs.{none-inside, outside-paired, stands-on}
 -- ---- causes
 
 -- with no cause none of the causes holds
-first-none : (masked level reentry idle full : Bool) → first_cause masked level reentry idle full ≡ None → (masked ≡ false) × (reentry ≡ false) × (idle ≡ false)
+first-none : (masked level reentry idle full : Bool) → first_cause masked level reentry idle full ≡ None → (masked ≡ false) × (reentry ≡ false) × (idle ≡ false) × (level ≡ false)
 first-none true level reentry idle full e = cc
 first-none false true reentry idle full e = cc
 first-none false false true idle full e = cc
 first-none false false false true full e = cc
-first-none false false false false full e = (refl, refl, refl)
+first-none false false false false full e = (refl, refl, refl, refl)
 
 not-false : (b : Bool) → not b ≡ false → b ≡ true
 not-false true e = refl
 not-false false e = cc
+
+-- ---- levels
+
+call-allowed : (top level : ℕ) (noted : Bool) → nat_lt top level || (noted && level == top) ≡ true → nat_le top level ≡ true
+call-allowed top level true h = grind (arith, nat_tests)
+call-allowed top level false h = grind (arith, nat_tests)
+
+line-allowed : (top level : ℕ) → nat_lt top level ≡ true → nat_le top level ≡ true
+line-allowed top level h = grind (arith, nat_tests)
+
+le-more : (a b c : ℕ) → nat_le a b ≡ true → nat_le b c ≡ true → nat_le a c ≡ true
+le-more a b c h k = grind (arith, nat_tests)
+
+le-under : (a b c : ℕ) → nat_le a b ≡ true → nat_lt b c ≡ true → nat_lt a c ≡ true
+le-under a b c h k = grind (arith, nat_tests)
+
+-- all are of no higher level than the top one
+above-more : (tags : List Tag) (level more : ℕ) → none_above tags level ≡ true → nat_le level more ≡ true → none_above tags more ≡ true
+above-more [] level more h k = refl
+above-more (t ∷ ts) level more h k =
+    let here = le-more t.level level more (and-left (nat_le t.level level) (none_above ts level) h) k in
+    rw here (above-more ts level more (and-right (nat_le t.level level) (none_above ts level) h) k)
+
+below-more : (tags : List Tag) (level more : ℕ) → none_above tags level ≡ true → nat_lt level more ≡ true → all_below tags more ≡ true
+below-more [] level more h k = refl
+below-more (t ∷ ts) level more h k =
+    let here = le-under t.level level more (and-left (nat_le t.level level) (none_above ts level) h) k in
+    rw here (below-more ts level more (and-right (nat_le t.level level) (none_above ts level) h) k)
+
+call-above : (tags : List Tag) (noted : Bool) (level : ℕ) → LevelsRise tags → call_level_allows tags noted level ≡ true → none_above tags level ≡ true
+call-above [] noted level r h = refl
+call-above (t ∷ ts) noted level r h =
+    let here = call-allowed t.level level noted h in
+    rw here (above-more ts t.level level r.0 here)
+
+line-above : (tags : List Tag) (level : ℕ) → LevelsRise tags → line_level_allows tags level ≡ true → all_below tags level ≡ true
+line-above [] level r h = refl
+line-above (t ∷ ts) level r h = rw h (below-more ts t.level level r.0 h)
+
+below-above : (tags : List Tag) (level : ℕ) → all_below tags level ≡ true → none_above tags level ≡ true
+below-above [] level h = refl
+below-above (t ∷ ts) level h =
+    let here = line-allowed t.level level (and-left (nat_lt t.level level) (all_below ts level) h) in
+    rw here (below-above ts level (and-right (nat_lt t.level level) (all_below ts level) h))
+
+-- a hardware event that isn't held is free
+fill-free : (masked there busy : Bool) → fill_cause masked there busy ≡ None → masked || busy ≡ false
+fill-free masked false busy e = cc
+fill-free true true busy e = cc
+fill-free false true true e = cc
+fill-free false true false e = refl
 
 -- ---- what a beginning asks of the frames that are there
 
@@ -50,6 +105,17 @@ module _ {State Call Frame : Type 0} (d : Driver State Call Frame) where
   tags-in (u ∷ us) [] a = absurd a
   tags-in (u ∷ us) (o ∷ os) a = ap (λ t. t ∷ tags_in (paired us os)) (sym a.0.tag) ∙ ap (λ ts. u.tag ∷ ts) (tags-in us os a.1)
 
+  origins-in : (us : List (Under Frame)) (os : List (Open Call)) → AreFramesOf d us os → origins_in (paired us os) ≡ origins_of os
+  origins-in [] [] a = refl
+  origins-in [] (o ∷ os) a = absurd a
+  origins-in (u ∷ us) [] a = absurd a
+  origins-in (u ∷ us) (o ∷ os) a = ap (λ x. o.origin ∷ x) (origins-in us os a.1)
+
+  free-of : Covers d → (masked : Bool) (w : World) (s : State) (os : List (Origin Call)) (order : Order) → order_held d.setting masked w s os order ≡ None → IsFree d.setting masked w s os order
+  free-of cover masked w s os (orders.Tick n) e = subst (λ x. TicksFit n x) (sym (cover.unwatched w s)) tt
+  free-of cover masked w s os (orders.Fill c ws) e = fill-free masked (d.setting.fills c) (d.setting.fill_busy w s os c) e
+  free-of cover masked w s os _ e = tt
+
   noted-is : (us : List (Under Frame)) (os : List (Open Call)) → AreFramesOf d us os → top_is_noted us ≡ top_noted os
   noted-is [] [] a = refl
   noted-is [] (o ∷ os) a = absurd a
@@ -57,14 +123,16 @@ module _ {State Call Frame : Type 0} (d : Driver State Call Frame) where
   noted-is (u ∷ us) (o ∷ os) a = a.0.noted
 
   -- a frame that begins with the mask open
-  put-on : (chip : Chip) (us : List (Under Frame)) (m : Moment State Call) (f : Frame) (origin : Origin Call) (tag : Tag) → is_masked m.chip ≡ false → d.fuel f ≤ d.setting.steps_of origin → (AllOutside (paired us m.opens) → d.relates m.chip m.world ((f, opened origin tag) ∷ paired us m.opens) m.state) → Matches d chip us m → Matches d chip (beginning f tag ∷ us) (record m { opens = opened origin tag ∷ m.opens })
-  put-on chip us m f origin tag e fuel keep k =
+  put-on : (chip : Chip) (us : List (Under Frame)) (m : Moment State Call) (f : Frame) (origin : Origin Call) (tag : Tag) → is_masked m.chip ≡ false → none_above (tags_of m.opens) tag.level ≡ true → d.fuel f ≤ d.setting.steps_of origin → (AllOutside (paired us m.opens) → d.relates m.chip m.world ((f, opened origin tag) ∷ paired us m.opens) m.state) → Matches d chip us m → Matches d chip (beginning f tag ∷ us) (record m { opens = opened origin tag ∷ m.opens })
+  put-on chip us m f origin tag e above fuel keep k =
       let out = none-inside (is_masked m.chip) m.opens e k.guarded in
       record {
         chip_is = k.chip_is;
         frames = (record { tag = refl; noted = refl; steps = omega arith; window = omega arith; room = λ inside. cc }, k.frames);
         relates = keep (outside-paired us m.opens out);
         guarded = (e, out);
+        counted = k.counted;
+        levels = (above, k.levels);
         rate = k.rate;
       }
 
@@ -80,12 +148,15 @@ module _ {State Call Frame : Type 0} (d : Driver State Call Frame) (move_of : Fr
       let x = first-none (is_masked chip) (not (call_level_allows (tags_under us) (top_is_noted us) level)) (not (may_reenter (d.setting.class_of c) (tags_under us))) false (is_full (tags_under us)) none in
       let reenters : may_reenter (d.setting.class_of c) (tags_in (paired us m.opens)) ≡ true = ap (may_reenter (d.setting.class_of c)) (tags-in d us m.opens mm.frames) ∙ not-false (may_reenter (d.setting.class_of c) (tags_under us)) x.1 in
       let e : is_masked m.chip ≡ false = ap is_masked (sym mm.chip_is) ∙ x.0 in
+      let allowed : call_level_allows (tags_of m.opens) (top_noted m.opens) level ≡ true = sym (ap (λ ts. call_level_allows ts (top_is_noted us) level) (tags-are d us m.opens mm.frames) ∙ ap (λ b. call_level_allows (tags_of m.opens) b level) (noted-is d us m.opens mm.frames)) ∙ not-false (call_level_allows (tags_under us) (top_is_noted us) level) x.3 in
+      let above : none_above (tags_of m.opens) level ≡ true = call-above (tags_of m.opens) (top_noted m.opens) level mm.levels allowed in
+      let above_in : none_above (tags_in (paired us m.opens)) level ≡ true = ap (λ ts. none_above ts level) (tags-in d us m.opens mm.frames ∙ tags-are d us m.opens mm.frames) ∙ above in
       let legal : call_cause (is_masked m.chip) (tags_of m.opens) (top_noted m.opens) (d.setting.class_of c) level ≡ None =
       ap (λ b. call_cause (is_masked b) (tags_of m.opens) (top_noted m.opens) (d.setting.class_of c) level) (sym mm.chip_is)
       ∙ (ap (λ ts. call_cause (is_masked chip) ts (top_noted m.opens) (d.setting.class_of c) level) (sym (tags-are d us m.opens mm.frames))
       ∙ (ap (λ b. call_cause (is_masked chip) (tags_under us) b (d.setting.class_of c) level) (sym (noted-is d us m.opens mm.frames)) ∙ none)) in
       stands-on d move_of left gave law chip chip us (beginning (d.frame_of c) (call_tag d.setting c level) ∷ us) h (Begins c level) st legal
-      (put-on d chip us m (d.frame_of c) (Called c) (call_tag d.setting c level) e (law.call_fuel c can) (λ out. law.begins m.chip m.world (paired us m.opens) m.state c level can e out reenters mm.relates) mm)
+      (put-on d chip us m (d.frame_of c) (Called c) (call_tag d.setting c level) e above (law.call_fuel c can) (λ out. law.begins m.chip m.world (paired us m.opens) m.state c level can e out reenters above_in mm.relates) mm)
 
   -- a handler begins, or is held
   pub stands-enter : {A : Type 0} (h : List (Deed Call)) (chip : Chip) (k : Kept Frame) (r : Result A Held) (line : ℕ) (handler : Option Frame) → d.handler_of line ≡ handler → cause_of r ≡ line_cause (is_masked chip) (tags_under k.frames) (d.setting.level_of line) (is_some handler && is_pending chip line) → Stands d chip k.frames h → Stands d chip (enter_by r handler (line_tag d.setting line) k).frames (h ++ done r (Enters line))
@@ -102,26 +173,32 @@ module _ {State Call Frame : Type 0} (d : Driver State Call Frame) (move_of : Fr
       let none : line_cause (is_masked chip) (tags_under us) level (is_pending chip line) ≡ None = sym is in
       let x = first-none (is_masked chip) (not (line_level_allows (tags_under us) level)) false (not (is_pending chip line)) (is_full (tags_under us)) none in
       let e : is_masked m.chip ≡ false = ap is_masked (sym mm.chip_is) ∙ x.0 in
+      let allowed : line_level_allows (tags_of m.opens) level ≡ true = sym (ap (λ ts. line_level_allows ts level) (tags-are d us m.opens mm.frames)) ∙ not-false (line_level_allows (tags_under us) level) x.3 in
+      let under : all_below (tags_of m.opens) level ≡ true = line-above (tags_of m.opens) level mm.levels allowed in
+      let under_in : all_below (tags_in (paired us m.opens)) level ≡ true = ap (λ ts. all_below ts level) (tags-in d us m.opens mm.frames ∙ tags-are d us m.opens mm.frames) ∙ under in
       let used : d.setting.used line ≡ true = sym (law.handled line) ∙ ap is_some there in
       let legal : line_cause (is_masked m.chip) (tags_of m.opens) level (is_pending m.chip line) ≡ None =
       ap (λ b. line_cause (is_masked b) (tags_of m.opens) level (is_pending b line)) (sym mm.chip_is)
       ∙ (ap (λ ts. line_cause (is_masked chip) ts level (is_pending chip line)) (sym (tags-are d us m.opens mm.frames)) ∙ none) in
       stands-on d move_of left gave law chip chip us (beginning f (line_tag d.setting line) ∷ us) h (Enters line) st (used, legal)
-      (put-on d chip us m f (Entered line) (line_tag d.setting line) e (law.line_fuel line f there) (λ out. law.enters m.chip m.world (paired us m.opens) m.state line f there e out mm.relates) mm)
+      (put-on d chip us m f (Entered line) (line_tag d.setting line) e (below-above (tags_of m.opens) level under) (law.line_fuel line f there) (λ out. law.enters m.chip m.world (paired us m.opens) m.state line f there e out under_in mm.relates) mm)
 
   -- the hardware moves
-  pub stands-happens : (h : List (Deed Call)) (chip : Chip) (us : List (Under Frame)) (order : Order) → Stands d chip us h → Stands d (happened chip order) us (h ++ Happens order ∷ [])
-  stands-happens h chip us order st =
+  pub stands-happens : (h : List (Deed Call)) (chip : Chip) (us : List (Under Frame)) (order : Order) → hardware_held d.setting (after_all d.setting (start_moment d.setting) h) order ≡ None → Stands d chip us h → Stands d (happened chip order) us (h ++ Happens order ∷ [])
+  stands-happens h chip us order free st =
       let m = after_all d.setting (start_moment d.setting) h in
       let mm = st.matches in
-      let t = law.moves m.chip m.world (paired us m.opens) m.state order mm.relates in
-      stands-on d move_of left gave law chip (happened chip order) us us h (Happens order) st (subst (λ o. IsSome o) (sym t.1) refl)
+      let may = subst (λ os. IsFree d.setting (is_masked m.chip) m.world m.state os order) (sym (origins-in d us m.opens mm.frames)) (free-of d st.covers (is_masked m.chip) m.world m.state (origins_of m.opens) order free) in
+      let t = law.moves m.chip m.world (paired us m.opens) m.state order may mm.relates in
+      stands-on d move_of left gave law chip (happened chip order) us us h (Happens order) st (free, subst (λ o. IsSome o) (sym t.1) refl)
       (record {
         chip_is = ap (λ c. happened c order) mm.chip_is;
         frames = mm.frames;
         relates = subst (λ n. d.relates (happened m.chip order) (world_after m.world n order) (paired us m.opens) (state_by m.state (d.setting.machine.happens m.world m.state (Moves order)))) mm.rate
             (subst (λ o. d.relates (happened m.chip order) (world_after m.world m.chip.rate order) (paired us m.opens) (state_by m.state o)) (sym t.1) t.2);
         guarded = subst (λ b. IsGuarded b m.opens) (sym (mask-happened m.chip order)) mm.guarded;
+        counted = let c = law.count_moves m.world m.state order t.0 t.1 in subst (λ o. d.count (state_by m.state o) ≤ m.steps) (sym t.1) (let k = mm.counted in omega (arith, c, k));
+        levels = mm.levels;
         rate = rate-happened m.chip order ∙ (mm.rate ∙ (sym (law.rate_moves m.world m.state order t.0 t.1) ∙ ap (λ o. d.setting.machine.rate (state_by m.state o)) (sym t.1)));
       })
 
@@ -137,6 +214,8 @@ module _ {State Call Frame : Type 0} (d : Driver State Call Frame) (move_of : Fr
         frames = tt;
         relates = subst (λ o. d.relates (reset_chip m.chip reason) m.world [] (state_by m.state o)) (sym t.1) t.2;
         guarded = refl;
+        counted = let c = law.count_resets m.world m.state reason t.0 t.1 in subst (λ o. d.count (state_by m.state o) ≤ m.steps) (sym t.1) (let k = mm.counted in omega (arith, c, k));
+        levels = tt;
         rate = law.rate_resets m.chip m.world m.state reason t.0 t.1 ∙ ap (λ o. d.setting.machine.rate (state_by m.state o)) (sym t.1);
       })
 
@@ -148,8 +227,8 @@ module _ {State Call Frame : Type 0} (d : Driver State Call Frame) (move_of : Fr
   pub after-enter : {A : Type 0} (h : List (Deed Call)) (chip : Chip) (k k1 : Kept Frame) (r : Result A Held) (line : ℕ) → cause_of r ≡ line_cause (is_masked chip) (tags_under k.frames) (d.setting.level_of line) (is_some (d.handler_of line) && is_pending chip line) → k1 ≡ enter_by r (d.handler_of line) (line_tag d.setting line) k → Stands d chip k.frames h → Stands d chip k1.frames (h ++ done r (Enters line))
   after-enter h chip k k1 r line is new st = subst (λ x. Stands d chip x.frames (h ++ done r (Enters line))) (sym new) (stands-enter h chip k r line (d.handler_of line) refl is st)
 
-  pub after-hardware : (h : List (Deed Call)) (chip chip1 : Chip) (us : List (Under Frame)) (order : Order) → chip1 ≡ happened chip order → Stands d chip us h → Stands d chip1 us (h ++ Happens order ∷ [])
-  after-hardware h chip chip1 us order is st = subst (λ x. Stands d x us (h ++ Happens order ∷ [])) (sym is) (stands-happens h chip us order st)
+  pub after-hardware : (h : List (Deed Call)) (chip chip1 : Chip) (us : List (Under Frame)) (order : Order) → chip1 ≡ happened chip order → hardware_held d.setting (after_all d.setting (start_moment d.setting) h) order ≡ None → Stands d chip us h → Stands d chip1 us (h ++ Happens order ∷ [])
+  after-hardware h chip chip1 us order is free st = subst (λ x. Stands d x us (h ++ Happens order ∷ [])) (sym is) (stands-happens h chip us order free st)
 
   pub after-reset : (h : List (Deed Call)) (chip chip1 : Chip) (k k1 : Kept Frame) (reason : Reason) → chip1 ≡ reset_chip chip reason → k1 ≡ record k { frames = [] } → Stands d chip k.frames h → Stands d chip1 k1.frames (h ++ Resets reason ∷ [])
   after-reset h chip chip1 k k1 reason is new st =

@@ -4,9 +4,8 @@ use Rattle.mcal_base.specs.declared.answer.Answer.{Answer}
 use Rattle.mcal_base.specs.declared.moves.DevError.{DevError}
 use Rattle.mcal_base.specs.declared.moves.Move.{Move}
 use Rattle.mcal_base.specs.declared.moves.Move.TheVariants.{Read, Write, Load, Store, Mask, Unmask, Note, Report}
-use Rattle.mcal_base.specs.declared.notice.Notice.{Notice}
 use Rattle.std.specs.Prelude.{List}
-use Rattle.run_model.specs.Frame.{inside_after, window_after}
+use Rattle.run_model.specs.Frame.{Owing, inside_after, window_after}
 use Rattle.run_model.specs.Legal.{MoveRight}
 use Rattle.step_runner.specs.Driver.{FuelRight, RoomRight}
 
@@ -24,7 +23,7 @@ in_room true n before later bound h k e = let h1 = h refl in let k1 = k refl in 
 in_room false n before later bound h k e = cc
 
 -- a window has no more moves than its bound
-pub window_bound : (made : Move) (inside : Bool) (owed : List Notice) (report : Option DevError) (n before later bound : ℕ) → MoveRight inside owed report made → RoomRight bound inside before later made → n ≤ bound → (inside ≡ true → n + before ≤ bound) → window_after inside n made ≤ bound
+pub window_bound : (made : Move) (inside : Bool) (owed : List Owing) (report : Option DevError) (n before later bound : ℕ) → MoveRight inside owed report made → RoomRight bound inside before later made → n ≤ bound → (inside ≡ true → n + before ≤ bound) → window_after inside n made ≤ bound
 window_bound Mask inside owed report n before later bound m r w h = omega arith
 window_bound Unmask inside owed report n before later bound m r w h = let h1 = h m in omega arith
 window_bound (Read x) inside owed report n before later bound m r w h = in_window inside n before later bound w h r

@@ -1,6 +1,11 @@
--- What the runner needs of the chip: when the mask is closed, and that no hardware event changes the rate.
-use Rattle.std.proofs.Common.{◌≡◌, ℕ, refl}
-use Rattle.chip_model.specs.Chip.{Chip, chip_after, after_write, happened, is_masked}
+-- What the runner needs of the chip: when the mask is closed, which lines are never pending, and that no hardware event changes the rate.
+use Rattle.std.proofs.Common.{◌≡◌, ℕ, ◌≤◌, nat_lt, ◌&&◌, false, refl, ap, arith}
+use Rattle.std.proofs.lemmas.Bool.Decides.{nat_tests}
+use Rattle.chip_model.specs.Chip.{Chip, chip_after, after_write, happened, is_masked, is_pending}
+use Rattle.chip_timers.specs.Timers.{is_flagged, timer_at}
+use Rattle.mcal_base.specs.Bits.{has_bit}
+use Rattle.mcal_base.proofs.BitLaws.{has_bit-bits_of_above}
+use Rattle.step_runner.specs.Driver.{has_unit}
 use Rattle.mcal_base.specs.declared.directive.Order.{Order}
 use Rattle.mcal_base.specs.declared.directive.Order.TheVariants.{Tick}
 use Rattle.mcal_base.specs.declared.moves.Move.{Move}
@@ -24,6 +29,13 @@ mask-after c (Load k) = refl
 mask-after c (Store k v) = refl
 mask-after c (Note n) = refl
 mask-after c (Report e) = refl
+
+past-units : (line : ℕ) → nat_lt line 8 ≡ false → 8 ≤ line
+past-units line e = grind (arith, nat_tests)
+
+-- a line whose unit the chip lacks is never pending
+pub unit-pending : (c : Chip) (line : ℕ) → has_unit line ≡ false → is_pending c line ≡ false
+unit-pending c line e = ap (λ b. b && has_bit c.control.enabled line) (has_bit-bits_of_above (λ k. is_flagged (timer_at c.timers k) c.timers.time) 8 line (past-units line e))
 
 -- no hardware event opens or closes the mask
 pub mask-happened : (c : Chip) (order : Order) → is_masked (happened c order) ≡ is_masked c

@@ -1,23 +1,28 @@
 -- What a chip and a stack stand for goes on by one deed.
-use Rattle.std.proofs.Common.{◌≡◌, ℕ, ◌+◌, ◌<◌, ◌≤◌, Bool, false, List, [], ◌∷◌, ◌++◌, Option, Some, None, refl, sym, ◌∙◌, ap, subst, arith}
+use Rattle.std.proofs.Common.{◌≡◌, ℕ, ◌+◌, ◌<◌, ◌≤◌, Bool, true, false, List, [], ◌∷◌, ◌++◌, Option, Some, None, refl, sym, ◌∙◌, ap, subst, arith}
 use Rattle.std.specs.Prelude.{Result, Ok}
 use Rattle.std.proofs.lemmas.List.{append-nil}
-use Rattle.chip_model.specs.Chip.{Chip, value_of, chip_after, fresh, is_masked}
+use Rattle.chip_model.specs.Chip.{Chip, value_of, chip_after, fresh, is_masked, is_pending}
 use Rattle.irq_control.specs.declared.held.Held.{Held}
 use Rattle.mcal_base.specs.declared.answer.Answer.{Answer}
 use Rattle.mcal_base.specs.declared.moves.Move.{Move}
+use Rattle.mcal_base.specs.declared.moves.Move.TheVariants.{Write}
+use Rattle.mcal_base.specs.declared.register.Reg.{Reg}
+use Rattle.mcal_base.specs.declared.register.Reg.TheVariants.{SerialData}
 use Rattle.mcal_base.specs.declared.routine.Taken.{Taken}
 use Rattle.run_model.specs.declared.item.Stepped.{Stepped}
-use Rattle.run_model.specs.World.{World}
-use Rattle.run_model.specs.Frame.{Open, state_after, open_after, report_by, outcome_of, happening_at, inside_after, top_after}
+use Rattle.run_model.specs.World.{World, world_start}
+use Rattle.run_model.specs.Causes.{tags_of}
+use Rattle.run_model.specs.Frame.{Open, brought_by, happening_at, outcome_of, state_by, state_after, open_after, report_by, outcome_at, inside_after, top_after}
+use Rattle.run_model.specs.Machine.{Happening, Outcome}
 use Rattle.run_model.specs.Moment.{Setting, Moment, Deed, Steps, start_moment, after, after_all}
-use Rattle.run_model.specs.Legal.{IsLegalDeed, EndRight, IsServed, QuietAtRest, IsLegal}
-use Rattle.step_runner.specs.Driver.{Driver, IsLawful, AllOutside, FuelRight, stepped}
+use Rattle.run_model.specs.Legal.{ReceivedRight, InTime, IsLegalDeed, EndRight, IsServed, QuietAtRest, IsLegal}
+use Rattle.step_runner.specs.Driver.{Driver, most_steps, Covers, has_unit, IsLawful, AllOutside, FuelRight, stepped}
 use Rattle.step_runner.specs.Kept.{Kept, moved, TakesStep, CanStep, total_fuel}
-use Rattle.step_runner.specs.Stands.{paired, IsFrameOf, AreFramesOf, NoneInside, IsGuarded, Matches, Stands, step_done, FuelFalls}
+use Rattle.step_runner.specs.Stands.{paired, IsFrameOf, AreFramesOf, NoneInside, IsGuarded, LevelsRise, Matches, Stands, step_done, FuelFalls}
 use Rattle.step_runner.specs.declared.stack.Under.{Under}
 use Rattle.step_runner.proofs.Bounds.{steps_bound, window_bound, room_bound}
-use Rattle.step_runner.proofs.ChipFacts.{mask-after}
+use Rattle.step_runner.proofs.ChipFacts.{mask-after, unit-pending}
 
 -- ---- lists of deeds
 
@@ -25,9 +30,9 @@ pub after_all-append : {State Call : Type 0} (g : Setting State Call) (m : Momen
 after_all-append g m [] x = refl
 after_all-append g m (y ∷ h) x = after_all-append g (after g m y) h x
 
-pub legal-append : {State Call : Type 0} (g : Setting State Call) (m : Moment State Call) (h : List (Deed Call)) (x : Deed Call) → IsLegal g m h → IsLegalDeed g (after_all g m h) x → IsServed g (after g (after_all g m h) x) → IsLegal g m (h ++ x ∷ [])
-legal-append g m [] x l k q = (l, k, q)
-legal-append g m (y ∷ h) x l k q = (l.0, l.1, legal-append g (after g m y) h x l.2 k q)
+pub legal-append : {State Call : Type 0} (g : Setting State Call) (m : Moment State Call) (h : List (Deed Call)) (x : Deed Call) → IsLegal g m h → InTime (g.machine.expires (after_all g m h).world (after_all g m h).state) x → IsLegalDeed g (after_all g m h) x → IsServed g (after g (after_all g m h) x) → IsLegal g m (h ++ x ∷ [])
+legal-append g m [] x l t k q = (l, t, k, q)
+legal-append g m (y ∷ h) x l t k q = (l.0, l.1, l.2, legal-append g (after g m y) h x l.3 t k q)
 
 -- ---- masks
 
@@ -52,30 +57,51 @@ paired-after : {Call Frame : Type 0} (u : Under Frame) (us : List (Under Frame))
 paired-after u us o os None = refl
 paired-after u us o os (Some a) = refl
 
+levels-after : {Call : Type 0} (o o1 : Open Call) (os : List (Open Call)) (ended : Option Answer) → o1.tag ≡ o.tag → LevelsRise (tags_of (o ∷ os)) → LevelsRise (tags_of (top_after o1 ended os))
+levels-after o o1 os None e h = subst (λ t. LevelsRise (t ∷ tags_of os)) (sym e) h
+levels-after o o1 os (Some a) e h = h.1
+
+never : (b : Bool) → (b ≡ true → ⊥) → b ≡ false
+never true h = absurd (h refl)
+never false h = refl
+
 -- ---- the laws of a driver
 
 module _ {State Call Frame : Type 0} (d : Driver State Call Frame) (move_of : Frame → Move) (left : Frame → ℕ → Frame) (gave : Frame → ℕ → Taken) (law : IsLawful d move_of left gave) where
-  quiet-of : (us : List (Under Frame)) (os : List (Open Call)) (chip : Chip) (w : World) (s : State) → AreFramesOf d us os → d.relates chip w (paired us os) s → QuietAtRest d.setting (record { chip = chip; world = w; state = s; opens = os }) os
-  quiet-of [] [] chip w s a r = record { units = λ u. law.waits chip w s u r; lines = λ l line. law.rests chip w s l line r }
-  quiet-of (u ∷ us) [] chip w s a r = absurd a
-  quiet-of us (o ∷ os) chip w s a r = tt
+  -- a line that isn't the driver's is neither pending nor due
+  apart-at : (chip : Chip) (w : World) (s : State) (line : ℕ) (q : Bool) → Covers d → d.lines line ≡ q → d.relates chip w [] s → is_pending chip line ≡ d.setting.machine.due w s line
+  apart-at chip w s line true cover e r = law.rests chip w s line e r
+  apart-at chip w s line false cover e r =
+      let unit : has_unit line ≡ false = never (has_unit line) (λ h. let k = cover.lines line h in cc) in
+      let due : d.setting.machine.due w s line ≡ false = never (d.setting.machine.due w s line) (λ h. let k = law.used_lines line (law.due_used chip w [] s line tt r h) in cc) in
+      unit-pending chip line unit ∙ sym due
+
+  quiet-of : (us : List (Under Frame)) (os : List (Open Call)) (chip : Chip) (w : World) (s : State) (n : ℕ) → Covers d → AreFramesOf d us os → d.relates chip w (paired us os) s → QuietAtRest d.setting (record { chip = chip; world = w; state = s; opens = os; steps = n }) os
+  quiet-of [] [] chip w s n cover a r = record { units = λ u. law.waits chip w s u r; lines = λ l. apart-at chip w s l (d.lines l) cover refl r; rest = law.rest chip w s r }
+  quiet-of (u ∷ us) [] chip w s n cover a r = absurd a
+  quiet-of us (o ∷ os) chip w s n cover a r = tt
 
   -- what matches a moment is served there
-  pub served-of : (chip : Chip) (us : List (Under Frame)) (m : Moment State Call) → Matches d chip us m → IsServed d.setting m
-  served-of chip us m k = record {
-    due = λ e l line due. law.due m.chip m.world (paired us m.opens) m.state l line e (outside-paired us m.opens (none-inside (is_masked m.chip) m.opens e k.guarded)) k.relates due;
-    quiet = quiet-of us m.opens m.chip m.world m.state k.frames k.relates;
+  pub served-of : (chip : Chip) (us : List (Under Frame)) (m : Moment State Call) → Covers d → Matches d chip us m → IsServed d.setting m
+  served-of chip us m cover k = record {
+    due = λ e l due. law.due m.chip m.world (paired us m.opens) m.state l e (outside-paired us m.opens (none-inside (is_masked m.chip) m.opens e k.guarded)) k.relates due;
+    quiet = quiet-of us m.opens m.chip m.world m.state m.steps cover k.frames k.relates;
   }
 
-  pub stands-start : Stands d (fresh 0 0) [] []
-  stands-start =
-      let k : Matches d (fresh 0 0) [] (start_moment d.setting) = record { chip_is = refl; frames = tt; relates = law.starts 0 0; guarded = refl; rate = sym law.rate_starts } in
-      record { legal = served-of (fresh 0 0) [] (start_moment d.setting) k; matches = k }
+  pub stands-start : Covers d → Stands d (fresh 0 0) [] []
+  stands-start cover =
+      let k : Matches d (fresh 0 0) [] (start_moment d.setting) = record { chip_is = refl; frames = tt; relates = law.starts (world_start 0); guarded = refl; counted = let e = law.count_first in omega (arith, e); levels = tt; rate = sym law.rate_starts } in
+      record { covers = cover; legal = served-of (fresh 0 0) [] (start_moment d.setting) cover k; matches = k }
+
+  -- no time of a watchdog runs
+  in-time : (m : Moment State Call) (x : Deed Call) → Covers d → InTime (d.setting.machine.expires m.world m.state) x
+  in-time m x cover = subst (λ t. InTime t x) (sym (cover.unwatched m.world m.state)) tt
 
   -- a legal deed whose moment is matched again
   pub stands-on : (chip chip1 : Chip) (us us1 : List (Under Frame)) (h : List (Deed Call)) (x : Deed Call) → Stands d chip us h → IsLegalDeed d.setting (after_all d.setting (start_moment d.setting) h) x → Matches d chip1 us1 (after d.setting (after_all d.setting (start_moment d.setting) h) x) → Stands d chip1 us1 (h ++ x ∷ [])
   stands-on chip chip1 us us1 h x st l k = record {
-    legal = legal-append d.setting (start_moment d.setting) h x st.legal l (served-of chip1 us1 (after d.setting (after_all d.setting (start_moment d.setting) h) x) k);
+    covers = st.covers;
+    legal = legal-append d.setting (start_moment d.setting) h x st.legal (in-time (after_all d.setting (start_moment d.setting) h) x st.covers) l (served-of chip1 us1 (after d.setting (after_all d.setting (start_moment d.setting) h) x) st.covers k);
     matches = subst (λ m. Matches d chip1 us1 m) (sym (after_all-append d.setting (start_moment d.setting) h x)) k;
   }
 
@@ -99,26 +125,50 @@ module _ {State Call Frame : Type 0} (d : Driver State Call Frame) (move_of : Fr
     pub matches : Matches d (chip_after chip (move_of u.frame)) (top_after (moved u (left u.frame (value_of chip (move_of u.frame))) (move_of u.frame)) (gave u.frame (value_of chip (move_of u.frame))).ended us) (after d.setting m (Steps (stepped (move_of u.frame) (value_of chip (move_of u.frame)) 0 (gave u.frame (value_of chip (move_of u.frame))))))
     pub fuel : total_fuel d.fuel (top_after (moved u (left u.frame (value_of chip (move_of u.frame))) (move_of u.frame)) (gave u.frame (value_of chip (move_of u.frame))).ended us) < d.fuel u.frame + total_fuel d.fuel us
 
-  goes-step : (chip : Chip) (w : World) (s : State) (u : Under Frame) (us : List (Under Frame)) (o : Open Call) (os : List (Open Call)) → let m : Moment State Call = record { chip = chip; world = w; state = s; opens = o ∷ os } in Matches d chip (u ∷ us) m → GoesOn chip u us m
-  goes-step chip w s u us o os k =
+  no-word-written : (chip : Chip) (w : World) (r : Reg) (v : ℕ) → Covers d → ReceivedRight d.setting chip w (Write r v) 0
+  no-word-written chip w (SerialData n) v cover = (omega arith, cover.incoming chip w n)
+  no-word-written chip w _ v cover = refl
+
+  -- no word comes in
+  no-word : (chip : Chip) (w : World) (made : Move) → Covers d → ReceivedRight d.setting chip w made 0
+  no-word chip w (Write r v) cover = no-word-written chip w r v cover
+  no-word chip w _ cover = refl
+
+  -- a step gives out one number at most
+  count-by : (w : World) (s : State) (h : Happening Call) (x : Option (Outcome State)) → d.setting.machine.happens w s h ≡ x → d.count (state_by s x) ≤ d.count s + 1
+  count-by w s h None e = omega arith
+  count-by w s h (Some out) e = law.count_happens w s h out e
+
+  count-after : (w : World) (s : State) (n : ℕ) (h : Option (Happening Call)) → d.count s ≤ n → d.count (state_by s (outcome_of d.setting.machine w s h)) ≤ n + 1
+  count-after w s n None c = omega (arith, c)
+  count-after w s n (Some h) c = let k = count-by w s h (d.setting.machine.happens w s h) refl in omega (arith, k, c)
+
+  goes-step : (chip : Chip) (w : World) (s : State) (u : Under Frame) (us : List (Under Frame)) (o : Open Call) (os : List (Open Call)) (n : ℕ) → let m : Moment State Call = record { chip = chip; world = w; state = s; opens = o ∷ os; steps = n } in Covers d → n < most_steps → Matches d chip (u ∷ us) m → GoesOn chip u us m
+  goes-step chip w s u us o os n cover few k =
       let made = move_of u.frame in
       let value = value_of chip made in
       let taken = gave u.frame value in
       let st = stepped made value 0 taken in
-      let out = outcome_of d.setting.machine w s (happening_at o.origin 0 taken.event) in
+      let out = outcome_at d.setting.machine w s o made 0 taken.event in
       let o1 = open_after d.setting.machine w s o made 0 taken.event in
       let u1 = moved u (left u.frame value) made in
       let bound = d.setting.steps_of o.origin in
       let wide = d.setting.window_of o.origin in
       let here = k.frames.0 in
-      let x = law.steps chip w u.frame o (paired us os) s k.guarded.0 (outside-paired us os k.guarded.1) k.relates in
+      let come = no-word chip w made cover in
+      let fits : d.count s < most_steps = let c = k.counted in omega (arith, c, few) in
+      let counted = count-after w s n (happening_at o.origin (brought_by w o.committed made 0) taken.event) k.counted in
+      let x = law.steps chip w u.frame o (paired us os) s 0 come fits k.guarded.0 (outside-paired us os k.guarded.1) k.relates in
       record {
         legal = record {
           value = refl;
-          received = refl;
+          received = come;
           event = x.event;
           halves = x.halves;
+          errors = x.errors;
           move = x.move;
+          shows = x.shows;
+          stays = x.stays;
           ends = x.ends;
           there = law.there chip w u.frame o (paired us os) s k.relates;
           own = x.own;
@@ -135,39 +185,41 @@ module _ {State Call Frame : Type 0} (d : Driver State Call Frame) (move_of : Fr
             window = window_bound made o.inside o.owed (report_by d.setting.machine o.origin o.report taken.event out) o.window (d.room u.frame) (d.room u1.frame) wide x.move x.room here.window here.room;
             room = room_bound made o.inside o.window (d.room u.frame) (d.room u1.frame) wide x.room here.room;
           }) x.fuel k.frames.1;
-          relates = subst (λ ps. d.relates (chip_after chip made) w ps (state_after d.setting.machine w s o 0 taken.event)) (paired-after u1 us o1 os taken.ended) x.kept;
+          relates = subst (λ ps. d.relates (chip_after chip made) w ps (state_after d.setting.machine w s o made 0 taken.event)) (paired-after u1 us o1 os taken.ended) x.kept;
           guarded = guarded-after (is_masked (chip_after chip made)) o1 os taken.ended (mask-after chip made ∙ ap (λ b. inside_after b made) k.guarded.0) k.guarded.1 x.ends;
-          rate = law.rate chip w u.frame o (paired us os) s k.guarded.0 (outside-paired us os k.guarded.1) k.relates k.rate;
+          counted = counted;
+          levels = levels-after o o1 os taken.ended refl k.levels;
+          rate = law.rate chip w u.frame o (paired us os) s 0 come fits k.guarded.0 (outside-paired us os k.guarded.1) k.relates k.rate;
         };
         fuel = total-after (d.fuel u.frame) u1 us taken.ended x.fuel;
       }
 
-  goes-at : (chip : Chip) (w : World) (s : State) (u : Under Frame) (us : List (Under Frame)) (os : List (Open Call)) → let m : Moment State Call = record { chip = chip; world = w; state = s; opens = os } in Matches d chip (u ∷ us) m → GoesOn chip u us m
-  goes-at chip w s u us [] k = absurd k.frames
-  goes-at chip w s u us (o ∷ os) k = goes-step chip w s u us o os k
+  goes-at : (chip : Chip) (w : World) (s : State) (u : Under Frame) (us : List (Under Frame)) (os : List (Open Call)) (n : ℕ) → let m : Moment State Call = record { chip = chip; world = w; state = s; opens = os; steps = n } in Covers d → n < most_steps → Matches d chip (u ∷ us) m → GoesOn chip u us m
+  goes-at chip w s u us [] n cover few k = absurd k.frames
+  goes-at chip w s u us (o ∷ os) n cover few k = goes-step chip w s u us o os n cover few k
 
-  pub goes-on : (chip : Chip) (u : Under Frame) (us : List (Under Frame)) (m : Moment State Call) → Matches d chip (u ∷ us) m → GoesOn chip u us m
-  goes-on chip u us m k = subst (λ c. GoesOn c u us m) (sym k.chip_is) (goes-at m.chip m.world m.state u us m.opens (subst (λ c. Matches d c (u ∷ us) m) k.chip_is k))
+  pub goes-on : (chip : Chip) (u : Under Frame) (us : List (Under Frame)) (m : Moment State Call) → Covers d → m.steps < most_steps → Matches d chip (u ∷ us) m → GoesOn chip u us m
+  goes-on chip u us m cover few k = subst (λ c. GoesOn c u us m) (sym k.chip_is) (goes-at m.chip m.world m.state u us m.opens m.steps cover few (subst (λ c. Matches d c (u ∷ us) m) k.chip_is k))
 
   -- what a step leaves stands for the deeds with the step
-  pub stands-step : (h : List (Deed Call)) (chip chip1 : Chip) (us : List (Under Frame)) (steps : ℕ) (k1 : Kept Frame) (r : Result Stepped Held) → TakesStep move_of left gave us steps chip k1 chip1 r → Stands d chip us h → Stands d chip1 k1.frames (h ++ step_done r)
-  stands-step h chip chip1 [] steps k1 r t st =
+  pub stands-step : (h : List (Deed Call)) (chip chip1 : Chip) (us : List (Under Frame)) (steps : ℕ) (k1 : Kept Frame) (r : Result Stepped Held) → TakesStep move_of left gave us steps chip k1 chip1 r → (after_all d.setting (start_moment d.setting) h).steps < most_steps → Stands d chip us h → Stands d chip1 k1.frames (h ++ step_done r)
+  stands-step h chip chip1 [] steps k1 r t few st =
       subst (λ x. Stands d chip1 k1.frames (h ++ step_done x)) (sym t.result_is)
       (subst (λ x. Stands d chip1 k1.frames x) (sym (append-nil h))
       (subst (λ x. Stands d x k1.frames h) (sym t.chip_is)
       (subst (λ x. Stands d chip x h) (sym t.frames) st)))
-  stands-step h chip chip1 (u ∷ us) steps k1 r t st =
-      let k = goes-on chip u us (after_all d.setting (start_moment d.setting) h) st.matches in
+  stands-step h chip chip1 (u ∷ us) steps k1 r t few st =
+      let k = goes-on chip u us (after_all d.setting (start_moment d.setting) h) st.covers few st.matches in
       subst (λ x. Stands d chip1 k1.frames (h ++ step_done x)) (sym t.result_is)
       (subst (λ x. Stands d x k1.frames (h ++ step_done (Ok (stepped (move_of u.frame) (value_of chip (move_of u.frame)) 0 (gave u.frame (value_of chip (move_of u.frame))))))) (sym t.chip_is)
       (subst (λ x. Stands d (chip_after chip (move_of u.frame)) x (h ++ step_done (Ok (stepped (move_of u.frame) (value_of chip (move_of u.frame)) 0 (gave u.frame (value_of chip (move_of u.frame))))))) (sym t.frames)
       (stands-on chip (chip_after chip (move_of u.frame)) (u ∷ us) (top_after (moved u (left u.frame (value_of chip (move_of u.frame))) (move_of u.frame)) (gave u.frame (value_of chip (move_of u.frame))).ended us) h (Steps (stepped (move_of u.frame) (value_of chip (move_of u.frame)) 0 (gave u.frame (value_of chip (move_of u.frame))))) st k.legal k.matches)))
 
   -- and the frames have fewer steps left
-  pub fuel-step : (h : List (Deed Call)) (chip chip1 : Chip) (us : List (Under Frame)) (steps : ℕ) (k1 : Kept Frame) (r : Result Stepped Held) → TakesStep move_of left gave us steps chip k1 chip1 r → Stands d chip us h → FuelFalls d.fuel us k1.frames r
-  fuel-step h chip chip1 [] steps k1 r t st = subst (λ x. FuelFalls d.fuel [] k1.frames x) (sym t.result_is) tt
-  fuel-step h chip chip1 (u ∷ us) steps k1 r t st =
-      let k = goes-on chip u us (after_all d.setting (start_moment d.setting) h) st.matches in
+  pub fuel-step : (h : List (Deed Call)) (chip chip1 : Chip) (us : List (Under Frame)) (steps : ℕ) (k1 : Kept Frame) (r : Result Stepped Held) → TakesStep move_of left gave us steps chip k1 chip1 r → (after_all d.setting (start_moment d.setting) h).steps < most_steps → Stands d chip us h → FuelFalls d.fuel us k1.frames r
+  fuel-step h chip chip1 [] steps k1 r t few st = subst (λ x. FuelFalls d.fuel [] k1.frames x) (sym t.result_is) tt
+  fuel-step h chip chip1 (u ∷ us) steps k1 r t few st =
+      let k = goes-on chip u us (after_all d.setting (start_moment d.setting) h) st.covers few st.matches in
       subst (λ x. FuelFalls d.fuel (u ∷ us) k1.frames x) (sym t.result_is)
       (subst (λ x. total_fuel d.fuel x < total_fuel d.fuel (u ∷ us)) (sym t.frames) k.fuel)
 

@@ -1,9 +1,10 @@
 -- What a driver is to the runner, and the laws that it owes.
-use Rattle.std.specs.Prelude.{◌≡◌, ℕ, ◌+◌, ◌<◌, ◌≤◌, Bool, true, false, ◌||◌, List, [], ◌∷◌, Option, Some, None, is_some}
+use Rattle.std.specs.Prelude.{◌≡◌, ℕ, ◌+◌, ◌<◌, ◌≤◌, nat_lt, Bool, true, false, ◌||◌, List, [], ◌∷◌, Option, Some, None, is_some}
 use Rattle.chip_model.specs.Chip.{Chip, value_of, chip_after, happened, reset_chip, fresh, is_masked, is_pending}
 use Rattle.chip_model.specs.Reach.{CanApply}
 use Rattle.mcal_base.specs.declared.answer.Answer.{Answer}
 use Rattle.mcal_base.specs.declared.directive.Order.{Order}
+use Rattle.mcal_base.specs.declared.directive.Order.TheVariants as orders
 use Rattle.mcal_base.specs.declared.directive.Reason.{Reason}
 use Rattle.mcal_base.specs.declared.moves.Move.{Move}
 use Rattle.mcal_base.specs.declared.moves.Move.TheVariants.{Read, Write, Load, Store, Mask, Unmask, Note, Report}
@@ -12,11 +13,11 @@ use Rattle.mcal_base.specs.declared.routine.Taken.{Taken}
 use Rattle.run_model.specs.declared.class.Tag.{Tag}
 use Rattle.run_model.specs.declared.item.Stepped.{Stepped}
 use Rattle.run_model.specs.World.{World, world_after}
-use Rattle.run_model.specs.Machine.{Moves, Restarts, Outcome}
-use Rattle.run_model.specs.Frame.{Origin, Called, Entered, Open, opened, state_after, open_after, report_by, outcome_of, happening_at, top_after, is_shared, resets_chip, asks_reset}
-use Rattle.run_model.specs.Causes.{may_reenter}
+use Rattle.run_model.specs.Machine.{Happening, Moves, Restarts, Outcome}
+use Rattle.run_model.specs.Frame.{Origin, Called, Entered, Open, opened, state_after, open_after, report_by, outcome_at, top_after, is_shared, resets_chip, asks_reset}
+use Rattle.run_model.specs.Causes.{may_reenter, none_above, all_below}
 use Rattle.run_model.specs.Moment.{Setting, Moment, call_tag, line_tag}
-use Rattle.run_model.specs.Legal.{EventRight, HalvesRight, MoveRight, EndRight}
+use Rattle.run_model.specs.Legal.{ReceivedRight, EventRight, HalvesRight, halves_of, ErrorsRight, MoveRight, ShowsRight, EndRight}
 
 -- A driver: its machine with the bounds of its frames, its frames, and how the chip and the open frames stand for the machine's state.
 pub record Driver (State Call Frame : Type 0) : Type 1 where
@@ -31,6 +32,29 @@ pub record Driver (State Call Frame : Type 0) : Type 1 where
   -- the steps that a frame has left at most, and the moves of the window that it is in, or begins next
   pub fuel : Frame → ℕ
   pub room : Frame → ℕ
+  -- the lines of its units, whether an object uses them or not
+  pub lines : ℕ → Bool
+  -- how many numbers it has given out, at most one a step
+  pub count : State → ℕ
+  -- whether a move names anything of a frame's module, so that another module's would disturb it
+  pub owns : Origin Call → Move → Bool
+
+-- fewer steps than the engine counts
+abbrev pub most_steps : ℕ
+most_steps = 4294967295
+
+-- the lines whose units the chip has
+abbrev pub has_unit : ℕ → Bool
+has_unit line = nat_lt line 8
+
+-- a driver of the whole chip
+pub record Covers {State Call Frame : Type 0} (d : Driver State Call Frame) : Type 0 where
+  -- each line of the chip's units is one of the driver's, so no other line is ever pending
+  pub lines : (line : ℕ) → has_unit line ≡ true → d.lines line ≡ true
+  -- the chip has no serial unit, so 0 comes in
+  pub incoming : (chip : Chip) (w : World) (number : ℕ) → d.setting.receives chip w number 0
+  -- the chip has no watchdog, so no time of one runs
+  pub unwatched : (w : World) (s : State) → d.setting.machine.expires w s ≡ None
 
 -- no frame of these holds the mask closed
 abbrev pub AllOutside : {Frame Call : Type 0} → List (Frame × Open Call) → Type 0
@@ -40,6 +64,21 @@ AllOutside (p ∷ ps) = (p.1.inside ≡ false) × AllOutside ps
 abbrev pub tags_in : {Frame Call : Type 0} → List (Frame × Open Call) → List Tag
 tags_in [] = []
 tags_in (p ∷ ps) = p.1.tag ∷ tags_in ps
+
+abbrev pub origins_in : {Frame Call : Type 0} → List (Frame × Open Call) → List (Origin Call)
+origins_in [] = []
+origins_in (p ∷ ps) = p.1.origin ∷ origins_in ps
+
+-- ticks don't pass the end of the watchdog's time, where it runs
+abbrev pub TicksFit : ℕ → Option ℕ → Type 0
+TicksFit n None = Unit {0}
+TicksFit n (Some left) = n ≤ left
+
+-- a fill comes with the mask open, to an array that isn't in use, and ticks come while the machine allows them
+abbrev pub IsFree : {State Call : Type 0} → Setting State Call → (masked : Bool) → World → State → List (Origin Call) → Order → Type 0
+IsFree g masked w s origins (orders.Fill c ws) = masked || g.fill_busy w s origins c ≡ false
+IsFree g masked w s origins (orders.Tick n) = TicksFit n (g.machine.expires w s)
+IsFree g masked w s origins _ = Unit {0}
 
 -- a step, by its move and what was taken of it
 abbrev pub stepped : Move → (value received : ℕ) → Taken → Stepped
@@ -64,52 +103,62 @@ RoomRight bound inside before later (Report e) = inside ≡ true → later < bef
 -- what a driver owes of a step of the top frame: it is right by each point that the frame answers for, and the relation stands after it
 pub record KeepsStep {State Call Frame : Type 0} (d : Driver State Call Frame) (m : Moment State Call) (f : Frame) (o : Open Call) (later : Frame) (s : Stepped) (Kept : State → Open Call → Type 0) : Type 0 where
   pub event : EventRight d.setting m o s s.event
-  pub halves : HalvesRight d.setting m o s s.event o.origin
-  pub move : MoveRight o.inside o.owed (report_by d.setting.machine o.origin o.report s.event (outcome_of d.setting.machine m.world m.state (happening_at o.origin s.received s.event))) s.made
+  pub halves : let o1 = open_after d.setting.machine m.world m.state o s.made s.received s.event in HalvesRight (halves_of d.setting o.origin) o1.reads o1.acted_at
+  pub errors : let o1 = open_after d.setting.machine m.world m.state o s.made s.received s.event in ErrorsRight o1.wrote o1.acted_at
+  pub move : MoveRight o.inside o.owed (report_by d.setting.machine o.origin o.report s.event (outcome_at d.setting.machine m.world m.state o s.made s.received s.event)) s.made
+  pub shows : ShowsRight d.setting m.chip m.state o.origin o.owed s.made
   pub ends : EndRight (open_after d.setting.machine m.world m.state o s.made s.received s.event) s.ended
   pub own : is_shared s.made || d.setting.may o.origin s.made ≡ true
-  pub reset : resets_chip s.made ≡ asks_reset d.setting.machine o.origin s.event (outcome_of d.setting.machine m.world m.state (happening_at o.origin s.received s.event))
+  pub reset : resets_chip s.made ≡ asks_reset d.setting.machine o.origin s.event (outcome_at d.setting.machine m.world m.state o s.made s.received s.event)
+  pub stays : resets_chip s.made ≡ true → s.ended ≡ None
   pub fuel : FuelRight (d.fuel f) (d.fuel later) s.ended
   pub room : RoomRight (d.setting.window_of o.origin) o.inside (d.room f) (d.room later) s.made
-  pub kept : Kept (state_after d.setting.machine m.world m.state o s.received s.event) (open_after d.setting.machine m.world m.state o s.made s.received s.event)
+  pub kept : Kept (state_after d.setting.machine m.world m.state o s.made s.received s.event) (open_after d.setting.machine m.world m.state o s.made s.received s.event)
 
 -- The laws of a driver whose frames make these moves, and become and give this by what those give.
 pub record IsLawful {State Call Frame : Type 0} (d : Driver State Call Frame) (move_of : Frame → Move) (left : Frame → ℕ → Frame) (gave : Frame → ℕ → Taken) : Type 0 where
-  -- the relation stands after power on, at whatever time
-  pub starts : (osc now : ℕ) → d.relates (fresh osc now) (record { osc = osc; now = now }) [] d.setting.first
-  -- a call that begins with the mask open, where reentry allows it, keeps it
-  pub begins : (chip : Chip) (w : World) (ps : List (Frame × Open Call)) (s : State) (c : Call) (level : ℕ) → d.can_call c → is_masked chip ≡ false → AllOutside ps → may_reenter (d.setting.class_of c) (tags_in ps) ≡ true → d.relates chip w ps s → d.relates chip w ((d.frame_of c, opened (Called c) (call_tag d.setting c level)) ∷ ps) s
-  -- a handler that begins with the mask open keeps it
-  pub enters : (chip : Chip) (w : World) (ps : List (Frame × Open Call)) (s : State) (line : ℕ) (f : Frame) → d.handler_of line ≡ Some f → is_masked chip ≡ false → AllOutside ps → d.relates chip w ps s → d.relates chip w ((f, opened (Entered line) (line_tag d.setting line)) ∷ ps) s
-  -- a step of the top frame is right, and keeps it
-  pub steps : (chip : Chip) (w : World) (f : Frame) (o : Open Call) (ps : List (Frame × Open Call)) (s : State) → is_masked chip ≡ o.inside → AllOutside ps → d.relates chip w ((f, o) ∷ ps) s → let made = move_of f in let value = value_of chip made in let taken = gave f value in KeepsStep d (record { chip = chip; world = w; state = s; opens = [] }) f o (left f value) (stepped made value 0 taken) (λ s1 o1. d.relates (chip_after chip made) w (top_after (left f value, o1) taken.ended ps) s1)
+  -- the relation stands after power on, whatever is outside
+  pub starts : (w : World) → d.relates (fresh w.osc w.now) w [] d.setting.first
+  -- a call that begins with the mask open, above no frame of a higher level, where reentry allows it, keeps it
+  pub begins : (chip : Chip) (w : World) (ps : List (Frame × Open Call)) (s : State) (c : Call) (level : ℕ) → d.can_call c → is_masked chip ≡ false → AllOutside ps → may_reenter (d.setting.class_of c) (tags_in ps) ≡ true → none_above (tags_in ps) level ≡ true → d.relates chip w ps s → d.relates chip w ((d.frame_of c, opened (Called c) (call_tag d.setting c level)) ∷ ps) s
+  -- a handler that begins with the mask open, above frames of lower levels, keeps it
+  pub enters : (chip : Chip) (w : World) (ps : List (Frame × Open Call)) (s : State) (line : ℕ) (f : Frame) → d.handler_of line ≡ Some f → is_masked chip ≡ false → AllOutside ps → all_below (tags_in ps) (d.setting.level_of line) ≡ true → d.relates chip w ps s → d.relates chip w ((f, opened (Entered line) (line_tag d.setting line)) ∷ ps) s
+  -- a step of the top frame is right, whatever word may come in at it, while the numbers fit a word, and keeps it
+  pub steps : (chip : Chip) (w : World) (f : Frame) (o : Open Call) (ps : List (Frame × Open Call)) (s : State) (received : ℕ) → ReceivedRight d.setting chip w (move_of f) received → d.count s < most_steps → is_masked chip ≡ o.inside → AllOutside ps → d.relates chip w ((f, o) ∷ ps) s → let made = move_of f in let value = value_of chip made in let taken = gave f value in KeepsStep d (record { chip = chip; world = w; state = s; opens = []; steps = 0 }) f o (left f value) (stepped made value received taken) (λ s1 o1. d.relates (chip_after chip made) w (top_after (left f value, o1) taken.ended ps) s1)
   -- the register or the word of its move is there
   pub there : (chip : Chip) (w : World) (f : Frame) (o : Open Call) (ps : List (Frame × Open Call)) (s : State) → d.relates chip w ((f, o) ∷ ps) s → CanApply (move_of f)
-  -- the hardware may always move, and keeps it, at whatever rate
-  pub moves : (chip : Chip) (w : World) (ps : List (Frame × Open Call)) (s : State) (order : Order) → d.relates chip w ps s → (out : Outcome State) × (d.setting.machine.happens w s (Moves order) ≡ Some out) × d.relates (happened chip order) (world_after w chip.rate order) ps out.state
+  -- the hardware may move where it is free to, and keeps it, at whatever rate
+  pub moves : (chip : Chip) (w : World) (ps : List (Frame × Open Call)) (s : State) (order : Order) → IsFree d.setting (is_masked chip) w s (origins_in ps) order → d.relates chip w ps s → (out : Outcome State) × (d.setting.machine.happens w s (Moves order) ≡ Some out) × d.relates (happened chip order) (world_after w chip.rate order) ps out.state
   -- a reset may always come, and leaves the state of a start
   pub resets : (chip : Chip) (w : World) (ps : List (Frame × Open Call)) (s : State) (reason : Reason) → d.relates chip w ps s → (out : Outcome State) × (d.setting.machine.happens w s (Restarts reason) ≡ Some out) × d.relates (reset_chip chip reason) w [] out.state
   -- a move that names nothing of the module's keeps it
-  pub undisturbed : (chip : Chip) (w : World) (ps : List (Frame × Open Call)) (s : State) (made : Move) → ((origin : Origin Call) → d.setting.owns origin made ≡ false) → d.relates chip w ps s → d.relates (chip_after chip made) w ps s
+  pub undisturbed : (chip : Chip) (w : World) (ps : List (Frame × Open Call)) (s : State) (made : Move) → ((origin : Origin Call) → d.owns origin made ≡ false) → d.relates chip w ps s → d.relates (chip_after chip made) w ps s
   -- what a frame may do names what is its module's own
-  pub may_owns : (origin : Origin Call) (made : Move) → d.setting.may origin made ≡ true → d.setting.owns origin made ≡ true
+  pub may_owns : (origin : Origin Call) (made : Move) → d.setting.may origin made ≡ true → d.owns origin made ≡ true
   -- what is a module's own is a register or a word
-  pub owns_plain : (origin : Origin Call) (made : Move) → d.setting.owns origin made ≡ true → is_shared made ≡ false
+  pub owns_plain : (origin : Origin Call) (made : Move) → d.owns origin made ≡ true → is_shared made ≡ false
   -- what a handler owns some call owns
-  pub owns_called : (line : ℕ) (made : Move) → d.setting.owns (Entered line) made ≡ true → (c : Call) × (d.setting.owns (Called c) made ≡ true)
+  pub owns_called : (line : ℕ) (made : Move) → d.owns (Entered line) made ≡ true → (c : Call) × (d.owns (Called c) made ≡ true)
   -- a line that an object uses is one of the modules' lines
-  pub used_lines : (line : ℕ) → d.setting.used line ≡ true → d.setting.lines line ≡ true
+  pub used_lines : (line : ℕ) → d.setting.used line ≡ true → d.lines line ≡ true
   -- where no frame holds the mask closed, a line that no object uses isn't due
   pub due_used : (chip : Chip) (w : World) (ps : List (Frame × Open Call)) (s : State) (line : ℕ) → AllOutside ps → d.relates chip w ps s → d.setting.machine.due w s line ≡ true → d.setting.used line ≡ true
   -- with the mask open each line that is due is pending
-  pub due : (chip : Chip) (w : World) (ps : List (Frame × Open Call)) (s : State) (line : ℕ) → d.setting.lines line ≡ true → is_masked chip ≡ false → AllOutside ps → d.relates chip w ps s → d.setting.machine.due w s line ≡ true → is_pending chip line ≡ true
-  -- with no frame each line, used or not, is pending exactly where it is due
-  pub rests : (chip : Chip) (w : World) (s : State) (line : ℕ) → d.setting.lines line ≡ true → d.relates chip w [] s → is_pending chip line ≡ d.setting.machine.due w s line
+  pub due : (chip : Chip) (w : World) (ps : List (Frame × Open Call)) (s : State) (line : ℕ) → is_masked chip ≡ false → AllOutside ps → d.relates chip w ps s → d.setting.machine.due w s line ≡ true → is_pending chip line ≡ true
+  -- with no frame each line of its own, used or not, is pending exactly where it is due
+  pub rests : (chip : Chip) (w : World) (s : State) (line : ℕ) → d.lines line ≡ true → d.relates chip w [] s → is_pending chip line ≡ d.setting.machine.due w s line
+  -- with no frame the rest is the machine's too
+  pub rest : (chip : Chip) (w : World) (s : State) → d.relates chip w [] s → d.setting.rest chip w s
   -- with no frame no unit waits for a start
   pub waits : (chip : Chip) (w : World) (s : State) (u : units.Unit) → d.relates chip w [] s → d.setting.machine.startable w s u ≡ false
+  -- none are given out at first, at most one by what happens, and none by the hardware and by a reset
+  pub count_first : d.count d.setting.first ≡ 0
+  pub count_happens : (w : World) (s : State) (h : Happening Call) (out : Outcome State) → d.setting.machine.happens w s h ≡ Some out → d.count out.state ≤ d.count s + 1
+  pub count_moves : (w : World) (s : State) (order : Order) (out : Outcome State) → d.setting.machine.happens w s (Moves order) ≡ Some out → d.count out.state ≤ d.count s
+  pub count_resets : (w : World) (s : State) (reason : Reason) (out : Outcome State) → d.setting.machine.happens w s (Restarts reason) ≡ Some out → d.count out.state ≤ d.count s
   -- the rate of the chip is the machine's after power on, and wherever it was
   pub rate_starts : d.setting.machine.rate d.setting.first ≡ 1
-  pub rate : (chip : Chip) (w : World) (f : Frame) (o : Open Call) (ps : List (Frame × Open Call)) (s : State) → is_masked chip ≡ o.inside → AllOutside ps → d.relates chip w ((f, o) ∷ ps) s → chip.rate ≡ d.setting.machine.rate s → (chip_after chip (move_of f)).rate ≡ d.setting.machine.rate (state_after d.setting.machine w s o 0 (gave f (value_of chip (move_of f))).event)
+  pub rate : (chip : Chip) (w : World) (f : Frame) (o : Open Call) (ps : List (Frame × Open Call)) (s : State) (received : ℕ) → ReceivedRight d.setting chip w (move_of f) received → d.count s < most_steps → is_masked chip ≡ o.inside → AllOutside ps → d.relates chip w ((f, o) ∷ ps) s → chip.rate ≡ d.setting.machine.rate s → (chip_after chip (move_of f)).rate ≡ d.setting.machine.rate (state_after d.setting.machine w s o (move_of f) received (gave f (value_of chip (move_of f))).event)
   pub rate_moves : (w : World) (s : State) (order : Order) (out : Outcome State) → d.setting.machine.happens w s (Moves order) ≡ Some out → d.setting.machine.rate out.state ≡ d.setting.machine.rate s
   pub rate_resets : (chip : Chip) (w : World) (s : State) (reason : Reason) (out : Outcome State) → d.setting.machine.happens w s (Restarts reason) ≡ Some out → (reset_chip chip reason).rate ≡ d.setting.machine.rate out.state
   -- a handler is there exactly where a configured object uses the line

@@ -78,6 +78,11 @@ abbrev pub TakesStep : {Frame : Type 0} → (Frame → Move) → (Frame → ℕ 
 TakesStep move_of left gave [] steps chip k1 chip1 r = StepsNothing steps chip k1 chip1 r
 TakesStep move_of left gave (u ∷ us) steps chip k1 chip1 r = StepsTop move_of left gave u us steps chip k1 chip1 r
 
+-- the step that was written to a place, unless it was held
+abbrev pub written_by : {A : Type 0} → Result A Held → Stepped → Result Stepped Held
+written_by (Ok a) s = Ok s
+written_by (Err cause) s = Err cause
+
 -- the register or the word of the top frame's move is there
 abbrev pub CanStep : {Frame : Type 0} → (Frame → Move) → List (Under Frame) → Type 0
 CanStep move_of [] = Unit {0}

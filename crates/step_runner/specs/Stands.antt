@@ -1,12 +1,14 @@
 -- The deeds for which a chip and a stack stand: all that was done since power on.
 use Rattle.std.specs.Prelude.{◌≡◌, ℕ, ◌+◌, ◌<◌, ◌≤◌, Bool, true, false, List, [], ◌∷◌, Result, Ok, Err}
 use Rattle.chip_model.specs.Chip.{Chip, is_masked}
+use Rattle.run_model.specs.declared.class.Tag.{Tag}
+use Rattle.run_model.specs.Causes.{none_above, tags_of}
 use Rattle.irq_control.specs.declared.held.Held.{Held}
 use Rattle.run_model.specs.declared.item.Stepped.{Stepped}
 use Rattle.run_model.specs.Frame.{Open}
 use Rattle.run_model.specs.Moment.{Moment, Deed, Steps, start_moment, after_all}
 use Rattle.run_model.specs.Legal.{IsLegal}
-use Rattle.step_runner.specs.Driver.{Driver}
+use Rattle.step_runner.specs.Driver.{Driver, Covers}
 use Rattle.step_runner.specs.Kept.{total_fuel}
 use Rattle.step_runner.specs.declared.stack.Under.{Under}
 
@@ -43,16 +45,24 @@ abbrev pub IsGuarded : {Call : Type 0} → Bool → List (Open Call) → Type 0
 IsGuarded masked [] = masked ≡ false
 IsGuarded masked (o ∷ os) = (masked ≡ o.inside) × NoneInside os
 
+-- no frame is of a lower level than one below it
+abbrev pub LevelsRise : List Tag → Type 0
+LevelsRise [] = Unit {0}
+LevelsRise (t ∷ ts) = (none_above ts t.level ≡ true) × LevelsRise ts
+
 -- A chip and the frames of a stack, the newest first, are those of a moment.
 pub record Matches {State Call Frame : Type 0} (d : Driver State Call Frame) (chip : Chip) (us : List (Under Frame)) (m : Moment State Call) : Type 0 where
   pub chip_is : chip ≡ m.chip
   pub frames : AreFramesOf d us m.opens
   pub relates : d.relates m.chip m.world (paired us m.opens) m.state
   pub guarded : IsGuarded (is_masked m.chip) m.opens
+  pub counted : d.count m.state ≤ m.steps
+  pub levels : LevelsRise (tags_of m.opens)
   pub rate : m.chip.rate ≡ d.setting.machine.rate m.state
 
 -- A chip and the frames of a stack stand for a list of deeds: those are a legal run, and lead to them.
 pub record Stands {State Call Frame : Type 0} (d : Driver State Call Frame) (chip : Chip) (us : List (Under Frame)) (h : List (Deed Call)) : Type 0 where
+  pub covers : Covers d
   pub legal : IsLegal d.setting (start_moment d.setting) h
   pub matches : Matches d chip us (after_all d.setting (start_moment d.setting) h)
 

@@ -1,9 +1,11 @@
 -- Two drivers as one: the product of their machines, with the frames of both.
-use Rattle.std.specs.Prelude.{◌≡◌, ℕ, Bool, true, false, cond, not, ◌||◌, ◌==◌, List, [], ◌∷◌, Option, Some, None, IsSome, is_some}
-use Rattle.std.specs.List.{list_any}
+use Rattle.std.specs.Prelude.{◌≡◌, ℕ, ◌+◌, min, Bool, true, false, cond, not, ◌||◌, List, [], ◌∷◌, Option, Some, None, IsSome, is_some, MatchBool}
+use Rattle.std.specs.List.{list_all}
 use Rattle.chip_model.specs.Chip.{Chip, chip_after}
+use Rattle.mcal_base.specs.declared.moves.Event.{Event}
 use Rattle.mcal_base.specs.declared.moves.Move.{Move}
 use Rattle.mcal_base.specs.declared.moves.Unit as units
+use Rattle.mcal_base.specs.declared.notice.Notice.{Notice}
 use Rattle.mcal_base.specs.declared.routine.Taken.{Taken}
 use Rattle.run_model.specs.World.{World}
 use Rattle.run_model.specs.Machine.{Happening, Acts, Serves, Starts, Aborts, Moves, Restarts, Outcome, Machine, outcome, tells_nothing}
@@ -58,13 +60,19 @@ in_first s t None y = lift_out (λ b. (s, b)) y
 
 -- calls and lines go to the member that has them, a unit to the one that allows it, and all else to both; ours tells the lines of the first
 abbrev pub union_happens : {S T C D : Type 0} → (ℕ → Bool) → Machine S C → Machine T D → World → S × T → Happening (Either C D) → Option (Outcome (S × T))
-union_happens ours f g w s (Acts (Left c)) = lift_out (λ a. (a, s.1)) (f.happens w s.0 (Acts c))
-union_happens ours f g w s (Acts (Right d)) = lift_out (λ b. (s.0, b)) (g.happens w s.1 (Acts d))
+union_happens ours f g w s (Acts (Left c) times) = lift_out (λ a. (a, s.1)) (f.happens w s.0 (Acts c times))
+union_happens ours f g w s (Acts (Right d) times) = lift_out (λ b. (s.0, b)) (g.happens w s.1 (Acts d times))
 union_happens ours f g w s (Serves l r) = cond (ours l) (lift_out (λ a. (a, s.1)) (f.happens w s.0 (Serves l r))) (lift_out (λ b. (s.0, b)) (g.happens w s.1 (Serves l r)))
 union_happens ours f g w s (Starts u r) = in_first s.0 s.1 (f.happens w s.0 (Starts u r)) (g.happens w s.1 (Starts u r))
 union_happens ours f g w s (Aborts u) = in_first s.0 s.1 (f.happens w s.0 (Aborts u)) (g.happens w s.1 (Aborts u))
 union_happens ours f g w s (Moves order) = in_both (f.happens w s.0 (Moves order)) (g.happens w s.1 (Moves order))
 union_happens ours f g w s (Restarts reason) = in_both (f.happens w s.0 (Restarts reason)) (g.happens w s.1 (Restarts reason))
+
+-- the sooner one of two times that may run
+abbrev pub sooner : Option ℕ → Option ℕ → Option ℕ
+sooner None y = y
+sooner (Some m) None = Some m
+sooner (Some m) (Some n) = Some (min m n)
 
 -- the first sets the rate
 abbrev pub union_machine : {S T C D : Type 0} → (ℕ → Bool) → Machine S C → Machine T D → Machine (S × T) (Either C D)
@@ -74,9 +82,10 @@ union_machine ours f g = record {
   due = λ w s l. cond (ours l) (f.due w s.0 l) (g.due w s.1 l);
   startable = λ w s u. f.startable w s.0 u || g.startable w s.1 u;
   rate = λ s. f.rate s.0;
+  expires = λ w s. sooner (f.expires w s.0) (g.expires w s.1);
   service_of = either f.service_of g.service_of;
-  detects = either f.detects g.detects;
-  polls = either f.polls g.polls;
+  reporting = either f.reporting g.reporting;
+  polls = λ w s c. either (λ x. f.polls w s.0 x) (λ y. g.polls w s.1 y) c;
 }
 
 -- ---- the frames
@@ -91,9 +100,22 @@ abbrev pub lift_origin : {C E : Type 0} → (C → E) → Origin C → Origin E
 lift_origin k (Called c) = Called (k c)
 lift_origin k (Entered l) = Entered l
 
+-- the origins of the first, and of the second
+abbrev pub first_origins : {C D : Type 0} → (ℕ → Bool) → List (Origin (Either C D)) → List (Origin C)
+first_origins ours [] = []
+first_origins ours (Called (Left c) ∷ os) = Called c ∷ first_origins ours os
+first_origins ours (Called (Right d) ∷ os) = first_origins ours os
+first_origins ours (Entered l ∷ os) = cond (ours l) (Entered l ∷ first_origins ours os) (first_origins ours os)
+
+abbrev pub second_origins : {C D : Type 0} → (ℕ → Bool) → List (Origin (Either C D)) → List (Origin D)
+second_origins ours [] = []
+second_origins ours (Called (Left c) ∷ os) = second_origins ours os
+second_origins ours (Called (Right d) ∷ os) = Called d ∷ second_origins ours os
+second_origins ours (Entered l ∷ os) = cond (ours l) (second_origins ours os) (Entered l ∷ second_origins ours os)
+
 -- a member's frame as one of the union, which misses other lines
 abbrev pub lift_open : {C E : Type 0} → (C → E) → (ℕ → Bool) → Open C → Open E
-lift_open k missed o = record { origin = lift_origin k o.origin; tag = o.tag; acted = o.acted; served = o.served; missed = missed; owed = o.owed; report = o.report; inside = o.inside; steps = o.steps; window = o.window; noted = o.noted }
+lift_open k missed o = record { origin = lift_origin k o.origin; tag = o.tag; acted = o.acted; acted_at = o.acted_at; polled = o.polled; served = o.served; missed = missed; committed = o.committed; reads = o.reads; wrote = o.wrote; owed = o.owed; report = o.report; inside = o.inside; steps = o.steps; window = o.window; noted = o.noted }
 
 -- the line that was entered is one of these
 abbrev pub IsMine : {C : Type 0} → (ℕ → Bool) → Origin C → Type 0
@@ -111,8 +133,8 @@ others ours l = not (ours l)
 -- the frames of the union are those of the first and those of the second, each in their order
 pub data Splits {C D F G : Type 0} (ours : ℕ → Bool) : List (Either F G × Open (Either C D)) → List (F × Open C) → List (G × Open D) → Type 0 where
   Nothing_open : Splits ours [] [] []
-  Left_open : (f : F) (o : Open C) (missed : ℕ → Bool) (ps : List (Either F G × Open (Either C D))) (fs : List (F × Open C)) (gs : List (G × Open D)) → IsMine ours o.origin → SameOn ours missed o.missed → Splits ours ps fs gs → Splits ours ((Left f, lift_open Left missed o) ∷ ps) ((f, o) ∷ fs) gs
-  Right_open : (g : G) (o : Open D) (missed : ℕ → Bool) (ps : List (Either F G × Open (Either C D))) (fs : List (F × Open C)) (gs : List (G × Open D)) → IsMine (others ours) o.origin → SameOn (others ours) missed o.missed → Splits ours ps fs gs → Splits ours ((Right g, lift_open Right missed o) ∷ ps) fs ((g, o) ∷ gs)
+  Left_open : (f : F) (o : Open C) (missed : ℕ → Bool) (ps : List (Either F G × Open (Either C D))) (fs : List (F × Open C)) (gs : List (G × Open D)) → IsMine ours o.origin → list_all ours o.polled ≡ true → SameOn ours missed o.missed → Splits ours ps fs gs → Splits ours ((Left f, lift_open Left missed o) ∷ ps) ((f, o) ∷ fs) gs
+  Right_open : (g : G) (o : Open D) (missed : ℕ → Bool) (ps : List (Either F G × Open (Either C D))) (fs : List (F × Open C)) (gs : List (G × Open D)) → IsMine (others ours) o.origin → list_all (others ours) o.polled ≡ true → SameOn (others ours) missed o.missed → Splits ours ps fs gs → Splits ours ((Right g, lift_open Right missed o) ∷ ps) fs ((g, o) ∷ gs)
 
 -- chip and frames stand for both states
 pub record UnionRelates {S T C D F G : Type 0} (ours : ℕ → Bool) (First : Chip → World → List (F × Open C) → S → Type 0) (Second : Chip → World → List (G × Open D) → T → Type 0) (chip : Chip) (w : World) (ps : List (Either F G × Open (Either C D))) (s : S × T) : Type 0 where
@@ -124,18 +146,30 @@ pub record UnionRelates {S T C D F G : Type 0} (ours : ℕ → Bool) (First : Ch
 
 -- ---- the drivers
 
+-- what the member of a frame shows
+abbrev pub UnionShows : {S T C D : Type 0} → (ℕ → Bool) → (Origin C → Notice → Chip → S → Type 0) → (Origin D → Notice → Chip → T → Type 0) → Origin (Either C D) → Notice → Chip → S × T → Type 0
+UnionShows ours p q (Called (Left c)) n chip s = p (Called c) n chip s.0
+UnionShows ours p q (Called (Right d)) n chip s = q (Called d) n chip s.1
+UnionShows ours p q (Entered l) n chip s = MatchBool (ours l) (p (Entered l) n chip s.0) (q (Entered l) n chip s.1)
+
 -- the lines that a driver has
 abbrev pub has_handler : {S C F : Type 0} → Driver S C F → ℕ → Bool
 has_handler d l = is_some (d.handler_of l)
 
+-- what the member of a frame selects
+abbrev pub UnionSelects : {S T C D : Type 0} → (ℕ → Bool) → (Origin C → Chip → World → S → Event → ℕ → Type 0) → (Origin D → Chip → World → T → Event → ℕ → Type 0) → Origin (Either C D) → Chip → World → S × T → Event → ℕ → Type 0
+UnionSelects ours p q (Called (Left c)) chip w s e u = p (Called c) chip w s.0 e u
+UnionSelects ours p q (Called (Right d)) chip w s e u = q (Called d) chip w s.1 e u
+UnionSelects ours p q (Entered l) chip w s e u = MatchBool (ours l) (p (Entered l) chip w s.0 e u) (q (Entered l) chip w s.1 e u)
+
 -- What two drivers have to be so that they make one: apart in what they may do, in the lines that they poll and in their units, and the second never sets the rate.
 pub record AreApart {S T C D F G : Type 0} (d : Driver S C F) (e : Driver T D G) : Type 0 where
   -- what a frame of the one may do is nothing that the other owns
-  pub may : (p : Origin C) (q : Origin D) (made : Move) → d.setting.may p made ≡ true → e.setting.owns q made ≡ false
-  pub may_other : (p : Origin C) (q : Origin D) (made : Move) → e.setting.may q made ≡ true → d.setting.owns p made ≡ false
+  pub may : (p : Origin C) (q : Origin D) (made : Move) → d.setting.may p made ≡ true → e.owns q made ≡ false
+  pub may_other : (p : Origin C) (q : Origin D) (made : Move) → e.setting.may q made ≡ true → d.owns p made ≡ false
   -- a call polls lines of its own
-  pub polls : (c : C) (l : ℕ) → list_any (λ k. k == l) (d.setting.machine.polls c) ≡ true → has_handler d l ≡ true
-  pub polls_other : (c : D) (l : ℕ) → list_any (λ k. k == l) (e.setting.machine.polls c) ≡ true → has_handler d l ≡ false
+  pub polls : (w : World) (s : S) (c : C) → list_all (has_handler d) (d.setting.machine.polls w s c) ≡ true
+  pub polls_other : (w : World) (t : T) (c : D) → list_all (others (has_handler d)) (e.setting.machine.polls w t c) ≡ true
   -- the first allows no start and no abort that the second does
   pub starts : (w : World) (s : S) (t : T) (u : units.Unit) (r : ℕ) → IsSome (e.setting.machine.happens w t (Starts u r)) → d.setting.machine.happens w s (Starts u r) ≡ None
   pub aborts : (w : World) (s : S) (t : T) (u : units.Unit) → IsSome (e.setting.machine.happens w t (Aborts u)) → d.setting.machine.happens w s (Aborts u) ≡ None
@@ -151,12 +185,17 @@ union_setting ours g h = record {
   level_of = λ l. cond (ours l) (g.level_of l) (h.level_of l);
   owner_of = λ l. cond (ours l) (g.owner_of l) (h.owner_of l);
   used = λ l. g.used l || h.used l;
-  lines = λ l. g.lines l || h.lines l;
   steps_of = by_origin ours g.steps_of h.steps_of;
   window_of = by_origin ours g.window_of h.window_of;
   may = by_origin ours g.may h.may;
-  owns = by_origin ours g.owns h.owns;
-  low_half = either g.low_half h.low_half;
+  halves = either g.halves h.halves;
+  fills = λ c. g.fills c || h.fills c;
+  fill_busy = λ w s origins c. g.fill_busy w s.0 (first_origins ours origins) c || h.fill_busy w s.1 (second_origins ours origins) c;
+  receives = λ chip w u r. g.receives chip w u r × h.receives chip w u r;
+  begins_word = λ w s l. cond (ours l) (g.begins_word w s.0 l) (h.begins_word w s.1 l);
+  selects = UnionSelects ours g.selects h.selects;
+  rest = λ chip w s. g.rest chip w s.0 × h.rest chip w s.1;
+  shows = UnionShows ours g.shows h.shows;
 }
 
 abbrev pub union_of : {S T C D F G : Type 0} → Driver S C F → Driver T D G → Driver (S × T) (Either C D) (Either F G)
@@ -169,4 +208,7 @@ union_of d e = record {
   relates = UnionRelates (has_handler d) d.relates e.relates;
   fuel = either d.fuel e.fuel;
   room = either d.room e.room;
+  lines = λ l. d.lines l || e.lines l;
+  count = λ s. d.count s.0 + e.count s.1;
+  owns = by_origin (has_handler d) d.owns e.owns;
 }

@@ -1,5 +1,6 @@
 -- The laws of two drivers as one, from those of the members.
-use Rattle.std.proofs.Common.{◌≡◌, ℕ, ◌≤◌, Bool, true, false, cond, not, ◌&&◌, ◌||◌, List, [], ◌∷◌, Option, Some, None, is_some, refl, sym, ◌∙◌, ap, subst}
+use Rattle.std.proofs.Common.{◌≡◌, ℕ, ◌+◌, ◌<◌, ◌≤◌, nat_lt, nat_le, Bool, true, false, cond, not, ◌&&◌, ◌||◌, List, [], ◌∷◌, Option, Some, None, is_some, refl, sym, ◌∙◌, ap, subst, arith}
+use Rattle.std.proofs.Math.Nat.{min-le_left, min-le_right}
 use Rattle.std.specs.Prelude.{IsSome}
 use Rattle.std.specs.List.{list_all}
 use Rattle.chip_model.specs.Chip.{Chip, value_of, chip_after, happened, reset_chip, is_masked, is_pending}
@@ -7,31 +8,29 @@ use Rattle.chip_model.specs.Reach.{CanApply}
 use Rattle.mcal_base.specs.declared.answer.Answer.{Answer}
 use Rattle.mcal_base.specs.declared.directive.Order.{Order}
 use Rattle.mcal_base.specs.declared.directive.Reason.{Reason}
+use Rattle.mcal_base.specs.declared.moves.Event.{Event}
 use Rattle.mcal_base.specs.declared.moves.Move.{Move}
+use Rattle.mcal_base.specs.declared.register.Reg.{Reg}
+use Rattle.mcal_base.specs.declared.register.Reg.TheVariants.{SerialData}
+use Rattle.run_model.specs.Legal.{ReceivedRight}
 use Rattle.mcal_base.specs.declared.moves.Move.TheVariants.{Read, Write, Load, Store, Mask, Unmask, Note, Report}
 use Rattle.mcal_base.specs.declared.moves.Unit as units
+use Rattle.mcal_base.specs.declared.notice.Notice.{Notice}
+use Rattle.mcal_base.specs.declared.directive.Order.TheVariants as orders
 use Rattle.mcal_base.specs.declared.routine.Taken.{Taken}
 use Rattle.run_model.specs.declared.class.Tag.{Tag}
 use Rattle.run_model.specs.World.{World, world_after}
-use Rattle.run_model.specs.Machine.{Starts, Aborts, Moves, Restarts, Outcome, outcome, tells_nothing}
-use Rattle.run_model.specs.Frame.{Origin, Called, Entered, Open, opened, happening_at, outcome_of, state_by, state_after, top_after, is_shared}
-use Rattle.run_model.specs.Causes.{may_reenter, blocks}
+use Rattle.run_model.specs.Machine.{Happening, Acts, Serves, Starts, Aborts, Moves, Restarts, Outcome, outcome, tells_nothing}
+use Rattle.run_model.specs.Frame.{Origin, Called, Entered, Open, opened, outcome_at, state_by, state_after, top_after, is_shared}
+use Rattle.run_model.specs.Causes.{may_reenter, blocks, none_above, all_below}
 use Rattle.run_model.specs.Moment.{Setting, call_tag, line_tag}
-use Rattle.step_runner.specs.Driver.{Driver, IsLawful, AllOutside, tags_in, KeepsStep, stepped}
-use Rattle.step_runner.specs.Lifts.{LiesIn, lift-keeps, out-at, same-state}
-use Rattle.step_runner.specs.Union.{either, EitherFits, either_left, either_gave, either_handler, lift_out, in_both, in_first, by_origin, lift_origin, lift_open, IsMine, SameOn, others, Splits, Nothing_open, Left_open, Right_open, UnionRelates, has_handler, AreApart, union_setting, union_of}
+use Rattle.step_runner.specs.Driver.{Driver, most_steps, IsLawful, AllOutside, tags_in, origins_in, TicksFit, IsFree, KeepsStep, stepped}
+use Rattle.step_runner.specs.Lifts.{and-left, and-right, LiesIn, lift-keeps, out-at, same-state}
+use Rattle.step_runner.specs.Union.{sooner, either, EitherFits, either_left, either_gave, either_handler, lift_out, in_both, in_first, by_origin, lift_origin, lift_open, first_origins, second_origins, IsMine, SameOn, others, Splits, Nothing_open, Left_open, Right_open, UnionRelates, has_handler, AreApart, union_setting, union_of}
 use Rattle.step_runner.specs.declared.either.Either.{Either}
 use Rattle.step_runner.specs.declared.either.Either.TheVariants.{Left, Right}
 
 -- ---- tests
-
-and-left : (a b : Bool) → a && b ≡ true → a ≡ true
-and-left true b e = refl
-and-left false b e = e
-
-and-right : (a b : Bool) → a && b ≡ true → b ≡ true
-and-right true b e = e
-and-right false b e = cc
 
 both-true : (a b : Bool) → a ≡ true → b ≡ true → a && b ≡ true
 both-true a b e f = rw (e, f)
@@ -52,6 +51,18 @@ foreign shared x false plain apart h = refl
 
 none-of : (a b : Bool) → a ≡ false → b ≡ false → a || b ≡ false
 none-of a b e f = rw (e, f)
+
+-- a fill is free for both
+neither : (m a b : Bool) → m || (a || b) ≡ false → (m || a ≡ false) × (m || b ≡ false)
+neither true a b e = cc
+neither false true b e = cc
+neither false false b e = (refl, e)
+
+-- ticks within both times
+ticks-split : (n : ℕ) (x y : Option ℕ) → TicksFit n (sooner x y) → TicksFit n x × TicksFit n y
+ticks-split n None y h = (tt, h)
+ticks-split n (Some a) None h = (h, tt)
+ticks-split n (Some a) (Some b) h = let k = min-le_left a b in let l = min-le_right a b in (omega (arith, h, k), omega (arith, h, l))
 
 or-first : (a b : Bool) → a ≡ true → a || b ≡ true
 or-first a b e = rw e
@@ -107,6 +118,15 @@ both-first None y out e = cc
 both-first (Some p) None out e = cc
 both-first (Some p) (Some q) out e = (p, refl, ap (λ o. o.state.0) (some-injective e))
 
+both-each : {S T : Type 0} (x : Option (Outcome S)) (y : Option (Outcome T)) (out : Outcome (S × T)) → in_both x y ≡ Some out → (p : Outcome S) × (q : Outcome T) × (x ≡ Some p) × (y ≡ Some q) × ((p.state, q.state) ≡ out.state)
+both-each None y out e = cc
+both-each (Some p) None out e = cc
+both-each (Some p) (Some q) out e = (p, q, refl, refl, ap (λ o. o.state) (some-injective e))
+
+lift-each : {S U : Type 0} (put : S → U) (x : Option (Outcome S)) (out : Outcome U) → lift_out put x ≡ Some out → (p : Outcome S) × (x ≡ Some p) × (put p.state ≡ out.state)
+lift-each put None out e = cc
+lift-each put (Some p) out e = (p, refl, ap (λ o. o.state) (some-injective e))
+
 -- ---- frames
 
 handler-some : {F G : Type 0} (x : Option F) (y : Option G) → is_some (either_handler x y) ≡ is_some x || is_some y
@@ -144,21 +164,48 @@ steady-by : (chip : Chip) (made : Move) (shared x : Bool) → is_shared made ≡
 steady-by chip made true x is e h = shared-rate chip made is
 steady-by chip made false x is e h = h e
 
+first-left : {C D : Type 0} (ours : ℕ → Bool) (p : Origin C) (os : List (Origin (Either C D))) → IsMine ours p → first_origins ours (lift_origin Left p ∷ os) ≡ p ∷ first_origins ours os
+first-left ours (Called c) os m = refl
+first-left ours (Entered l) os m = rw m refl
+
+first-right : {C D : Type 0} (ours : ℕ → Bool) (p : Origin D) (os : List (Origin (Either C D))) → IsMine (others ours) p → first_origins ours (lift_origin Right p ∷ os) ≡ first_origins ours os
+first-right ours (Called c) os m = refl
+first-right ours (Entered l) os m = let x = not-true (ours l) m in rw x refl
+
+second-left : {C D : Type 0} (ours : ℕ → Bool) (p : Origin C) (os : List (Origin (Either C D))) → IsMine ours p → second_origins ours (lift_origin Left p ∷ os) ≡ second_origins ours os
+second-left ours (Called c) os m = refl
+second-left ours (Entered l) os m = rw m refl
+
+second-right : {C D : Type 0} (ours : ℕ → Bool) (p : Origin D) (os : List (Origin (Either C D))) → IsMine (others ours) p → second_origins ours (lift_origin Right p ∷ os) ≡ p ∷ second_origins ours os
+second-right ours (Called c) os m = refl
+second-right ours (Entered l) os m = let x = not-true (ours l) m in rw x refl
+
 module _ {C D F G : Type 0} (ours : ℕ → Bool) where
   outside-split : (ps : List (Either F G × Open (Either C D))) (fs : List (F × Open C)) (gs : List (G × Open D)) → Splits ours ps fs gs → AllOutside ps → AllOutside fs × AllOutside gs
   outside-split ps fs gs Nothing_open h = (tt, tt)
-  outside-split ps fs gs (Left_open f o missed qs fs1 gs1 m same sp) h = let k = outside-split qs fs1 gs1 sp h.1 in ((h.0, k.0), k.1)
-  outside-split ps fs gs (Right_open g o missed qs fs1 gs1 m same sp) h = let k = outside-split qs fs1 gs1 sp h.1 in (k.0, (h.0, k.1))
+  outside-split ps fs gs (Left_open f o missed qs fs1 gs1 m all same sp) h = let k = outside-split qs fs1 gs1 sp h.1 in ((h.0, k.0), k.1)
+  outside-split ps fs gs (Right_open g o missed qs fs1 gs1 m all same sp) h = let k = outside-split qs fs1 gs1 sp h.1 in (k.0, (h.0, k.1))
 
   -- what holds of all tags holds of a member's
   tags-split : (p : Tag → Bool) (ps : List (Either F G × Open (Either C D))) (fs : List (F × Open C)) (gs : List (G × Open D)) → Splits ours ps fs gs → list_all p (tags_in ps) ≡ true → (list_all p (tags_in fs) ≡ true) × (list_all p (tags_in gs) ≡ true)
   tags-split p ps fs gs Nothing_open h = (refl, refl)
-  tags-split p ps fs gs (Left_open f o missed qs fs1 gs1 m same sp) h =
+  tags-split p ps fs gs (Left_open f o missed qs fs1 gs1 m all same sp) h =
       let k = tags-split p qs fs1 gs1 sp (and-right (p o.tag) (list_all p (tags_in qs)) h) in
       (both-true (p o.tag) (list_all p (tags_in fs1)) (and-left (p o.tag) (list_all p (tags_in qs)) h) k.0, k.1)
-  tags-split p ps fs gs (Right_open g o missed qs fs1 gs1 m same sp) h =
+  tags-split p ps fs gs (Right_open g o missed qs fs1 gs1 m all same sp) h =
       let k = tags-split p qs fs1 gs1 sp (and-right (p o.tag) (list_all p (tags_in qs)) h) in
       (k.0, both-true (p o.tag) (list_all p (tags_in gs1)) (and-left (p o.tag) (list_all p (tags_in qs)) h) k.1)
+
+  -- the origins of the members
+  first-same : (ps : List (Either F G × Open (Either C D))) (fs : List (F × Open C)) (gs : List (G × Open D)) → Splits ours ps fs gs → first_origins ours (origins_in ps) ≡ origins_in fs
+  first-same ps fs gs Nothing_open = refl
+  first-same ps fs gs (Left_open f o missed qs fs1 gs1 m all same sp) = first-left ours o.origin (origins_in qs) m ∙ ap (λ x. o.origin ∷ x) (first-same qs fs1 gs1 sp)
+  first-same ps fs gs (Right_open g o missed qs fs1 gs1 m all same sp) = first-right ours o.origin (origins_in qs) m ∙ first-same qs fs1 gs1 sp
+
+  second-same : (ps : List (Either F G × Open (Either C D))) (fs : List (F × Open C)) (gs : List (G × Open D)) → Splits ours ps fs gs → second_origins ours (origins_in ps) ≡ origins_in gs
+  second-same ps fs gs Nothing_open = refl
+  second-same ps fs gs (Left_open f o missed qs fs1 gs1 m all same sp) = second-left ours o.origin (origins_in qs) m ∙ second-same qs fs1 gs1 sp
+  second-same ps fs gs (Right_open g o missed qs fs1 gs1 m all same sp) = second-right ours o.origin (origins_in qs) m ∙ ap (λ x. o.origin ∷ x) (second-same qs fs1 gs1 sp)
 
   empty-split : (fs : List (F × Open C)) (gs : List (G × Open D)) → Splits ours [] fs gs → (fs ≡ []) × (gs ≡ [])
   empty-split fs gs Nothing_open = (refl, refl)
@@ -175,159 +222,204 @@ module _ {S T C D F G : Type 0} (d : Driver S C F) (e : Driver T D G) (move_a : 
   abbrev g : Setting (S × T) (Either C D)
   g = union_setting ours d.setting e.setting
 
+  shows-left : (p : Origin C) (n : Notice) (chip : Chip) (s : S) (t : T) → IsMine ours p → d.setting.shows p n chip s → g.shows (lift_origin Left p) n chip (s, t)
+  shows-left (Called c) n chip s t m h = h
+  shows-left (Entered l) n chip s t m h = rw m h
+
+  shows-right : (p : Origin D) (n : Notice) (chip : Chip) (s : S) (t : T) → IsMine (others ours) p → e.setting.shows p n chip t → g.shows (lift_origin Right p) n chip (s, t)
+  shows-right (Called c) n chip s t m h = h
+  shows-right (Entered l) n chip s t m h = let x = not-true (ours l) m in rw x h
+
+  selects-left : (p : Origin C) (chip : Chip) (w : World) (x : Event) (u : ℕ) (s : S) (t : T) → IsMine ours p → d.setting.selects p chip w s x u → g.selects (lift_origin Left p) chip w (s, t) x u
+  selects-left (Called c) chip w x u s t m h = h
+  selects-left (Entered l) chip w x u s t m h = rw m h
+
+  selects-right : (p : Origin D) (chip : Chip) (w : World) (x : Event) (u : ℕ) (s : S) (t : T) → IsMine (others ours) p → e.setting.selects p chip w t x u → g.selects (lift_origin Right p) chip w (s, t) x u
+  selects-right (Called c) chip w x u s t m h = h
+  selects-right (Entered l) chip w x u s t m h = let i = not-true (ours l) m in rw i h
+
+  -- a word that may come in to both may come in to each
+  received-write : (chip : Chip) (w : World) (r : Reg) (v received : ℕ) → ReceivedRight g chip w (Write r v) received → ReceivedRight d.setting chip w (Write r v) received × ReceivedRight e.setting chip w (Write r v) received
+  received-write chip w (SerialData n) v received h = ((h.0, h.1.0), (h.0, h.1.1))
+  received-write chip w _ v received h = (h, h)
+
+  received-split : (chip : Chip) (w : World) (made : Move) (received : ℕ) → ReceivedRight g chip w made received → ReceivedRight d.setting chip w made received × ReceivedRight e.setting chip w made received
+  received-split chip w (Write r v) received h = received-write chip w r v received h
+  received-split chip w _ received h = (h, h)
+
   lies-left : (w : World) (s : S) (t : T) → LiesIn d.setting g (λ a. (a, t)) Left ours w s
   lies-left w s t = record {
-    acts = λ c. refl;
+    acts = λ c times. refl;
     serves = λ l r m. rw m;
     starts = λ u r some. first-some s t (d.setting.machine.happens w s (Starts u r)) (e.setting.machine.happens w t (Starts u r)) some;
     aborts = λ u some. first-some s t (d.setting.machine.happens w s (Aborts u)) (e.setting.machine.happens w t (Aborts u)) some;
     ready = λ l m. rw m;
     services = λ c. refl;
-    detects = λ c. refl;
+    reporting = λ c. refl;
     polls = λ c. refl;
-    polled = apart.polls;
-    low = λ c. refl;
+    polled = λ c. apart.polls w s c;
+    shows = λ p n chip m h. shows-left p n chip s t m h;
+    selects = λ p chip e u m h. selects-left p chip w e u s t m h;
+    begins = λ l m. rw m;
+    halves = λ c. refl;
     may = λ p made m. ap (λ f. f made) (origin-left ours d.setting.may e.setting.may p m);
     window = λ p m. origin-left ours d.setting.window_of e.setting.window_of p m;
   }
 
   lies-right : (w : World) (s : S) (t : T) → LiesIn e.setting g (λ b. (s, b)) Right (others ours) w t
   lies-right w s t = record {
-    acts = λ c. refl;
+    acts = λ c times. refl;
     serves = λ l r m. let x = not-true (ours l) m in rw x;
     starts = λ u r some. first-none s t (d.setting.machine.happens w s (Starts u r)) (e.setting.machine.happens w t (Starts u r)) (apart.starts w s t u r some);
     aborts = λ u some. first-none s t (d.setting.machine.happens w s (Aborts u)) (e.setting.machine.happens w t (Aborts u)) (apart.aborts w s t u some);
     ready = λ l m. let x = not-true (ours l) m in rw x;
     services = λ c. refl;
-    detects = λ c. refl;
+    reporting = λ c. refl;
     polls = λ c. refl;
-    polled = λ c l h. ap not (apart.polls_other c l h);
-    low = λ c. refl;
+    polled = λ c. apart.polls_other w t c;
+    shows = λ p n chip m h. shows-right p n chip s t m h;
+    selects = λ p chip e u m h. selects-right p chip w e u s t m h;
+    begins = λ l m. let x = not-true (ours l) m in rw x;
+    halves = λ c. refl;
     may = λ p made m. ap (λ f. f made) (origin-right ours d.setting.may e.setting.may p m);
     window = λ p m. origin-right ours d.setting.window_of e.setting.window_of p m;
   }
 
-  grow-left : (chip : Chip) (w : World) (f : F) (o : Open C) (missed : ℕ → Bool) (ended : Option Answer) (qs : List (Either F G × Open (Either C D))) (fs : List (F × Open C)) (gs : List (G × Open D)) (s : S) (t : T) → IsMine ours o.origin → SameOn ours missed o.missed → Splits ours qs fs gs → d.relates chip w (top_after (f, o) ended fs) s → e.relates chip w gs t → URelates chip w (top_after (Left f, lift_open Left missed o) ended qs) (s, t)
-  grow-left chip w f o missed None qs fs gs s t m same sp a b = record { firsts = (f, o) ∷ fs; seconds = gs; splits = Left_open f o missed qs fs gs m same sp; first = a; second = b }
-  grow-left chip w f o missed (Some x) qs fs gs s t m same sp a b = record { firsts = fs; seconds = gs; splits = sp; first = a; second = b }
+  grow-left : (chip : Chip) (w : World) (f : F) (o : Open C) (missed : ℕ → Bool) (ended : Option Answer) (qs : List (Either F G × Open (Either C D))) (fs : List (F × Open C)) (gs : List (G × Open D)) (s : S) (t : T) → IsMine ours o.origin → list_all ours o.polled ≡ true → SameOn ours missed o.missed → Splits ours qs fs gs → d.relates chip w (top_after (f, o) ended fs) s → e.relates chip w gs t → URelates chip w (top_after (Left f, lift_open Left missed o) ended qs) (s, t)
+  grow-left chip w f o missed None qs fs gs s t m all same sp a b = record { firsts = (f, o) ∷ fs; seconds = gs; splits = Left_open f o missed qs fs gs m all same sp; first = a; second = b }
+  grow-left chip w f o missed (Some x) qs fs gs s t m all same sp a b = record { firsts = fs; seconds = gs; splits = sp; first = a; second = b }
 
-  grow-right : (chip : Chip) (w : World) (y : G) (o : Open D) (missed : ℕ → Bool) (ended : Option Answer) (qs : List (Either F G × Open (Either C D))) (fs : List (F × Open C)) (gs : List (G × Open D)) (s : S) (t : T) → IsMine (others ours) o.origin → SameOn (others ours) missed o.missed → Splits ours qs fs gs → d.relates chip w fs s → e.relates chip w (top_after (y, o) ended gs) t → URelates chip w (top_after (Right y, lift_open Right missed o) ended qs) (s, t)
-  grow-right chip w y o missed None qs fs gs s t m same sp a b = record { firsts = fs; seconds = (y, o) ∷ gs; splits = Right_open y o missed qs fs gs m same sp; first = a; second = b }
-  grow-right chip w y o missed (Some x) qs fs gs s t m same sp a b = record { firsts = fs; seconds = gs; splits = sp; first = a; second = b }
+  grow-right : (chip : Chip) (w : World) (y : G) (o : Open D) (missed : ℕ → Bool) (ended : Option Answer) (qs : List (Either F G × Open (Either C D))) (fs : List (F × Open C)) (gs : List (G × Open D)) (s : S) (t : T) → IsMine (others ours) o.origin → list_all (others ours) o.polled ≡ true → SameOn (others ours) missed o.missed → Splits ours qs fs gs → d.relates chip w fs s → e.relates chip w (top_after (y, o) ended gs) t → URelates chip w (top_after (Right y, lift_open Right missed o) ended qs) (s, t)
+  grow-right chip w y o missed None qs fs gs s t m all same sp a b = record { firsts = fs; seconds = (y, o) ∷ gs; splits = Right_open y o missed qs fs gs m all same sp; first = a; second = b }
+  grow-right chip w y o missed (Some x) qs fs gs s t m all same sp a b = record { firsts = fs; seconds = gs; splits = sp; first = a; second = b }
 
   -- a member's move is none of the other's
-  not-second : (p : Origin C) (made : Move) → is_shared made || d.setting.may p made ≡ true → (q : Origin D) → e.setting.owns q made ≡ false
-  not-second p made h q = foreign (is_shared made) (d.setting.may p made) (e.setting.owns q made) (lb.owns_plain q made) (apart.may p q made) h
+  not-second : (p : Origin C) (made : Move) → is_shared made || d.setting.may p made ≡ true → (q : Origin D) → e.owns q made ≡ false
+  not-second p made h q = foreign (is_shared made) (d.setting.may p made) (e.owns q made) (lb.owns_plain q made) (apart.may p q made) h
 
-  not-first : (q : Origin D) (made : Move) → is_shared made || e.setting.may q made ≡ true → (p : Origin C) → d.setting.owns p made ≡ false
-  not-first q made h p = foreign (is_shared made) (e.setting.may q made) (d.setting.owns p made) (la.owns_plain p made) (apart.may_other p q made) h
+  not-first : (q : Origin D) (made : Move) → is_shared made || e.setting.may q made ≡ true → (p : Origin C) → d.owns p made ≡ false
+  not-first q made h p = foreign (is_shared made) (e.setting.may q made) (d.owns p made) (la.owns_plain p made) (apart.may_other p q made) h
 
-  abbrev UKeeps : Chip → World → Either F G → Open (Either C D) → List (Either F G × Open (Either C D)) → S × T → Type 0
-  UKeeps chip w u o ps s = let made = either move_a move_b u in let value = value_of chip made in let taken = either_gave gave_a gave_b u value in KeepsStep (union_of d e) (record { chip = chip; world = w; state = s; opens = [] }) u o (either_left left_a left_b u value) (stepped made value 0 taken) (λ s1 o1. URelates (chip_after chip made) w (top_after (either_left left_a left_b u value, o1) taken.ended ps) s1)
+  abbrev UKeeps : Chip → World → ℕ → Either F G → Open (Either C D) → List (Either F G × Open (Either C D)) → S × T → Type 0
+  UKeeps chip w received u o ps s = let made = either move_a move_b u in let value = value_of chip made in let taken = either_gave gave_a gave_b u value in KeepsStep (union_of d e) (record { chip = chip; world = w; state = s; opens = []; steps = 0 }) u o (either_left left_a left_b u value) (stepped made value received taken) (λ s1 o1. URelates (chip_after chip made) w (top_after (either_left left_a left_b u value, o1) taken.ended ps) s1)
 
-  step-split : (chip : Chip) (w : World) (u : Either F G) (o : Open (Either C D)) (ps : List (Either F G × Open (Either C D))) (s : S) (t : T) (fs : List (F × Open C)) (gs : List (G × Open D)) → Splits ours ((u, o) ∷ ps) fs gs → is_masked chip ≡ o.inside → AllOutside ps → d.relates chip w fs s → e.relates chip w gs t → UKeeps chip w u o ps (s, t)
-  step-split chip w u o ps s t fs gs (Left_open f o1 missed qs fs1 gs1 m same sp) masked out x y =
+  step-split : (chip : Chip) (w : World) (u : Either F G) (o : Open (Either C D)) (ps : List (Either F G × Open (Either C D))) (s : S) (t : T) (fs : List (F × Open C)) (gs : List (G × Open D)) → Splits ours ((u, o) ∷ ps) fs gs → is_masked chip ≡ o.inside → AllOutside ps → d.relates chip w fs s → e.relates chip w gs t → (received : ℕ) → ReceivedRight g chip w (either move_a move_b u) received → d.count s < most_steps → e.count t < most_steps → UKeeps chip w received u o ps (s, t)
+  step-split chip w u o ps s t fs gs (Left_open f o1 missed qs fs1 gs1 m all same sp) masked out x y received come few_a few_b =
       let made = move_a f in
       let value = value_of chip made in
       let taken = gave_a f value in
-      let k = la.steps chip w f o1 fs1 s masked (outside-split ours qs fs1 gs1 sp out).0 x in
-      lift-keeps d (union_of d e) (λ a. (a, t)) Left (λ z. Left z) ours chip w s f (left_a f value) o1 missed (stepped made value 0 taken)
+      let k = la.steps chip w f o1 fs1 s received (received-split chip w made received come).0 few_a masked (outside-split ours qs fs1 gs1 sp out).0 x in
+      lift-keeps d (union_of d e) (λ a. (a, t)) Left (λ z. Left z) ours chip w s f (left_a f value) o1 missed (stepped made value received taken)
       (λ s1 o2. d.relates (chip_after chip made) w (top_after (left_a f value, o2) taken.ended fs1) s1)
       (λ s1 o2. URelates (chip_after chip made) w (top_after (Left (left_a f value), o2) taken.ended qs) s1)
-      (lies-left w s t) (λ z. refl) (λ z. refl) m same
-      (λ s1 o2 missed1 is same1 kept. grow-left (chip_after chip made) w (left_a f value) o2 missed1 taken.ended qs fs1 gs1 s1 t (mine-same ours o1.origin o2.origin is m) same1 sp kept (lb.undisturbed chip w gs1 t made (not-second o1.origin made k.own) y))
+      (lies-left w s t) (λ z. refl) (λ z. refl) m all same
+      (λ s1 o2 missed1 is all1 same1 kept. grow-left (chip_after chip made) w (left_a f value) o2 missed1 taken.ended qs fs1 gs1 s1 t (mine-same ours o1.origin o2.origin is m) all1 same1 sp kept (lb.undisturbed chip w gs1 t made (not-second o1.origin made k.own) y))
       k
-  step-split chip w u o ps s t fs gs (Right_open f o1 missed qs fs1 gs1 m same sp) masked out x y =
+  step-split chip w u o ps s t fs gs (Right_open f o1 missed qs fs1 gs1 m all same sp) masked out x y received come few_a few_b =
       let made = move_b f in
       let value = value_of chip made in
       let taken = gave_b f value in
-      let k = lb.steps chip w f o1 gs1 t masked (outside-split ours qs fs1 gs1 sp out).1 y in
-      lift-keeps e (union_of d e) (λ b. (s, b)) Right (λ z. Right z) (others ours) chip w t f (left_b f value) o1 missed (stepped made value 0 taken)
+      let k = lb.steps chip w f o1 gs1 t received (received-split chip w made received come).1 few_b masked (outside-split ours qs fs1 gs1 sp out).1 y in
+      lift-keeps e (union_of d e) (λ b. (s, b)) Right (λ z. Right z) (others ours) chip w t f (left_b f value) o1 missed (stepped made value received taken)
       (λ s1 o2. e.relates (chip_after chip made) w (top_after (left_b f value, o2) taken.ended gs1) s1)
       (λ s1 o2. URelates (chip_after chip made) w (top_after (Right (left_b f value), o2) taken.ended qs) s1)
-      (lies-right w s t) (λ z. refl) (λ z. refl) m same
-      (λ s1 o2 missed1 is same1 kept. grow-right (chip_after chip made) w (left_b f value) o2 missed1 taken.ended qs fs1 gs1 s s1 (mine-same (others ours) o1.origin o2.origin is m) same1 sp (la.undisturbed chip w fs1 s made (not-first o1.origin made k.own) x) kept)
+      (lies-right w s t) (λ z. refl) (λ z. refl) m all same
+      (λ s1 o2 missed1 is all1 same1 kept. grow-right (chip_after chip made) w (left_b f value) o2 missed1 taken.ended qs fs1 gs1 s s1 (mine-same (others ours) o1.origin o2.origin is m) all1 same1 sp (la.undisturbed chip w fs1 s made (not-first o1.origin made k.own) x) kept)
       k
 
   there-split : (chip : Chip) (w : World) (u : Either F G) (o : Open (Either C D)) (ps : List (Either F G × Open (Either C D))) (s : S) (t : T) (fs : List (F × Open C)) (gs : List (G × Open D)) → Splits ours ((u, o) ∷ ps) fs gs → d.relates chip w fs s → e.relates chip w gs t → CanApply (either move_a move_b u)
-  there-split chip w u o ps s t fs gs (Left_open f o1 missed qs fs1 gs1 m same sp) x y = la.there chip w f o1 fs1 s x
-  there-split chip w u o ps s t fs gs (Right_open f o1 missed qs fs1 gs1 m same sp) x y = lb.there chip w f o1 gs1 t y
+  there-split chip w u o ps s t fs gs (Left_open f o1 missed qs fs1 gs1 m all same sp) x y = la.there chip w f o1 fs1 s x
+  there-split chip w u o ps s t fs gs (Right_open f o1 missed qs fs1 gs1 m all same sp) x y = lb.there chip w f o1 gs1 t y
 
-  rate-split : (chip : Chip) (w : World) (u : Either F G) (o : Open (Either C D)) (ps : List (Either F G × Open (Either C D))) (s : S) (t : T) (fs : List (F × Open C)) (gs : List (G × Open D)) → Splits ours ((u, o) ∷ ps) fs gs → is_masked chip ≡ o.inside → AllOutside ps → d.relates chip w fs s → e.relates chip w gs t → chip.rate ≡ d.setting.machine.rate s → (chip_after chip (either move_a move_b u)).rate ≡ g.machine.rate (state_after g.machine w (s, t) o 0 (either_gave gave_a gave_b u (value_of chip (either move_a move_b u))).event)
-  rate-split chip w u o ps s t fs gs (Left_open f o1 missed qs fs1 gs1 m same sp) masked out x y is =
+  rate-split : (chip : Chip) (w : World) (u : Either F G) (o : Open (Either C D)) (ps : List (Either F G × Open (Either C D))) (s : S) (t : T) (fs : List (F × Open C)) (gs : List (G × Open D)) → Splits ours ((u, o) ∷ ps) fs gs → is_masked chip ≡ o.inside → AllOutside ps → d.relates chip w fs s → e.relates chip w gs t → (received : ℕ) → ReceivedRight g chip w (either move_a move_b u) received → d.count s < most_steps → e.count t < most_steps → chip.rate ≡ d.setting.machine.rate s → (chip_after chip (either move_a move_b u)).rate ≡ g.machine.rate (state_after g.machine w (s, t) o (either move_a move_b u) received (either_gave gave_a gave_b u (value_of chip (either move_a move_b u))).event)
+  rate-split chip w u o ps s t fs gs (Left_open f o1 missed qs fs1 gs1 m all same sp) masked out x y received come few_a few_b is =
       let made = move_a f in
       let value = value_of chip made in
       let taken = gave_a f value in
-      let st = stepped made value 0 taken in
+      let st = stepped made value received taken in
       let in1 = (outside-split ours qs fs1 gs1 sp out).0 in
-      let k = la.steps chip w f o1 fs1 s masked in1 x in
+      let k = la.steps chip w f o1 fs1 s received (received-split chip w made received come).0 few_a masked in1 x in
       let same_out = out-at d.setting g (λ a. (a, t)) Left ours w s (lies-left w s t) o1 chip st taken.event m k.event in
-      la.rate chip w f o1 fs1 s masked in1 x is ∙ sym (ap (λ o. g.machine.rate (state_by (s, t) o)) same_out ∙ ap g.machine.rate (same-state (λ a. (a, t)) s (outcome_of d.setting.machine w s (happening_at o1.origin 0 taken.event))))
-  rate-split chip w u o ps s t fs gs (Right_open f o1 missed qs fs1 gs1 m same sp) masked out x y is =
+      la.rate chip w f o1 fs1 s received (received-split chip w made received come).0 few_a masked in1 x is ∙ sym (ap (λ o. g.machine.rate (state_by (s, t) o)) same_out ∙ ap g.machine.rate (same-state (λ a. (a, t)) s (outcome_at d.setting.machine w s o1 made received taken.event)))
+  rate-split chip w u o ps s t fs gs (Right_open f o1 missed qs fs1 gs1 m all same sp) masked out x y received come few_a few_b is =
       let made = move_b f in
       let value = value_of chip made in
       let taken = gave_b f value in
-      let st = stepped made value 0 taken in
-      let k = lb.steps chip w f o1 gs1 t masked (outside-split ours qs fs1 gs1 sp out).1 y in
+      let st = stepped made value received taken in
+      let k = lb.steps chip w f o1 gs1 t received (received-split chip w made received come).1 few_b masked (outside-split ours qs fs1 gs1 sp out).1 y in
       let same_out = out-at e.setting g (λ b. (s, b)) Right (others ours) w t (lies-right w s t) o1 chip st taken.event m k.event in
-      steady-by chip made (is_shared made) (e.setting.may o1.origin made) refl k.own (apart.steady chip o1.origin made) ∙ (is ∙ sym (ap (λ o. g.machine.rate (state_by (s, t) o)) same_out ∙ ap g.machine.rate (same-state (λ b. (s, b)) t (outcome_of e.setting.machine w t (happening_at o1.origin 0 taken.event)))))
+      steady-by chip made (is_shared made) (e.setting.may o1.origin made) refl k.own (apart.steady chip o1.origin made) ∙ (is ∙ sym (ap (λ o. g.machine.rate (state_by (s, t) o)) same_out ∙ ap g.machine.rate (same-state (λ b. (s, b)) t (outcome_at e.setting.machine w t o1 made received taken.event))))
 
-  u-begins : (chip : Chip) (w : World) (ps : List (Either F G × Open (Either C D))) (s : S × T) (c : Either C D) (level : ℕ) → EitherFits d.can_call e.can_call c → is_masked chip ≡ false → AllOutside ps → may_reenter (g.class_of c) (tags_in ps) ≡ true → URelates chip w ps s → URelates chip w ((either (λ x. Left (d.frame_of x)) (λ y. Right (e.frame_of y)) c, opened (Called c) (call_tag g c level)) ∷ ps) s
-  u-begins chip w ps s (Left c) level can masked out enters h =
+  u-begins : (chip : Chip) (w : World) (ps : List (Either F G × Open (Either C D))) (s : S × T) (c : Either C D) (level : ℕ) → EitherFits d.can_call e.can_call c → is_masked chip ≡ false → AllOutside ps → may_reenter (g.class_of c) (tags_in ps) ≡ true → none_above (tags_in ps) level ≡ true → URelates chip w ps s → URelates chip w ((either (λ x. Left (d.frame_of x)) (λ y. Right (e.frame_of y)) c, opened (Called c) (call_tag g c level)) ∷ ps) s
+  u-begins chip w ps s (Left c) level can masked out enters above h =
       let tags = tags-split ours (λ x. not (blocks (d.setting.class_of c) x)) ps h.firsts h.seconds h.splits enters in
+      let levels = tags-split ours (λ x. nat_le x.level level) ps h.firsts h.seconds h.splits above in
       let outs = outside-split ours ps h.firsts h.seconds h.splits out in
       record {
         firsts = (d.frame_of c, opened (Called c) (call_tag d.setting c level)) ∷ h.firsts;
         seconds = h.seconds;
-        splits = Left_open (d.frame_of c) (opened (Called c) (call_tag d.setting c level)) (λ l. false) ps h.firsts h.seconds tt (λ l m. refl) h.splits;
-        first = la.begins chip w h.firsts s.0 c level can masked outs.0 tags.0 h.first;
+        splits = Left_open (d.frame_of c) (opened (Called c) (call_tag d.setting c level)) (λ l. false) ps h.firsts h.seconds tt refl (λ l m. refl) h.splits;
+        first = la.begins chip w h.firsts s.0 c level can masked outs.0 tags.0 levels.0 h.first;
         second = h.second;
       }
-  u-begins chip w ps s (Right c) level can masked out enters h =
+  u-begins chip w ps s (Right c) level can masked out enters above h =
       let tags = tags-split ours (λ x. not (blocks (e.setting.class_of c) x)) ps h.firsts h.seconds h.splits enters in
+      let levels = tags-split ours (λ x. nat_le x.level level) ps h.firsts h.seconds h.splits above in
       let outs = outside-split ours ps h.firsts h.seconds h.splits out in
       record {
         firsts = h.firsts;
         seconds = (e.frame_of c, opened (Called c) (call_tag e.setting c level)) ∷ h.seconds;
-        splits = Right_open (e.frame_of c) (opened (Called c) (call_tag e.setting c level)) (λ l. false) ps h.firsts h.seconds tt (λ l m. refl) h.splits;
+        splits = Right_open (e.frame_of c) (opened (Called c) (call_tag e.setting c level)) (λ l. false) ps h.firsts h.seconds tt refl (λ l m. refl) h.splits;
         first = h.first;
-        second = lb.begins chip w h.seconds s.1 c level can masked outs.1 tags.1 h.second;
+        second = lb.begins chip w h.seconds s.1 c level can masked outs.1 tags.1 levels.1 h.second;
       }
 
   abbrev tag-by : Bool → ℕ → Tag
   tag-by b line = record { level = cond b (d.setting.level_of line) (e.setting.level_of line); owner = cond b (d.setting.owner_of line) (e.setting.owner_of line); class = None }
 
-  u-enters : (chip : Chip) (w : World) (ps : List (Either F G × Open (Either C D))) (s : S × T) (line : ℕ) (u : Either F G) (x : Option F) (y : Option G) → d.handler_of line ≡ x → e.handler_of line ≡ y → either_handler x y ≡ Some u → is_masked chip ≡ false → AllOutside ps → URelates chip w ps s → URelates chip w ((u, opened (Entered line) (line_tag g line)) ∷ ps) s
-  u-enters chip w ps s line u (Some f) y is_x is_y is masked out h =
+  u-enters : (chip : Chip) (w : World) (ps : List (Either F G × Open (Either C D))) (s : S × T) (line : ℕ) (u : Either F G) (x : Option F) (y : Option G) → d.handler_of line ≡ x → e.handler_of line ≡ y → either_handler x y ≡ Some u → is_masked chip ≡ false → AllOutside ps → all_below (tags_in ps) (g.level_of line) ≡ true → URelates chip w ps s → URelates chip w ((u, opened (Entered line) (line_tag g line)) ∷ ps) s
+  u-enters chip w ps s line u (Some f) y is_x is_y is masked out under h =
       let m : ours line ≡ true = ap is_some is_x in
+      let level_is : g.level_of line ≡ d.setting.level_of line = rw m refl in
+      let levels = tags-split ours (λ x. nat_lt x.level (d.setting.level_of line)) ps h.firsts h.seconds h.splits (subst (λ n. all_below (tags_in ps) n ≡ true) level_is under) in
       let outs = outside-split ours ps h.firsts h.seconds h.splits out in
       subst (λ z. URelates chip w ((z, opened (Entered line) (line_tag g line)) ∷ ps) s) (some-injective is)
       (subst (λ b. URelates chip w ((Left f, opened (Entered line) (tag-by b line)) ∷ ps) s) (sym m)
       (record {
         firsts = (f, opened (Entered line) (line_tag d.setting line)) ∷ h.firsts;
         seconds = h.seconds;
-        splits = Left_open f (opened (Entered line) (line_tag d.setting line)) (λ l. false) ps h.firsts h.seconds m (λ l k. refl) h.splits;
-        first = la.enters chip w h.firsts s.0 line f is_x masked outs.0 h.first;
+        splits = Left_open f (opened (Entered line) (line_tag d.setting line)) (λ l. false) ps h.firsts h.seconds m refl (λ l k. refl) h.splits;
+        first = la.enters chip w h.firsts s.0 line f is_x masked outs.0 levels.0 h.first;
         second = h.second;
       }))
-  u-enters chip w ps s line u None (Some f) is_x is_y is masked out h =
+  u-enters chip w ps s line u None (Some f) is_x is_y is masked out under h =
       let m : ours line ≡ false = ap is_some is_x in
+      let level_is : g.level_of line ≡ e.setting.level_of line = rw m refl in
+      let levels = tags-split ours (λ x. nat_lt x.level (e.setting.level_of line)) ps h.firsts h.seconds h.splits (subst (λ n. all_below (tags_in ps) n ≡ true) level_is under) in
       let outs = outside-split ours ps h.firsts h.seconds h.splits out in
       subst (λ z. URelates chip w ((z, opened (Entered line) (line_tag g line)) ∷ ps) s) (some-injective is)
       (subst (λ b. URelates chip w ((Right f, opened (Entered line) (tag-by b line)) ∷ ps) s) (sym m)
       (record {
         firsts = h.firsts;
         seconds = (f, opened (Entered line) (line_tag e.setting line)) ∷ h.seconds;
-        splits = Right_open f (opened (Entered line) (line_tag e.setting line)) (λ l. false) ps h.firsts h.seconds (ap not m) (λ l k. refl) h.splits;
+        splits = Right_open f (opened (Entered line) (line_tag e.setting line)) (λ l. false) ps h.firsts h.seconds (ap not m) refl (λ l k. refl) h.splits;
         first = h.first;
-        second = lb.enters chip w h.seconds s.1 line f is_y masked outs.1 h.second;
+        second = lb.enters chip w h.seconds s.1 line f is_y masked outs.1 levels.1 h.second;
       }))
-  u-enters chip w ps s line u None None is_x is_y is masked out h = cc
+  u-enters chip w ps s line u None None is_x is_y is masked out under h = cc
 
-  u-moves : (chip : Chip) (w : World) (ps : List (Either F G × Open (Either C D))) (s : S × T) (order : Order) → URelates chip w ps s → (out : Outcome (S × T)) × (g.machine.happens w s (Moves order) ≡ Some out) × URelates (happened chip order) (world_after w chip.rate order) ps out.state
-  u-moves chip w ps s order h =
-      let x = la.moves chip w h.firsts s.0 order h.first in
-      let y = lb.moves chip w h.seconds s.1 order h.second in
+  free-split : (masked : Bool) (w : World) (ps : List (Either F G × Open (Either C D))) (s : S) (t : T) (fs : List (F × Open C)) (gs : List (G × Open D)) (order : Order) → Splits ours ps fs gs → IsFree g masked w (s, t) (origins_in ps) order → IsFree d.setting masked w s (origins_in fs) order × IsFree e.setting masked w t (origins_in gs) order
+  free-split masked w ps s t fs gs (orders.Fill c ws) sp h =
+      let k = neither masked (d.setting.fill_busy w s (first_origins ours (origins_in ps)) c) (e.setting.fill_busy w t (second_origins ours (origins_in ps)) c) h in
+      (subst (λ x. masked || d.setting.fill_busy w s x c ≡ false) (first-same ours ps fs gs sp) k.0, subst (λ x. masked || e.setting.fill_busy w t x c ≡ false) (second-same ours ps fs gs sp) k.1)
+  free-split masked w ps s t fs gs (orders.Tick n) sp h = ticks-split n (d.setting.machine.expires w s) (e.setting.machine.expires w t) h
+  free-split masked w ps s t fs gs _ sp h = (tt, tt)
+
+  u-moves : (chip : Chip) (w : World) (ps : List (Either F G × Open (Either C D))) (s : S × T) (order : Order) → IsFree g (is_masked chip) w s (origins_in ps) order → URelates chip w ps s → (out : Outcome (S × T)) × (g.machine.happens w s (Moves order) ≡ Some out) × URelates (happened chip order) (world_after w chip.rate order) ps out.state
+  u-moves chip w ps s order free h =
+      let frees = free-split (is_masked chip) w ps s.0 s.1 h.firsts h.seconds order h.splits free in
+      let x = la.moves chip w h.firsts s.0 order frees.0 h.first in
+      let y = lb.moves chip w h.seconds s.1 order frees.1 h.second in
       (outcome (x.0.state, y.0.state) tells_nothing, both-some (d.setting.machine.happens w s.0 (Moves order)) (e.setting.machine.happens w s.1 (Moves order)) x.0 y.0 x.1 y.1, record { firsts = h.firsts; seconds = h.seconds; splits = h.splits; first = x.2; second = y.2 })
 
   u-resets : (chip : Chip) (w : World) (ps : List (Either F G × Open (Either C D))) (s : S × T) (reason : Reason) → URelates chip w ps s → (out : Outcome (S × T)) × (g.machine.happens w s (Restarts reason) ≡ Some out) × URelates (reset_chip chip reason) w [] out.state
@@ -337,36 +429,36 @@ module _ {S T C D F G : Type 0} (d : Driver S C F) (e : Driver T D G) (move_a : 
       (outcome (x.0.state, y.0.state) tells_nothing, both-some (d.setting.machine.happens w s.0 (Restarts reason)) (e.setting.machine.happens w s.1 (Restarts reason)) x.0 y.0 x.1 y.1, record { firsts = []; seconds = []; splits = Nothing_open; first = x.2; second = y.2 })
 
   -- a move that is none of the union's is none of a member's
-  none-first : (made : Move) → ((origin : Origin (Either C D)) → g.owns origin made ≡ false) → (p : Origin C) → d.setting.owns p made ≡ false
+  none-first : (made : Move) → ((origin : Origin (Either C D)) → (union_of d e).owns origin made ≡ false) → (p : Origin C) → d.owns p made ≡ false
   none-first made none (Called c) = none (Called (Left c))
-  none-first made none (Entered l) = none-true (d.setting.owns (Entered l) made) (λ h. let k = la.owns_called l made h in let f = none (Called (Left k.0)) in let t = k.1 in cc)
+  none-first made none (Entered l) = none-true (d.owns (Entered l) made) (λ h. let k = la.owns_called l made h in let f = none (Called (Left k.0)) in let t = k.1 in cc)
 
-  none-second : (made : Move) → ((origin : Origin (Either C D)) → g.owns origin made ≡ false) → (p : Origin D) → e.setting.owns p made ≡ false
+  none-second : (made : Move) → ((origin : Origin (Either C D)) → (union_of d e).owns origin made ≡ false) → (p : Origin D) → e.owns p made ≡ false
   none-second made none (Called c) = none (Called (Right c))
-  none-second made none (Entered l) = none-true (e.setting.owns (Entered l) made) (λ h. let k = lb.owns_called l made h in let f = none (Called (Right k.0)) in let t = k.1 in cc)
+  none-second made none (Entered l) = none-true (e.owns (Entered l) made) (λ h. let k = lb.owns_called l made h in let f = none (Called (Right k.0)) in let t = k.1 in cc)
 
-  u-may : (origin : Origin (Either C D)) (made : Move) → g.may origin made ≡ true → g.owns origin made ≡ true
+  u-may : (origin : Origin (Either C D)) (made : Move) → g.may origin made ≡ true → (union_of d e).owns origin made ≡ true
   u-may (Called (Left c)) made h = la.may_owns (Called c) made h
   u-may (Called (Right c)) made h = lb.may_owns (Called c) made h
-  u-may (Entered l) made h = may-by (ours l) (d.setting.may (Entered l)) (e.setting.may (Entered l)) (d.setting.owns (Entered l)) (e.setting.owns (Entered l)) made h (la.may_owns (Entered l) made) (lb.may_owns (Entered l) made)
+  u-may (Entered l) made h = may-by (ours l) (d.setting.may (Entered l)) (e.setting.may (Entered l)) (d.owns (Entered l)) (e.owns (Entered l)) made h (la.may_owns (Entered l) made) (lb.may_owns (Entered l) made)
 
-  u-plain : (origin : Origin (Either C D)) (made : Move) → g.owns origin made ≡ true → is_shared made ≡ false
+  u-plain : (origin : Origin (Either C D)) (made : Move) → (union_of d e).owns origin made ≡ true → is_shared made ≡ false
   u-plain (Called (Left c)) made h = la.owns_plain (Called c) made h
   u-plain (Called (Right c)) made h = lb.owns_plain (Called c) made h
-  u-plain (Entered l) made h = owned-by (ours l) (d.setting.owns (Entered l)) (e.setting.owns (Entered l)) made h (la.owns_plain (Entered l) made) (lb.owns_plain (Entered l) made)
+  u-plain (Entered l) made h = owned-by (ours l) (d.owns (Entered l)) (e.owns (Entered l)) made h (la.owns_plain (Entered l) made) (lb.owns_plain (Entered l) made)
 
-  u-called : (line : ℕ) (made : Move) → g.owns (Entered line) made ≡ true → (c : Either C D) × (g.owns (Called c) made ≡ true)
-  u-called line made h = owned-by (ours line) (d.setting.owns (Entered line)) (e.setting.owns (Entered line)) made h (λ k. let c = la.owns_called line made k in (Left c.0, c.1)) (λ k. let c = lb.owns_called line made k in (Right c.0, c.1))
+  u-called : (line : ℕ) (made : Move) → (union_of d e).owns (Entered line) made ≡ true → (c : Either C D) × ((union_of d e).owns (Called c) made ≡ true)
+  u-called line made h = owned-by (ours line) (d.owns (Entered line)) (e.owns (Entered line)) made h (λ k. let c = la.owns_called line made k in (Left c.0, c.1)) (λ k. let c = lb.owns_called line made k in (Right c.0, c.1))
 
   u-call-fuel : (c : Either C D) → EitherFits d.can_call e.can_call c → either d.fuel e.fuel (either (λ x. Left (d.frame_of x)) (λ y. Right (e.frame_of y)) c) ≤ g.steps_of (Called c)
   u-call-fuel (Left c) can = la.call_fuel c can
   u-call-fuel (Right c) can = lb.call_fuel c can
 
-  rests-at : (chip : Chip) (w : World) (s : S × T) (line : ℕ) (fs : List (F × Open C)) (gs : List (G × Open D)) → fs ≡ [] → gs ≡ [] → g.lines line ≡ true → d.relates chip w fs s.0 → e.relates chip w gs s.1 → is_pending chip line ≡ g.machine.due w s line
+  rests-at : (chip : Chip) (w : World) (s : S × T) (line : ℕ) (fs : List (F × Open C)) (gs : List (G × Open D)) → fs ≡ [] → gs ≡ [] → (union_of d e).lines line ≡ true → d.relates chip w fs s.0 → e.relates chip w gs s.1 → is_pending chip line ≡ g.machine.due w s line
   rests-at chip w s line fs gs no_fs no_gs there x y =
       let x1 = subst (λ z. d.relates chip w z s.0) no_fs x in
       let y1 = subst (λ z. e.relates chip w z s.1) no_gs y in
-      rests-by (ours line) (d.setting.used line) (e.setting.used line) (d.setting.lines line) (e.setting.lines line) (d.setting.machine.due w s.0 line) (e.setting.machine.due w s.1 line) (is_pending chip line) (la.handled line)
+      rests-by (ours line) (d.setting.used line) (e.setting.used line) (d.lines line) (e.lines line) (d.setting.machine.due w s.0 line) (e.setting.machine.due w s.1 line) (is_pending chip line) (la.handled line)
       (la.used_lines line) (lb.used_lines line)
       (λ k. la.due_used chip w [] s.0 line tt x1 k) (λ k. lb.due_used chip w [] s.1 line tt y1 k)
       (λ k. la.rests chip w s.0 line k x1) (λ k. lb.rests chip w s.1 line k y1)
@@ -375,8 +467,8 @@ module _ {S T C D F G : Type 0} (d : Driver S C F) (e : Driver T D G) (move_a : 
   waits-at : (chip : Chip) (w : World) (s : S × T) (u : units.Unit) (fs : List (F × Open C)) (gs : List (G × Open D)) → fs ≡ [] → gs ≡ [] → d.relates chip w fs s.0 → e.relates chip w gs s.1 → g.machine.startable w s u ≡ false
   waits-at chip w s u fs gs no_fs no_gs x y = none-of (d.setting.machine.startable w s.0 u) (e.setting.machine.startable w s.1 u) (la.waits chip w s.0 u (subst (λ z. d.relates chip w z s.0) no_fs x)) (lb.waits chip w s.1 u (subst (λ z. e.relates chip w z s.1) no_gs y))
 
-  u-lines : (line : ℕ) → g.used line ≡ true → g.lines line ≡ true
-  u-lines line h = either-true (d.setting.used line) (e.setting.used line) (d.setting.lines line) (e.setting.lines line) (la.used_lines line) (lb.used_lines line) h
+  u-lines : (line : ℕ) → g.used line ≡ true → (union_of d e).lines line ≡ true
+  u-lines line h = either-true (d.setting.used line) (e.setting.used line) (d.lines line) (e.lines line) (la.used_lines line) (lb.used_lines line) h
 
   u-due-used : (chip : Chip) (w : World) (ps : List (Either F G × Open (Either C D))) (s : S × T) (line : ℕ) → AllOutside ps → URelates chip w ps s → g.machine.due w s line ≡ true → g.used line ≡ true
   u-due-used chip w ps s line out h due =
@@ -389,16 +481,64 @@ module _ {S T C D F G : Type 0} (d : Driver S C F) (e : Driver T D G) (move_a : 
   u-due chip w ps s line masked out h due =
       let outs = outside-split ours ps h.firsts h.seconds h.splits out in
       due-by (ours line) (d.setting.machine.due w s.0 line) (e.setting.machine.due w s.1 line) (is_pending chip line) due
-      (λ k. la.due chip w h.firsts s.0 line (la.used_lines line (la.due_used chip w h.firsts s.0 line outs.0 h.first k)) masked outs.0 h.first k)
-      (λ k. lb.due chip w h.seconds s.1 line (lb.used_lines line (lb.due_used chip w h.seconds s.1 line outs.1 h.second k)) masked outs.1 h.second k)
+      (λ k. la.due chip w h.firsts s.0 line masked outs.0 h.first k)
+      (λ k. lb.due chip w h.seconds s.1 line masked outs.1 h.second k)
+
+  -- numbers that are given out
+
+  abbrev both-count : S × T → ℕ
+  both-count s = d.count s.0 + e.count s.1
+
+  count-left : (w : World) (s : S × T) (h : Happening C) (out : Outcome (S × T)) → lift_out (λ a. (a, s.1)) (d.setting.machine.happens w s.0 h) ≡ Some out → both-count out.state ≤ both-count s + 1
+  count-left w s h out is =
+      let k = lift-each (λ a. (a, s.1)) (d.setting.machine.happens w s.0 h) out is in
+      let more = la.count_happens w s.0 h k.0 k.1 in
+      subst (λ x. both-count x ≤ both-count s + 1) k.2 (omega (arith, more))
+
+  count-right : (w : World) (s : S × T) (h : Happening D) (out : Outcome (S × T)) → lift_out (λ b. (s.0, b)) (e.setting.machine.happens w s.1 h) ≡ Some out → both-count out.state ≤ both-count s + 1
+  count-right w s h out is =
+      let k = lift-each (λ b. (s.0, b)) (e.setting.machine.happens w s.1 h) out is in
+      let more = lb.count_happens w s.1 h k.0 k.1 in
+      subst (λ x. both-count x ≤ both-count s + 1) k.2 (omega (arith, more))
+
+  count-line : (w : World) (s : S × T) (l r : ℕ) (out : Outcome (S × T)) (q : Bool) → cond q (lift_out (λ a. (a, s.1)) (d.setting.machine.happens w s.0 (Serves l r))) (lift_out (λ b. (s.0, b)) (e.setting.machine.happens w s.1 (Serves l r))) ≡ Some out → both-count out.state ≤ both-count s + 1
+  count-line w s l r out true is = count-left w s (Serves l r) out is
+  count-line w s l r out false is = count-right w s (Serves l r) out is
+
+  count-unit : (w : World) (s : S × T) (h : Happening C) (h1 : Happening D) (out : Outcome (S × T)) (x : Option (Outcome S)) → d.setting.machine.happens w s.0 h ≡ x → in_first s.0 s.1 x (e.setting.machine.happens w s.1 h1) ≡ Some out → both-count out.state ≤ both-count s + 1
+  count-unit w s h h1 out (Some p) at is = count-left w s h out (ap (lift_out (λ a. (a, s.1))) at ∙ is)
+  count-unit w s h h1 out None at is = count-right w s h1 out is
+
+  count-moves : (w : World) (s : S × T) (order : Order) (out : Outcome (S × T)) → g.machine.happens w s (Moves order) ≡ Some out → both-count out.state ≤ both-count s
+  count-moves w s order out is =
+      let k = both-each (d.setting.machine.happens w s.0 (Moves order)) (e.setting.machine.happens w s.1 (Moves order)) out is in
+      let one = la.count_moves w s.0 order k.0 k.2 in
+      let two = lb.count_moves w s.1 order k.1 k.3 in
+      subst (λ x. both-count x ≤ both-count s) k.4 (omega (arith, one, two))
+
+  count-resets : (w : World) (s : S × T) (reason : Reason) (out : Outcome (S × T)) → g.machine.happens w s (Restarts reason) ≡ Some out → both-count out.state ≤ both-count s
+  count-resets w s reason out is =
+      let k = both-each (d.setting.machine.happens w s.0 (Restarts reason)) (e.setting.machine.happens w s.1 (Restarts reason)) out is in
+      let one = la.count_resets w s.0 reason k.0 k.2 in
+      let two = lb.count_resets w s.1 reason k.1 k.3 in
+      subst (λ x. both-count x ≤ both-count s) k.4 (omega (arith, one, two))
+
+  count-happens : (w : World) (s : S × T) (h : Happening (Either C D)) (out : Outcome (S × T)) → g.machine.happens w s h ≡ Some out → both-count out.state ≤ both-count s + 1
+  count-happens w s (Acts (Left c) times) out is = count-left w s (Acts c times) out is
+  count-happens w s (Acts (Right c) times) out is = count-right w s (Acts c times) out is
+  count-happens w s (Serves l r) out is = count-line w s l r out (ours l) is
+  count-happens w s (Starts u r) out is = count-unit w s (Starts u r) (Starts u r) out (d.setting.machine.happens w s.0 (Starts u r)) refl is
+  count-happens w s (Aborts u) out is = count-unit w s (Aborts u) (Aborts u) out (d.setting.machine.happens w s.0 (Aborts u)) refl is
+  count-happens w s (Moves order) out is = let k = count-moves w s order out is in omega (arith, k)
+  count-happens w s (Restarts reason) out is = let k = count-resets w s reason out is in omega (arith, k)
 
   -- two lawful drivers that are apart are a lawful one
   pub union-lawful : IsLawful (union_of d e) (either move_a move_b) (either_left left_a left_b) (either_gave gave_a gave_b)
   union-lawful = record {
-    starts = λ osc now. record { firsts = []; seconds = []; splits = Nothing_open; first = la.starts osc now; second = lb.starts osc now };
+    starts = λ w. record { firsts = []; seconds = []; splits = Nothing_open; first = la.starts w; second = lb.starts w };
     begins = u-begins;
-    enters = λ chip w ps s line f is masked out h. u-enters chip w ps s line f (d.handler_of line) (e.handler_of line) refl refl is masked out h;
-    steps = λ chip w f o ps s masked out h. step-split chip w f o ps s.0 s.1 h.firsts h.seconds h.splits masked out h.first h.second;
+    enters = λ chip w ps s line f is masked out under h. u-enters chip w ps s line f (d.handler_of line) (e.handler_of line) refl refl is masked out under h;
+    steps = λ chip w f o ps s received come few masked out h. step-split chip w f o ps s.0 s.1 h.firsts h.seconds h.splits masked out h.first h.second received come (omega (arith, few)) (omega (arith, few));
     there = λ chip w f o ps s h. there-split chip w f o ps s.0 s.1 h.firsts h.seconds h.splits h.first h.second;
     moves = u-moves;
     resets = u-resets;
@@ -408,11 +548,16 @@ module _ {S T C D F G : Type 0} (d : Driver S C F) (e : Driver T D G) (move_a : 
     owns_called = u-called;
     used_lines = u-lines;
     due_used = u-due-used;
-    due = λ chip w ps s line there masked out h due. u-due chip w ps s line masked out h due;
+    due = λ chip w ps s line masked out h due. u-due chip w ps s line masked out h due;
     rests = λ chip w s line there h. let k = empty-split ours h.firsts h.seconds h.splits in rests-at chip w s line h.firsts h.seconds k.0 k.1 there h.first h.second;
+    rest = λ chip w s h. let k = empty-split ours h.firsts h.seconds h.splits in (la.rest chip w s.0 (subst (λ z. d.relates chip w z s.0) k.0 h.first), lb.rest chip w s.1 (subst (λ z. e.relates chip w z s.1) k.1 h.second));
     waits = λ chip w s u h. let k = empty-split ours h.firsts h.seconds h.splits in waits-at chip w s u h.firsts h.seconds k.0 k.1 h.first h.second;
+    count_first = let one = la.count_first in let two = lb.count_first in omega (arith, one, two);
+    count_happens = count-happens;
+    count_moves = count-moves;
+    count_resets = count-resets;
     rate_starts = la.rate_starts;
-    rate = λ chip w f o ps s masked out h is. rate-split chip w f o ps s.0 s.1 h.firsts h.seconds h.splits masked out h.first h.second is;
+    rate = λ chip w f o ps s received come few masked out h is. rate-split chip w f o ps s.0 s.1 h.firsts h.seconds h.splits masked out h.first h.second received come (omega (arith, few)) (omega (arith, few)) is;
     rate_moves = λ w s order out is. let k = both-first (d.setting.machine.happens w s.0 (Moves order)) (e.setting.machine.happens w s.1 (Moves order)) out is in subst (λ x. d.setting.machine.rate x ≡ d.setting.machine.rate s.0) k.2 (la.rate_moves w s.0 order k.0 k.1);
     rate_resets = λ chip w s reason out is. let k = both-first (d.setting.machine.happens w s.0 (Restarts reason)) (e.setting.machine.happens w s.1 (Restarts reason)) out is in subst (λ x. (reset_chip chip reason).rate ≡ d.setting.machine.rate x) k.2 (la.rate_resets chip w s.0 reason k.0 k.1);
     handled = λ line. handler-some (d.handler_of line) (e.handler_of line) ∙ (ap (λ x. x || is_some (e.handler_of line)) (la.handled line) ∙ ap (λ x. d.setting.used line || x) (lb.handled line));

@@ -1,6 +1,6 @@
 ghost use Rattle.step_runner.specs.Union.{either, either_left, either_gave};
 
-use mcal_base::{Move, Routine, Taken};
+use mcal_base::{Answer, Event, Move, Routine, Taken};
 
 /// One or the other.
 #[derive(Drop)]
@@ -29,6 +29,13 @@ impl<F: Routine, G: Routine> Routine for Either<F, G> {
         match self {
             Either::Left(frame) => frame.took(value),
             Either::Right(frame) => frame.took(value),
+        }
+    }
+
+    fn took_into(&mut self, value: u32, ended: &mut Option<Answer>) -> Option<Event> {
+        match self {
+            Either::Left(frame) => frame.took_into(value, ended),
+            Either::Right(frame) => frame.took_into(value, ended),
         }
     }
 }

@@ -5,13 +5,11 @@ mod either;
 mod module;
 mod run;
 mod stack;
-#[cfg(test)]
-mod tests;
 mod union;
 
 pub use either::Either;
 pub use module::Module;
-pub use run::{begin, enter, hardware, reset, step};
+pub use run::{begin, enter, hardware, reset, step, step_into};
 pub use run_model::{
     Class, Hardware, Item, Items, Journal, Key, KeyKind, Kind, Logged, Pool, Span, Stepped, What,
 };

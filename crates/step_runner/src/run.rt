@@ -1,14 +1,15 @@
-ghost use Rattle.std.specs.Prelude.{◌≡◌, ◌<◌, ◌&&◌, List, [], ◌∷◌, ◌++◌, length, is_some};
+ghost use Rattle.std.specs.Prelude.{◌≡◌, ◌<◌, ◌&&◌, List, [], ◌∷◌, ◌++◌, length, None, is_some};
 ghost use Rattle.chip_model.specs.Chip.{is_masked, is_pending, happened, CanHappen, reset_chip};
 ghost use Rattle.run_model.specs.Causes.{call_cause, line_cause};
-ghost use Rattle.run_model.specs.Moment.{Deed, Begins, Enters, Happens, Resets, call_tag, line_tag};
+ghost use Rattle.run_model.specs.Legal.{hardware_held};
+ghost use Rattle.run_model.specs.Moment.{Deed, Begins, Enters, Happens, Resets, call_tag, line_tag, start_moment, after_all};
 ghost use Rattle.step_runner.specs.Stands.{Stands, done, step_done, FuelFalls};
-ghost use Rattle.step_runner.specs.Kept.{tags_under, top_is_noted, cause_of, beginning, put_by, enter_by, CanStep, TakesStep};
+ghost use Rattle.step_runner.specs.Kept.{tags_under, top_is_noted, cause_of, beginning, put_by, enter_by, written_by, CanStep, TakesStep};
 
 use crate::{Module, Stack};
 use chip_model::Bus;
 use irq_control::Held;
-use mcal_base::{Directive, Move, Reason, Routine};
+use mcal_base::{Directive, Reason};
 use run_model::{Stepped, Tag};
 
 /// Begins a call at a level, unless a cause holds it; a held one changes nothing.
@@ -74,29 +75,44 @@ pub fn step<M: Module>(stack: &mut Stack<M>, bus: &mut Bus) -> Result<Stepped, H
     ensures step { TakesStep M.Frame.move_of M.Frame.left M.Frame.gave
         stack.old.frames stack.old.steps bus.old stack.new bus.new result }
     ensures stands { (driver : M) (h : List (Deed M.Call)) → (M.spec driver).fits →
+        let setting = (M.spec driver).setting in
+        (after_all setting (start_moment setting) h).steps < 4294967295 →
         Stands (M.spec driver) bus.old stack.old.frames h →
         Stands (M.spec driver) bus.new stack.new.frames (h ++ step_done result) }
     ensures shortens { (driver : M) (h : List (Deed M.Call)) → (M.spec driver).fits →
+        let setting = (M.spec driver).setting in
+        (after_all setting (start_moment setting) h).steps < 4294967295 →
         Stands (M.spec driver) bus.old stack.old.frames h →
         FuelFalls (M.spec driver).fuel stack.old.frames stack.new.frames result }
 {
-    let Some(mut top) = stack.take() else {
-        return Err(Held::Empty);
-    };
-    let made = top.frame.next();
-    let value = bus.apply(&made).value;
-    let taken = top.frame.took(value);
-    if taken.ended.is_none() {
-        top.noted = matches!(made, Move::Note(_));
-        stack.put_back(top);
-    }
-    Ok(Stepped {
-        made,
-        value,
-        received: 0,
-        event: taken.event,
-        ended: taken.ended,
-    })
+    let mut stepped = Stepped::blank();
+    step_into(stack, bus, &mut stepped)?;
+    Ok(stepped)
+}
+
+/// As `step`, with the step written to a place that holds no answer.
+pub fn step_into<M: Module>(
+    stack: &mut Stack<M>,
+    bus: &mut Bus,
+    stepped: &mut Stepped,
+) -> Result<(), Held>
+    requires few { stack.old.steps < 4294967295 }
+    requires there { CanStep M.Frame.move_of stack.old.frames }
+    requires free { stepped.old.ended ≡ None }
+    ensures step { TakesStep M.Frame.move_of M.Frame.left M.Frame.gave
+        stack.old.frames stack.old.steps bus.old stack.new bus.new (written_by result stepped.new) }
+    ensures stands { (driver : M) (h : List (Deed M.Call)) → (M.spec driver).fits →
+        let setting = (M.spec driver).setting in
+        (after_all setting (start_moment setting) h).steps < 4294967295 →
+        Stands (M.spec driver) bus.old stack.old.frames h →
+        Stands (M.spec driver) bus.new stack.new.frames (h ++ step_done (written_by result stepped.new)) }
+    ensures shortens { (driver : M) (h : List (Deed M.Call)) → (M.spec driver).fits →
+        let setting = (M.spec driver).setting in
+        (after_all setting (start_moment setting) h).steps < 4294967295 →
+        Stands (M.spec driver) bus.old stack.old.frames h →
+        FuelFalls (M.spec driver).fuel stack.old.frames stack.new.frames (written_by result stepped.new) }
+{
+    stack.step_top(bus, stepped)
 }
 
 /// A hardware event of the script.
@@ -104,6 +120,8 @@ pub fn hardware<M: Module>(stack: &Stack<M>, bus: &mut Bus, happening: &Directiv
     requires { CanHappen bus.old happening.now.order }
     ensures chip { bus.new ≡ happened bus.old happening.now.order }
     ensures stands { (driver : M) (h : List (Deed M.Call)) → (M.spec driver).fits →
+        let setting = (M.spec driver).setting in
+        hardware_held setting (after_all setting (start_moment setting) h) happening.now.order ≡ None →
         Stands (M.spec driver) bus.old stack.now.frames h →
         Stands (M.spec driver) bus.new stack.now.frames (h ++ Happens happening.now.order ∷ []) }
 {

@@ -1,16 +1,19 @@
-ghost use Rattle.std.specs.Prelude.{◌≡◌, ◌<◌, [], ◌∷◌, not, length, IfOk, OnOk};
+ghost use Rattle.std.specs.Prelude.{◌≡◌, ◌<◌, [], ◌∷◌, not, length, IfOk, OnOk, None};
 ghost use Rattle.std.specs.List.{list_all};
 ghost use Rattle.std.specs.Bool.{OnFalse};
 ghost use Rattle.mcal_base.specs.Names.{module_number};
 ghost use Rattle.run_model.specs.Causes.{kind_number, same_key, kind_blocks, class_blocks, blocks, may_reenter, call_level_allows, line_level_allows, call_cause, line_cause, is_full};
-ghost use Rattle.chip_model.specs.Chip.{fresh};
+ghost use Rattle.chip_model.specs.Chip.{fresh, value_of, chip_after};
+ghost use Rattle.chip_model.specs.Reach.{CanApply};
+ghost use Rattle.step_runner.specs.Driver.{stepped as step_of, Covers};
 ghost use Rattle.step_runner.specs.Stands.{Stands};
-ghost use Rattle.step_runner.specs.Kept.{kept_empty, tags_under, top_is_noted, cause_of, beginning, TakesTop};
+ghost use Rattle.step_runner.specs.Kept.{kept_empty, tags_under, top_is_noted, cause_of, beginning, moved, written_by, CanStep, TakesStep};
 
 use crate::Module;
+use chip_model::Bus;
 use irq_control::Held;
-use mcal_base::NoMemory;
-use run_model::{Class, Key, KeyKind, Kind, Tag};
+use mcal_base::{Move, NoMemory, Routine};
+use run_model::{Class, Key, KeyKind, Kind, Stepped, Tag};
 use std::alloc::Global;
 use std::marker::Model;
 
@@ -107,11 +110,31 @@ fn none_blocks<F: Drop>(class: &Class, frames: &[Under<F>]) -> bool
     frames.iter().all(|u| !is_blocked(class, &u.tag))
 }
 
+/// A frame makes its move and takes what that gave, and the step is written to a place that holds no answer.
+fn move_frame<F: Routine + Drop>(top: &mut Under<F>, bus: &mut Bus, stepped: &mut Stepped)
+    requires there { CanApply (F.move_of top.old.frame) }
+    requires free { stepped.old.ended ≡ None }
+    ensures top { let made = F.move_of top.old.frame in
+        top.new ≡ moved top.old (F.left top.old.frame (value_of bus.old made)) made }
+    ensures chip { bus.new ≡ chip_after bus.old (F.move_of top.old.frame) }
+    ensures step { let made = F.move_of top.old.frame in
+        let value = value_of bus.old made in
+        stepped.new ≡ step_of made value 0 (F.gave top.old.frame value) }
+{
+    let made = top.frame.next();
+    let value = bus.apply(&made).value;
+    stepped.event = top.frame.took_into(value, &mut stepped.ended);
+    top.noted = matches!(made, Move::Note(_));
+    stepped.made = made;
+    stepped.value = value;
+    stepped.received = 0;
+}
+
 impl<M: Module> Stack<M> {
     /// An empty stack. It takes the room of eight frames, and no later call takes memory.
     pub fn new(alloc: Global) -> Result<Stack<M>, NoMemory>
         ensures empty { IfOk result (λ s. s ≡ kept_empty) }
-        ensures stands { (driver : M) → (M.spec driver).fits →
+        ensures stands { (driver : M) → (M.spec driver).fits → Covers (M.spec driver) →
             IfOk result (λ s. Stands (M.spec driver) (fresh 0 0) s.frames []) }
     {
         let frames = Vec::with_capacity(alloc, MOST_FRAMES as usize).map_err(|_| NoMemory)?;
@@ -227,28 +250,30 @@ impl<M: Module> Stack<M> {
         requires { length self.old.frames < 8 }
         ensures { self.new ≡ record self.old { frames = beginning frame tag ∷ self.old.frames } }
     {
-        self.put_back(Under {
+        self.frames.push_reserved(Under {
             frame,
             tag,
             noted: false,
         });
     }
 
-    /// Takes the top frame off for a step of its own, and counts the step.
-    pub(crate) fn take(&mut self) -> Option<Under<M::Frame>>
-        requires { self.old.steps < 4294967295 }
-        ensures { TakesTop self.old.frames self.old.steps self.new result }
+    /// Lets the top frame make its move and take the value, where it stands. It is taken off where it ended.
+    pub(crate) fn step_top(&mut self, bus: &mut Bus, stepped: &mut Stepped) -> Result<(), Held>
+        requires few { self.old.steps < 4294967295 }
+        requires there { CanStep M.Frame.move_of self.old.frames }
+        requires free { stepped.old.ended ≡ None }
+        ensures { TakesStep M.Frame.move_of M.Frame.left M.Frame.gave
+            self.old.frames self.old.steps bus.old self.new bus.new (written_by result stepped.new) }
     {
-        let top = self.frames.pop()?;
+        let count = self.frames.len();
+        if count == 0 {
+            return Err(Held::Empty);
+        }
+        move_frame(&mut self.frames[count - 1], bus, stepped);
         self.steps += 1;
-        Some(top)
-    }
-
-    /// Puts a frame that was taken back on.
-    pub(crate) fn put_back(&mut self, top: Under<M::Frame>)
-        requires { length self.old.frames < 8 }
-        ensures { self.new ≡ record self.old { frames = top ∷ self.old.frames } }
-    {
-        self.frames.push_reserved(top);
+        if stepped.ended.is_some() {
+            let _ended = self.frames.pop();
+        }
+        Ok(())
     }
 }

@@ -14,7 +14,9 @@ use Rattle.gpt_driver.specs.Ground.{gpt_setting}
 use Rattle.gpt_driver.specs.Machine.{GptState, gpt_machine, first_state}
 use Rattle.gpt_driver.specs.Table.{driver_of}
 use Rattle.gpt_driver.specs.declared.call.Call.{Call}
-use Rattle.gpt_driver.specs.declared.call.Call.TheVariants.{Init, GetTimeElapsed, GetTimeRemaining, StartTimer, StopTimer, EnableNotification, SetMode, EnableWakeup, CheckWakeup}
+use Rattle.gpt_driver.specs.declared.call.Call.TheVariants.{Init, SetMode, Channel}
+use Rattle.gpt_driver.specs.declared.call.ChannelCall.TheVariants.{GetTimeElapsed, GetTimeRemaining, StartTimer, StopTimer, Change}
+use Rattle.gpt_driver.specs.declared.call.Change.TheVariants.{Notification, Wakeup, Check}
 use Rattle.gpt_driver.specs.declared.call.GptMode.TheVariants as modes
 use Rattle.gpt_driver.specs.declared.driver.GptDriver.{GptDriver}
 
@@ -24,6 +26,7 @@ use Rattle.gpt_driver.specs.declared.driver.GptDriver.{GptDriver}
 abbrev pub plain_board : GptDriver
 plain_board = driver_of (record {
   dev_error_detect = true;
+  classification = 1;
   channels = record { id = 0; mode = OneShot; tick_value_max = 4294967295; enable_wakeup = false; notification = false; prescaler = 1; level = 1 } ∷ [];
 })
 
@@ -31,6 +34,7 @@ plain_board = driver_of (record {
 abbrev pub two_channels : GptDriver
 two_channels = driver_of (record {
   dev_error_detect = true;
+  classification = 1;
   channels =
       record { id = 0; mode = OneShot; tick_value_max = 100000; enable_wakeup = false; notification = true; prescaler = 1; level = 1 }
       ∷ record { id = 1; mode = Continuous; tick_value_max = 4294967295; enable_wakeup = true; notification = true; prescaler = 1; level = 2 }
@@ -42,7 +46,7 @@ abbrev pub handler_tag : Tag
 handler_tag = line_tag (gpt_setting two_channels) 0
 
 abbrev pub asking_tag : Tag
-asking_tag = call_tag (gpt_setting two_channels) (GetTimeElapsed 0) 0
+asking_tag = call_tag (gpt_setting two_channels) (Channel 0 GetTimeElapsed) 0
 
 -- ---- what is told
 
@@ -63,7 +67,7 @@ told_from d w s (h ∷ hs) =
 
 -- the same from power on
 abbrev pub told : GptDriver → List (Happening Call) → List (Option Told)
-told d hs = told_from d world_start first_state hs
+told d hs = told_from d (world_start 0) first_state hs
 
 -- nothing is told; a number is answered; an error is found; a notice is given; it isn't allowed
 abbrev pub silence : Option Told
@@ -87,48 +91,52 @@ forbidden = None
 abbrev pub ticks : ℕ → Happening Call
 ticks n = Moves (Tick n)
 
+-- a call acts, of a frame that made no commit
+abbrev pub acting : Call → Happening Call
+acting call = Acts call (λ c. 0)
+
 -- a line is served
 abbrev pub serving : ℕ → Happening Call
 serving line = Serves line 0
 
 -- a timer is started with 100, and asked after 30 ticks
 abbrev pub plain_run : List (Happening Call)
-plain_run = Acts Init ∷ Acts (StartTimer 0 100) ∷ ticks 30 ∷ Acts (GetTimeElapsed 0) ∷ []
+plain_run = acting Init ∷ acting (Channel 0 (StartTimer 100)) ∷ ticks 30 ∷ acting (Channel 0 GetTimeElapsed) ∷ []
 
 -- a timer is started with values that are too small, too large and the largest, and while it runs
 abbrev pub starts_run : List (Happening Call)
-starts_run = Acts Init ∷ Acts (StartTimer 0 0) ∷ Acts (StartTimer 0 100001) ∷ Acts (StartTimer 0 100000) ∷ Acts (StartTimer 0 5) ∷ []
+starts_run = acting Init ∷ acting (Channel 0 (StartTimer 0)) ∷ acting (Channel 0 (StartTimer 100001)) ∷ acting (Channel 0 (StartTimer 100000)) ∷ acting (Channel 0 (StartTimer 5)) ∷ []
 
 -- a timer expires, is asked and is served twice
 abbrev pub expiry_run : List (Happening Call)
 expiry_run =
-    Acts Init ∷ Acts (EnableNotification 0) ∷ Acts (StartTimer 0 50) ∷ ticks 50 ∷ Acts (GetTimeElapsed 0) ∷ Acts (GetTimeRemaining 0) ∷ serving 0
+    acting Init ∷ acting (Channel 0 (Change (Notification true))) ∷ acting (Channel 0 (StartTimer 50)) ∷ ticks 50 ∷ acting (Channel 0 GetTimeElapsed) ∷ acting (Channel 0 GetTimeRemaining) ∷ serving 0
     ∷ serving 0 ∷ []
 
 -- a timer is asked one tick before its low half is full, and a tick later
 abbrev pub carry_run : List (Happening Call)
-carry_run = Acts Init ∷ Acts (StartTimer 0 100000) ∷ ticks 65535 ∷ Acts (GetTimeElapsed 0) ∷ ticks 1 ∷ Acts (GetTimeElapsed 0) ∷ []
+carry_run = acting Init ∷ acting (Channel 0 (StartTimer 100000)) ∷ ticks 65535 ∷ acting (Channel 0 GetTimeElapsed) ∷ ticks 1 ∷ acting (Channel 0 GetTimeElapsed) ∷ []
 
 -- a timer is stopped one tick before its expiry, and then at an expiry
 abbrev pub stops_run : List (Happening Call)
 stops_run =
-    Acts Init ∷ Acts (EnableNotification 0) ∷ Acts (StartTimer 0 50) ∷ ticks 49 ∷ Acts (StopTimer 0) ∷ ticks 1 ∷ Acts (GetTimeElapsed 0) ∷ serving 0
-    ∷ Acts (StartTimer 0 50) ∷ ticks 50 ∷ Acts (StopTimer 0) ∷ Acts (GetTimeElapsed 0) ∷ serving 0 ∷ []
+    acting Init ∷ acting (Channel 0 (Change (Notification true))) ∷ acting (Channel 0 (StartTimer 50)) ∷ ticks 49 ∷ acting (Channel 0 StopTimer) ∷ ticks 1 ∷ acting (Channel 0 GetTimeElapsed) ∷ serving 0
+    ∷ acting (Channel 0 (StartTimer 50)) ∷ ticks 50 ∷ acting (Channel 0 StopTimer) ∷ acting (Channel 0 GetTimeElapsed) ∷ serving 0 ∷ []
 
 -- two timers fall asleep, one of them wakes, and the other one was stopped
 abbrev pub sleep_run : List (Happening Call)
 sleep_run =
-    Acts Init ∷ Acts (EnableWakeup 1) ∷ Acts (StartTimer 0 100) ∷ Acts (StartTimer 1 40) ∷ ticks 10 ∷ Acts (SetMode (Some modes.Sleep)) ∷ ticks 30
-    ∷ serving 1 ∷ Acts (CheckWakeup 1) ∷ Acts (CheckWakeup 1) ∷ Acts (StartTimer 0 5) ∷ Acts (SetMode (Some modes.Normal)) ∷ Acts (GetTimeElapsed 0) ∷ []
+    acting Init ∷ acting (Channel 1 (Change (Wakeup true))) ∷ acting (Channel 0 (StartTimer 100)) ∷ acting (Channel 1 (StartTimer 40)) ∷ ticks 10 ∷ acting (SetMode (Some modes.Sleep)) ∷ ticks 30
+    ∷ serving 1 ∷ acting (Channel 1 (Change Check)) ∷ acting (Channel 1 (Change Check)) ∷ acting (Channel 0 (StartTimer 5)) ∷ acting (SetMode (Some modes.Normal)) ∷ acting (Channel 0 GetTimeElapsed) ∷ []
 
 -- a timer is started again in its notification
 abbrev pub callback_run : List (Happening Call)
 callback_run =
-    Acts Init ∷ Acts (EnableNotification 0) ∷ Acts (StartTimer 0 10) ∷ Acts (StartTimer 1 5000) ∷ ticks 10 ∷ serving 0 ∷ Acts (StartTimer 0 20)
-    ∷ Acts (GetTimeElapsed 1) ∷ []
+    acting Init ∷ acting (Channel 0 (Change (Notification true))) ∷ acting (Channel 0 (StartTimer 10)) ∷ acting (Channel 1 (StartTimer 5000)) ∷ ticks 10 ∷ serving 0 ∷ acting (Channel 0 (StartTimer 20))
+    ∷ acting (Channel 1 GetTimeElapsed) ∷ []
 
 -- a continuous timer passes its value twice before it is served, and is stopped
 abbrev pub continuous_run : List (Happening Call)
 continuous_run =
-    Acts Init ∷ Acts (EnableNotification 1) ∷ Acts (StartTimer 1 40) ∷ ticks 100 ∷ Acts (GetTimeElapsed 1) ∷ Acts (GetTimeRemaining 1) ∷ serving 1
-    ∷ serving 1 ∷ ticks 20 ∷ Acts (StopTimer 1) ∷ serving 1 ∷ []
+    acting Init ∷ acting (Channel 1 (Change (Notification true))) ∷ acting (Channel 1 (StartTimer 40)) ∷ ticks 100 ∷ acting (Channel 1 GetTimeElapsed) ∷ acting (Channel 1 GetTimeRemaining) ∷ serving 1
+    ∷ serving 1 ∷ ticks 20 ∷ acting (Channel 1 StopTimer) ∷ serving 1 ∷ []

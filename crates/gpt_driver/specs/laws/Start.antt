@@ -1,215 +1,172 @@
--- Gpt_StartTimer: what holds at each step, and that it is right.
-use Rattle.std.proofs.Common.{◌≡◌, ℕ, ◌+◌, ◌<◌, ◌^◌, Bool, true, false, ◌||◌, ◌==◌, Option, Some, None, refl, sym, ◌∙◌, ap, subst, arith, []}
+-- Gpt_StartTimer: its steps, what holds at each, and that they are right.
+use Rattle.std.proofs.Common.{◌≡◌, ℕ, ◌<◌, ◌≤◌, ◌^◌, Bool, true, false, ◌||◌, ◌==◌, Option, Some, None, refl, sym, ◌∙◌, ap, subst, arith}
 use Rattle.std.specs.Prelude.{if◌then◌else◌}
-use Rattle.std.proofs.lemmas.Bool.Decides.{nat_tests}
-use Rattle.gpt_driver.specs.laws.Base.{Chip, chip_after, happened, CanApply, Timers, timer_at, with_timer, acted, gate_set, flag_clear, running_of, is_flagged, expired_between, Since, Timer, has_bit-running_of, has_bit, bits_of, has_bit-bits_of, Order, GptBusy, World, world_after, Told, no_answer, tells_nothing, Origin, Called, Bodies, At, AreRight, StepsTo, RightAt, Before, Is_before, After, Is_after, error_by, Gap, settled, timer_open, target_behind, GptAgrees, CourseAgrees, gpt_ground, gpt_may, GptState, channel_at, Course, Never, Running, Stopped, target_of, prescaler_of, runs, expired, started, with_channel, acts_by, is_off, is_asleep, channel_of, one_shot_of, is_one_shot, bit, Call, StartTimer, Channel, GptDriver, acted_but, acted_at, with_but, with_at, settled_at, timer_open_at, IsOn, error_in, missed_after, gpt_machine, retimed, reworked, store_target, channel_same, same_yes, running_same, runs_later, quiet_later, own_target, rest_agrees, at_order}
-use Rattle.mcal_base.specs.declared.service.Service.TheVariants.{GptStartTimer}
+use Rattle.gpt_driver.specs.laws.Base.{nat_tests, Chip, Timers, timer_at, timer_at-acted_on, timer_at-with_timer_same, gate_set, running_of, has_bit-running_of, is_flagged, expired_between, Since, Timer, has_bit, bits_of, has_bit-bits_of, Move, Act, GptBusy, World, Told, no_answer, tells_nothing, Origin, Called, missed_after, gpt_machine, BodyTaken, goes, acts_on, ends, Nothing, Bodies, StepsTo, AreRight, TellsAs, Before, Is_before, After, Is_after, Gap, settled, open_at, behind, only, none, TimerAgrees, IsSet, TargetOf, GptAgrees, gpt_ground, GptState, channel_at, Timing, Course, Never, Running, Stopped, target_of, prescaler_of, runs, started, with_channel, acts_by, error_by, is_off, is_asleep, channel_of, one_shot_of, is_one_shot, bit, target_word, Call, StartTimer, Channel, GptDriver, owed_error, tells_error, error_told, reporting, shortens_if, AllGood, Cleans, cleans_by, cleans_if, timed, timed_right, Shortens}
 use Rattle.chip_timers.specs.declared.timer.Act.TheVariants as turns
-use Rattle.service_outline.specs.Done.{goes}
-use Rattle.gpt_driver.specs.laws.Passed.{Unhindered, report_is, no_notice}
-use Rattle.gpt_driver.specs.Errors.{owed_error}
-use Rattle.gpt_driver.specs.service.Start.{start_work, start_takes, start_fuel, start_busy}
-use Rattle.gpt_driver.specs.Frames.{start_shortens}
+use Rattle.mcal_base.specs.declared.moves.Move.TheVariants.{Read, Write, Store}
+use Rattle.mcal_base.specs.declared.service.Service.TheVariants.{GptStartTimer}
+use Rattle.mcal_base.specs.declared.register.Reg.TheVariants.{TimerTarget, TimerPrescaler, TimerOneShot, TimerGateSet, TimerRun, TimerFlags}
+use Rattle.gpt_driver.specs.declared.call.Call.TheVariants as calls
 use Rattle.gpt_driver.specs.declared.service.start.Start.{Start}
 use Rattle.gpt_driver.specs.declared.service.start.StartBody.{StartBody}
 use Rattle.gpt_driver.specs.declared.service.start.StartBody.TheVariants.{Look, Target, Prescaler, OneShot, Clear, Gate, Keep}
+use Rattle.gpt_driver.specs.laws.Courses.{expired_is, quiet, rests_later}
+use Rattle.gpt_driver.specs.laws.Ground.{below_test, may_words}
+use Rattle.gpt_driver.specs.laws.Parts.{acted_with, acted_here, block_set, caught_up, moved, channel_same, has_one, other_no, same_yes, runs_here}
+
+abbrev pub start_work : StartBody → Move
+start_work (Look r) = Read TimerRun
+start_work (Target r) = Write (TimerTarget r.channel) r.value
+start_work (Prescaler r) = Write (TimerPrescaler r.channel) r.prescaler
+start_work (OneShot r) = Write TimerOneShot r.one_shot_bits
+start_work (Clear r) = Write TimerFlags (bit r.channel)
+start_work (Gate r) = Write TimerGateSet (bit r.channel)
+start_work (Keep r) = Store (target_word r.channel) r.value
+
+abbrev pub start_takes : StartBody → ℕ → StartBody × BodyTaken
+start_takes (Look r) x = if has_bit x r.channel then (Look r, ends (Some Act) no_answer r.busy) else (Target r, goes)
+start_takes (Target r) x = (Prescaler r, goes)
+start_takes (Prescaler r) x = (OneShot r, goes)
+start_takes (OneShot r) x = (Clear r, goes)
+start_takes (Clear r) x = (Gate r, goes)
+start_takes (Gate r) x = (Keep r, acts_on)
+start_takes (Keep r) x = (Keep r, ends None no_answer Nothing)
+
+abbrev pub start_left : StartBody → ℕ
+start_left (Look r) = 7
+start_left (Target r) = 6
+start_left (Prescaler r) = 5
+start_left (OneShot r) = 4
+start_left (Clear r) = 3
+start_left (Gate r) = 2
+start_left (Keep r) = 1
+
+start_shortens : (k : StartBody) (x : ℕ) → Shortens start_left k (start_takes k x)
+start_shortens (Look r) x = shortens_if start_left (Look r) (has_bit x r.channel) _ _ (omega arith) (omega arith)
+start_shortens _ x = omega arith
 
 abbrev pub start_gap : StartBody → Gap
-start_gap (Look r) = settled
-start_gap (Target r) = settled
-start_gap (Prescaler r) = settled
-start_gap (OneShot r) = settled
-start_gap (Clear r) = settled
-start_gap (Gate r) = timer_open r.channel
-start_gap (Keep r) = target_behind r.channel
+start_gap (Gate r) = open_at r.channel
+start_gap (Keep r) = behind (target_word r.channel)
+start_gap _ = settled
+
+abbrev pub start_call : Start → Call
+start_call r = calls.Channel r.channel (StartTimer r.value)
+
+-- it begins with a look, before which it wrote nothing
+abbrev pub start_clean : StartBody → Bool
+start_clean (Look r) = true
+start_clean _ = false
+
+start_cleans : (k : StartBody) (x : ℕ) → Cleans start_clean (start_work k) k (start_takes k x)
+start_cleans (Look r) x = cleans_if start_clean (start_work (Look r)) (Look r) (has_bit x r.channel) _ _ tt (cleans_by start_clean (start_work (Look r)) (Look r) (Target r, goes) refl)
+start_cleans k x = cleans_by start_clean (start_work k) k (start_takes k x) refl
 
 -- what is to be started may be, and is as the configuration has it
 pub record IsStart (d : GptDriver) (s : GptState) (r : Start) : Type 0 where
-  pub checks : Unhindered d s (StartTimer r.channel r.value)
-  pub on : IsOn s.mode
+  pub on : is_off s.mode ≡ false
   pub lt : r.channel < 8
+  pub checks : (busy : Bool) → error_by d (start_call r) (is_off s.mode) (is_asleep s.mode) busy ≡ (if busy then Some GptBusy else None)
   pub positive : 0 < r.value
   pub small : r.value < 2 ^ 32
   pub prescaler : r.prescaler ≡ prescaler_of (channel_of d r.channel)
-  pub divides : 0 < prescaler_of (channel_of d r.channel)
+  pub divides : 0 < r.prescaler
   pub bits : r.one_shot_bits ≡ bits_of (is_one_shot d) 8
-  pub detects : r.detects ≡ d.detects
+  pub busy : r.busy ≡ owed_error (reporting d) GptStartTimer GptBusy
 
--- the channel doesn't run
-abbrev pub Rests : GptDriver → World → GptState → ℕ → Type 0
-Rests d w s c = runs (channel_of d c) w.now (channel_at s c).course ≡ false
+abbrev pub start_holds : GptDriver → Timers → GptState → StartBody → Origin Call → Option Told → Type 0
+start_holds d f s (Look r) o t = Before (start_call r) o t × IsStart d s r
+start_holds d f s (Target r) o t = Before (start_call r) o t × IsStart d s r
+start_holds d f s (Prescaler r) o t = Before (start_call r) o t × IsStart d s r × ((timer_at f r.channel).target ≡ r.value)
+start_holds d f s (OneShot r) o t = Before (start_call r) o t × IsStart d s r × ((timer_at f r.channel).target ≡ r.value) × ((timer_at f r.channel).prescaler ≡ r.prescaler)
+start_holds d f s (Clear r) o t = Before (start_call r) o t × IsStart d s r × ((timer_at f r.channel).target ≡ r.value) × ((timer_at f r.channel).prescaler ≡ r.prescaler) × (f.one_shot ≡ r.one_shot_bits)
+start_holds d f s (Gate r) o t = Before (start_call r) o t × IsStart d s r × ((timer_at f r.channel).target ≡ r.value) × ((timer_at f r.channel).prescaler ≡ r.prescaler) × (f.one_shot ≡ r.one_shot_bits)
+start_holds d f s (Keep r) o t = After (start_call r) tells_nothing o t × (r.channel < 8) × (r.value ≡ target_of (channel_at s r.channel).course)
 
--- no flag of the channel will stand
-abbrev pub IsQuiet : Timer → ℕ → Type 0
-IsQuiet t now = (n : ℕ) → is_flagged t (now + n) ≡ false
-
--- what holds at each place
-abbrev pub start_place : GptDriver → Timers → World → GptState → StartBody → Origin Call → Option Told → Type 0
-start_place d f w s (Look r) o t = Before (StartTimer r.channel r.value) o t × IsStart d s r
-start_place d f w s (Target r) o t = Before (StartTimer r.channel r.value) o t × IsStart d s r × Rests d w s r.channel
-start_place d f w s (Prescaler r) o t = Before (StartTimer r.channel r.value) o t × IsStart d s r × Rests d w s r.channel × ((timer_at f r.channel).target ≡ r.value)
-start_place d f w s (OneShot r) o t = Before (StartTimer r.channel r.value) o t × IsStart d s r × Rests d w s r.channel × ((timer_at f r.channel).target ≡ r.value) × ((timer_at f r.channel).prescaler ≡ r.prescaler)
-start_place d f w s (Clear r) o t = Before (StartTimer r.channel r.value) o t × IsStart d s r × Rests d w s r.channel × ((timer_at f r.channel).target ≡ r.value) × ((timer_at f r.channel).prescaler ≡ r.prescaler) × (f.one_shot ≡ r.one_shot_bits)
-start_place d f w s (Gate r) o t = Before (StartTimer r.channel r.value) o t × IsStart d s r × Rests d w s r.channel × ((timer_at f r.channel).target ≡ r.value) × ((timer_at f r.channel).prescaler ≡ r.prescaler) × (f.one_shot ≡ r.one_shot_bits) × IsQuiet (timer_at f r.channel) w.now
-start_place d f w s (Keep r) o t = After (StartTimer r.channel r.value) tells_nothing o t × (r.channel < 8) × (r.value ≡ target_of (channel_at s r.channel).course)
+-- the channel doesn't run, and once its flag is cleared that stays so too
+abbrev pub start_stays : GptDriver → Timers → GptState → StartBody → ℕ → Type 0
+start_stays d f s (Look r) time = Unit {0}
+start_stays d f s (Gate r) time = (runs (channel_of d r.channel) time (channel_at s r.channel).course ≡ false) × (is_flagged (timer_at f r.channel) time ≡ false)
+start_stays d f s (Keep r) time = Unit {0}
+start_stays d f s (Target r) time = runs (channel_of d r.channel) time (channel_at s r.channel).course ≡ false
+start_stays d f s (Prescaler r) time = runs (channel_of d r.channel) time (channel_at s r.channel).course ≡ false
+start_stays d f s (OneShot r) time = runs (channel_of d r.channel) time (channel_at s r.channel).course ≡ false
+start_stays d f s (Clear r) time = runs (channel_of d r.channel) time (channel_at s r.channel).course ≡ false
 
 abbrev pub start_bodies : (d : GptDriver) → Bodies (gpt_ground d) StartBody
-start_bodies d = record { work_of = start_work; takes = start_takes; fuel = start_fuel; gap_of = start_gap; place = start_place d }
+start_bodies d = timed d start_work start_takes start_left start_gap start_clean (start_holds d) (start_stays d)
 
--- target and prescaler mean nothing while the channel doesn't start
-agrees_target : (k : Option Channel) (t : Timer) (x : Course) (dropped v : ℕ) → CourseAgrees k t x dropped → CourseAgrees k (record t { target = v }) x dropped
-agrees_target k t Never dropped v h = h
-agrees_target k t (Running s u) dropped v h = h
-agrees_target k t (Stopped e u) dropped v h = h
+-- ---- the gate
 
-agrees_prescaler : (k : Option Channel) (t : Timer) (x : Course) (dropped v : ℕ) → CourseAgrees k t x dropped → CourseAgrees k (record t { prescaler = v }) x dropped
-agrees_prescaler k t Never dropped v h = h
-agrees_prescaler k t (Running s u) dropped v h = h
-agrees_prescaler k t (Stopped e u) dropped v h = h
+shut : (n : ℕ) → 0 < n → (n == 0) ≡ false
+shut n h = grind (arith, nat_tests)
 
-pub expired_same : (k : Option Channel) (t : Timer) (x : Course) (dropped a b : ℕ) → CourseAgrees k t x dropped → expired_between t.count a b ≡ expired k a b x
-expired_same k t Never dropped a b h = ap (λ c. expired_between c a b) h.0
-expired_same k t (Running s u) dropped a b h = ap (λ c. expired_between c a b) h.0
-expired_same k t (Stopped e u) dropped a b h = ap (λ c. expired_between c a b) h.0
+-- it opens with what was written
+gate_opens : (k : Option Channel) (one : Bool) (time now v : ℕ) (t : Timer) (x : Timing) → time ≡ now → one ≡ one_shot_of k → t.target ≡ v → t.prescaler ≡ prescaler_of k → 0 < v → v < 2 ^ 32 → 0 < prescaler_of k → is_flagged t time ≡ false → TimerAgrees k one (gate_set one time t) (started now v x)
+gate_opens k one time now v t x et eo ev ep positive small divides quiet =
+    let opened = record t { count = Since (record { start = time; target = t.target; prescaler = t.prescaler; one_shot = one }); kept = is_flagged t time; watched = time } in
+    let zero_no = ap (λ n. n == 0) ev ∙ shut v positive in
+    let none_no = ap (λ n. n == 0) ep ∙ shut (prescaler_of k) divides in
+    let open_yes : gate_set one time t ≡ opened = ap (λ q. if q || t.prescaler == 0 then t else opened) zero_no ∙ ap (λ q. if q then t else opened) none_no in
+    let run = ap (λ n. Since (record { start = n; target = t.target; prescaler = t.prescaler; one_shot = one })) et ∙ ap (λ n. Since (record { start = now; target = n; prescaler = t.prescaler; one_shot = one })) ev ∙ ap (λ n. Since (record { start = now; target = v; prescaler = n; one_shot = one })) ep ∙ ap (λ q. Since (record { start = now; target = v; prescaler = prescaler_of k; one_shot = q })) eo in
+    subst (λ y. TimerAgrees k one y (started now v x)) (sym open_yes) (record { count = run; kept = quiet; flag = λ n. ap (λ a. expired_between opened.count a n) et; set = (positive, small, divides, eo) })
 
--- once its flag is cleared a channel that doesn't run stays without one
-quiet_cleared : (k : Option Channel) (t : Timer) (x : Course) (dropped time now : ℕ) → CourseAgrees k t x dropped → time ≡ now → runs k now x ≡ false → IsQuiet (flag_clear time t) now
-quiet_cleared k t x dropped time now h e rests n = expired_same k t x dropped time (now + n) h ∙ (ap (λ y. expired k y (now + n) x) e ∙ quiet_later k t x dropped now n h rests)
-
-quiet_passes : (t : Timer) (now n : ℕ) → IsQuiet t now → IsQuiet t (now + n)
-quiet_passes t now n h j = let e : now + n + j ≡ now + (n + j) = omega arith in ap (λ x. is_flagged t x) e ∙ h (n + j)
-
-positive_test : (n : ℕ) → 0 < n → (n == 0) ≡ false
-positive_test n h = grind (arith, nat_tests)
-
--- the gate opens with what was written
-opens_by : (os : Bool) (now : ℕ) (t : Timer) (q : Bool) → (t.target == 0 || t.prescaler == 0) ≡ q → q ≡ false → gate_set os now t ≡ record t { count = Since (record { start = now; target = t.target; prescaler = t.prescaler; one_shot = os }); kept = is_flagged t now; watched = now }
-opens_by os now t q e f = ap (λ x. if x then t else record t { count = Since (record { start = now; target = t.target; prescaler = t.prescaler; one_shot = os }); kept = is_flagged t now; watched = now }) (e ∙ f)
-
-gate_opens : (k : Option Channel) (os : Bool) (now v p : ℕ) (t : Timer) → os ≡ one_shot_of k → t.target ≡ v → t.prescaler ≡ p → p ≡ prescaler_of k → 0 < v → v < 2 ^ 32 → 0 < prescaler_of k → is_flagged t now ≡ false → CourseAgrees k (gate_set os now t) (Running now v) now
-gate_opens k os now v p t eo ev ep ek positive small divides quiet =
-    let tv : 0 < t.target = subst (λ x. 0 < x) (sym ev) positive in
-    let tp : 0 < t.prescaler = subst (λ x. 0 < x) (sym (ep ∙ ek)) divides in
-    let shut : (t.target == 0 || t.prescaler == 0) ≡ false = ap (λ x. x || t.prescaler == 0) (positive_test t.target tv) ∙ positive_test t.prescaler tp in
-    let opened = opens_by os now t (t.target == 0 || t.prescaler == 0) refl shut in
-    let run = ap (λ x. Since (record { start = now; target = x; prescaler = t.prescaler; one_shot = os })) ev ∙ (ap (λ x. Since (record { start = now; target = v; prescaler = x; one_shot = os })) (ep ∙ ek) ∙ ap (λ x. Since (record { start = now; target = v; prescaler = prescaler_of k; one_shot = x })) eo) in
-    subst (λ x. CourseAgrees k x (Running now v) now) (sym opened) (run, quiet, refl, positive, small, divides)
+rebit : (k : Option Channel) (a b : Bool) (x : Course) → b ≡ one_shot_of k → IsSet k a x → IsSet k b x
+rebit k a b Never e h = tt
+rebit k a b (Running s v) e h = (h.0, h.1, h.2, e)
+rebit k a b (Stopped u v) e h = h
 
 module _ (d : GptDriver) where
-  start_by : (chip : Chip) (w : World) (s : GptState) (m : ℕ → Bool) (r : Start) → IsStart d s r → GptAgrees d settled chip w s → (q : Bool) → q ≡ runs (channel_of d r.channel) w.now (channel_at s r.channel).course → StepsTo (gpt_ground d) (start_bodies d) chip w s (Called (StartTimer r.channel r.value)) (start_work (Look r)) None m (if q then (Look r, start_busy r.detects) else (Target r, goes))
+  start_by : (chip : Chip) (w : World) (s : GptState) (m : ℕ → Bool) (r : Start) → IsStart d s r → GptAgrees d settled chip w s → (q : Bool) → q ≡ runs (channel_of d r.channel) w.now (channel_at s r.channel).course → StepsTo (gpt_ground d) (start_bodies d) chip w s (Called (start_call r)) (Read TimerRun) true None m (if q then (Look r, ends (Some Act) no_answer r.busy) else (Target r, goes))
   start_by chip w s m r i h true e =
-      let call = StartTimer r.channel r.value in
+      let call = start_call r in
       record {
         own = tt;
         state = s;
-        told = record { answer = no_answer; error = Some GptBusy; notices = [] };
-        is = ap (λ b. Some (acts_by d w s call (error_by d call (is_off s.mode) (is_asleep s.mode) b))) (sym e) ∙ ap (λ x. Some (acts_by d w s call x)) (i.checks true);
-        low = tt;
-        next = (h, (refl, no_notice r.detects GptStartTimer GptBusy, report_is d.detects GptStartTimer GptBusy ∙ ap (λ b. error_in (owed_error b GptStartTimer GptBusy)) (sym i.detects)));
+        told = tells_error no_answer GptBusy;
+        is = λ times. ap (λ b. Some (acts_by d w s call (error_by d call (is_off s.mode) (is_asleep s.mode) b))) (sym e) ∙ ap (λ x. Some (acts_by d w s call x)) (i.checks true);
+        acts = (refl, refl);
+        next = (h, subst (λ x. TellsAs (gpt_machine d) (Called call) (tells_error no_answer GptBusy) (record { answer = no_answer; owed = x })) (sym i.busy) (error_told (gpt_machine d) call no_answer GptBusy));
       }
-  start_by chip w s m r i h false e = (h, (Is_before, i, sym e))
+  start_by chip w s m r i h false e = (h, ((Is_before, i), λ time le. rests_later (channel_of d r.channel) (channel_at s r.channel).course w.now time le (sym e)))
 
-  look_is : (chip : Chip) (w : World) (s : GptState) (c : ℕ) → c < 8 → GptAgrees d settled chip w s → has_bit (running_of chip.timers) c ≡ runs (channel_of d c) w.now (channel_at s c).course
-  look_is chip w s c lt h = has_bit-running_of chip.timers c lt ∙ (running_same (channel_of d c) (timer_at chip.timers c) (channel_at s c).course (channel_at s c).dropped chip.timers.time ((h.each c lt).timer refl) ∙ ap (λ n. runs (channel_of d c) n (channel_at s c).course) h.time)
-
-  -- a register of a channel at rest is written
-  wrote : (chip : Chip) (w : World) (s : GptState) (c : ℕ) (t : Timer) → c < 8 → GptAgrees d settled chip w s → CourseAgrees (channel_of d c) t (channel_at s c).course (channel_at s c).dropped → GptAgrees d settled (record chip { timers = with_timer chip.timers c t }) w s
-  wrote chip w s c t lt h new = reworked d settled settled chip (with_timer chip.timers c t) w s c lt (with_but chip.timers c t) (settled_at c) refl refl refl h (record {
-    timer = λ g. subst (λ x. CourseAgrees (channel_of d c) x (channel_at s c).course (channel_at s c).dropped) (sym (with_at chip.timers c t lt h.timers)) new;
-    target = (h.each c lt).target;
-    switches = (h.each c lt).switches;
-  })
-
-  cleared : (chip : Chip) (w : World) (s : GptState) (c : ℕ) → c < 8 → GptAgrees d settled chip w s → GptAgrees d (timer_open c) (record chip { timers = acted turns.Clear chip.timers (bit c) }) w s
-  cleared chip w s c lt h = reworked d settled (timer_open c) chip (acted turns.Clear chip.timers (bit c)) w s c lt (acted_but turns.Clear chip.timers c lt h.timers) (settled_at c) refl refl refl h (record {
-    timer = λ g. let e = same_yes c in absurd (cc);
-    target = (h.each c lt).target;
-    switches = (h.each c lt).switches;
-  })
-
-  gated : (chip : Chip) (w : World) (s : GptState) (r : Start) → IsStart d s r → GptAgrees d (timer_open r.channel) chip w s → (timer_at chip.timers r.channel).target ≡ r.value → (timer_at chip.timers r.channel).prescaler ≡ r.prescaler → chip.timers.one_shot ≡ r.one_shot_bits → IsQuiet (timer_at chip.timers r.channel) w.now → GptAgrees d (target_behind r.channel) (record chip { timers = acted turns.Start chip.timers (bit r.channel) }) w (with_channel s r.channel (started w.now r.value (channel_at s r.channel)))
-  gated chip w s r i h ev ep eb quiet =
-      let c = r.channel in
-      let b = chip.timers in
-      let t = timer_at b c in
-      let os : has_bit b.one_shot c ≡ one_shot_of (channel_of d c) = ap (λ x. has_bit x c) (eb ∙ i.bits) ∙ has_bit-bits_of (is_one_shot d) 8 c i.lt in
-      let still : is_flagged t b.time ≡ false = let z : b.time ≡ w.now + 0 = h.time ∙ omega arith in ap (λ n. is_flagged t n) z ∙ quiet 0 in
-      let a = gate_opens (channel_of d c) (has_bit b.one_shot c) b.time r.value r.prescaler t os ev ep i.prescaler i.positive i.small i.divides still in
-      let a1 = subst (λ n. CourseAgrees (channel_of d c) (gate_set (has_bit b.one_shot c) b.time t) (Running n r.value) n) h.time a in
-      retimed d (timer_open c) (target_behind c) chip (acted turns.Start b (bit c)) w s c (started w.now r.value (channel_at s c)) i.lt i.on (acted_but turns.Start b c i.lt h.timers) (timer_open_at c) refl refl refl h (record {
-        timer = λ g. subst (λ x. CourseAgrees (channel_of d c) x (Running w.now r.value) w.now) (sym (acted_at turns.Start b c i.lt h.timers)) a1;
-        target = λ g. let e = same_yes c in absurd (cc);
-        switches = λ g. (h.each c i.lt).switches refl;
-      })
-
-  steps : (chip : Chip) (w : World) (s : GptState) (k : StartBody) (o : Origin Call) (t : Option Told) (m : ℕ → Bool) → At (gpt_ground d) (start_bodies d) chip w s k o t → RightAt (gpt_ground d) (start_bodies d) chip w s k o t m
-  steps chip w s (Look r) o t m (h, (Is_before, i)) = start_by chip w s (missed_after (gpt_machine d) w s m) r i h (has_bit (running_of chip.timers) r.channel) (look_is chip w s r.channel i.lt h)
-  steps chip w s (Target r) o t m (h, (Is_before, i, rests)) =
+  steps : AllGood d (start_bodies d)
+  steps chip w s (Look r) o t m (h, ((Is_before, i), stays)) = (refl, start_by chip w s (missed_after (gpt_machine d) w s m) r i h (has_bit (running_of chip.timers) r.channel) (has_bit-running_of chip.timers r.channel i.lt ∙ runs_here d chip w s settled h r.channel i.lt refl))
+  steps chip w s (Target r) o t m (h, ((Is_before, i), stays)) =
       let c = r.channel in
       let x = record (timer_at chip.timers c) { target = r.value } in
-      (wrote chip w s c x i.lt h (agrees_target (channel_of d c) (timer_at chip.timers c) (channel_at s c).course (channel_at s c).dropped r.value ((h.each c i.lt).timer refl)), (Is_before, i, rests, ap (λ y. y.target) (with_at chip.timers c x i.lt h.timers)))
-  steps chip w s (Prescaler r) o t m (h, (Is_before, i, rests, ev)) =
+      (below_test c i.lt, (moved d (start_work (Target r)) chip w s s settled settled h (block_set d chip w s c x i.lt h (λ a. record { count = a.count; kept = a.kept; flag = a.flag; set = a.set })) h.words h.lines h.clean, ((Is_before, i, ap (λ y. y.target) (timer_at-with_timer_same chip.timers c x (record { all = h.whole.timers; within = i.lt }))), stays)))
+  steps chip w s (Prescaler r) o t m (h, ((Is_before, i, ev), stays)) =
       let c = r.channel in
       let x = record (timer_at chip.timers c) { prescaler = r.prescaler } in
-      let e = with_at chip.timers c x i.lt h.timers in
-      (wrote chip w s c x i.lt h (agrees_prescaler (channel_of d c) (timer_at chip.timers c) (channel_at s c).course (channel_at s c).dropped r.prescaler ((h.each c i.lt).timer refl)), (Is_before, i, rests, ap (λ y. y.target) e ∙ ev, ap (λ y. y.prescaler) e))
-  steps chip w s (OneShot r) o t m (h, (Is_before, i, rests, ev, ep)) = (rest_agrees d settled chip w s r.one_shot_bits chip.timers.latch h, (Is_before, i, rests, ev, ep, refl))
-  steps chip w s (Clear r) o t m (h, (Is_before, i, rests, ev, ep, eb)) =
+      let e = timer_at-with_timer_same chip.timers c x (record { all = h.whole.timers; within = i.lt }) in
+      (below_test c i.lt, (moved d (start_work (Prescaler r)) chip w s s settled settled h (block_set d chip w s c x i.lt h (λ a. record { count = a.count; kept = a.kept; flag = a.flag; set = a.set })) h.words h.lines h.clean, ((Is_before, i, ap (λ y. y.target) e ∙ ev, ap (λ y. y.prescaler) e), stays)))
+  steps chip w s (OneShot r) o t m (h, ((Is_before, i, ev, ep), stays)) = (refl, (moved d (start_work (OneShot r)) chip w s s settled settled h (λ c lt closed. let a = h.block c lt closed in record { count = a.count; kept = a.kept; flag = a.flag; set = rebit (channel_of d c) _ _ (channel_at s c).course (ap (λ x. has_bit x c) i.bits ∙ has_bit-bits_of (is_one_shot d) 8 c lt) a.set }) h.words h.lines h.clean, ((Is_before, i, ev, ep, refl), stays)))
+  steps chip w s (Clear r) o t m (h, ((Is_before, i, ev, ep, eb), stays)) =
       let c = r.channel in
-      let e = acted_at turns.Clear chip.timers c i.lt h.timers in
-      let q = quiet_cleared (channel_of d c) (timer_at chip.timers c) (channel_at s c).course (channel_at s c).dropped chip.timers.time w.now ((h.each c i.lt).timer refl) h.time rests in
-      (cleared chip w s c i.lt h, (Is_before, i, rests, ap (λ y. y.target) e ∙ ev, ap (λ y. y.prescaler) e ∙ ep, eb, subst (λ x. IsQuiet x w.now) (sym e) q))
-  steps chip w s (Gate r) o t m (h, (Is_before, i, rests, ev, ep, eb, quiet)) =
-      let call = StartTimer r.channel r.value in
-      let x = started w.now r.value (channel_at s r.channel) in
-      record {
-        own = tt;
-        state = with_channel s r.channel x;
-        told = tells_nothing;
-        is = ap (λ b. Some (acts_by d w s call (error_by d call (is_off s.mode) (is_asleep s.mode) b))) rests ∙ ap (λ y. Some (acts_by d w s call y)) (i.checks false);
-        low = tt;
-        next = (gated chip w s r i h ev ep eb quiet, (Is_after, i.lt, sym (ap (λ y. target_of y.course) (channel_same s r.channel x i.lt))));
-      }
-  steps chip w s (Keep r) o t m (h, (Is_after, lt, is)) = (store_target d chip w s r.channel r.value lt is h, (refl, refl, refl))
-
-  own : (chip : Chip) (w : World) (s : GptState) (k : StartBody) (o : Origin Call) (t : Option Told) → At (gpt_ground d) (start_bodies d) chip w s k o t → gpt_may (start_work k) ≡ true
-  own chip w s (Look r) o t h = refl
-  own chip w s (Target r) o t h = refl
-  own chip w s (Prescaler r) o t h = refl
-  own chip w s (OneShot r) o t h = refl
-  own chip w s (Clear r) o t h = refl
-  own chip w s (Gate r) o t h = refl
-  own chip w s (Keep r) o t h = own_target r.channel h.1.1
-
-  there : (chip : Chip) (w : World) (s : GptState) (k : StartBody) (o : Origin Call) (t : Option Told) → At (gpt_ground d) (start_bodies d) chip w s k o t → CanApply (start_work k)
-  there chip w s (Look r) o t h = tt
-  there chip w s (Target r) o t h = h.1.1.lt
-  there chip w s (Prescaler r) o t h = h.1.1.lt
-  there chip w s (OneShot r) o t h = tt
-  there chip w s (Clear r) o t h = tt
-  there chip w s (Gate r) o t h = tt
-  there chip w s (Keep r) o t h = let lt : r.channel < 8 = h.1.1 in omega arith
-
-  rests_later : (w : World) (s : GptState) (c n : ℕ) → Rests d w s c → runs (channel_of d c) (w.now + n) (channel_at s c).course ≡ false
-  rests_later w s c n e = runs_later (channel_of d c) w.now n (channel_at s c).course e
-
-  later : (chip : Chip) (w : World) (s : GptState) (order : Order) (k : StartBody) (o : Origin Call) (t : Option Told) → At (gpt_ground d) (start_bodies d) chip w s k o t → start_place d (happened chip order).timers (world_after w chip.rate order) s k o t
-  later chip w s order (Look r) o t h = h.1
-  later chip w s order (Target r) o t h = at_order (λ f x. start_place d f x s (Target r) o t) chip w order h.1 (λ osc n. (h.1.0, h.1.1, rests_later w s r.channel n h.1.2))
-  later chip w s order (Prescaler r) o t h = at_order (λ f x. start_place d f x s (Prescaler r) o t) chip w order h.1 (λ osc n. (h.1.0, h.1.1, rests_later w s r.channel n h.1.2, h.1.3))
-  later chip w s order (OneShot r) o t h = at_order (λ f x. start_place d f x s (OneShot r) o t) chip w order h.1 (λ osc n. (h.1.0, h.1.1, rests_later w s r.channel n h.1.2, h.1.3, h.1.4))
-  later chip w s order (Clear r) o t h = at_order (λ f x. start_place d f x s (Clear r) o t) chip w order h.1 (λ osc n. (h.1.0, h.1.1, rests_later w s r.channel n h.1.2, h.1.3, h.1.4, h.1.5))
-  later chip w s order (Gate r) o t h = at_order (λ f x. start_place d f x s (Gate r) o t) chip w order h.1 (λ osc n. (h.1.0, h.1.1, rests_later w s r.channel n h.1.2, h.1.3, h.1.4, h.1.5, quiet_passes (timer_at chip.timers r.channel) w.now n h.1.6))
-  later chip w s order (Keep r) o t h = h.1
-
-  rate : (chip : Chip) (w : World) (s : GptState) (k : StartBody) (o : Origin Call) (t : Option Told) → At (gpt_ground d) (start_bodies d) chip w s k o t → chip.rate ≡ 1 → (chip_after chip (start_work k)).rate ≡ 1
-  rate chip w s (Look r) o t h e = e
-  rate chip w s (Target r) o t h e = e
-  rate chip w s (Prescaler r) o t h e = e
-  rate chip w s (OneShot r) o t h e = e
-  rate chip w s (Clear r) o t h e = e
-  rate chip w s (Gate r) o t h e = e
-  rate chip w s (Keep r) o t h e = e
+      let e = timer_at-acted_on turns.Clear chip.timers (bit c) c (record { all = h.whole.timers; within = i.lt }) (has_one c i.lt) in
+      let a = h.block c i.lt refl in
+      (refl, (acted_here d turns.Clear chip w s c none (only c) i.lt h (λ g. let f = same_yes c in absurd (cc)) (λ k ne g. refl), ((Is_before, i, ap (λ y. y.target) e ∙ ev, ap (λ y. y.prescaler) e ∙ ep, eb), λ time le. (stays time le, ap (λ y. is_flagged y time) e ∙ (expired_is (channel_of d c) _ _ (channel_at s c) a chip.timers.time time ∙ quiet (channel_of d c) _ (channel_at s c).course w.now chip.timers.time time a.set (same_time chip w h.time) (stays w.now (omega arith)))))))
+    where
+      same_time : (chip : Chip) (w : World) → chip.timers.time ≡ w.now → w.now ≤ chip.timers.time
+      same_time chip w e = omega (arith, e)
+  steps chip w s (Gate r) o t m (h, ((Is_before, i, ev, ep, eb), stays)) =
+      let c = r.channel in
+      let call = start_call r in
+      let x = started w.now r.value (channel_at s c) in
+      let still = stays w.now (omega arith) in
+      let one = ap (λ y. has_bit y c) (eb ∙ i.bits) ∙ has_bit-bits_of (is_one_shot d) 8 c i.lt in (
+        refl,
+        record {
+          own = tt;
+          state = with_channel s c x;
+          told = tells_nothing;
+          is = λ times. ap (λ b. Some (acts_by d w s call (error_by d call (is_off s.mode) (is_asleep s.mode) b))) still.0 ∙ ap (λ y. Some (acts_by d w s call y)) (i.checks false);
+          acts = tt;
+          next = (acted_with d turns.Start chip w s c x (only c) none (only (target_word c)) i.lt i.on h (λ g. gate_opens (channel_of d c) _ chip.timers.time w.now r.value (timer_at chip.timers c) (channel_at s c) h.time one ev (ep ∙ i.prescaler) i.positive i.small (subst (λ n. 0 < n) i.prescaler i.divides) (ap (λ n. is_flagged (timer_at chip.timers c) n) h.time ∙ still.1)) (λ k ne g. other_no k c ne) (λ g. let f = same_yes (target_word c) in absurd (cc)) (λ g. refl), ((Is_after, i.lt, sym (ap (λ y. target_of y.course) (channel_same s c x i.lt))), λ time le. tt));
+        },
+      )
+  steps chip w s (Keep r) o t m (h, ((Is_after, lt, is), stays)) = (may_words (TargetOf r.channel) lt, (caught_up d chip w s (TargetOf r.channel) r.value lt is h, (refl, refl, refl)))
 
   pub start_right : AreRight (gpt_ground d) (start_bodies d)
-  start_right = record { own = own; there = there; steps = steps; later = later; shortens = start_shortens; rate = rate }
+  start_right = timed_right d start_work start_takes start_left start_gap (start_holds d) start_shortens start_clean start_cleans (start_stays d) steps

@@ -1,85 +1,92 @@
--- The services that switch notification and wakeup: what holds at each step, and that it is right.
-use Rattle.std.proofs.Common.{◌≡◌, ℕ, ◌<◌, Bool, true, false, Option, Some, refl, sym, ◌∙◌, ap, arith}
-use Rattle.gpt_driver.specs.laws.Base.{Chip, chip_after, happened, CanApply, Timers, Order, Move, World, world_after, Told, tells_nothing, Outcome, outcome, Origin, Bodies, At, AreRight, RightAt, Before, Is_before, Gap, settled, GptAgrees, gpt_ground, gpt_may, GptState, channel_at, with_switches, acts, acts_by, switches_word, switches_of, packed, Call, EnableNotification, DisableNotification, EnableWakeup, DisableWakeup, GptDriver, Switches, IsOn, store_switches, channel_same, own_switches, reswitched, unpacked}
-use Rattle.mcal_base.specs.declared.moves.Move.TheVariants.{Store as Stores}
-use Rattle.run_model.specs.Legal.{ReadsLow}
-use Rattle.gpt_driver.specs.Ground.{low_half}
-use Rattle.gpt_driver.specs.laws.Passed.{Passed}
-use Rattle.gpt_driver.specs.service.Switch.{switch_work, switch_takes, switch_fuel, switched}
-use Rattle.gpt_driver.specs.Frames.{switch_shortens}
-use Rattle.gpt_driver.specs.declared.service.switch.Switch.{Switch}
-use Rattle.gpt_driver.specs.declared.service.switch.Switch.TheVariants.{Notification, Wakeup}
+-- The services that change a channel's switches: their steps, what holds at each, and that they are right.
+use Rattle.std.proofs.Common.{◌≡◌, ℕ, ◌<◌, Bool, true, false, List, [], ◌∷◌, Option, Some, None, refl, sym, ◌∙◌, ap, subst, arith}
+use Rattle.std.specs.Prelude.{if◌then◌else◌}
+use Rattle.gpt_driver.specs.laws.Base.{each_but, Chip, Timers, timer_at, has_bit, Move, Act, Notice, DevError, World, Told, no_answer, Origin, BodyTaken, goes, ends, Owed, Nothing, One, error_in, notices_in, Bodies, AreRight, Before, Is_before, Gap, settled, behind, only, TimerAgrees, SwitchesOf, GptAgrees, gpt_ground, GptState, channel_at, runs_at, is_off, changed, notes, with_switches, acts_by, channel_of, switches_word, switches_of, packed, Call, Channel, GptDriver, Switches, MayRun, AllGood, steady, steady_right, Shortens}
+use Rattle.mcal_base.specs.declared.moves.Move.TheVariants.{Load as Loads, Store as Stores}
+use Rattle.mcal_base.specs.declared.notice.NoticeKind.TheVariants.{EcuMSetWakeupEvent}
+use Rattle.gpt_driver.specs.Machine.{tells_event, switches}
+use Rattle.gpt_driver.specs.declared.call.Call.TheVariants as calls
+use Rattle.gpt_driver.specs.declared.call.ChannelCall.TheVariants as asks
+use Rattle.gpt_driver.specs.declared.call.Change.{Change}
 use Rattle.gpt_driver.specs.declared.service.switch.SwitchBody.{SwitchBody}
 use Rattle.gpt_driver.specs.declared.service.switch.SwitchBody.TheVariants.{Load, Store}
+use Rattle.gpt_driver.specs.laws.Ground.{may_words}
+use Rattle.gpt_driver.specs.laws.Parts.{caught_up, words_with, channel_same, channel_other, same_yes, never_off, unpacked}
 
--- the call that switches so
-abbrev pub switch_call : Switch → ℕ → Call
-switch_call (Notification true) c = EnableNotification c
-switch_call (Notification false) c = DisableNotification c
-switch_call (Wakeup true) c = EnableWakeup c
-switch_call (Wakeup false) c = DisableWakeup c
+-- what is owed where something is told
+abbrev pub owed_if : Bool → Notice → Owed
+owed_if b n = if b then One n else Nothing
 
--- a call that may switch so
-pub record IsSwitch (d : GptDriver) (s : GptState) (by : Switch) (c : ℕ) : Type 0 where
-  pub checks : Passed d s (switch_call by c)
-  pub on : IsOn s.mode
-  pub lt : c < 8
+abbrev pub event_owed : Change → ℕ → Switches → Owed
+event_owed by c x = owed_if (tells_event by x) (record { kind = EcuMSetWakeupEvent; id = c })
 
--- what holds at each place
-abbrev pub switch_place : GptDriver → Timers → World → GptState → SwitchBody → Origin Call → Option Told → Type 0
-switch_place d f w s (Load c by) o t = Before (switch_call by c) o t × IsSwitch d s by c
-switch_place d f w s (Store c x) o t = (by : Switch) × (Before (switch_call by c) o t) × IsSwitch d s by c × (x ≡ switched by (channel_at s c).switches)
+abbrev pub switch_work : SwitchBody → Move
+switch_work (Load c by) = Loads (switches_word c)
+switch_work (Store c by x) = Stores (switches_word c) (packed (changed by x))
+
+abbrev pub switch_takes : SwitchBody → ℕ → SwitchBody × BodyTaken
+switch_takes (Load c by) x = (Store c by (switches_of x), goes)
+switch_takes (Store c by x) v = (Store c by x, ends (Some Act) no_answer (event_owed by c x))
+
+abbrev pub switch_left : SwitchBody → ℕ
+switch_left (Load c by) = 2
+switch_left (Store c by x) = 1
+
+switch_shortens : (k : SwitchBody) (x : ℕ) → Shortens switch_left k (switch_takes k x)
+switch_shortens (Load c by) x = omega arith
+switch_shortens _ x = omega arith
 
 abbrev pub switch_gap : SwitchBody → Gap
 switch_gap k = settled
 
+abbrev pub switch_holds : GptDriver → Timers → GptState → SwitchBody → Origin Call → Option Told → Type 0
+switch_holds d f s (Load c by) o t = Before (calls.Channel c (asks.Change by)) o t × MayRun d s c (asks.Change by)
+switch_holds d f s (Store c by x) o t = Before (calls.Channel c (asks.Change by)) o t × MayRun d s c (asks.Change by) × (x ≡ (channel_at s c).switches)
+
 abbrev pub switch_bodies : (d : GptDriver) → Bodies (gpt_ground d) SwitchBody
-switch_bodies d = record { work_of = switch_work; takes = switch_takes; fuel = switch_fuel; gap_of = switch_gap; place = switch_place d }
+switch_bodies d = steady d switch_work switch_takes switch_left switch_gap (switch_holds d)
 
-switch_acts : (d : GptDriver) (w : World) (s : GptState) (by : Switch) (c : ℕ) → Passed d s (switch_call by c) → Some (acts d w s (switch_call by c)) ≡ Some (outcome (with_switches s c (switched by (channel_at s c).switches)) tells_nothing)
-switch_acts d w s (Notification true) c e = ap (λ x. Some (acts_by d w s (EnableNotification c) x)) e
-switch_acts d w s (Notification false) c e = ap (λ x. Some (acts_by d w s (DisableNotification c) x)) e
-switch_acts d w s (Wakeup true) c e = ap (λ x. Some (acts_by d w s (EnableWakeup c) x)) e
-switch_acts d w s (Wakeup false) c e = ap (λ x. Some (acts_by d w s (DisableWakeup c) x)) e
+pub owes_notice : (q : Bool) (n : Notice) → ◌≡◌ {A = List Notice} (if q then n ∷ [] else []) (notices_in (owed_if q n))
+owes_notice true n = refl
+owes_notice false n = refl
 
-switch_low : (by : Switch) (c : ℕ) (made : Move) (out : Option (Outcome GptState)) → ReadsLow (low_half (switch_call by c)) true made out
-switch_low (Notification true) c made out = tt
-switch_low (Notification false) c made out = tt
-switch_low (Wakeup true) c made out = tt
-switch_low (Wakeup false) c made out = tt
+pub owes_no_error : (q : Bool) (n : Notice) → ◌≡◌ {A = Option DevError} None (error_in (owed_if q n))
+owes_no_error true n = refl
+owes_no_error false n = refl
 
 module _ (d : GptDriver) where
-  pub switches_stored : (chip : Chip) (w : World) (s : GptState) (c : ℕ) (x y : Switches) → c < 8 → IsOn s.mode → x ≡ y → GptAgrees d settled chip w s → GptAgrees d settled (chip_after chip (Stores (switches_word c) (packed x))) w (with_switches s c y)
-  switches_stored chip w s c x y lt on e h = store_switches d chip w (with_switches s c y) c (packed x) lt (ap (λ z. packed z) e ∙ sym (ap (λ z. packed z.switches) (channel_same s c (record (channel_at s c) { switches = y }) lt))) (reswitched d chip w s c y lt on h)
+  -- a channel's switches changed in the machine, before its word is stored
+  reswitched : (chip : Chip) (w : World) (s : GptState) (c : ℕ) (x : Switches) → c < 8 → is_off s.mode ≡ false → GptAgrees d settled chip w s → GptAgrees d (behind (switches_word c)) chip w (with_switches s c x)
+  reswitched chip w s c x lt on h = record {
+    whole = h.whole;
+    time = h.time;
+    block = λ k below closed.
+        each_but (λ i. TimerAgrees (channel_of d i) (has_bit chip.timers.one_shot i) (timer_at chip.timers i) (channel_at (with_switches s c x) i)) c
+        (subst (λ z. TimerAgrees (channel_of d c) (has_bit chip.timers.one_shot c) (timer_at chip.timers c) z) (sym (channel_same s c (record (channel_at s c) { switches = x }) lt)) (let a = h.block c lt refl in record { count = a.count; kept = a.kept; flag = a.flag; set = a.set })) k
+        (λ ne. subst (λ z. TimerAgrees (channel_of d k) (has_bit chip.timers.one_shot k) (timer_at chip.timers k) z) (sym (channel_other s c k (record (channel_at s c) { switches = x }) below ne)) (h.block k below refl));
+    words = words_with d chip s (only (switches_word c)) c (record (channel_at s c) { switches = x }) lt h.words (λ g. refl) (λ g. let e = same_yes (switches_word c) in absurd (cc));
+    lines = h.lines;
+    clean = never_off s.mode on;
+  }
 
-  steps : (chip : Chip) (w : World) (s : GptState) (k : SwitchBody) (o : Origin Call) (t : Option Told) (m : ℕ → Bool) → At (gpt_ground d) (switch_bodies d) chip w s k o t → RightAt (gpt_ground d) (switch_bodies d) chip w s k o t m
-  steps chip w s (Load c by) o t m (h, (Is_before, i)) = (h, (by, Is_before, i, ap (λ x. switched by x) (ap switches_of ((h.each c i.lt).switches refl) ∙ unpacked (channel_at s c).switches)))
-  steps chip w s (Store c x) o t m (h, (by, Is_before, i, e)) =
-      let y = switched by (channel_at s c).switches in
-      record {
-        own = tt;
-        state = with_switches s c y;
-        told = tells_nothing;
-        is = switch_acts d w s by c i.checks;
-        low = switch_low by c (Stores (switches_word c) (packed x)) (Some (outcome (with_switches s c y) tells_nothing));
-        next = (switches_stored chip w s c x y i.lt i.on e h, (refl, refl, refl));
-      }
-
-  own : (chip : Chip) (w : World) (s : GptState) (k : SwitchBody) (o : Origin Call) (t : Option Told) → At (gpt_ground d) (switch_bodies d) chip w s k o t → gpt_may (switch_work k) ≡ true
-  own chip w s (Load c by) o t h = own_switches c h.1.1.lt
-  own chip w s (Store c x) o t h = own_switches c h.1.2.lt
-
-  there : (chip : Chip) (w : World) (s : GptState) (k : SwitchBody) (o : Origin Call) (t : Option Told) → At (gpt_ground d) (switch_bodies d) chip w s k o t → CanApply (switch_work k)
-  there chip w s (Load c by) o t h = let lt : c < 8 = h.1.1.lt in omega arith
-  there chip w s (Store c x) o t h = let lt : c < 8 = h.1.2.lt in omega arith
-
-  later : (chip : Chip) (w : World) (s : GptState) (order : Order) (k : SwitchBody) (o : Origin Call) (t : Option Told) → At (gpt_ground d) (switch_bodies d) chip w s k o t → switch_place d (happened chip order).timers (world_after w chip.rate order) s k o t
-  later chip w s order (Load c by) o t h = h.1
-  later chip w s order (Store c x) o t h = h.1
-
-  rate : (chip : Chip) (w : World) (s : GptState) (k : SwitchBody) (o : Origin Call) (t : Option Told) → At (gpt_ground d) (switch_bodies d) chip w s k o t → chip.rate ≡ 1 → (chip_after chip (switch_work k)).rate ≡ 1
-  rate chip w s (Load c by) o t h e = e
-  rate chip w s (Store c x) o t h e = e
+  steps : AllGood d (switch_bodies d)
+  steps chip w s (Load c by) o t m (h, (Is_before, i)) = (may_words (SwitchesOf c) i.lt, (h, (Is_before, i, ap switches_of (h.words (SwitchesOf c) i.lt refl) ∙ unpacked (channel_at s c).switches)))
+  steps chip w s (Store c by x) o t m (h, (Is_before, i, e)) =
+      let old = (channel_at s c).switches in
+      let y = changed by old in
+      let n : Notice = record { kind = EcuMSetWakeupEvent; id = c } in
+      let q = tells_event by old in
+      let same = ap (λ z. owed_if (tells_event by z) n) (sym e) in (
+        may_words (SwitchesOf c) i.lt,
+        record {
+          own = tt;
+          state = with_switches s c y;
+          told = notes q EcuMSetWakeupEvent c;
+          is = λ times. ap (λ z. Some (acts_by d w s (calls.Channel c (asks.Change by)) z)) (i.pass (runs_at d w s c)) ∙ ap (λ z. Some (switches z s c by)) i.known;
+          acts = tt;
+          next = (caught_up d chip w (with_switches s c y) (SwitchesOf c) (packed (changed by x)) i.lt (ap (λ z. packed (changed by z)) e ∙ sym (ap (λ z. packed z.switches) (channel_same s c (record (channel_at s c) { switches = y }) i.lt))) (reswitched chip w s c y i.lt i.on h), (refl, owes_notice q n ∙ ap notices_in same, owes_no_error q n ∙ ap error_in same));
+        },
+      )
 
   pub switch_right : AreRight (gpt_ground d) (switch_bodies d)
-  switch_right = record { own = own; there = there; steps = steps; later = later; shortens = switch_shortens; rate = rate }
+  switch_right = steady_right d switch_work switch_takes switch_left switch_gap (switch_holds d) switch_shortens steps

@@ -1,5 +1,5 @@
 ghost use Rattle.std.specs.Prelude.{◌≡◌};
-ghost use Rattle.gpt_driver.specs.service.Count as spec;
+ghost use Rattle.gpt_driver.specs.laws.Count as spec;
 
 use crate::words::target_word;
 use mcal_base::{Move, Reg};
@@ -21,7 +21,7 @@ pub enum CountBody {
 }
 
 impl Body for CountBody {
-    ghost use Rattle.gpt_driver.specs.service.Count.{count_work, count_takes};
+    ghost use Rattle.gpt_driver.specs.laws.Count.{count_work, count_takes};
 
     ghost work_of = { count_work };
 
@@ -66,7 +66,7 @@ fn joined(low: u32, high: u32) -> u32
 }
 
 fn answers(count: u32) -> BodyTaken
-    ensures { result ≡ spec.answers_number count }
+    ensures { result ≡ spec.ends_with count }
 {
     ends(None, number(count), Owed::Nothing)
 }

@@ -1,32 +1,26 @@
-ghost use Rattle.std.specs.Prelude.{◌≡◌};
-ghost use Rattle.gpt_driver.specs.service.DeInit as spec;
-
-use crate::call::owed_error;
-use crate::words::{LINES, STATE, switches_word, target_word};
-use mcal_base::{ErrorName, Move, Reg, Service};
+use crate::words::{LAST_WORD, LINES, STATE, TARGETS};
+use mcal_base::{Move, Reg};
 use service_outline::{Body, BodyTaken, Owed, acts, acts_with, ends, goes, nothing};
 
 /// `Gpt_DeInit`, from the load of the state word on.
 #[derive(Clone, Copy, Debug, PartialEq, Eq)]
 pub enum DeInitBody {
-    /// It looks whether a channel runs. A running one is reported, where errors are.
-    Look(bool),
+    /// It looks whether a channel runs. Where one does, it owes this.
+    Look(Owed),
     /// It acts, and the module is uninitialised.
     Store,
-    /// It disables the lines.
-    Disable,
-    /// It clears the flags.
-    Flags,
     /// It makes the counters 0.
     Zero,
-    /// It forgets the target of a channel.
-    Target(u8),
-    /// It forgets the switches of a channel, and goes on with the next one.
-    Switches(u8),
+    /// It clears the flags.
+    Flags,
+    /// It disables the lines.
+    Disable,
+    /// It forgets the target or the switches of a channel, and goes on with the next word.
+    Forget(u32),
 }
 
 impl Body for DeInitBody {
-    ghost use Rattle.gpt_driver.specs.service.DeInit.{deinit_work, deinit_takes};
+    ghost use Rattle.gpt_driver.specs.laws.DeInit.{deinit_work, deinit_takes};
 
     ghost work_of = { deinit_work };
 
@@ -36,36 +30,27 @@ impl Body for DeInitBody {
         match *self {
             DeInitBody::Look(_) => Move::Read(Reg::TimerRun),
             DeInitBody::Store => Move::Store(STATE, 0),
-            DeInitBody::Disable => Move::Write(Reg::EnableClear, LINES),
-            DeInitBody::Flags => Move::Write(Reg::TimerFlags, LINES),
             DeInitBody::Zero => Move::Write(Reg::TimerZero, LINES),
-            DeInitBody::Target(channel) => Move::Store(target_word(channel), 0),
-            DeInitBody::Switches(channel) => Move::Store(switches_word(channel), 0),
+            DeInitBody::Flags => Move::Write(Reg::TimerFlags, LINES),
+            DeInitBody::Disable => Move::Write(Reg::EnableClear, LINES),
+            DeInitBody::Forget(word) => Move::Store(word, 0),
         }
     }
 
     fn took(&mut self, value: u32) -> BodyTaken {
         let (after, taken) = match *self {
             DeInitBody::Look(_) if value == 0 => (DeInitBody::Store, goes()),
-            DeInitBody::Look(detects) => (*self, busy(detects)),
-            DeInitBody::Store => (DeInitBody::Disable, acts()),
-            DeInitBody::Disable => (DeInitBody::Flags, goes()),
-            DeInitBody::Flags => (DeInitBody::Zero, goes()),
-            DeInitBody::Zero => (DeInitBody::Target(0), goes()),
-            DeInitBody::Target(channel) => (DeInitBody::Switches(channel), goes()),
-            DeInitBody::Switches(channel) if channel < 7 => {
-                (DeInitBody::Target(channel + 1), goes())
+            DeInitBody::Look(busy) => (*self, acts_with(nothing(), busy)),
+            DeInitBody::Store => (DeInitBody::Zero, acts()),
+            DeInitBody::Zero => (DeInitBody::Flags, goes()),
+            DeInitBody::Flags => (DeInitBody::Disable, goes()),
+            DeInitBody::Disable => (DeInitBody::Forget(TARGETS), goes()),
+            DeInitBody::Forget(word) if word < LAST_WORD => {
+                (DeInitBody::Forget(word + 1), goes())
             }
-            DeInitBody::Switches(_) => (*self, ends(None, nothing(), Owed::Nothing)),
+            DeInitBody::Forget(_) => (*self, ends(None, nothing(), Owed::Nothing)),
         };
         *self = after;
         taken
     }
-}
-
-fn busy(detects: bool) -> BodyTaken
-    ensures { result ≡ spec.deinit_busy detects }
-{
-    let owed = owed_error(detects, Service::GptDeInit, ErrorName::GptBusy);
-    acts_with(nothing(), owed)
 }

@@ -12,7 +12,7 @@ pub enum InitBody {
 }
 
 impl Body for InitBody {
-    ghost use Rattle.gpt_driver.specs.service.Init.{init_work, init_takes};
+    ghost use Rattle.gpt_driver.specs.laws.Init.{init_work, init_takes};
 
     ghost work_of = { init_work };
 

@@ -1,5 +1,5 @@
 ghost use Rattle.std.specs.Prelude.{◌≡◌};
-ghost use Rattle.gpt_driver.specs.service.Mode as spec;
+ghost use Rattle.gpt_driver.specs.laws.Mode as spec;
 
 use crate::switches::Switches;
 use crate::words::{STATE, bit, switches_word};
@@ -22,7 +22,7 @@ pub enum ModeBody {
 }
 
 impl Body for ModeBody {
-    ghost use Rattle.gpt_driver.specs.service.Mode.{mode_work, mode_takes};
+    ghost use Rattle.gpt_driver.specs.laws.Mode.{mode_work, mode_takes};
 
     ghost work_of = { mode_work };
 

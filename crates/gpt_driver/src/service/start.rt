@@ -1,9 +1,5 @@
-ghost use Rattle.std.specs.Prelude.{◌≡◌};
-ghost use Rattle.gpt_driver.specs.service.Start as spec;
-
-use crate::call::owed_error;
 use crate::words::{bit, has, target_word};
-use mcal_base::{ErrorName, Move, Reg, Service};
+use mcal_base::{Move, Reg};
 use service_outline::{Body, BodyTaken, Owed, acts, acts_with, ends, goes, nothing};
 
 /// What is to be started.
@@ -17,8 +13,8 @@ pub struct Start {
     pub prescaler: u32,
     /// The bits of the one-shot channels.
     pub one_shot_bits: u32,
-    /// Whether errors are reported.
-    pub detects: bool,
+    /// What it owes where it finds the channel busy.
+    pub busy: Owed,
 }
 
 /// `Gpt_StartTimer`, from the load of the state word on.
@@ -41,7 +37,7 @@ pub enum StartBody {
 }
 
 impl Body for StartBody {
-    ghost use Rattle.gpt_driver.specs.service.Start.{start_work, start_takes};
+    ghost use Rattle.gpt_driver.specs.laws.Start.{start_work, start_takes};
 
     ghost work_of = { start_work };
 
@@ -66,7 +62,10 @@ impl Body for StartBody {
 
     fn took(&mut self, value: u32) -> BodyTaken {
         let (after, taken) = match *self {
-            StartBody::Look(start) if has(value, start.channel) => (*self, busy(start.detects)),
+            StartBody::Look(start) if has(value, start.channel) => (
+                *self,
+                acts_with(nothing(), start.busy),
+            ),
             StartBody::Look(start) => (StartBody::Target(start), goes()),
             StartBody::Target(start) => (StartBody::Prescaler(start), goes()),
             StartBody::Prescaler(start) => (StartBody::OneShot(start), goes()),
@@ -78,11 +77,4 @@ impl Body for StartBody {
         *self = after;
         taken
     }
-}
-
-fn busy(detects: bool) -> BodyTaken
-    ensures { result ≡ spec.start_busy detects }
-{
-    let owed = owed_error(detects, Service::GptStartTimer, ErrorName::GptBusy);
-    acts_with(nothing(), owed)
 }

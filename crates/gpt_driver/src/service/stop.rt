@@ -14,7 +14,7 @@ pub enum StopBody {
 }
 
 impl Body for StopBody {
-    ghost use Rattle.gpt_driver.specs.service.Stop.{stop_work, stop_takes};
+    ghost use Rattle.gpt_driver.specs.laws.Stop.{stop_work, stop_takes};
 
     ghost work_of = { stop_work };
 

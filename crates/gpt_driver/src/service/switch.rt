@@ -1,45 +1,24 @@
 ghost use Rattle.std.specs.Prelude.{◌≡◌};
-ghost use Rattle.gpt_driver.specs.service.Switch as spec;
+ghost use Rattle.gpt_driver.specs.Machine as machine;
+ghost use Rattle.gpt_driver.specs.laws.Switch as spec;
 
+use crate::call::Change;
 use crate::switches::Switches;
 use crate::words::switches_word;
-use mcal_base::Move;
+use mcal_base::{Move, Notice, NoticeKind};
 use service_outline::{Body, BodyTaken, Owed, acts_with, goes, nothing};
 
-/// A switch, and whether it is to be on.
-#[derive(Clone, Copy, Debug, PartialEq, Eq)]
-pub enum Switch {
-    /// Notification.
-    Notification(bool),
-    /// Wakeup.
-    Wakeup(bool),
-}
-
-impl Switch {
-    /// The switches with this one so.
-    fn over(self, switches: Switches) -> Switches
-        ensures { result ≡ spec.switched self switches }
-    {
-        let mut switches = switches;
-        match self {
-            Switch::Notification(on) => switches.notification = on,
-            Switch::Wakeup(on) => switches.wakeup = on,
-        }
-        switches
-    }
-}
-
-/// The services that switch notification and wakeup, from the load of the state word on.
+/// The services that change the switches of a channel, from the load of the state word on.
 #[derive(Clone, Copy, Debug, PartialEq, Eq)]
 pub enum SwitchBody {
     /// It loads the switches of the channel.
-    Load(u8, Switch),
-    /// It acts, and stores them.
-    Store(u8, Switches),
+    Load(u8, Change),
+    /// It acts, and stores them changed. They were these.
+    Store(u8, Change, Switches),
 }
 
 impl Body for SwitchBody {
-    ghost use Rattle.gpt_driver.specs.service.Switch.{switch_work, switch_takes};
+    ghost use Rattle.gpt_driver.specs.laws.Switch.{switch_work, switch_takes};
 
     ghost work_of = { switch_work };
 
@@ -48,19 +27,49 @@ impl Body for SwitchBody {
     fn next(&self) -> Move {
         match *self {
             SwitchBody::Load(channel, _) => Move::Load(switches_word(channel)),
-            SwitchBody::Store(channel, switches) => {
-                Move::Store(switches_word(channel), switches.word())
+            SwitchBody::Store(channel, change, switches) => {
+                Move::Store(switches_word(channel), change.over(switches).word())
             }
         }
     }
 
     fn took(&mut self, value: u32) -> BodyTaken {
         match *self {
-            SwitchBody::Load(channel, switch) => {
-                *self = SwitchBody::Store(channel, switch.over(Switches::of(value)));
+            SwitchBody::Load(channel, change) => {
+                *self = SwitchBody::Store(channel, change, Switches::of(value));
                 goes()
             }
-            SwitchBody::Store(..) => acts_with(nothing(), Owed::Nothing),
+            SwitchBody::Store(channel, change, switches) => {
+                acts_with(nothing(), change.told(channel, switches))
+            }
+        }
+    }
+}
+
+impl Change {
+    /// The switches, changed so.
+    fn over(self, switches: Switches) -> Switches
+        ensures { result ≡ machine.changed self switches }
+    {
+        let mut switches = switches;
+        match self {
+            Change::Notification(on) => switches.notification = on,
+            Change::Wakeup(on) => switches.wakeup = on,
+            Change::Check => switches.woken = false,
+        }
+        switches
+    }
+
+    /// What is told of the switches as they were.
+    fn told(self, channel: u8, switches: Switches) -> Owed
+        ensures { result ≡ spec.event_owed self channel switches }
+    {
+        match self {
+            Change::Check if switches.woken => Owed::One(Notice {
+                kind: NoticeKind::EcuMSetWakeupEvent,
+                id: u32::from(channel),
+            }),
+            _ => Owed::Nothing,
         }
     }
 }

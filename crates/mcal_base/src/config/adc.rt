@@ -33,9 +33,11 @@ pub enum AdcConversionMode {
 /// `AdcGroupReplacement`.
 #[derive(Clone, Copy, Debug, Default, PartialEq, Eq)]
 pub enum AdcGroupReplacement {
-    /// `ADC_GROUP_REPL_ABORT_RESTART`
+    /// `ADC_GROUP_REPL_ABORT_RESTART`: an aborted round begins anew.
     #[default]
     AbortRestart,
+    /// `ADC_GROUP_REPL_SUSPEND_RESUME`: an aborted round keeps the inputs that have ended.
+    SuspendResume,
 }
 
 /// `AdcGroupTriggSrc`.
@@ -103,6 +105,8 @@ pub struct AdcGroup {
 pub struct AdcConfig {
     /// `AdcDevErrorDetect`.
     pub dev_error_detect: bool,
+    /// `Classification`: 2 where state errors are runtime errors, 1 where they are development errors.
+    pub classification: u32,
     /// `AdcPriorityImplementation`.
     pub priority_implementation: AdcPriorityImplementation,
     /// `AdcEnableQueuing`.

@@ -34,6 +34,8 @@ pub struct GptChannel {
 pub struct GptConfig {
     /// `GptDevErrorDetect`.
     pub dev_error_detect: bool,
+    /// `Classification`: 2 where state errors are runtime errors, 1 where they are development errors.
+    pub classification: u32,
     /// `GptChannelConfiguration`.
     pub channels: Short<GptChannel, 8>,
 }

@@ -78,6 +78,8 @@ pub struct IcuChannel {
 pub struct IcuConfig {
     /// `IcuDevErrorDetect`.
     pub dev_error_detect: bool,
+    /// `Classification`: 2 where state errors are runtime errors, 1 where they are development errors.
+    pub classification: u32,
     /// `IcuChannel`.
     pub channels: Short<IcuChannel, 8>,
 }

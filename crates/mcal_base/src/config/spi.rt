@@ -63,6 +63,8 @@ pub struct SpiSequence {
 pub struct SpiConfig {
     /// `SpiDevErrorDetect`.
     pub dev_error_detect: bool,
+    /// `Classification`: 2 where state errors are runtime errors, 1 where they are development errors.
+    pub classification: u32,
     /// `Levels` of the lines of the two units, each 1 to 7; 1 at first.
     pub levels: Short<u32, 2>,
     /// `SpiChannel`.

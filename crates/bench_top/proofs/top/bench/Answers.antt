@@ -1,5 +1,5 @@
 use Rattle.std.proofs.Common.{◌∙◌, Err, ap, sym, arith}
-use Rattle.bench_top.proofs.Judging.{exact_of, front_of, checks_of, file_after, file_judged, usage_judged, too_many_judged}
+use Rattle.bench_top.proofs.Judging.{exact_of, front_of, checks_of, complete_of, file_after, file_judged, usage_judged, too_many_judged}
 use Rattle.bench_top.proofs.top.bench.Goals as goal
 
 pub returns-in_default-clause-front : goal.returns-in_default-clause-front
@@ -10,6 +10,9 @@ returns-in-Ok-clause-read g c = λ s. absurd ((file_after _ _ _ _ (c.conclude.en
 
 pub returns-in-Ok-clause-checks : goal.returns-in-Ok-clause-checks
 returns-in-Ok-clause-checks g c = λ source sink. checks_of _ _ _ _ _ _ _ _ _ (file_judged _ _ _ _ c.deref.result.now (sym c.form_of.ensures ∙ c.in-Some.is) (rw c.deref.ensures.value c.in-Ok.ensures.all.0) c.in-Ok.ensures.all.1 (omega (arith, c.in-Ok.ensures.limit, c.deref.ensures.len))) c.conclude.ensures sink
+
+pub returns-in-Ok-clause-complete : goal.returns-in-Ok-clause-complete
+returns-in-Ok-clause-complete g c = λ source sink. complete_of _ _ _ _ _ _ _ _ _ (file_judged _ _ _ _ c.deref.result.now (sym c.form_of.ensures ∙ c.in-Some.is) (rw c.deref.ensures.value c.in-Ok.ensures.all.0) c.in-Ok.ensures.all.1 (omega (arith, c.in-Ok.ensures.limit, c.deref.ensures.len))) c.conclude.ensures sink
 
 pub returns-in-Err-TooLong-clause-exact : goal.returns-in-Err-TooLong-clause-exact
 returns-in-Err-TooLong-clause-exact g c = λ f s m. exact_of _ _ _ _ _ _ _ _ _ (too_many_judged _ _ _ (sym c.form_of.ensures ∙ c.in-Some.is) (c.read_all.ensures.long (c.in-Err-TooLong.is ∙ ap (λ e. Err e) c.in-Err-TooLong.field-0-is))) c.print-in-Err-TooLong.ensures.concludes s m

@@ -7,7 +7,7 @@ use Rattle.script_runner.proofs.Scripts.{at_line, built_at, goes_on, going_start
 use Rattle.script_runner.proofs.run.run_script.Goals as goal
 
 pub loop-at-init : goal.loop-at-init
-loop-at-init g c = going_start (g.M.Module.spec c.args.driver.now) (g.M.Caller.call_of c.args.driver.now) c.args.script.now c.args.most c.in_ok-bus.bus c.in_ok-stack.stack c.in_ok-journal.journal c.in_ok-bus.ensures c.in_ok-stack.ensures.empty c.in_ok-journal.ensures (c.in_ok-stack.ensures.stands c.args.driver.now c.requires.fits)
+loop-at-init g c = going_start (g.M.Module.spec c.args.driver.now) (g.M.Caller.call_of c.args.driver.now) c.args.script.now c.args.most c.in_ok-bus.bus c.in_ok-stack.stack c.in_ok-journal.journal c.in_ok-bus.ensures c.in_ok-stack.ensures.empty c.in_ok-journal.ensures (c.in_ok-stack.ensures.stands c.args.driver.now c.requires.fits c.requires.covers)
 
 pub obey_one-requires-clause-at : goal.obey_one-requires-clause-at
 obey_one-requires-clause-at g c = at_line 0 c.args.script.now c.loop-at.at c.directive_at-directive.result.now c.requires.script.lines c.directive_at-directive.ensures

@@ -6,7 +6,8 @@ use Rattle.chip_timers.proofs.block.TimerBlock.act.Given as goal
 
 abbrev pub invariant-loop-channel : goal.invariant-loop-channel
 invariant-loop-channel l = record {
-  at : l.time ≡ l.initial.self.time;
-  others : l.self ≡ record l.initial.self { timers = l.self.timers };
-  done : DoneBelow (λ c. acting l.act (has_bit l.initial.self.one_shot c) l.initial.self.time) l.bits l.channel idle l.initial.self.timers l.self.timers;
+  at : l.time ≡ l.initial.self-inside.time;
+  bits : l.one_shot ≡ l.initial.self-inside.one_shot;
+  others : l.self-inside ≡ record l.initial.self-inside { timers = l.self-inside.timers };
+  done : DoneBelow (λ c. acting l.act (has_bit l.initial.self-inside.one_shot c) l.initial.self-inside.time) l.bits l.channel idle l.initial.self-inside.timers l.self-inside.timers;
 }

@@ -5,6 +5,6 @@ use Rattle.step_runner.proofs.Runs.{stands-start}
 use Rattle.step_runner.proofs.stack.Stack.new.Goals as goal
 
 pub returns-clause-stands : goal.returns-clause-stands
-returns-clause-stands g c driver fits =
+returns-clause-stands g c driver fits covers =
     let empty : reverse c.in_ok-frames.frames.items ≡ [] = search rules in
-    subst (λ x. Stands (g.M.Module.spec driver) (fresh 0 0) x []) (sym empty) (stands-start (g.M.Module.spec driver) g.M.Frame.Routine.move_of g.M.Frame.Routine.left g.M.Frame.Routine.gave (g.met.M.Module.laws driver fits))
+    subst (λ x. Stands (g.M.Module.spec driver) (fresh 0 0) x []) (sym empty) (stands-start (g.M.Module.spec driver) g.M.Frame.Routine.move_of g.M.Frame.Routine.left g.M.Frame.Routine.gave (g.met.M.Module.laws driver fits) covers)

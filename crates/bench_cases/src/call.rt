@@ -1,0 +1,130 @@
+use crate::oddity::Oddity;
+use bench_top::bench;
+use mcal_base::{ListSink, ListSource};
+use std::alloc::{AllocError, Global};
+use std::str;
+
+/// The most bytes that a call may write.
+const ROOM: usize = 1_000_000;
+
+/// A call of the bench that is to be made.
+#[derive(Drop)]
+pub struct Call {
+    first_line: Vec<u8>,
+    input: Vec<u8>,
+}
+
+/// How a call ended.
+#[derive(Drop)]
+pub struct Ended {
+    /// Its status.
+    pub status: u8,
+    /// What it wrote.
+    pub written: Vec<u8>,
+}
+
+/// The ends of a call: where its input comes from and where its output goes to.
+#[derive(Drop)]
+struct Ends {
+    input: Vec<u8>,
+    most_read: usize,
+    failing_reads: Vec<u64>,
+    most_written: usize,
+    failing_writes: Vec<u64>,
+}
+
+impl Call {
+    /// A call whose first line has this behind the mark.
+    pub fn begun(alloc: Global, first_line: &[u8]) -> Result<Call, AllocError> {
+        Ok(Call {
+            first_line: first_line.to_vec(alloc)?,
+            input: Vec::new(alloc),
+        })
+    }
+
+    /// One more line of input.
+    pub fn add(&mut self, line: &[u8]) -> Result<(), AllocError> {
+        self.input.extend_from_slice(line)
+    }
+
+    /// The first line, without the mark.
+    pub fn first_line(&self) -> &[u8] {
+        &self.first_line
+    }
+
+    /// Makes the call.
+    pub fn made(&self, alloc: Global) -> Result<Ended, AllocError> {
+        let first = str::from_utf8(&self.first_line).unwrap_or("");
+        let mut parts = first.split(';');
+        let mut words = Vec::new(alloc);
+        for word in parts.next().unwrap_or("").split_ascii_whitespace() {
+            words.push(String::from_str(alloc, word)?)?;
+        }
+        let mut ends = Ends::usual(alloc, &self.input)?;
+        for part in parts {
+            if let Some(oddity) = Oddity::read(alloc, part)? {
+                ends.make(alloc, oddity)?;
+            }
+        }
+        let mut source = ListSource::new(ends.input, ends.most_read.max(1), ends.failing_reads);
+        let Ok(mut sink) = ListSink::new(alloc, ends.most_written.max(1), ROOM, ends.failing_writes)
+        else {
+            return Err(AllocError);
+        };
+        let outcome = bench(alloc, &words, &mut source, &mut sink);
+        Ok(Ended {
+            status: outcome.status,
+            written: sink.bytes().to_vec(alloc)?,
+        })
+    }
+}
+
+impl Ends {
+    /// The usual ends over an input: pieces of up to 1,000 bytes, and no fault.
+    fn usual(alloc: Global, input: &[u8]) -> Result<Ends, AllocError> {
+        Ok(Ends {
+            input: input.to_vec(alloc)?,
+            most_read: 1_000,
+            failing_reads: Vec::new(alloc),
+            most_written: 1_000,
+            failing_writes: Vec::new(alloc),
+        })
+    }
+
+    /// Makes them odd.
+    fn make(&mut self, alloc: Global, oddity: Oddity) -> Result<(), AllocError> {
+        match oddity {
+            Oddity::Reads(most, failing) => {
+                self.most_read = most;
+                self.failing_reads = failing;
+            }
+            Oddity::Writes(most, failing) => {
+                self.most_written = most;
+                self.failing_writes = failing;
+            }
+            Oddity::Times(count) => self.repeat_last_line(alloc, count)?,
+            Oddity::Spaces(count) => {
+                let mut input = vec![in alloc; b' '; count]?;
+                input.extend_from_slice(&self.input)?;
+                self.input = input;
+            }
+            Oddity::Cut => {
+                self.input.pop();
+            }
+        }
+        Ok(())
+    }
+
+    /// Has the last line of the input stand so many times.
+    fn repeat_last_line(&mut self, alloc: Global, count: usize) -> Result<(), AllocError> {
+        let mut last: &[u8] = &[];
+        for line in self.input.split_inclusive(|byte| *byte == b'\n') {
+            last = line;
+        }
+        let line = last.to_vec(alloc)?;
+        for _ in 1..count {
+            self.input.extend_from_slice(&line)?;
+        }
+        Ok(())
+    }
+}

@@ -1,9 +1,0 @@
-use Rattle.std.proofs.Common.{arith}
-use Rattle.bench_top.proofs.Board.{fits_driver}
-use Rattle.bench_top.proofs.tests.stops_at_the_limit_of_steps.Goals as goal
-
-pub run_within-requires-clause-fits : goal.run_within-requires-clause-fits
-run_within-requires-clause-fits g c = fits_driver c.default_board-config.result.gpt c.new-driver.result c.default_board-config.ensures.valid.gpt c.new-driver.ensures
-
-pub run_within-requires-clause-script : goal.run_within-requires-clause-script
-run_within-requires-clause-script g c = record { lines = (omega (arith, c.init-first.ensures.line), (omega (arith, c.init-first.ensures.line, c.init-second.ensures.line), tt)); built = (c.init-first.ensures.order, (c.init-second.ensures.order, tt)); few = omega arith }

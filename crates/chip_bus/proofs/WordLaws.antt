@@ -1,0 +1,37 @@
+-- What is known of driver words that are all 0. Nothing here computes the list.
+use Rattle.std.proofs.Common.{◌≡◌, ℕ, length, get_or, replicate, ap, ◌<◌, ◌≤◌, ◌⊎◌, inl, inr, arith}
+use Rattle.std.specs.Prelude.{slice_index}
+use Rattle.std.proofs.lemmas.List.{length-replicate, get_or-replicate, get_or_past}
+use Rattle.mcal_base.specs.declared.TheConstants.{WORDS}
+use Rattle.chip_bus.specs.Words.{zeros, blank}
+
+pub length-zeros : (n : ℕ) → length (zeros n) ≡ n
+unfolding zeros
+length-zeros n = length-replicate n 0
+
+read_zeros : (n k : ℕ) → (k < n) ⊎ (n ≤ k) → ◌≡◌ {A = ℕ} (get_or (replicate n 0) k 0) 0
+read_zeros n k (inl lt) = get_or-replicate n k 0 0 lt
+read_zeros n k (inr le) = get_or_past (replicate n 0) k 0 (rw (length-replicate {A = ℕ} n 0) le)
+
+within_or_past : (n k : ℕ) → (k < n) ⊎ (n ≤ k)
+within_or_past n k = grind arith
+
+pub index-replicate : (n k : ℕ) → ◌≡◌ {A = ℕ} (slice_index (replicate n 0) k) 0
+index-replicate n k = read_zeros n k (within_or_past n k)
+
+pub slice_index-zeros : (n k : ℕ) → slice_index (zeros n) k ≡ 0
+unfolding zeros
+slice_index-zeros n k = index-replicate n k
+
+pub blank-zeros : (n : ℕ) → n ≡ WORDS → zeros n ≡ blank
+unfolding blank
+blank-zeros n e = ap zeros e
+
+-- there are as many as driver words, and each is 0
+pub length-blank : length blank ≡ WORDS
+unfolding blank
+length-blank = length-zeros WORDS
+
+pub slice_index-blank : (k : ℕ) → slice_index blank k ≡ 0
+unfolding blank
+slice_index-blank k = slice_index-zeros WORDS k

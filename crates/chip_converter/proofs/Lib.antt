@@ -1,0 +1,3 @@
+pub mod ConverterLaws
+pub mod HistoryLaws
+pub mod StateLaws

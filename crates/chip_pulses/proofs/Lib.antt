@@ -1,0 +1,4 @@
+pub mod ChangeLaws
+pub mod FlagHistory
+pub mod FlagLaws
+pub mod PulseLaws

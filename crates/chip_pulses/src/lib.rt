@@ -1,0 +1,10 @@
+//! The pulse block of the reference chip: eight outputs by times. Time is kept, and a level or a flag is computed
+//! when it is read, so that a tick of any length is one addition.
+#![tactic(auto)]
+
+mod block;
+pub mod laws;
+mod pulse;
+mod regime;
+
+pub use block::PulseBlock;

@@ -1,0 +1,158 @@
+ghost use Rattle.std.specs.Prelude.{◌≡◌, Bool, List, ℕ, length, slice_index, slice_set, ◌<◌};
+ghost use Rattle.chip_units.specs.Pins.{fresh, bit_at, mode, is_pulse, level, latch, mode_named, ones_set, ones_clear, with_mode, after_write};
+
+use crate::bits::has;
+use mcal_base::{Config, PortPinMode, Reg};
+use std::marker::Model;
+
+/// How many halves the pins have, and how many pins there are.
+const HALVES: u32 = 2;
+
+const PINS: u32 = 64;
+
+/// The pin block: the registers `D.DIRSET0` to `D63.MODE`.
+#[derive(Debug, Drop)]
+pub struct PinBlock {
+    out: [u32; 2],
+    latches: [u32; 2],
+    modes: [PortPinMode; 64],
+}
+
+impl Model for PinBlock {
+    ghost use Rattle.std.specs.Prelude.{◌≡◌, length};
+    ghost use Rattle.chip_units.specs.Pins.{Pins};
+
+    ghost Value = { Pins };
+
+    ghost view = { λ b. record { out = b.out; latches = b.latches; modes = b.modes } };
+
+    ghost invariant = { λ b. (length b.out ≡ 2) × (length b.latches ≡ 2) × (length b.modes ≡ 64) };
+
+    ghost inverse = { λ b. record { out = b.out; latches = b.latches; modes = b.modes } };
+}
+
+impl PinBlock {
+    /// All pins in, their latches low. The block is the same under every configuration.
+    pub fn new(_config: &Config) -> PinBlock
+        ensures { result ≡ fresh }
+    {
+        PinBlock::fresh()
+    }
+
+    #[tactic(auto, unfolding(crate::specs::Pins::fresh))]
+    fn fresh() -> PinBlock
+        ensures { result ≡ fresh }
+    {
+        PinBlock {
+            out: [0; 2],
+            latches: [0; 2],
+            modes: [PortPinMode::Adc; 64],
+        }
+    }
+
+    /// A reset: all pins are in, and their latches low.
+    pub fn reset(&mut self)
+        ensures { self.new ≡ fresh }
+    {
+        *self = PinBlock::fresh();
+    }
+
+    /// Reads a register. None of the block has a stated read.
+    pub fn read(&mut self, _reg: Reg) -> u32
+        ensures value { result ≡ 0 }
+        ensures state { self.new ≡ self.old }
+    {
+        0
+    }
+
+    /// Writes a register. A register without a stated write ignores it, and `D<p>.MODE` ignores a number that
+    /// names no mode.
+    pub fn write(&mut self, reg: Reg, value: u32)
+        ensures { self.new ≡ after_write self.old reg value }
+    {
+        match reg {
+            Reg::PinDirectionSet(half) => set(&mut self.out, half, value),
+            Reg::PinDirectionClear(half) => clear(&mut self.out, half, value),
+            Reg::PinOutSet(half) => set(&mut self.latches, half, value),
+            Reg::PinOutClear(half) => clear(&mut self.latches, half, value),
+            Reg::PinMode(pin) => self.set_mode(pin, value),
+            _ => {}
+        }
+    }
+
+    /// The passing of time changes no register of the block.
+    pub fn tick(&mut self, _ticks: u64)
+        ensures { self.new ≡ self.old }
+    {}
+
+    /// The level of a pin, with its outside level and the output of the pulse channel that names it, where one
+    /// does.
+    pub fn pin(&self, pin: u32, outside: bool, pulse: Option<bool>) -> bool
+        ensures { result ≡ level self.now pin outside pulse }
+    {
+        if !bit(&self.out, pin) {
+            return outside;
+        }
+        match (self.mode(pin), pulse) {
+            (PortPinMode::Pwm, Some(output)) => output,
+            _ => bit(&self.latches, pin),
+        }
+    }
+
+    fn mode(&self, pin: u32) -> PortPinMode
+        ensures { result ≡ mode self.now pin }
+    {
+        if pin < PINS {
+            self.modes[pin as usize]
+        } else {
+            PortPinMode::Adc
+        }
+    }
+
+    fn set_mode(&mut self, pin: u32, value: u32)
+        ensures { self.new ≡ after_write self.old (Reg.PinMode pin) value }
+    {
+        if let Some(mode) = mode_named(value) {
+            if pin < PINS {
+                self.modes[pin as usize] = mode;
+            }
+        }
+    }
+}
+
+/// The mode that a number names.
+fn mode_named(number: u32) -> Option<PortPinMode>
+    ensures { result ≡ mode_named number }
+{
+    match number {
+        0 => Some(PortPinMode::Adc),
+        1 => Some(PortPinMode::Dio),
+        2 => Some(PortPinMode::Icu),
+        3 => Some(PortPinMode::Pwm),
+        4 => Some(PortPinMode::Spi),
+        _ => None,
+    }
+}
+
+/// The bit of a pin in the two halves.
+fn bit(halves: &[u32; 2], pin: u32) -> bool
+    ensures { result ≡ bit_at halves.now pin }
+{
+    pin < PINS && has(halves[(pin / 32) as usize], pin % 32)
+}
+
+fn set(halves: &mut [u32; 2], half: u32, bits: u32)
+    ensures { halves.new ≡ ones_set halves.old half bits }
+{
+    if half < HALVES {
+        halves[half as usize] |= bits;
+    }
+}
+
+fn clear(halves: &mut [u32; 2], half: u32, bits: u32)
+    ensures { halves.new ≡ ones_clear halves.old half bits }
+{
+    if half < HALVES {
+        halves[half as usize] &= !bits;
+    }
+}

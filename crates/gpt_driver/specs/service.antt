@@ -1,9 +1,0 @@
-pub mod Check
-pub mod Count
-pub mod DeInit
-pub mod Init
-pub mod Mode
-pub mod Serve
-pub mod Start
-pub mod Stop
-pub mod Switch

@@ -1,0 +1,214 @@
+ghost use Rattle.std.specs.Prelude.{◌≡◌};
+ghost use Rattle.gpt_driver.specs.laws.Look as spec;
+ghost use Rattle.gpt_driver.specs.Checks as checks;
+
+use crate::call::{Call, Change, ChannelCall, GptMode};
+use crate::driver::{Channel, GptDriver};
+use crate::service::count::CountBody;
+use crate::service::deinit::DeInitBody;
+use crate::service::init::InitBody;
+use crate::service::mode::ModeBody;
+use crate::service::start::{Start, StartBody};
+use crate::service::stop::StopBody;
+use crate::service::switch::SwitchBody;
+use crate::service::{self, GptBody};
+use crate::words::STATE;
+use det_errors::{Facts, first_error};
+use mcal_base::{ErrorName, Service};
+use service_outline::{Done, Looked, Owed, Reply, nothing, number};
+
+/// A call with the driver that it is made of.
+#[derive(Clone, Copy, Debug)]
+pub struct Asked {
+    /// The call.
+    pub call: Call,
+    /// The driver.
+    pub driver: GptDriver,
+}
+
+impl service_outline::Service for Asked {
+    type Body = GptBody;
+
+    ghost use Rattle.gpt_driver.specs.laws.Look.{gpt_looked};
+    ghost use Rattle.gpt_driver.specs.declared.words.TheConstants.{STATE};
+
+    ghost WORD = { STATE };
+
+    const WORD: u32 = STATE;
+
+    ghost looked_of = { gpt_looked };
+
+    fn look(&self, value: u32) -> Looked<GptBody> {
+        match first_error(self.call.service(), &self.facts(value)) {
+            Some(error) => Looked::Refused(self.refusal(error)),
+            None => self.begin(),
+        }
+    }
+}
+
+impl Asked {
+    /// Which errors the state word and the arguments show, in the order of the service's errors.
+    fn facts(&self, state: u32) -> Facts
+        ensures { result.holds ≡ spec.facts_of self.now state }
+    {
+        let uninit = state == 0;
+        let holds = match self.call {
+            Call::Init => [!uninit, false, false, false, false, false],
+            Call::DeInit => [uninit, false, false, false, false, false],
+            Call::SetMode(mode) => [uninit, mode.is_none(), false, false, false, false],
+            Call::Channel(number, call) => {
+                let channel = self.driver.channel(number);
+                let asleep = state == 2;
+                [
+                    uninit,
+                    !allows(call, channel),
+                    !takes(call, channel),
+                    asleep,
+                    false,
+                    false,
+                ]
+            }
+        };
+        Facts { holds }
+    }
+
+    /// What a call with this error is done with.
+    fn refusal(&self, error: ErrorName) -> Done
+        ensures { result ≡ spec.refusal_of self.now error }
+    {
+        Done {
+            answer: refused(self.call),
+            owed: self.driver.owed(self.call.service(), error),
+        }
+    }
+
+    /// What a call that nothing forbids so far goes on with.
+    fn begin(&self) -> Looked<GptBody>
+        ensures { result ≡ spec.begun_of self.now }
+    {
+        match self.call {
+            Call::Init => Looked::Goes(service::init_body(InitBody::Enable)),
+            Call::DeInit => {
+                let busy = self.driver.owed(Service::GptDeInit, ErrorName::GptBusy);
+                Looked::Goes(service::deinit_body(DeInitBody::Look(busy)))
+            }
+            Call::SetMode(Some(GptMode::Normal)) => Looked::Goes(service::mode_body(
+                ModeBody::Wake,
+            )),
+            Call::SetMode(Some(GptMode::Sleep)) => {
+                Looked::Goes(service::mode_body(ModeBody::Gather(0, 0)))
+            }
+            Call::SetMode(None) => let_be(),
+            Call::Channel(number, call) => match self.driver.channel(number) {
+                Some(channel) => Looked::Goes(self.begin_at(channel, call)),
+                None => let_be(),
+            },
+        }
+    }
+
+    /// The same, for a call that names a configured channel.
+    fn begin_at(&self, channel: Channel, call: ChannelCall) -> GptBody
+        ensures { result ≡ spec.begun_with self.now.driver channel call }
+    {
+        let number = channel.number;
+        match call {
+            ChannelCall::GetTimeElapsed => service::count_body(CountBody::ElapsedLow(number)),
+            ChannelCall::GetTimeRemaining => service::count_body(CountBody::RemainingTarget(
+                number,
+            )),
+            ChannelCall::StartTimer(value) => service::start_body(StartBody::Look(Start {
+                channel: number,
+                value,
+                prescaler: channel.prescaler,
+                one_shot_bits: self.driver.one_shot_bits(),
+                busy: self.driver.owed(Service::GptStartTimer, ErrorName::GptBusy),
+            })),
+            ChannelCall::StopTimer if channel.one_shot => service::stop_body(StopBody::OneShot(
+                number,
+            )),
+            ChannelCall::StopTimer => service::stop_body(StopBody::Continuous(number)),
+            ChannelCall::Change(change) => service::switch_body(SwitchBody::Load(number, change)),
+        }
+    }
+}
+
+/// A call that does nothing.
+fn let_be() -> Looked<GptBody>
+    ensures { result ≡ spec.let_be }
+{
+    Looked::Refused(Done {
+        answer: nothing(),
+        owed: Owed::Nothing,
+    })
+}
+
+/// The answer of a call with an error.
+fn refused(call: Call) -> Reply
+    ensures { result ≡ checks.answer_refused call }
+{
+    match call {
+        Call::Channel(_, ChannelCall::GetTimeElapsed | ChannelCall::GetTimeRemaining) => number(0),
+        Call::Channel(
+            _,
+            ChannelCall::StartTimer(_) | ChannelCall::StopTimer | ChannelCall::Change(_),
+        )
+        | Call::Init
+        | Call::DeInit
+        | Call::SetMode(_) => nothing(),
+    }
+}
+
+/// Whether a call may name the channel.
+fn allows(call: ChannelCall, channel: Option<Channel>) -> bool
+    ensures { result ≡ checks.allows call channel }
+{
+    match call {
+        ChannelCall::GetTimeElapsed
+        | ChannelCall::GetTimeRemaining
+        | ChannelCall::StartTimer(_)
+        | ChannelCall::StopTimer => channel.is_some(),
+        ChannelCall::Change(Change::Notification(_)) => has_notification(channel),
+        ChannelCall::Change(Change::Wakeup(_)) => has_wakeup(channel),
+        ChannelCall::Change(Change::Check) => true,
+    }
+}
+
+fn has_notification(channel: Option<Channel>) -> bool
+    ensures { result ≡ checks.has_notification channel }
+{
+    match channel {
+        Some(found) => found.notification,
+        None => false,
+    }
+}
+
+fn has_wakeup(channel: Option<Channel>) -> bool
+    ensures { result ≡ checks.has_wakeup channel }
+{
+    match channel {
+        Some(found) => found.wakeup,
+        None => false,
+    }
+}
+
+/// Whether the channel may be started with the call's value, where it has one.
+fn takes(call: ChannelCall, channel: Option<Channel>) -> bool
+    ensures { result ≡ checks.takes call channel }
+{
+    match call {
+        ChannelCall::StartTimer(value) => has_value(value, channel),
+        ChannelCall::GetTimeElapsed
+        | ChannelCall::GetTimeRemaining
+        | ChannelCall::StopTimer
+        | ChannelCall::Change(_) => true,
+    }
+}
+
+fn has_value(value: u32, channel: Option<Channel>) -> bool
+    ensures { result ≡ checks.has_value value channel }
+{
+    match channel {
+        Some(found) => value != 0 && value <= found.tick_value_max,
+        None => false,
+    }
+}

@@ -1,0 +1,598 @@
+-- A toy module whose frames hold something while the mask is open: a section that is filled word by word, the promise of a
+-- start, and the pin of a bank that is copied.
+use Rattle.std.specs.Prelude.{◌≡◌, ◌≢◌, ℕ, ◌+◌, ◌*◌, ◌<◌, ◌==◌, nat_lt, Bool, true, false, ◌&&◌, ◌||◌, not, length, List, [], ◌∷◌, Option, Some, None, if◌then◌else◌, slice_index_or}
+use Rattle.chip_model.specs.Chip.{Chip, word_of}
+use Rattle.det_errors.specs.Reports.{Reporting}
+use Rattle.mcal_base.specs.declared.TheConstants.{WORDS}
+use Rattle.mcal_base.specs.declared.error_name.ErrorName.TheVariants.{McuParamRamsection, AdcIdle}
+use Rattle.mcal_base.specs.declared.module_name.ModuleName.TheVariants.{Mcu}
+use Rattle.mcal_base.specs.declared.moves.Event.TheVariants.{Act, Serve, Start}
+use Rattle.mcal_base.specs.declared.moves.Move.{Move}
+use Rattle.mcal_base.specs.declared.moves.Move.TheVariants.{Read, Write, Load, Store, Mask, Unmask, Note, Report}
+use Rattle.mcal_base.specs.declared.moves.Unit as units
+use Rattle.mcal_base.specs.declared.moves.Unit.TheVariants.{Adc0, Adc1, Spi0, Spi1}
+use Rattle.mcal_base.specs.declared.notice.Notice.{Notice}
+use Rattle.mcal_base.specs.declared.notice.NoticeKind.TheVariants.{AdcNotification}
+use Rattle.mcal_base.specs.declared.register.Reg.{Reg}
+use Rattle.mcal_base.specs.declared.register.Reg.TheVariants.{ConverterGo, ResetRequest}
+use Rattle.mcal_base.specs.declared.service.Service.{Service}
+use Rattle.mcal_base.specs.declared.service.Service.TheVariants.{McuInitRamSection, McuPerformReset, AdcReadGroup}
+use Rattle.run_model.specs.declared.class.Class.{Class}
+use Rattle.run_model.specs.declared.class.Kind.{Kind}
+use Rattle.run_model.specs.declared.class.Kind.TheVariants.{Exclusive, Keyed, Guarded}
+use Rattle.run_model.specs.declared.class.KeyKind.{KeyKind}
+use Rattle.run_model.specs.declared.class.KeyKind.TheVariants.{Section, Group}
+use Rattle.run_model.specs.World.{World}
+use Rattle.run_model.specs.Machine.{Happening, Acts, Serves, Starts, Aborts, Moves, Restarts, Told, Outcome, Machine, no_answer, tells_nothing, outcome}
+use Rattle.run_model.specs.Frame.{Origin, Called}
+use Rattle.run_model.specs.Moment.{Setting}
+use Rattle.service_outline.specs.declared.body.Looked.{Looked}
+use Rattle.service_outline.specs.declared.body.Looked.TheVariants.{Refused, Goes}
+use Rattle.service_outline.specs.declared.body.Or.{Or}
+use Rattle.service_outline.specs.declared.body.Or.TheVariants.{First, Second}
+use Rattle.service_outline.specs.declared.done.BodyTaken.{BodyTaken}
+use Rattle.service_outline.specs.declared.done.Owed.TheVariants.{Nothing}
+use Rattle.service_outline.specs.declared.sweep.Place.TheVariants.{Opens}
+use Rattle.service_outline.specs.declared.sweep.Sweep.{Sweep}
+use Rattle.service_outline.specs.Both.{both}
+use Rattle.service_outline.specs.Done.{goes, acts, ends, number, owed_error, tells_error}
+use Rattle.service_outline.specs.Past.{Past, nothing_yet, Being}
+use Rattle.service_outline.specs.Services.{Held, Basis, Spot, Within, Outside, LongBodies, Services}
+use Rattle.service_outline.specs.Sweeping.{Sweeping, sweep}
+use Rattle.held_example.specs.declared.asking.Asking.{Asking}
+use Rattle.held_example.specs.declared.asking.Asking.TheVariants.{Want, OpenOnce, Tell, ShutAgain, Look, Go, Unmark}
+use Rattle.held_example.specs.declared.call.Call.{Call}
+use Rattle.held_example.specs.declared.call.Call.TheVariants.{Fill, Ask, Put, Take, Poll, Reboot}
+use Rattle.held_example.specs.declared.filling.Filled.{Filled}
+use Rattle.held_example.specs.declared.filling.Filled.TheVariants as fills
+use Rattle.held_example.specs.declared.filling.Job.{Job}
+use Rattle.held_example.specs.declared.keeping.Putting.{Putting}
+use Rattle.held_example.specs.declared.keeping.Putting.TheVariants as puts
+use Rattle.held_example.specs.declared.keeping.Taking.{Taking}
+use Rattle.held_example.specs.declared.keeping.Taking.TheVariants.{Newest, Pin, Open, Copy, Shut, Release}
+use Rattle.held_example.specs.declared.polling.Polling.{Polling}
+use Rattle.held_example.specs.declared.polling.Polling.TheVariants as polls
+use Rattle.held_example.specs.declared.rebooting.Rebooting.{Rebooting}
+use Rattle.held_example.specs.declared.rebooting.Rebooting.TheVariants.{Reset}
+
+-- ---- the machine
+
+pub record State : Type 0 where
+  -- the value of each section
+  pub sections : List ℕ
+  -- the unit waits for its start
+  pub waiting : Bool
+  -- the value that was kept last
+  pub kept : Option ℕ
+
+abbrev pub first_state : State
+first_state = record { sections = 0 ∷ 0 ∷ 0 ∷ 0 ∷ []; waiting = false; kept = None }
+
+abbrev pub cells_of : State → ℕ → ℕ
+cells_of s c = slice_index_or s.sections c 0
+
+abbrev pub table : (ℕ → ℕ) → List ℕ
+table f = f 0 ∷ f 1 ∷ f 2 ∷ f 3 ∷ []
+
+abbrev pub put : (ℕ → ℕ) → ℕ → ℕ → ℕ → ℕ
+put f n v c = if c == n then v else f c
+
+abbrev pub filled : State → ℕ → ℕ → State
+filled s n v = record s { sections = table (put (cells_of s) n v) }
+
+abbrev pub notice : Notice
+notice = record { kind = AdcNotification; id = 0 }
+
+abbrev pub tells_notice : Told
+tells_notice = record { answer = no_answer; error = None; notices = notice ∷ [] }
+
+-- what filling a section and taking a value give
+abbrev pub fills_by : State → ℕ → ℕ → Bool → Outcome State
+fills_by s n v true = outcome (filled s n v) tells_nothing
+fills_by s n v false = outcome s (tells_error no_answer McuParamRamsection)
+
+abbrev pub tells_kept : Option ℕ → Told
+tells_kept None = tells_error no_answer AdcIdle
+tells_kept (Some v) = record { answer = number v; error = None; notices = [] }
+
+abbrev pub starts_by : State → Bool → Option (Outcome State)
+starts_by s true = Some (outcome (record s { waiting = false }) tells_nothing)
+starts_by s false = None
+
+abbrev pub happens : World → State → Happening Call → Option (Outcome State)
+happens w s (Acts (Fill n v) times) = Some (fills_by s n v (nat_lt n 4))
+happens w s (Acts Ask times) = Some (outcome (record s { waiting = true }) tells_notice)
+happens w s (Acts (Put v) times) = Some (outcome (record s { kept = Some v }) tells_nothing)
+happens w s (Acts Take times) = Some (outcome s (tells_kept s.kept))
+happens w s (Acts Poll times) = Some (outcome s tells_nothing)
+happens w s (Acts Reboot times) = Some (outcome s tells_nothing)
+happens w s (Serves l x) = if l == 0 then Some (outcome s tells_nothing) else None
+happens w s (Starts Adc0 x) = starts_by s s.waiting
+happens w s (Starts Adc1 x) = None
+happens w s (Starts Spi0 x) = None
+happens w s (Starts Spi1 x) = None
+happens w s (Aborts u) = None
+happens w s (Moves order) = Some (outcome s tells_nothing)
+happens w s (Restarts reason) = Some (outcome first_state tells_nothing)
+
+abbrev pub startable : World → State → units.Unit → Bool
+startable w s Adc0 = s.waiting
+startable w s Adc1 = false
+startable w s Spi0 = false
+startable w s Spi1 = false
+
+abbrev pub service_of : Call → Service
+service_of Reboot = McuPerformReset
+service_of Take = AdcReadGroup
+service_of _ = McuInitRamSection
+
+abbrev pub polls_of : Call → List ℕ
+polls_of Poll = 0 ∷ []
+polls_of _ = []
+
+abbrev pub reporting : Reporting
+reporting = record { detect = true; classification = 2 }
+
+abbrev pub machine : Machine State Call
+machine = record {
+  happens = happens;
+  ready = λ w s l. true;
+  due = λ w s l. false;
+  startable = startable;
+  rate = λ s. 1;
+  expires = λ w s. None;
+  service_of = service_of;
+  reporting = λ c. reporting;
+  polls = λ w s c. polls_of c;
+}
+
+-- ---- the setting
+
+abbrev pub keyed : KeyKind → ℕ → Class
+keyed k n = record { kind = Keyed; «module» = Mcu; key = Some (record { kind = k; number = n }) }
+
+-- a class without a key
+abbrev pub whole : Kind → Class
+whole k = record { kind = k; «module» = Mcu; key = None }
+
+abbrev pub class_of : Call → Class
+class_of (Fill n v) = keyed Section n
+class_of Ask = whole Guarded
+class_of (Put v) = whole Guarded
+class_of Take = keyed Group 0
+class_of Poll = whole Guarded
+class_of Reboot = whole Exclusive
+
+-- the words of the module, and its registers
+abbrev pub is_own_word : ℕ → Bool
+is_own_word k = not (nat_lt k 32768) && nat_lt k 32832
+
+abbrev pub is_own_register : Reg → Bool
+is_own_register (ConverterGo u) = u == 0
+is_own_register ResetRequest = true
+is_own_register _ = false
+
+abbrev pub owns : Move → Bool
+owns (Read r) = is_own_register r
+owns (Write r v) = is_own_register r
+owns (Load k) = is_own_word k
+owns (Store k v) = is_own_word k
+owns _ = false
+
+abbrev pub setting : Setting State Call
+setting = record {
+  machine = machine;
+  first = first_state;
+  class_of = class_of;
+  level_of = λ l. 1;
+  owner_of = λ l. Mcu;
+  used = λ l. false;
+  steps_of = λ o. 64;
+  window_of = λ o. 16;
+  may = λ o made. owns made;
+  halves = λ c. None;
+  fills = λ c. false;
+  fill_busy = λ w s origins c. false;
+  receives = λ chip w number received. Unit {0};
+  begins_word = λ w s line. None;
+  selects = λ origin chip w s e number. Unit {0};
+  rest = λ chip w s. Unit {0};
+  shows = λ origin n chip s. Unit {0};
+}
+
+-- ---- what is held, and the agreement
+
+pub data Hold : Type 0 where
+  -- the words below this place of the section have the value already
+  Part : (section value upto : ℕ) → Hold
+  -- the start that is possible will be made
+  Promise : Hold
+  -- this bank stays as it is, and has what the frame answered
+  Pinned : (bank : ℕ) → Hold
+
+abbrev pub Holds : Type 0
+Holds = List (Held Call Hold)
+
+-- the words: of a section, whether the unit waits, the state, the newest bank and the pinned one, each + 1, and a bank
+abbrev pub cell : ℕ → ℕ → ℕ
+cell c j = 32768 + 8 * c + j
+
+abbrev pub MARK : ℕ
+MARK = 32808
+
+abbrev pub STATE : ℕ
+STATE = 32809
+
+abbrev pub NEWEST : ℕ
+NEWEST = 32810
+
+abbrev pub PIN : ℕ
+PIN = 32811
+
+abbrev pub bank : ℕ → ℕ
+bank b = 32812 + b
+
+abbrev pub flag : Bool → ℕ
+flag true = 1
+flag false = 0
+
+-- what a word of a section holds, where it held this but for one frame, and with all that is held
+abbrev pub want_by : Hold → ℕ → ℕ → ℕ → ℕ
+want_by (Part n v i) old c j = if c == n && nat_lt j i then v else old
+want_by Promise old c j = old
+want_by (Pinned b) old c j = old
+
+abbrev pub want : Holds → (ℕ → ℕ) → ℕ → ℕ → ℕ
+want [] f c j = f c
+want (h ∷ hs) f c j = want_by h.what (want hs f c j) c j
+
+abbrev pub is_promise : Hold → Bool
+is_promise (Part n v i) = false
+is_promise Promise = true
+is_promise (Pinned b) = false
+
+-- some frame has promised the start
+abbrev pub promised : Holds → Bool
+promised [] = false
+promised (h ∷ hs) = is_promise h.what || promised hs
+
+-- what is held is the frame's; a pinned bank has what the frame answered
+abbrev pub HeldRight : Chip → Held Call Hold → Hold → Type 0
+HeldRight chip h (Part n v i) = h.by ≡ Called (Fill n v)
+HeldRight chip h Promise = Unit {0}
+HeldRight chip h (Pinned b) = (h.by ≡ Called Take) × (b < 2) × (word_of chip PIN ≡ 1 + b) × (h.acted ≡ Some (number (word_of chip (bank b))))
+
+abbrev pub AllRight : Chip → Holds → Type 0
+AllRight chip [] = Unit {0}
+AllRight chip (h ∷ hs) = HeldRight chip h h.what × AllRight chip hs
+
+-- what the top frame has under work: nothing, the mark, or the newest bank, which is to be this one
+pub data Work : Type 0 where
+  Settled : Work
+  Marking : Work
+  Publishing : ℕ → Work
+
+abbrev pub MarkAgrees : Work → Chip → Bool → Type 0
+MarkAgrees Settled chip waiting = word_of chip MARK ≡ flag waiting
+MarkAgrees Marking chip waiting = Unit {0}
+MarkAgrees (Publishing b) chip waiting = word_of chip MARK ≡ flag waiting
+
+-- the newest bank has the value that was kept last
+abbrev pub IsKept : Chip → Option ℕ → Type 0
+IsKept chip None = word_of chip NEWEST ≡ 0
+IsKept chip (Some v) = (b : ℕ) × (b < 2) × (word_of chip NEWEST ≡ 1 + b) × (word_of chip (bank b) ≡ v)
+
+abbrev pub KeptAgrees : Work → Chip → Option ℕ → Type 0
+KeptAgrees Settled chip kept = IsKept chip kept
+KeptAgrees Marking chip kept = IsKept chip kept
+KeptAgrees (Publishing b) chip kept = (b < 2) × (kept ≡ Some (word_of chip (bank b)))
+
+-- the words agree with the state and with what is held, but for what is under work
+pub record Agrees (held : Holds) (work : Work) (chip : Chip) (w : World) (s : State) : Type 0 where
+  pub right : AllRight chip held
+  pub words : length chip.words ≡ WORDS
+  pub cells : (c j : ℕ) → c < 4 → j < 8 → word_of chip (cell c j) ≡ want held (cells_of s) c j
+  pub mark : MarkAgrees work chip s.waiting
+  pub kept : KeptAgrees work chip s.kept
+  pub starts : s.waiting ≡ true → promised held ≡ true
+
+-- of the chip the places see which bank is the newest, and which is pinned
+abbrev pub basis : Basis State Call
+basis = record {
+  setting = setting;
+  lines = λ l. false;
+  owns = λ o made. owns made;
+  count = λ s. 0;
+  later = λ w s order. s;
+  Gap = Work;
+  settled = Settled;
+  Hold = Hold;
+  agrees = Agrees;
+  Foot = ℕ × ℕ;
+  foot = λ chip. (word_of chip NEWEST, word_of chip PIN);
+}
+
+-- ---- a section is filled: a sweep of eight words, and then the act
+
+abbrev pub job_count : Job → ℕ
+job_count r = 8
+
+abbrev pub job_move : Job → ℕ → Move
+job_move r i = Store (cell r.section i) r.value
+
+abbrev pub job_after : Job → Filled
+job_after r = fills.Act r
+
+abbrev pub filled_work : Filled → Move
+filled_work k = Load STATE
+
+abbrev pub filled_takes : Filled → ℕ → Filled × BodyTaken
+filled_takes k x = (k, ends (Some Act) no_answer Nothing)
+
+-- nothing of the section is held
+abbrev pub is_of : ℕ → Hold → Bool
+is_of c (Part n v i) = c == n
+is_of c Promise = false
+is_of c (Pinned b) = false
+
+abbrev pub Free : ℕ → Holds → Type 0
+Free c [] = Unit {0}
+Free c (h ∷ hs) = (is_of c h.what ≡ false) × Free c hs
+
+abbrev pub IsFilling : Job → Holds → Origin Call → Past → Type 0
+IsFilling r below o p = Being (Called (Fill r.section r.value)) nothing_yet o p × (r.section < 4) × Free r.section below
+
+abbrev pub part : Job → ℕ → List Hold
+part r i = Part r.section r.value i ∷ []
+
+abbrev pub filling : Sweeping basis Job Filled
+filling = record { count = job_count; move = job_move; after = job_after; hold = part; place = IsFilling }
+
+abbrev pub filled_spot : Filled → Spot basis
+filled_spot (fills.Act r) = Within Settled (part r 8) (λ below f w s o p. IsFilling r below o p)
+
+abbrev pub filled_bodies : LongBodies basis Filled
+filled_bodies = record { work_of = filled_work; takes = filled_takes; fuel = λ k. 1; room = λ k. 1; clean = λ k. false; spot = filled_spot }
+
+abbrev pub fill_bodies : LongBodies basis (Sweep Job Filled)
+fill_bodies = sweep filling filled_bodies
+
+-- ---- a unit is asked: the act, its notice, and the start that is possible
+
+abbrev pub ask_work : Asking → Move
+ask_work Want = Store MARK 1
+ask_work OpenOnce = Unmask
+ask_work Tell = Note notice
+ask_work ShutAgain = Mask
+ask_work Look = Load MARK
+ask_work Go = Write (ConverterGo 0) 1
+ask_work Unmark = Store MARK 0
+
+abbrev pub look_takes : Bool → Asking × BodyTaken
+look_takes true = (Look, ends None no_answer Nothing)
+look_takes false = (Go, goes)
+
+-- the start of the unit
+abbrev pub starts : BodyTaken
+starts = record { event = Some (Start Adc0); done = None }
+
+abbrev pub ask_takes : Asking → ℕ → Asking × BodyTaken
+ask_takes Want x = (OpenOnce, acts)
+ask_takes OpenOnce x = (Tell, goes)
+ask_takes Tell x = (ShutAgain, goes)
+ask_takes ShutAgain x = (Look, goes)
+ask_takes Look x = look_takes (x == 0)
+ask_takes Go x = (Unmark, starts)
+ask_takes Unmark x = (Unmark, ends None no_answer Nothing)
+
+abbrev pub ask_fuel : Asking → ℕ
+ask_fuel Want = 7
+ask_fuel OpenOnce = 6
+ask_fuel Tell = 5
+ask_fuel ShutAgain = 4
+ask_fuel Look = 3
+ask_fuel Go = 2
+ask_fuel Unmark = 1
+
+abbrev pub ask_room : Asking → ℕ
+ask_room Want = 1
+ask_room OpenOnce = 0
+ask_room Tell = 0
+ask_room ShutAgain = 0
+ask_room Look = 3
+ask_room Go = 2
+ask_room Unmark = 1
+
+-- the frame's past after its act, and after its notice
+abbrev pub owing : Past
+owing = record nothing_yet { acted = Some no_answer; owed = record { notice = notice; served = false } ∷ [] }
+
+abbrev pub told_all : Past
+told_all = record nothing_yet { acted = Some no_answer }
+
+-- from its act to its start the frame has promised
+abbrev pub promise : List Hold
+promise = Promise ∷ []
+
+abbrev pub ask_spot : Asking → Spot basis
+ask_spot Want = Within Settled [] (λ below f w s o p. Being (Called Ask) nothing_yet o p)
+ask_spot OpenOnce = Within Settled promise (λ below f w s o p. Being (Called Ask) owing o p)
+ask_spot Tell = Outside promise (λ below o p. Being (Called Ask) owing o p)
+ask_spot ShutAgain = Outside promise (λ below o p. Being (Called Ask) told_all o p)
+ask_spot Look = Within Settled promise (λ below f w s o p. Being (Called Ask) told_all o p)
+ask_spot Go = Within Settled promise (λ below f w s o p. Being (Called Ask) told_all o p × (s.waiting ≡ true))
+ask_spot Unmark = Within Marking [] (λ below f w s o p. Being (Called Ask) told_all o p × (s.waiting ≡ false))
+
+abbrev pub ask_bodies : LongBodies basis Asking
+ask_bodies = record { work_of = ask_work; takes = ask_takes; fuel = ask_fuel; room = ask_room; clean = λ k. false; spot = ask_spot }
+
+-- ---- a value is kept, in the bank that isn't pinned
+
+abbrev pub put_work : Putting → Move
+put_work (puts.Look v) = Load PIN
+put_work (puts.Keep b v) = Store (bank b) v
+put_work (puts.Publish b) = Store NEWEST (1 + b)
+
+abbrev pub put_takes : Putting → ℕ → Putting × BodyTaken
+put_takes (puts.Look v) x = if x == 1 then (puts.Keep 1 v, goes) else (puts.Keep 0 v, goes)
+put_takes (puts.Keep b v) x = (puts.Publish b, acts)
+put_takes (puts.Publish b) x = (puts.Publish b, ends None no_answer Nothing)
+
+abbrev pub put_fuel : Putting → ℕ
+put_fuel (puts.Look v) = 3
+put_fuel (puts.Keep b v) = 2
+put_fuel (puts.Publish b) = 1
+
+abbrev pub put_spot : Putting → Spot basis
+put_spot (puts.Look v) = Within Settled [] (λ below f w s o p. Being (Called (Put v)) nothing_yet o p)
+put_spot (puts.Keep b v) = Within Settled [] (λ below f w s o p. Being (Called (Put v)) nothing_yet o p × (b < 2) × (f.1 ≢ 1 + b))
+put_spot (puts.Publish b) = Within (Publishing b) [] (λ below f w s o p. (v : ℕ) × Being (Called (Put v)) told_all o p)
+
+abbrev pub put_bodies : LongBodies basis Putting
+put_bodies = record { work_of = put_work; takes = put_takes; fuel = put_fuel; room = put_fuel; clean = λ k. false; spot = put_spot }
+
+-- ---- the value is taken: its bank is pinned at the act, and copied with the mask open
+
+abbrev pub take_work : Taking → Move
+take_work Newest = Load NEWEST
+take_work (Pin b) = Store PIN (1 + b)
+take_work (Open b) = Unmask
+take_work (Copy b) = Load (bank b)
+take_work (Shut b x) = Mask
+take_work (Release b x) = Store PIN 0
+
+-- the bank that a word names
+abbrev pub named : ℕ → ℕ
+named x = if x == 1 then 0 else 1
+
+abbrev pub none_kept : BodyTaken
+none_kept = ends (Some Act) no_answer (owed_error reporting AdcReadGroup AdcIdle)
+
+abbrev pub take_takes : Taking → ℕ → Taking × BodyTaken
+take_takes Newest x = if x == 0 then (Newest, none_kept) else (Pin (named x), goes)
+take_takes (Pin b) x = (Open b, acts)
+take_takes (Open b) x = (Copy b, goes)
+take_takes (Copy b) x = (Shut b x, goes)
+take_takes (Shut b y) x = (Release b y, goes)
+take_takes (Release b y) x = (Release b y, ends None (number y) Nothing)
+
+abbrev pub take_fuel : Taking → ℕ
+take_fuel Newest = 6
+take_fuel (Pin b) = 5
+take_fuel (Open b) = 4
+take_fuel (Copy b) = 3
+take_fuel (Shut b x) = 2
+take_fuel (Release b x) = 1
+
+abbrev pub take_room : Taking → ℕ
+take_room Newest = 2
+take_room (Pin b) = 1
+take_room (Open b) = 0
+take_room (Copy b) = 0
+take_room (Shut b x) = 0
+take_room (Release b x) = 1
+
+-- where it may find that nothing is kept it has only loaded a word
+abbrev pub take_clean : Taking → Bool
+take_clean Newest = true
+take_clean _ = false
+
+-- no frame below has pinned a bank
+abbrev pub is_pin : Hold → Bool
+is_pin (Part n v i) = false
+is_pin Promise = false
+is_pin (Pinned b) = true
+
+abbrev pub NonePinned : Holds → Type 0
+NonePinned [] = Unit {0}
+NonePinned (h ∷ hs) = (is_pin h.what ≡ false) × NonePinned hs
+
+abbrev pub answered : ℕ → Past
+answered v = record nothing_yet { acted = Some (number v) }
+
+-- it has answered this
+abbrev pub IsTaking : ℕ → Holds → Origin Call → Past → Type 0
+IsTaking v below o p = Being (Called Take) (answered v) o p × NonePinned below
+
+abbrev pub pinned : ℕ → List Hold
+pinned b = Pinned b ∷ []
+
+abbrev pub take_spot : Taking → Spot basis
+take_spot Newest = Within Settled [] (λ below f w s o p. Being (Called Take) nothing_yet o p × NonePinned below)
+take_spot (Pin b) = Within Settled [] (λ below f w s o p. Being (Called Take) nothing_yet o p × NonePinned below × (b < 2) × (f.0 ≡ 1 + b))
+take_spot (Open b) = Within Settled (pinned b) (λ below f w s o p. (v : ℕ) × IsTaking v below o p)
+take_spot (Copy b) = Outside (pinned b) (λ below o p. (b < 2) × (v : ℕ) × IsTaking v below o p)
+take_spot (Shut b x) = Outside (pinned b) (λ below o p. IsTaking x below o p)
+take_spot (Release b x) = Within Settled (pinned b) (λ below f w s o p. IsTaking x below o p)
+
+abbrev pub take_bodies : LongBodies basis Taking
+take_bodies = record { work_of = take_work; takes = take_takes; fuel = take_fuel; room = take_room; clean = take_clean; spot = take_spot }
+
+-- ---- a line is polled
+
+abbrev pub poll_work : Polling → Move
+poll_work k = Load STATE
+
+abbrev pub poll_takes : Polling → ℕ → Polling × BodyTaken
+poll_takes polls.Act x = (polls.Serve, acts)
+poll_takes polls.Serve x = (polls.Serve, ends (Some (Serve 0)) no_answer Nothing)
+
+abbrev pub poll_fuel : Polling → ℕ
+poll_fuel polls.Act = 2
+poll_fuel polls.Serve = 1
+
+-- its past after its act: it polls the line
+abbrev pub polling : Past
+polling = record nothing_yet { acted = Some no_answer; polled = 0 ∷ [] }
+
+abbrev pub poll_spot : Polling → Spot basis
+poll_spot polls.Act = Within Settled [] (λ below f w s o p. Being (Called Poll) nothing_yet o p)
+poll_spot polls.Serve = Within Settled [] (λ below f w s o p. Being (Called Poll) polling o p)
+
+abbrev pub poll_bodies : LongBodies basis Polling
+poll_bodies = record { work_of = poll_work; takes = poll_takes; fuel = poll_fuel; room = poll_fuel; clean = λ k. false; spot = poll_spot }
+
+-- ---- the chip is reset
+
+abbrev pub reboot_takes : Rebooting → ℕ → Rebooting × BodyTaken
+reboot_takes Reset x = (Reset, ends (Some Act) no_answer Nothing)
+
+abbrev pub reboot_work : Rebooting → Move
+reboot_work Reset = Write ResetRequest 1
+
+abbrev pub reboot_spot : Rebooting → Spot basis
+reboot_spot Reset = Within Settled [] (λ below f w s o p. Being (Called Reboot) nothing_yet o p)
+
+abbrev pub reboot_bodies : LongBodies basis Rebooting
+reboot_bodies = record { work_of = reboot_work; takes = reboot_takes; fuel = λ k. 1; room = λ k. 1; clean = λ k. false; spot = reboot_spot }
+
+-- ---- the driver
+
+abbrev pub Body : Type 0
+Body = Or (Or (Sweep Job Filled) Asking) (Or (Or Putting Taking) (Or Polling Rebooting))
+
+abbrev pub fill_looked : ℕ → ℕ → Bool → Looked Body
+fill_looked n v true = Goes (First (First (record { objects = record { section = n; value = v }; place = Opens })))
+fill_looked n v false = Refused (record { answer = no_answer; owed = owed_error reporting McuInitRamSection McuParamRamsection })
+
+abbrev pub looked : Call → ℕ → Looked Body
+looked (Fill n v) x = fill_looked n v (nat_lt n 4)
+looked Ask x = Goes (First (Second Want))
+looked (Put v) x = Goes (Second (First (First (puts.Look v))))
+looked Take x = Goes (Second (First (Second Newest)))
+looked Poll x = Goes (Second (Second (First polls.Act)))
+looked Reboot x = Goes (Second (Second (Second Reset)))
+
+abbrev pub toy : Services State Call Call Body
+toy = record {
+  basis = basis;
+  bodies = both (both fill_bodies ask_bodies) (both (both put_bodies take_bodies) (both poll_bodies reboot_bodies));
+  fits = Unit {0};
+  can = λ c. Unit {0};
+  word = STATE;
+  asked = λ c. c;
+  looked = looked;
+  most = λ c. 12;
+  wide = λ c. 3;
+  body_of = λ l. None;
+}

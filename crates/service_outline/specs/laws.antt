@@ -1,0 +1,13 @@
+pub mod Acts
+pub mod Both
+pub mod Either
+pub mod Fuel
+pub mod Lawful
+pub mod Reports
+pub mod ShortServices
+pub mod StepKinds
+pub mod Steps
+pub mod Sweep
+pub mod Sweeping
+pub mod There
+pub mod Words

@@ -1,0 +1,252 @@
+-- Each step of a frame that follows the outline is right, from what its driver owes.
+use Rattle.std.proofs.Common.{◌≡◌, ℕ, ◌+◌, ◌<◌, ◌≤◌, ◌||◌, Bool, true, false, List, [], ◌∷◌, Option, Some, None, refl, sym, ap, subst, arith}
+use Rattle.chip_model.specs.Chip.{Chip, value_of, chip_after}
+use Rattle.mcal_base.specs.declared.answer.Answer.{Answer}
+use Rattle.mcal_base.specs.declared.moves.DevError.{DevError}
+use Rattle.mcal_base.specs.declared.moves.Event.{Event}
+use Rattle.mcal_base.specs.declared.moves.Event.TheVariants.{Act}
+use Rattle.mcal_base.specs.declared.moves.Move.{Move}
+use Rattle.mcal_base.specs.declared.moves.Move.TheVariants.{Read, Write, Load, Store, Mask, Unmask, Note, Report}
+use Rattle.mcal_base.specs.declared.notice.Notice.{Notice}
+use Rattle.run_model.specs.World.{World}
+use Rattle.run_model.specs.Machine.{Told}
+use Rattle.run_model.specs.Frame.{Origin, Called, Entered, Owing, Open, owing, reads_after, is_write, missed_after, top_after, is_shared, resets_chip}
+use Rattle.run_model.specs.Legal.{ReceivedRight, has_line, MayEnd}
+use Rattle.std.specs.List.{list_all}
+use Rattle.step_runner.specs.Driver.{most_steps, KeepsStep, stepped}
+use Rattle.service_outline.specs.declared.done.Owed.{Owed}
+use Rattle.service_outline.specs.declared.done.Owed.TheVariants.{Nothing, Error, One, Two}
+use Rattle.service_outline.specs.declared.done.Done.{Done}
+use Rattle.service_outline.specs.declared.body.Looked.{Looked}
+use Rattle.service_outline.specs.declared.body.Looked.TheVariants.{Refused, Goes}
+use Rattle.service_outline.specs.declared.short.Short.{Short}
+use Rattle.service_outline.specs.declared.short.Short.TheVariants.{Calling, Loading, Entering, Inside, Opening, Telling, Returning}
+use Rattle.service_outline.specs.Short.{short_move, short_left, short_gave, tells, goes, does, left_look, gave_look, left_body, left_open, gave_open, left_told, gave_told}
+use Rattle.service_outline.specs.Fuel.{short_fuel, ShortensTo}
+use Rattle.service_outline.specs.laws.Fuel.{look_fuel, look_room, body_fuel, body_room}
+use Rattle.service_outline.specs.Outline.{notices_in, error_in, form}
+use Rattle.service_outline.specs.Past.{Past, nothing_yet, with_past, having, past_wrote, past_after}
+use Rattle.service_outline.specs.Services.{Held, Basis, AreShown, MayStop, Spot, Within, Outside, is_closed, holds_at, gap_at, place_at, Elsewhere, Services, AreServices, IsDone, IsOver, Waits, AllWait, IsTop, Relates, Decides, Continues, Works, Notes, Makes, KeepsMask, TurnsMask, with_holds, holds_by, holds_in, services_driver}
+use Rattle.service_outline.specs.Acts.{KeepsClean, ActsRight, IsFresh, Behaves, LeavesRight}
+use Rattle.service_outline.specs.laws.Acts.{sound_leaves, leaves_on, fresh_leaves, fresh_on, fresh_behaves, goes_behaves, goes_sound, ends_leaves, refused_leaves}
+use Rattle.service_outline.specs.laws.StepKinds.{acted_then, rest_acted, Keeps, rest_after, plain_step, last_step, mask_step, unmask_step, leave_step, report_step, note_step, event_step, form_is, may_more}
+
+-- what the law says of a step
+abbrev pub KeepsAt : {State Call Asked Body : Type 0} → Services State Call Asked Body → Chip → World → (received : ℕ) → Short Asked Body → Open Call → List (Short Asked Body × Open Call) → State → Type 0
+KeepsAt d chip w received f o ps s =
+    let made = short_move d.word d.bodies.work_of f in
+    let value = value_of chip made in
+    let taken = short_gave d.looked d.bodies.takes f value in
+    KeepsStep (services_driver d) (record { chip = chip; world = w; state = s; opens = []; steps = 0 }) f o (short_left d.looked d.bodies.takes f value) (stepped made value received taken) (λ s1 o1. Relates d (chip_after chip made) w (top_after (short_left d.looked d.bodies.takes f value, o1) taken.ended ps) s1)
+
+-- how the mask stands after a step of a body: as the next place has it, or closed, where it is done
+abbrev pub StandsMasked : Bool → Bool → Option Done → Type 0
+StandsMasked inside is None = is ≡ inside
+StandsMasked inside is (Some n) = inside ≡ true
+
+stands_masked : (is : Bool) (room later : ℕ) (e : Option Event) (left : Option Done) → KeepsMask true is room later e left → StandsMasked true is left
+stands_masked is room later e None h = h.0
+stands_masked is room later e (Some n) h = refl
+
+room_shortens : (is : Bool) (room later : ℕ) (e : Option Event) (left : Option Done) → KeepsMask true is room later e left → ShortensTo room later left
+room_shortens is room later e None h = h.1
+room_shortens is room later e (Some n) h = h
+
+-- with the mask open nothing is under work, and the place rests on the frame alone
+pub settled_at : {State Call : Type 0} {g : Basis State Call} (x : Spot g) → is_closed x ≡ false → gap_at x ≡ g.settled
+settled_at (Within gap hs place) e = absurd (cc)
+settled_at (Outside hs place) e = refl
+
+pub stays_at : {State Call : Type 0} {g : Basis State Call} (x : Spot g) (below : List (Held Call g.Hold)) (f f1 : g.Foot) (w w1 : World) (s s1 : State) (origin : Origin Call) (past : Past) → is_closed x ≡ false → place_at x below f w s origin past → place_at x below f1 w1 s1 origin past
+stays_at (Within gap hs place) below f f1 w w1 s s1 origin past e h = absurd (cc)
+stays_at (Outside hs place) below f f1 w w1 s s1 origin past e h = h
+
+module _ {State Call Asked Body : Type 0} (d : Services State Call Asked Body) (law : AreServices d) where
+  top_of_waits : (held : List (Held Call d.basis.Hold)) (chip : Chip) (w : World) (s : State) (f : Short Asked Body) (o : Open Call) → d.basis.agrees (holds_by d f o held) d.basis.settled chip w s → Waits d held f o → IsTop d held chip w s f o
+  top_of_waits held chip w s (Calling c) o a h = (a, h)
+  top_of_waits held chip w s (Loading c) o a h = absurd h
+  top_of_waits held chip w s (Entering k) o a h = (a, h)
+  top_of_waits held chip w s (Inside k) o a h = record {
+    past = h.past;
+    form = h.form;
+    behaves = h.behaves;
+    at = (subst (λ x. d.basis.agrees (with_holds o.origin x (holds_at (d.bodies.spot k)) held) (gap_at (d.bodies.spot k)) chip w s) (ap (λ x. x.acted) h.form) (subst (λ x. d.basis.agrees (with_holds o.origin o.acted (holds_at (d.bodies.spot k)) held) x chip w s) (sym (settled_at (d.bodies.spot k) h.opened)) a), h.place (d.basis.foot chip) w s);
+  }
+  top_of_waits held chip w s (Opening n) o a h = absurd h
+  top_of_waits held chip w s (Telling n) o a h = (a, h)
+  top_of_waits held chip w s (Returning n) o a h = (a, h)
+
+  -- what is below a frame that ends
+  pub below : (chip : Chip) (w : World) (s : State) (ps : List (Short Asked Body × Open Call)) → d.basis.agrees (holds_in d ps) d.basis.settled chip w s → AllWait d ps → Relates d chip w ps s
+  below chip w s [] a h = a
+  below chip w s (p ∷ ps) a h = (top_of_waits (holds_in d ps) chip w s p.0 p.1 a h.0, h.1, h.2)
+
+-- a step of each kind, over frames that wait
+module _ {State Call Asked Body : Type 0} (d : Services State Call Asked Body) (law : AreServices d) (ps : List (Short Asked Body × Open Call)) (waits : AllWait d ps) (s : State) (w : World) (r : Open Call) (received : ℕ) where
+  -- a frame that may end so is done
+  stop_by : (rest : Open Call) (origin : Origin Call) (p : Past) (n : Done) → MayStop d.basis origin p rest.missed n → LeavesRight d.basis.setting origin rest.reads rest.wrote rest.acted_at → IsDone d.basis (having rest origin p true) n true
+  stop_by rest (Called c) p n h leaves = record { may = h.may; served = h.served; owed = h.owed; shown = h.shown; report = h.report; leaves = leaves; inside = refl }
+  stop_by rest (Entered l) p n h leaves = record { may = h.may; served = h.served; owed = h.owed; shown = h.shown; report = h.report; leaves = leaves; inside = refl }
+
+  load_by : (chip : Chip) (c : Call) (x : ℕ) (l : Looked Body) → IsFresh r → IsOver d (Called c) r.tag (holds_in d ps) → d.basis.agrees (holds_in d ps) d.basis.settled chip w s → Decides d (holds_in d ps) chip w s c l → Keeps (services_driver d) chip w s received (Loading (d.asked c)) (left_look l) (λ s1 o1. Relates d chip w (top_after (left_look l, o1) (gave_look l).ended ps) s1) (having r (Called c) nothing_yet true) (Load d.word) x (gave_look l)
+  load_by chip c x (Refused n) fresh over agrees h =
+      let rest = rest_acted d.basis.setting.machine w s (having r (Called c) nothing_yet true) (Load d.word) (Called c) Act h.told in
+      let leaves = refused_leaves d.basis.setting (having r (Called c) nothing_yet true) c d.word h.told n (record { wrote = fresh.wrote; reads = fresh.reads; acted = fresh.acted }) refl in
+      event_step (services_driver d) chip w s received (Loading (d.asked c)) (Opening n) _ r (Called c) nothing_yet (Load d.word) x Act s h.told refl (sym h.reset) (law.own_word (Called c)) (look_fuel d.most d.bodies.fuel (d.asked c) (Refused n) tt) (look_room d.wide d.bodies.room (d.asked c) (Refused n) tt) refl tt tt (h.is _) leaves ((agrees, stop_by rest (Called c) (past_after d.basis.setting.machine w s (Called c) Act h.told nothing_yet) n (record { may = (ap (λ x. Some x) h.tells.0, ap (list_all (λ l. has_line [] l || rest.missed l)) (h.polls)); served = false; owed = ap (owing false) h.tells.1; shown = λ e. absurd (cc); report = h.tells.2 }) leaves), over, waits)
+  load_by chip c x (Goes k) fresh over agrees h =
+      let rest = rest_after d.basis.setting.machine w s (having r (Called c) nothing_yet true) (Load d.word) in
+      let before = fresh_behaves d.basis.setting true (having r (Called c) nothing_yet true) (record { wrote = fresh.wrote; reads = fresh.reads; acted = fresh.acted }) in
+      plain_step (services_driver d) chip w s received (Loading (d.asked c)) (Inside k) _ (with_past r nothing_yet) (Called c) None [] [] None true (Load d.word) x refl refl (law.own_word (Called c)) (look_fuel d.most d.bodies.fuel (d.asked c) (Goes k) h.fuel) (λ e. look_room d.wide d.bodies.room (d.asked c) (Goes k) h.room) (sound_leaves d.basis.setting (Called c) _ _ r.acted_at before.acted) (record { past = nothing_yet; form = ap (λ x. having rest (Called c) nothing_yet x) (sym h.closed); behaves = goes_behaves d.basis.setting true (having r (Called c) nothing_yet true) before (Load d.word) (d.bodies.clean k) (having rest (Called c) nothing_yet true) (λ e. (refl, refl)) refl refl refl before.acted; at = h.at }, over, waits)
+
+  -- what holds of the frame itself where its body goes on, and where it is done
+  abbrev KeepsFrame : Open Call → Origin Call → Past → Bool → Body → Option Done → Type 0
+  KeepsFrame rest origin past inside k None = Behaves d.basis.setting (d.bodies.clean k) (having rest origin past inside)
+  KeepsFrame rest origin past inside k (Some n) = LeavesRight d.basis.setting origin rest.reads rest.wrote rest.acted_at
+
+  continue_by : (chip : Chip) (s1 : State) (rest : Open Call) (origin : Origin Call) (past : Past) (inside : Bool) (k : Body) (left : Option Done) → IsOver d origin rest.tag (holds_in d ps) → StandsMasked inside (is_closed (d.bodies.spot k)) left → KeepsFrame rest origin past inside k left → Continues d.basis d.bodies (holds_in d ps) chip w s1 origin past rest.missed k left → Relates d chip w ((left_body k left, having rest origin past inside) ∷ ps) s1
+  continue_by chip s1 rest origin past inside k None over e kept h = (record { past = past; form = ap (λ x. having rest origin past x) (sym e); behaves = kept; at = h }, over, waits)
+  continue_by chip s1 rest origin past inside k (Some n) over e kept h = ((h.0, subst (λ x. IsDone d.basis (having rest origin past x) n true) (sym e) (stop_by rest origin past n h.1 kept)), over, waits)
+
+  -- a step of a body
+  abbrev KeepsBody : Chip → Chip → ℕ → Origin Call → Past → Bool → Move → Body → Body → Option Event → Option Done → Type 0
+  KeepsBody chip chip1 x origin past was made k k1 e left = Keeps (services_driver d) chip w s received (Inside k) (left_body k1 left) (λ s1 o1. Relates d chip1 w ((left_body k1 left, o1) ∷ ps) s1) (having r origin past was) made x (does e)
+
+  abbrev Fueled : Body → Body → Option Done → Type 0
+  Fueled k k1 left = short_fuel d.most d.bodies.fuel (left_body k1 left) < short_fuel d.most d.bodies.fuel (Inside k)
+
+  abbrev RestAfter : Origin Call → Past → Bool → Move → Open Call
+  RestAfter origin past was made = rest_after d.basis.setting.machine w s (having r origin past was) made
+
+  abbrev missed_then : ℕ → Bool
+  missed_then = missed_after d.basis.setting.machine w s r.missed
+
+  -- what holds of the frame itself before the step, and after one of each kind
+  abbrev Before : Origin Call → Past → Bool → Body → Type 0
+  Before origin past was k = Behaves d.basis.setting (d.bodies.clean k) (having r origin past was)
+
+  leaves_plain : (origin : Origin Call) (past : Past) (was : Bool) (k : Body) (made : Move) → Before origin past was k → LeavesRight d.basis.setting origin (reads_after r.reads made) (r.wrote || is_write made) r.acted_at
+  leaves_plain origin past was k made before = sound_leaves d.basis.setting origin (reads_after r.reads made) (r.wrote || is_write made) r.acted_at before.acted
+
+  kept_plain : (origin : Origin Call) (past past1 : Past) (was is : Bool) (made : Move) (k k1 : Body) (left : Option Done) → Before origin past was k → KeepsClean (d.bodies.clean k) made (d.bodies.clean k1) left → KeepsFrame (RestAfter origin past was made) origin past1 is k1 left
+  kept_plain origin past past1 was is made k k1 None before cleans = goes_behaves d.basis.setting (d.bodies.clean k) (having r origin past was) before made (d.bodies.clean k1) (having (RestAfter origin past was made) origin past1 is) cleans refl refl refl before.acted
+  kept_plain origin past past1 was is made k k1 (Some n) before cleans = leaves_plain origin past was k made before
+
+  leaves_event : (origin : Origin Call) (past : Past) (made : Move) (k k1 : Body) (e : Event) (t : Told) (left : Option Done) → Before origin past true k → ActsRight d.basis.setting origin e (d.bodies.clean k) made t left → LeavesRight d.basis.setting origin (reads_after r.reads made) (r.wrote || is_write made) (acted_then origin made e t r.acted_at)
+  leaves_event origin past made k k1 e t None before acts = sound_leaves d.basis.setting origin (reads_after r.reads made) (r.wrote || is_write made) _ (goes_sound d.basis.setting (d.bodies.clean k) (having r origin past true) before made origin e t refl acts)
+  leaves_event origin past made k k1 e t (Some n) before acts = ends_leaves d.basis.setting (d.bodies.clean k) (having r origin past true) before made origin e t n refl acts
+
+  kept_event : (origin : Origin Call) (past past1 : Past) (made : Move) (k k1 : Body) (e : Event) (t : Told) (left : Option Done) → Before origin past true k → KeepsClean (d.bodies.clean k) made (d.bodies.clean k1) left → ActsRight d.basis.setting origin e (d.bodies.clean k) made t left → KeepsFrame (rest_acted d.basis.setting.machine w s (having r origin past true) made origin e t) origin past1 true k1 left
+  kept_event origin past past1 made k k1 e t None before cleans acts = goes_behaves d.basis.setting (d.bodies.clean k) (having r origin past true) before made (d.bodies.clean k1) (having (rest_acted d.basis.setting.machine w s (having r origin past true) made origin e t) origin past1 true) cleans refl refl refl (goes_sound d.basis.setting (d.bodies.clean k) (having r origin past true) before made origin e t refl acts)
+  kept_event origin past past1 made k k1 e t (Some n) before cleans acts = leaves_event origin past made k k1 e t (Some n) before acts
+
+  -- a move of a register or a word
+  works_by : (chip chip1 : Chip) (x : ℕ) (origin : Origin Call) (past : Past) (was : Bool) (made : Move) (k k1 : Body) (e : Option Event) (left : Option Done) → IsOver d origin r.tag (holds_in d ps) → Before origin past was k → KeepsClean (d.bodies.clean k) made (d.bodies.clean k1) left → is_shared made ≡ false → (e ≡ None → resets_chip made ≡ false) → d.basis.setting.may origin made ≡ true → Fueled k k1 left → KeepsMask was (is_closed (d.bodies.spot k1)) (d.bodies.room k) (d.bodies.room k1) e left → Works d.basis d.bodies (holds_in d ps) chip chip1 w s origin made (d.bodies.clean k) x received past missed_then k1 e left → KeepsBody chip chip1 x origin past was made k k1 e left
+  works_by chip chip1 x origin past true made k k1 None left over before cleans p calm own fuel mask h = plain_step (services_driver d) chip w s received (Inside k) (left_body k1 left) _ (with_past r past) origin past.acted past.served past.owed past.report true made x p (calm refl) own fuel (λ e. body_room d.wide d.bodies.room (d.bodies.room k) k1 left (room_shortens (is_closed (d.bodies.spot k1)) (d.bodies.room k) (d.bodies.room k1) None left mask)) (leaves_plain origin past true k made before) (continue_by chip1 s (RestAfter origin past true made) origin (past_wrote w made past) true k1 left over (stands_masked (is_closed (d.bodies.spot k1)) (d.bodies.room k) (d.bodies.room k1) None left mask) (kept_plain origin past (past_wrote w made past) true true made k k1 left before cleans) h)
+  works_by chip chip1 x origin past true made k k1 (Some e) left over before cleans p calm own fuel mask h = event_step (services_driver d) chip w s received (Inside k) (left_body k1 left) _ r origin past made x e h.state h.told p h.reset own fuel (body_room d.wide d.bodies.room (d.bodies.room k) k1 left (room_shortens (is_closed (d.bodies.spot k1)) (d.bodies.room k) (d.bodies.room k1) (Some e) left mask)) h.may h.stands h.selects h.is (leaves_event origin past made k k1 e h.told left before h.acts) (continue_by chip1 h.state (rest_acted d.basis.setting.machine w s (having r origin past true) made origin e h.told) origin (past_after d.basis.setting.machine w s origin e h.told (past_wrote w made past)) true k1 left over (stands_masked (is_closed (d.bodies.spot k1)) (d.bodies.room k) (d.bodies.room k1) (Some e) left mask) (kept_event origin past (past_after d.basis.setting.machine w s origin e h.told (past_wrote w made past)) made k k1 e h.told left before cleans h.acts) h.next)
+  works_by chip chip1 x origin past false made k k1 None None over before cleans p calm own fuel mask h = plain_step (services_driver d) chip w s received (Inside k) (Inside k1) _ (with_past r past) origin past.acted past.served past.owed past.report false made x p (calm refl) own fuel (λ e. absurd (cc)) (leaves_plain origin past false k made before) (continue_by chip1 s (RestAfter origin past false made) origin (past_wrote w made past) false k1 None over mask (kept_plain origin past (past_wrote w made past) false false made k k1 None before cleans) h)
+  works_by chip chip1 x origin past false made k k1 None (Some n) over before cleans p calm own fuel mask h = absurd mask
+  works_by chip chip1 x origin past false made k k1 (Some e) left over before cleans p calm own fuel mask h = absurd mask
+
+  -- the mask is closed
+  shuts_by : (chip chip1 : Chip) (x : ℕ) (origin : Origin Call) (past : Past) (was : Bool) (k k1 : Body) (e : Option Event) (left : Option Done) → IsOver d origin r.tag (holds_in d ps) → Before origin past was k → KeepsClean (d.bodies.clean k) Mask (d.bodies.clean k1) left → Fueled k k1 left → (was ≡ false) × (is_closed (d.bodies.spot k1) ≡ true) × (2 + d.bodies.room k1 ≤ d.basis.setting.window_of origin) × (e ≡ None) × (left ≡ None) → Continues d.basis d.bodies (holds_in d ps) chip1 w s origin past missed_then k1 None → KeepsBody chip chip1 x origin past was Mask k k1 e left
+  shuts_by chip chip1 x origin past true k k1 e left over before cleans fuel m h = let i = m.0 in absurd (cc)
+  shuts_by chip chip1 x origin past false k k1 (Some e) left over before cleans fuel m h = let i = m.3 in absurd (cc)
+  shuts_by chip chip1 x origin past false k k1 None (Some n) over before cleans fuel m h = let i = m.4 in absurd (cc)
+  shuts_by chip chip1 x origin past false k k1 None None over before cleans fuel m h = mask_step (services_driver d) chip w s received (Inside k) (Inside k1) _ (with_past r past) origin past.acted past.served past.owed past.report x fuel (let i = m.2 in omega (arith, i)) (leaves_plain origin past false k Mask before) (continue_by chip1 s (RestAfter origin past false Mask) origin past true k1 None over m.1 (kept_plain origin past past false true Mask k k1 None before cleans) h)
+
+  -- the mask is opened
+  opens_by : (chip chip1 : Chip) (x : ℕ) (origin : Origin Call) (past : Past) (was : Bool) (k k1 : Body) (e : Option Event) (left : Option Done) → IsOver d origin r.tag (holds_in d ps) → Before origin past was k → KeepsClean (d.bodies.clean k) Unmask (d.bodies.clean k1) left → Fueled k k1 left → (was ≡ true) × (is_closed (d.bodies.spot k1) ≡ false) × (e ≡ None) × (left ≡ None) → Continues d.basis d.bodies (holds_in d ps) chip1 w s origin past missed_then k1 None → KeepsBody chip chip1 x origin past was Unmask k k1 e left
+  opens_by chip chip1 x origin past false k k1 e left over before cleans fuel m h = let i = m.0 in absurd (cc)
+  opens_by chip chip1 x origin past true k k1 (Some e) left over before cleans fuel m h = let i = m.2 in absurd (cc)
+  opens_by chip chip1 x origin past true k k1 None (Some n) over before cleans fuel m h = let i = m.3 in absurd (cc)
+  opens_by chip chip1 x origin past true k k1 None None over before cleans fuel m h = unmask_step (services_driver d) chip w s received (Inside k) (Inside k1) _ (with_past r past) origin past.acted past.served past.owed past.report x fuel (omega arith) (leaves_plain origin past true k Unmask before) (continue_by chip1 s (RestAfter origin past true Unmask) origin past false k1 None over m.1 (kept_plain origin past past true false Unmask k k1 None before cleans) h)
+
+  -- a notice, which is the next one that is owed
+  notes_by : (chip chip1 : Chip) (x : ℕ) (rest : Open Call) (origin : Origin Call) (n : Notice) (by : Bool) (acted : Option Answer) (served : List ℕ) (owed others : List Owing) (report : Option DevError) (k k1 : Body) → owed ≡ record { notice = n; served = by } ∷ others → Fueled k k1 None → (by ≡ true → d.basis.setting.shows origin n chip s) → LeavesRight d.basis.setting origin (reads_after rest.reads (Note n)) (rest.wrote || is_write (Note n)) rest.acted_at → Relates d chip1 w ((Inside k1, form (rest_after d.basis.setting.machine w s (form rest origin acted served owed report false) (Note n)) origin acted served others report false) ∷ ps) s → Keeps (services_driver d) chip w s received (Inside k) (Inside k1) (λ s1 o1. Relates d chip1 w ((Inside k1, o1) ∷ ps) s1) (form rest origin acted served owed report false) (Note n) x goes
+  notes_by chip chip1 x rest origin n by acted served owed others report k k1 is fuel shown leaves h = subst (λ q. Keeps (services_driver d) chip w s received (Inside k) (Inside k1) (λ s1 o1. Relates d chip1 w ((Inside k1, o1) ∷ ps) s1) (form rest origin acted served q report false) (Note n) x goes) (sym is) (note_step (services_driver d) chip w s received (Inside k) (Inside k1) _ rest origin acted served report n by others x fuel shown leaves h)
+
+  tells_by : (chip chip1 : Chip) (x : ℕ) (origin : Origin Call) (past : Past) (was : Bool) (n : Notice) (k k1 : Body) (e : Option Event) (left : Option Done) → chip1 ≡ chip → IsOver d origin r.tag (holds_in d ps) → Before origin past was k → KeepsClean (d.bodies.clean k) (Note n) (d.bodies.clean k1) left → Fueled k k1 left → (was ≡ false) × (is_closed (d.bodies.spot k1) ≡ false) × (e ≡ None) × (left ≡ None) → Notes d.basis d.bodies (holds_in d ps) chip1 w s origin n k1 past → KeepsBody chip chip1 x origin past was (Note n) k k1 e left
+  tells_by chip chip1 x origin past true n k k1 e left still over before cleans fuel m h = let i = m.0 in absurd (cc)
+  tells_by chip chip1 x origin past false n k k1 (Some e) left still over before cleans fuel m h = let i = m.2 in absurd (cc)
+  tells_by chip chip1 x origin past false n k k1 None (Some q) still over before cleans fuel m h = let i = m.3 in absurd (cc)
+  tells_by chip chip1 x origin past false n k k1 None None still over before cleans fuel m h = notes_by chip chip1 x (with_past r past) origin n h.served past.acted past.served past.owed h.others past.report k k1 h.is fuel (λ q. subst (λ c. d.basis.setting.shows origin n c s) still (h.shown q)) (leaves_plain origin past false k (Note n) before) (continue_by chip1 s (RestAfter origin past false (Note n)) origin (record past { owed = h.others }) false k1 None over m.1 (kept_plain origin past (record past { owed = h.others }) false false (Note n) k k1 None before cleans) h.next)
+
+  -- a body's step, by its move
+  body_by : (chip chip1 : Chip) (x : ℕ) (origin : Origin Call) (past : Past) (was : Bool) (made : Move) (k k1 : Body) (e : Option Event) (left : Option Done) → chip1 ≡ chip_after chip made → IsOver d origin r.tag (holds_in d ps) → Before origin past was k → KeepsClean (d.bodies.clean k) made (d.bodies.clean k1) left → is_shared made || d.basis.setting.may origin made ≡ true → (e ≡ None → resets_chip made ≡ false) → Fueled k k1 left → TurnsMask (d.basis.setting.window_of origin) was (is_closed (d.bodies.spot k1)) (d.bodies.room k) (d.bodies.room k1) made e left → Makes d.basis d.bodies (holds_in d ps) chip chip1 w s origin made (d.bodies.clean k) x received past missed_then k1 e left → KeepsBody chip chip1 x origin past was made k k1 e left
+  body_by chip chip1 x origin past was Mask k k1 e left is over before cleans own calm fuel m h = shuts_by chip chip1 x origin past was k k1 e left over before cleans fuel m h
+  body_by chip chip1 x origin past was Unmask k k1 e left is over before cleans own calm fuel m h = opens_by chip chip1 x origin past was k k1 e left over before cleans fuel m h
+  body_by chip chip1 x origin past was (Note n) k k1 e left is over before cleans own calm fuel m h = tells_by chip chip1 x origin past was n k k1 e left is over before cleans fuel m h
+  body_by chip chip1 x origin past was (Report n) k k1 e left is over before cleans own calm fuel m h = absurd h
+  body_by chip chip1 x origin past was (Read n) k k1 e left is over before cleans own calm fuel m h = works_by chip chip1 x origin past was (Read n) k k1 e left over before cleans refl calm own fuel m h
+  body_by chip chip1 x origin past was (Write n v) k k1 e left is over before cleans own calm fuel m h = works_by chip chip1 x origin past was (Write n v) k k1 e left over before cleans refl calm own fuel m h
+  body_by chip chip1 x origin past was (Load n) k k1 e left is over before cleans own calm fuel m h = works_by chip chip1 x origin past was (Load n) k k1 e left over before cleans refl calm own fuel m h
+  body_by chip chip1 x origin past was (Store n v) k k1 e left is over before cleans own calm fuel m h = works_by chip chip1 x origin past was (Store n v) k k1 e left over before cleans refl calm own fuel m h
+
+  more_done : (origin : Origin Call) (acted : Option Answer) (served : List ℕ) (owed owed1 : List Owing) (report report1 : Option DevError) (inside inside1 : Bool) (made : Move) (a : Answer) → MayEnd origin (form r origin acted served owed report inside) a → MayEnd origin (form (rest_after d.basis.setting.machine w s (form r origin acted served owed report inside) made) origin acted served owed1 report1 inside1) a
+  more_done (Called c) acted served owed owed1 report report1 inside inside1 made a m = may_more d.basis.setting.machine w s (form r (Called c) acted served owed report inside) made (Called c) a m
+  more_done (Entered l) acted served owed owed1 report report1 inside inside1 made a m = may_more d.basis.setting.machine w s (form r (Entered l) acted served owed report inside) made (Entered l) a m
+
+  open_by : (chip chip1 : Chip) (x : ℕ) (origin : Origin Call) (a : Answer) (owed : Owed) (by : Bool) (acted : Option Answer) (served : List ℕ) → IsOver d origin r.tag (holds_in d ps) → LeavesRight d.basis.setting origin r.reads r.wrote r.acted_at → MayEnd origin (form r origin acted served (owing by (notices_in owed)) (error_in owed) true) a → (by ≡ true → AreShown d.basis origin (notices_in owed)) → d.basis.agrees (holds_in d ps) d.basis.settled chip1 w s → Keeps (services_driver d) chip w s received (Opening (record { answer = a; owed = owed })) (left_open a owed) (λ s1 o1. Relates d chip1 w (top_after (left_open a owed, o1) (gave_open a owed).ended ps) s1) (form r origin acted served (owing by (notices_in owed)) (error_in owed) true) Unmask x (gave_open a owed)
+  open_by chip chip1 x origin a Nothing by acted served over leaves m shown agrees = leave_step (services_driver d) chip w s received _ _ _ r origin acted served x a m (omega arith) (omega arith) (leaves_on d.basis.setting origin r.reads r.wrote r.acted_at leaves) (below d law chip1 w s ps agrees waits)
+  open_by chip chip1 x origin a (Error e) by acted served over leaves m shown agrees = unmask_step (services_driver d) chip w s received _ _ _ r origin acted served [] (Some e) x (omega arith) (omega arith) (leaves_on d.basis.setting origin r.reads r.wrote r.acted_at leaves) ((agrees, record { may = more_done origin acted served [] [] (Some e) (Some e) true false Unmask a m; served = by; owed = refl; shown = shown; report = refl; leaves = leaves_on d.basis.setting origin r.reads r.wrote r.acted_at leaves; inside = refl }), over, waits)
+  open_by chip chip1 x origin a (One k) by acted served over leaves m shown agrees = unmask_step (services_driver d) chip w s received _ _ _ r origin acted served (owing by (k ∷ [])) None x (omega arith) (omega arith) (leaves_on d.basis.setting origin r.reads r.wrote r.acted_at leaves) ((agrees, record { may = more_done origin acted served (owing by (k ∷ [])) (owing by (k ∷ [])) None None true false Unmask a m; served = by; owed = refl; shown = shown; report = refl; leaves = leaves_on d.basis.setting origin r.reads r.wrote r.acted_at leaves; inside = refl }), over, waits)
+  open_by chip chip1 x origin a (Two k j) by acted served over leaves m shown agrees = unmask_step (services_driver d) chip w s received _ _ _ r origin acted served (owing by (k ∷ j ∷ [])) None x (omega arith) (omega arith) (leaves_on d.basis.setting origin r.reads r.wrote r.acted_at leaves) ((agrees, record { may = more_done origin acted served (owing by (k ∷ j ∷ [])) (owing by (k ∷ j ∷ [])) None None true false Unmask a m; served = by; owed = refl; shown = shown; report = refl; leaves = leaves_on d.basis.setting origin r.reads r.wrote r.acted_at leaves; inside = refl }), over, waits)
+
+  tell_by : (chip : Chip) (x : ℕ) (origin : Origin Call) (a : Answer) (owed : Owed) (by : Bool) (acted : Option Answer) (served : List ℕ) → IsOver d origin r.tag (holds_in d ps) → LeavesRight d.basis.setting origin r.reads r.wrote r.acted_at → MayEnd origin (form r origin acted served (owing by (notices_in owed)) (error_in owed) false) a → (by ≡ true → AreShown d.basis origin (notices_in owed)) → d.basis.agrees (holds_in d ps) d.basis.settled chip w s → Keeps (services_driver d) chip w s received (Telling (record { answer = a; owed = owed })) (left_told a owed) (λ s1 o1. Relates d (chip_after chip (tells d.word owed)) w (top_after (left_told a owed, o1) (gave_told a owed).ended ps) s1) (form r origin acted served (owing by (notices_in owed)) (error_in owed) false) (tells d.word owed) x (gave_told a owed)
+  tell_by chip x origin a Nothing by acted served over leaves m shown agrees = last_step (services_driver d) chip w s received _ _ _ r origin acted served d.word x a (law.own_word origin) m (omega arith) (leaves_on d.basis.setting origin r.reads r.wrote r.acted_at leaves) (below d law chip w s ps agrees waits)
+  tell_by chip x origin a (Error e) by acted served over leaves m shown agrees = report_step (services_driver d) chip w s received _ _ _ r origin acted served x a e m (omega arith) (leaves_on d.basis.setting origin r.reads r.wrote r.acted_at leaves) (below d law chip w s ps agrees waits)
+  tell_by chip x origin a (One k) by acted served over leaves m shown agrees = note_step (services_driver d) chip w s received _ _ _ r origin acted served None k by [] x (omega arith) (λ e. (shown e).0 (holds_in d ps) chip w s agrees) (leaves_on d.basis.setting origin r.reads r.wrote r.acted_at leaves) ((agrees, record { may = more_done origin acted served (owing by (k ∷ [])) [] None None false false (Note k) a m; served = by; owed = refl; shown = λ e. tt; report = refl; leaves = leaves_on d.basis.setting origin r.reads r.wrote r.acted_at leaves; inside = refl }), over, waits)
+  tell_by chip x origin a (Two k j) by acted served over leaves m shown agrees = note_step (services_driver d) chip w s received _ _ _ r origin acted served None k by (owing by (j ∷ [])) x (omega arith) (λ e. (shown e).0 (holds_in d ps) chip w s agrees) (leaves_on d.basis.setting origin r.reads r.wrote r.acted_at leaves) ((agrees, record { may = more_done origin acted served (owing by (k ∷ j ∷ [])) (owing by (j ∷ [])) None None false false (Note k) a m; served = by; owed = refl; shown = λ e. (shown e).1; report = refl; leaves = leaves_on d.basis.setting origin r.reads r.wrote r.acted_at leaves; inside = refl }), over, waits)
+
+  last_by : (chip : Chip) (x : ℕ) (origin : Origin Call) (a : Answer) (acted : Option Answer) (served : List ℕ) → LeavesRight d.basis.setting origin r.reads r.wrote r.acted_at → MayEnd origin (form r origin acted served [] None false) a → d.basis.agrees (holds_in d ps) d.basis.settled chip w s → KeepsAt d chip w received (Returning a) (form r origin acted served [] None false) ps s
+  last_by chip x origin a acted served leaves m agrees = last_step (services_driver d) chip w s received _ _ _ r origin acted served d.word (value_of chip (Load d.word)) a (law.own_word origin) m (omega arith) (leaves_on d.basis.setting origin r.reads r.wrote r.acted_at leaves) (below d law chip w s ps agrees waits)
+
+module _ {State Call Asked Body : Type 0} (d : Services State Call Asked Body) (law : AreServices d) where
+  shared_by : (made : Move) → is_shared made ≡ true → (origin : Origin Call) (q : Bool) → d.basis.owns origin made ≡ q → d.basis.owns origin made ≡ false
+  shared_by made f origin true e = let g : is_shared made ≡ false = law.basis.owns_plain origin made e in absurd (cc)
+  shared_by made f origin false e = e
+
+  mask_shared : Elsewhere d.basis Mask
+  mask_shared origin = shared_by Mask refl origin (d.basis.owns origin Mask) refl
+
+  unmask_shared : Elsewhere d.basis Unmask
+  unmask_shared origin = shared_by Unmask refl origin (d.basis.owns origin Unmask) refl
+
+  calling : (chip : Chip) (w : World) (received : ℕ) (c : Call) (o : Open Call) (ps : List (Short Asked Body × Open Call)) (s : State) → IsFresh o → d.can c → d.basis.agrees (holds_in d ps) d.basis.settled chip w s → IsOver d (Called c) o.tag (holds_in d ps) → AllWait d ps → KeepsAt d chip w received (Calling (d.asked c)) (having o (Called c) nothing_yet false) ps s
+  calling chip w received c o ps s fresh can agrees over waits = mask_step (services_driver d) chip w s received (Calling (d.asked c)) (Loading (d.asked c)) _ (with_past o nothing_yet) (Called c) None [] [] None (value_of chip Mask) (omega arith) (let k = law.call_window c can in omega arith) (fresh_leaves d.basis.setting (Called c) o fresh) ((law.basis.agrees_apart (holds_in d ps) d.basis.settled chip w s Mask mask_shared agrees, record { call = c; asks = refl; form = refl; fresh = record { wrote = (fresh_on o fresh).wrote; reads = fresh.reads; acted = fresh.acted }; can = can }), over, waits)
+
+  loading : (chip : Chip) (w : World) (received : ℕ) (c : Call) (o : Open Call) (ps : List (Short Asked Body × Open Call)) (s : State) → IsFresh o → d.can c → d.basis.agrees (holds_in d ps) d.basis.settled chip w s → IsOver d (Called c) o.tag (holds_in d ps) → AllWait d ps → KeepsAt d chip w received (Loading (d.asked c)) (having o (Called c) nothing_yet true) ps s
+  loading chip w received c o ps s fresh can agrees over waits = let x = value_of chip (Load d.word) in load_by d law ps waits s w o received chip c x (d.looked (d.asked c) x) fresh over agrees (law.looks (holds_in d ps) chip w s c can over.beside agrees)
+
+  pub short_steps : (chip : Chip) (w : World) (received : ℕ) (f : Short Asked Body) (o : Open Call) (ps : List (Short Asked Body × Open Call)) (s : State) → ReceivedRight d.basis.setting chip w (short_move d.word d.bodies.work_of f) received → d.basis.count s < most_steps → Relates d chip w ((f, o) ∷ ps) s → KeepsAt d chip w received f o ps s
+  short_steps chip w received (Calling a) o ps s come few h =
+      let k = h.0.1 in
+      let over = subst (λ x. IsOver d x o.tag (holds_in d ps)) (ap (λ x. x.origin) k.form) h.1 in
+      subst (λ x. KeepsAt d chip w received (Calling a) x ps s) (sym k.form) (subst (λ x. KeepsAt d chip w received (Calling x) (having o (Called k.call) nothing_yet false) ps s) (sym k.asks) (calling chip w received k.call o ps s k.fresh k.can h.0.0 over h.2))
+  short_steps chip w received (Loading a) o ps s come few h =
+      let k = h.0.1 in
+      let over = subst (λ x. IsOver d x o.tag (holds_in d ps)) (ap (λ x. x.origin) k.form) h.1 in
+      subst (λ x. KeepsAt d chip w received (Loading a) x ps s) (sym k.form) (subst (λ x. KeepsAt d chip w received (Loading x) (having o (Called k.call) nothing_yet true) ps s) (sym k.asks) (loading chip w received k.call o ps s k.fresh k.can h.0.0 over h.2))
+  short_steps chip w received (Entering k) o ps s come few h =
+      let i = h.0.1 in
+      let rest = rest_after d.basis.setting.machine w s (having o o.origin nothing_yet false) Mask in
+      subst (λ x. KeepsAt d chip w received (Entering k) x ps s) (sym i.form) (mask_step (services_driver d) chip w s received (Entering k) (Inside k) _ (with_past o nothing_yet) o.origin None [] [] None (value_of chip Mask) (omega arith) (let j = i.can.room in omega arith) (fresh_leaves d.basis.setting o.origin o i.fresh) (record { past = nothing_yet; form = ap (λ x. having rest o.origin nothing_yet x) (sym i.can.closed); behaves = fresh_behaves d.basis.setting (d.bodies.clean k) (having rest o.origin nothing_yet true) (record { wrote = (fresh_on o i.fresh).wrote; reads = i.fresh.reads; acted = i.fresh.acted }); at = i.can.at (holds_in d ps) (chip_after chip Mask) w s h.1.beside (law.basis.agrees_apart (holds_in d ps) d.basis.settled chip w s Mask mask_shared h.0.0) }, h.1, h.2))
+  short_steps chip w received (Inside k) o ps s come few h =
+      let made = d.bodies.work_of k in
+      let x = value_of chip made in
+      let t = d.bodies.takes k x in
+      let i = h.0 in
+      let held = holds_in d ps in
+      subst (λ y. KeepsAt d chip w received (Inside k) y ps s) (sym i.form) (body_by d law ps h.2 s w o received chip (chip_after chip made) x o.origin i.past (is_closed (d.bodies.spot k)) made k t.0 t.1.event t.1.done refl h.1 (subst (λ x. Behaves d.basis.setting (d.bodies.clean k) x) i.form i.behaves) (law.bodies.cleans k x) (law.bodies.own held chip w s k o.origin i.past i.at) (law.bodies.calm held chip w s k o.origin i.past i.at) (body_fuel d.most d.bodies.fuel (d.bodies.fuel k) t.0 t.1.done (law.bodies.shortens k x)) (law.bodies.turns held chip w s k o.origin i.past i.at) (law.bodies.steps held chip w s k o.origin received i.past o.missed come few i.at))
+  short_steps chip w received (Opening n) o ps s come few h =
+      let k = h.0.1 in
+      let e = form_is o (owing k.served (notices_in n.owed)) (error_in n.owed) true k.owed k.report k.inside in
+      subst (λ x. KeepsAt d chip w received (Opening n) x ps s) (sym e) (open_by d law ps h.2 s w o received chip (chip_after chip Unmask) (value_of chip Unmask) o.origin n.answer n.owed k.served o.acted o.served h.1 k.leaves (subst (λ x. MayEnd o.origin x n.answer) e k.may) k.shown (law.basis.agrees_apart (holds_in d ps) d.basis.settled chip w s Unmask unmask_shared h.0.0))
+  short_steps chip w received (Telling n) o ps s come few h =
+      let k = h.0.1 in
+      let e = form_is o (owing k.served (notices_in n.owed)) (error_in n.owed) false k.owed k.report k.inside in
+      subst (λ x. KeepsAt d chip w received (Telling n) x ps s) (sym e) (tell_by d law ps h.2 s w o received chip (value_of chip (tells d.word n.owed)) o.origin n.answer n.owed k.served o.acted o.served h.1 k.leaves (subst (λ x. MayEnd o.origin x n.answer) e k.may) k.shown h.0.0)
+  short_steps chip w received (Returning a) o ps s come few h =
+      let k = h.0.1 in
+      let e = form_is o [] None false k.owed k.report k.inside in
+      subst (λ x. KeepsAt d chip w received (Returning a) x ps s) (sym e) (last_by d law ps h.2 s w o received chip 0 o.origin a o.acted o.served k.leaves (subst (λ x. MayEnd o.origin x a) e k.may) h.0.0)

@@ -1,0 +1,132 @@
+-- A sweep owes no more.
+use Rattle.std.proofs.Common.{◌≡◌, ℕ, ◌+◌, ◌-◌, ◌<◌, ◌≤◌, Bool, true, false, ◌||◌, nat_lt, List, [], Option, Some, None, refl, sym, ap, subst, arith}
+use Rattle.std.specs.Prelude.{if◌then◌else◌}
+use Rattle.chip_model.specs.Chip.{Chip, value_of, chip_after, happened}
+use Rattle.mcal_base.specs.declared.directive.Order.{Order}
+use Rattle.mcal_base.specs.declared.moves.Event.{Event}
+use Rattle.mcal_base.specs.declared.moves.Move.{Move}
+use Rattle.mcal_base.specs.declared.moves.Move.TheVariants.{Mask, Unmask}
+use Rattle.run_model.specs.World.{World, world_after}
+use Rattle.run_model.specs.Frame.{Origin, missed_after, is_shared, resets_chip}
+use Rattle.run_model.specs.Legal.{ReceivedRight}
+use Rattle.step_runner.specs.Driver.{most_steps}
+use Rattle.service_outline.specs.Acts.{Cleans}
+use Rattle.service_outline.specs.Done.{goes}
+use Rattle.service_outline.specs.Fuel.{Shortens}
+use Rattle.service_outline.specs.Past.{Past, past_wrote}
+use Rattle.service_outline.specs.Services.{Held, Basis, IsBasis, Elsewhere, MayCome, LongBodies, Stand, AreLong, Right, Makes, TurnsTo, TurnsMask, KeepsMask, is_closed, holds_at, place_at, with_holds}
+use Rattle.service_outline.specs.Sweep.{next_of, place_of}
+use Rattle.service_outline.specs.Sweeping.{Sweeping, sweep, sweep_fuel, IsSweeping}
+use Rattle.service_outline.specs.declared.done.Done.{Done}
+use Rattle.service_outline.specs.declared.sweep.Place.{Place}
+use Rattle.service_outline.specs.declared.sweep.Place.TheVariants.{Opens, At, Closes, Follows}
+use Rattle.service_outline.specs.declared.sweep.Sweep.{Sweep}
+use Rattle.service_outline.specs.laws.Acts.{never_clean}
+use Rattle.service_outline.specs.laws.Both.{makes_lift}
+use Rattle.service_outline.specs.laws.ShortServices.{plain_makes, plain_turns}
+use Rattle.service_outline.specs.laws.StepKinds.{or_true}
+use Rattle.service_outline.specs.laws.Sweep.{next_by}
+use Rattle.service_outline.specs.laws.There.{below}
+
+module _ {State Call S B : Type 0} (g : Basis State Call) (v : Sweeping g S B) (b : LongBodies g B) (basis : IsBasis g) (right : AreLong g b) (law : IsSweeping g v b) where
+  abbrev Swept : LongBodies g (Sweep S B)
+  Swept = sweep v b
+
+  abbrev at : S → Place B → Sweep S B
+  at a p = record { objects = a; place = p }
+
+  abbrev Stands : List (Held Call g.Hold) → Chip → World → State → Sweep S B → Origin Call → Past → Type 0
+  Stands = Stand g Swept
+
+  plain : (below : List (Held Call g.Hold)) (a : S) (i : ℕ) (origin : Origin Call) (past : Past) → i < v.count a → v.place a below origin past → is_shared (v.move a i) ≡ false
+  plain below a i origin past lt h = basis.owns_plain origin (v.move a i) (basis.may_owns origin (v.move a i) (law.own a i below origin past lt h))
+
+  shared_by : (made : Move) → is_shared made ≡ true → (origin : Origin Call) (q : Bool) → g.owns origin made ≡ q → g.owns origin made ≡ false
+  shared_by made f origin true e = let p : is_shared made ≡ false = basis.owns_plain origin made e in absurd (cc)
+  shared_by made f origin false e = e
+
+  apart : (made : Move) → is_shared made ≡ true → Elsewhere g made
+  apart made f origin = shared_by made f origin (g.owns origin made) refl
+
+  -- the place of the next object, or the closing of the mask
+  next_stands : (below : List (Held Call g.Hold)) (chip : Chip) (w : World) (s : State) (a : S) (i : ℕ) (origin : Origin Call) (past : Past) → i ≤ v.count a → v.place a below origin past → g.agrees (with_holds origin past.acted (v.hold a i) below) g.settled chip w s → Stands below chip w s (at a (place_of (v.count a) i)) origin past
+  next_stands below chip w s a i origin past le p h = next_by (λ q. Stands below chip w s (at a q) origin past) (v.count a) (λ j. At j) Closes i le (λ lt. (h, (p, lt))) (λ e. (subst (λ n. g.agrees (with_holds origin past.acted (v.hold a n) below) g.settled chip w s) e h, p))
+
+  next_open : (a : S) (i : ℕ) → is_closed (Swept.spot (at a (place_of (v.count a) i))) ≡ false
+  next_open a i = by (nat_lt i (v.count a))
+    where
+      by : (q : Bool) → is_closed (Swept.spot (at a (if q then At i else Closes))) ≡ false
+      by true = refl
+      by false = refl
+
+  own : (below : List (Held Call g.Hold)) (chip : Chip) (w : World) (s : State) (k : Sweep S B) (o : Origin Call) (t : Past) → Stands below chip w s k o t → is_shared (Swept.work_of k) || g.setting.may o (Swept.work_of k) ≡ true
+  own below chip w s k o t h = by k.objects k.place h
+    where
+      by : (a : S) (p : Place B) → Stands below chip w s (at a p) o t → is_shared (Swept.work_of (at a p)) || g.setting.may o (Swept.work_of (at a p)) ≡ true
+      by a Opens h = refl
+      by a (At i) h = or_true (is_shared (v.move a i)) (law.own a i below o t h.1.1 h.1.0)
+      by a Closes h = refl
+      by a (Follows j) h = right.own below chip w s j o t h
+
+  turns : (below : List (Held Call g.Hold)) (chip : Chip) (w : World) (s : State) (k : Sweep S B) (o : Origin Call) (t : Past) → Stands below chip w s k o t → TurnsTo Swept (g.setting.window_of o) k (Swept.takes k (value_of chip (Swept.work_of k)))
+  turns below chip w s k o t h = by k.objects k.place h
+    where
+      by : (a : S) (p : Place B) → Stands below chip w s (at a p) o t → TurnsTo Swept (g.setting.window_of o) (at a p) (Swept.takes (at a p) (value_of chip (Swept.work_of (at a p))))
+      by a Opens h = (refl, next_open a 0, refl, refl)
+      by a (At i) h = plain_turns (g.setting.window_of o) false _ 0 _ (v.move a i) None None (plain below a i o t h.1.1 h.1.0) (next_open a (i + 1))
+      by a Closes h = (refl, law.closed a, law.room a below o t h.1, refl, refl)
+      by a (Follows j) h = right.turns below chip w s j o t h
+
+  steps : (below : List (Held Call g.Hold)) (chip : Chip) (w : World) (s : State) (k : Sweep S B) (o : Origin Call) (received : ℕ) (t : Past) (m : ℕ → Bool) → ReceivedRight g.setting chip w (Swept.work_of k) received → g.count s < most_steps → Stands below chip w s k o t → Right g Swept below chip w s k o received t m
+  steps below chip w s k o received t m come few h = by k.objects k.place come h
+    where
+      by : (a : S) (p : Place B) → ReceivedRight g.setting chip w (Swept.work_of (at a p)) received → Stands below chip w s (at a p) o t → Right g Swept below chip w s (at a p) o received t m
+      by a Opens come h = next_stands below (chip_after chip Unmask) w s a 0 o t (omega arith) h.1 (basis.agrees_apart _ g.settled chip w s Unmask (apart Unmask refl) h.0)
+      by a (At i) come h =
+          let made = v.move a i in
+          let lt = h.1.1 in
+          plain_makes g Swept below chip (chip_after chip made) w s o false (value_of chip made) received t (missed_after g.setting.machine w s m) (at a (place_of (v.count a) (i + 1))) None None made (plain below a i o t lt h.1.0)
+          (next_stands below (chip_after chip made) w s a (i + 1) o (past_wrote w made t) (omega (arith, lt)) (law.stays a i below w o t h.1.0) (law.step a i below chip w s o t lt h.1.0 h.0))
+      by a Closes come h = law.follows a below (chip_after chip Mask) w s o t h.1 (basis.agrees_apart _ g.settled chip w s Mask (apart Mask refl) h.0)
+      by a (Follows j) come h =
+          let y = value_of chip (b.work_of j) in
+          let x = b.takes j y in
+          makes_lift g b Swept (λ i. at a (Follows i)) below (λ chip w s k o t h. h) chip (chip_after chip (b.work_of j)) w s o (b.work_of j) false y received t (missed_after g.setting.machine w s m) x.0 x.1.event x.1.done
+          (subst (λ q. Makes g b below chip (chip_after chip (b.work_of j)) w s o (b.work_of j) q y received t (missed_after g.setting.machine w s m) x.0 x.1.event x.1.done) (law.unclean j) (right.steps below chip w s j o received t m come few h))
+
+  later : (below : List (Held Call g.Hold)) (chip : Chip) (w : World) (s : State) (order : Order) (k : Sweep S B) (o : Origin Call) (t : Past) → MayCome g.setting (with_holds o t.acted (holds_at (Swept.spot k)) below) chip w s order → Stands below chip w s k o t → place_at (Swept.spot k) below (g.foot (happened chip order)) (world_after w chip.rate order) (g.later w s order) o t
+  later below chip w s order k o t come h = by k.objects k.place come h
+    where
+      by : (a : S) (p : Place B) → MayCome g.setting (with_holds o t.acted (holds_at (Swept.spot (at a p))) below) chip w s order → Stands below chip w s (at a p) o t → place_at (Swept.spot (at a p)) below (g.foot (happened chip order)) (world_after w chip.rate order) (g.later w s order) o t
+      by a Opens come h = h.1
+      by a (At i) come h = h.1
+      by a Closes come h = h.1
+      by a (Follows j) come h = right.later below chip w s order j o t come h
+
+  calm : (below : List (Held Call g.Hold)) (chip : Chip) (w : World) (s : State) (k : Sweep S B) (o : Origin Call) (t : Past) → Stands below chip w s k o t → (Swept.takes k (value_of chip (Swept.work_of k))).1.event ≡ None → resets_chip (Swept.work_of k) ≡ false
+  calm below chip w s k o t h e = by k.objects k.place h e
+    where
+      by : (a : S) (p : Place B) → Stands below chip w s (at a p) o t → (Swept.takes (at a p) (value_of chip (Swept.work_of (at a p)))).1.event ≡ None → resets_chip (Swept.work_of (at a p)) ≡ false
+      by a Opens h e = refl
+      by a (At i) h e = law.still a i
+      by a Closes h e = refl
+      by a (Follows j) h e = right.calm below chip w s j o t h e
+
+  next_fuel : (a : S) (i n : ℕ) → (i < v.count a → 2 + ((v.count a - i) + b.fuel (v.after a)) < n) → 1 + b.fuel (v.after a) < n → sweep_fuel v b a (place_of (v.count a) i) < n
+  next_fuel a i n at_it closes = by (nat_lt i (v.count a)) refl
+    where
+      by : (q : Bool) → nat_lt i (v.count a) ≡ q → sweep_fuel v b a (if q then At i else Closes) < n
+      by true e = at_it (below i (v.count a) e)
+      by false e = closes
+
+  shortens : (k : Sweep S B) (x : ℕ) → Shortens Swept.fuel k (Swept.takes k x)
+  shortens k x = by k.objects k.place
+    where
+      by : (a : S) (p : Place B) → Shortens Swept.fuel (at a p) (Swept.takes (at a p) x)
+      by a Opens = next_fuel a 0 _ (λ lt. omega arith) (omega arith)
+      by a (At i) = next_fuel a (i + 1) _ (λ lt. omega (arith, lt)) (omega arith)
+      by a Closes = omega arith
+      by a (Follows j) = right.shortens j x
+
+  pub sweep_right : AreLong g (sweep v b)
+  sweep_right = record { own = own; turns = turns; steps = steps; later = later; calm = calm; shortens = shortens; cleans = λ k x. never_clean (Swept.work_of k) k (Swept.takes k x) }

@@ -1,0 +1,316 @@
+ghost use Rattle.std.specs.Prelude.{◌≡◌, ◌+◌, ◌<◌, ◌≤◌, ℕ, length};
+
+use crate::{CellCall, Three, three};
+use chip_model::Bus;
+use irq_control::Held;
+use mcal_base::{
+    AdcConfig, AdcPriorityImplementation, Answer, Config, Event, GptConfig, Head, IcuConfig,
+    McuConfig, ModuleName, Move, Notice, NoticeKind, PortConfig, PwmConfig, Reason, Routine, Short,
+    SpiConfig, Taken,
+};
+use run_model::{Class, Kind};
+use step_runner::{Either, Module, Stack, Union, begin, enter, reset, step};
+
+const NOTICE: Notice = Notice {
+    kind: NoticeKind::GptNotification,
+    id: 4,
+};
+
+/// Closes the mask, opens it, acts there, calls a callback, and calls it again at its end.
+#[derive(Drop)]
+struct Bell {
+    place: u32,
+}
+
+impl Routine for Bell {
+    ghost use Rattle.std.specs.Prelude.{cond, ◌==◌, Some, None, []};
+    ghost use Rattle.mcal_base.specs.declared.answer.Head.TheVariants.{Nothing};
+    ghost use Rattle.mcal_base.specs.declared.moves.Event.TheVariants.{Act};
+    ghost use Rattle.mcal_base.specs.declared.moves.Move.TheVariants.{Mask, Unmask, Note};
+    ghost use Rattle.union_example.specs.declared.tests.TheConstants.{NOTICE};
+
+    ghost move_of = { λ f. cond (f.place == 0) Mask (cond (f.place == 1) Unmask (Note NOTICE)) };
+
+    ghost left = { λ f value. record { place = cond (f.place == 0) 1 (cond (f.place == 1) 2 3) } };
+
+    ghost gave = { λ f value. record { event = cond (f.place == 1) (Some Act) None; ended = cond (f.place == 0) None (cond (f.place == 1) None (cond (f.place == 2) None (Some (record { head = Nothing; words = [] })))) } };
+
+    fn next(&self) -> Move {
+        match self.place {
+            0 => Move::Mask,
+            1 => Move::Unmask,
+            _ => Move::Note(NOTICE),
+        }
+    }
+
+    fn took(&mut self, _value: u32) -> Taken {
+        let (after, event, ends) = match self.place {
+            0 => (1, None, false),
+            1 => (2, Some(Event::Act), false),
+            2 => (3, None, false),
+            _ => (3, None, true),
+        };
+        self.place = after;
+        let ended = if ends {
+            Some(Answer {
+                head: Head::Nothing,
+                words: Short::new(),
+            })
+        } else {
+            None
+        };
+        Taken { event, ended }
+    }
+}
+
+/// One exclusive call, and the handler of one line.
+#[derive(Drop)]
+struct Bells;
+
+impl Module for Bells {
+    type Call = ();
+
+    type Frame = Bell;
+
+    type State = ();
+
+    ghost use Rattle.std.specs.Prelude.{cond, ◌==◌, Some, None, [], true, false};
+    ghost use Rattle.mcal_base.specs.declared.module_name.ModuleName.TheVariants.{Gpt};
+    ghost use Rattle.mcal_base.specs.declared.service.Service.TheVariants.{GptInit};
+    ghost use Rattle.run_model.specs.declared.class.Kind.TheVariants.{Exclusive};
+    ghost use Rattle.union_example.specs.declared.tests.Bell.{Bell};
+
+    ghost spec = { λ m. record {
+      fits = ⊥;
+      can_call = λ c. Unit {0};
+      setting = record {
+        machine = record { happens = λ w s h. None; ready = λ w s l. false; due = λ w s l. false; startable = λ w s u. false; rate = λ s. 1; expires = λ w s. None; service_of = λ c. GptInit; reporting = λ c. record { detect = false; classification = 1 }; polls = λ w s c. [] };
+        first = tt {0};
+        class_of = λ c. record { kind = Exclusive; «module» = Gpt; key = None };
+        level_of = λ l. cond (l == 3) 2 1;
+        owner_of = λ l. Gpt;
+        used = λ l. l == 3;
+        steps_of = λ o. 4;
+        window_of = λ o. 2;
+        may = λ o made. false;
+        halves = λ c. None;
+        fills = λ c. false;
+        fill_busy = λ w s origins c. false;
+        receives = λ chip w number received. Unit {0};
+        begins_word = λ w s l. None;
+        selects = λ origin chip w s e number. Unit {0};
+        rest = λ chip w s. Unit {0};
+        shows = λ origin n chip s. Unit {0};
+      };
+      frame_of = λ c. record { place = 0 };
+      handler_of = λ l. cond (l == 3) (Some (record { place = 0 })) None;
+      relates = λ chip w ps s. ⊥;
+      fuel = λ f. 0;
+      room = λ f. 0;
+      lines = λ l. l == 3;
+      count = λ s. 0;
+      owns = λ o made. false;
+    } };
+
+    fn frame(&self, _call: &()) -> Bell {
+        Bell { place: 0 }
+    }
+
+    fn handler(&self, line: u32) -> Option<Bell> {
+        if line == 3 {
+            Some(Bell { place: 0 })
+        } else {
+            None
+        }
+    }
+
+    fn class(&self, _call: &()) -> Class {
+        Class {
+            kind: Kind::Exclusive,
+            module: ModuleName::Gpt,
+            key: None,
+        }
+    }
+
+    fn level(&self, line: u32) -> u32 {
+        if line == 3 { 2 } else { 1 }
+    }
+
+    fn owner(&self, _line: u32) -> ModuleName {
+        ModuleName::Gpt
+    }
+
+    ghost laws = { λ m fits. absurd fits };
+}
+
+fn nothing() -> Config {
+    Config {
+        mcu: McuConfig {
+            dev_error_detect: true,
+            clock_settings: Short::new(),
+            modes: Short::new(),
+            ram_sections: Short::new(),
+        },
+        port: PortConfig {
+            dev_error_detect: true,
+            pins: Short::new(),
+        },
+        gpt: GptConfig {
+            dev_error_detect: true,
+            classification: 1,
+            channels: Short::new(),
+        },
+        pwm: PwmConfig {
+            dev_error_detect: true,
+            channels: Short::new(),
+        },
+        icu: IcuConfig {
+            dev_error_detect: true,
+            classification: 1,
+            channels: Short::new(),
+        },
+        adc: AdcConfig {
+            dev_error_detect: true,
+            classification: 1,
+            priority_implementation: AdcPriorityImplementation::None,
+            enable_queuing: false,
+            units: Short::new(),
+            groups: Short::new(),
+        },
+        spi: SpiConfig {
+            dev_error_detect: true,
+            classification: 1,
+            levels: Short::new(),
+            channels: Short::new(),
+            jobs: Short::new(),
+            sequences: Short::new(),
+        },
+    }
+}
+
+/// Begins the call at a level.
+fn call(stack: &mut Stack<Bells>, bus: &Bus, level: u32) -> Result<(), Held>
+    ensures { stack.new.steps ≡ stack.old.steps }
+{
+    begin(stack, &Bells, bus, (), level)
+}
+
+/// Begins the handler of a line.
+fn serve(stack: &mut Stack<Bells>, bus: &Bus, line: u32) -> Result<(), Held>
+    ensures { stack.new.steps ≡ stack.old.steps }
+{
+    enter(stack, &Bells, bus, line)
+}
+
+/// Makes a step, and tells its move.
+fn go(stack: &mut Stack<Bells>, bus: &mut Bus) -> Result<Move, Held>
+    requires { stack.old.steps < 1000 }
+    ensures { stack.new.steps ≤ stack.old.steps + 1 }
+{
+    match step(stack, bus) {
+        Ok(stepped) => Ok(stepped.made),
+        Err(cause) => Err(cause),
+    }
+}
+
+#[test]
+fn beginnings_and_steps(rt: HostRuntime) {
+    let (Ok(mut bus), Ok(mut stack)) = (
+        Bus::new(rt.alloc(), &nothing(), 0),
+        Stack::<Bells>::new(rt.alloc()),
+    ) else {
+        panic!(rt; "no memory");
+    };
+    let bus = &mut bus;
+    let stack = &mut stack;
+    assert_eq!(rt; go(stack, bus), Err(Held::Empty));
+    assert_eq!(rt; serve(stack, bus, 3), Err(Held::Idle));
+    assert_eq!(rt; call(stack, bus, 2), Ok(()));
+    assert_eq!(rt; stack.depth(), 1);
+    assert_eq!(rt; call(stack, bus, 2), Err(Held::Level));
+    assert_eq!(rt; call(stack, bus, 3), Err(Held::Reentry));
+    assert_eq!(rt; serve(stack, bus, 3), Err(Held::Level));
+    assert_eq!(rt; go(stack, bus), Ok(Move::Mask));
+    assert_eq!(rt; call(stack, bus, 3), Err(Held::Masked));
+    assert_eq!(rt; go(stack, bus), Ok(Move::Unmask));
+    assert_eq!(rt; go(stack, bus), Ok(Move::Note(NOTICE)));
+    assert_eq!(rt; call(stack, bus, 2), Err(Held::Reentry));
+    assert_eq!(rt; call(stack, bus, 1), Err(Held::Level));
+    assert_eq!(rt; go(stack, bus), Ok(Move::Note(NOTICE)));
+    assert_eq!(rt; stack.depth(), 0);
+    assert_eq!(rt; call(stack, bus, 0), Ok(()));
+    assert_eq!(rt; reset(stack, bus, Reason::Software), 1);
+    assert_eq!(rt; go(stack, bus), Err(Held::Empty));
+}
+
+#[test]
+fn two_modules_as_one(rt: HostRuntime) {
+    let (Ok(bus), Ok(mut stack)) = (
+        Bus::new(rt.alloc(), &nothing(), 0),
+        Stack::<Union<Bells, Bells>>::new(rt.alloc()),
+    ) else {
+        panic!(rt; "no memory");
+    };
+    let bells = Union {
+        first: Bells,
+        second: Bells,
+    };
+    let stack = &mut stack;
+    assert_eq!(rt; bells.level(3), 2);
+    assert_eq!(rt; begin(stack, &bells, &bus, Either::Right(()), 2), Ok(()));
+    assert_eq!(rt;
+        begin(stack, &bells, &bus, Either::Left(()), 3),
+        Err(Held::Reentry)
+    );
+    assert_eq!(rt; enter(stack, &bells, &bus, 3), Err(Held::Level));
+    assert_eq!(rt; stack.clear(), 1);
+    assert_eq!(rt; begin(stack, &bells, &bus, Either::Left(()), 3), Ok(()));
+    assert_eq!(rt; stack.depth(), 1);
+}
+
+/// Makes a step of a call of one of three cells, and tells its answer.
+fn answer(
+    stack: &mut Stack<Three>,
+    bus: &mut Bus,
+    call: Either<CellCall, Either<CellCall, CellCall>>,
+) -> Option<Answer>
+    requires { stack.old.steps < 1000 }
+    ensures { stack.new.steps ≤ stack.old.steps + 1 }
+{
+    match begin(stack, &three(), bus, call, 0) {
+        Ok(()) => match step(stack, bus) {
+            Ok(stepped) => stepped.ended,
+            Err(_) => None,
+        },
+        Err(_) => None,
+    }
+}
+
+#[test]
+fn each_cell_has_its_word(rt: HostRuntime) {
+    let (Ok(mut bus), Ok(mut stack)) = (
+        Bus::new(rt.alloc(), &nothing(), 0),
+        Stack::<Three>::new(rt.alloc()),
+    ) else {
+        panic!(rt; "no memory");
+    };
+    let put = Either::Right(Either::Left(CellCall::Put(7)));
+    let get = Either::Right(Either::Left(CellCall::Get));
+    assert_eq!(rt; words(&answer(&mut stack, &mut bus, put)), 0);
+    assert_eq!(rt; words(&answer(&mut stack, &mut bus, get)), 8);
+    assert_eq!(rt;
+        words(&answer(&mut stack, &mut bus, Either::Left(CellCall::Get))),
+        1
+    );
+}
+
+/// One more than the number that was answered, 0 without one.
+fn words(answer: &Option<Answer>) -> u32 {
+    match answer {
+        Some(answer) => match answer.words.as_slice() {
+            [number] => number.saturating_add(1),
+            _ => 0,
+        },
+        None => 0,
+    }
+}
