@@ -11,8 +11,6 @@ use Rattle.run_model.specs.Entry.{Entry}
 use Rattle.mcal_base.specs.Causes.{Rose}
 use Rattle.mcal_base.specs.declared.module_name.ModuleName.{ModuleName}
 use Rattle.config_rows.specs.declared.fault.ConfigFault.{ConfigFault}
-use Rattle.config_rows.specs.declared.fault.ConfigFault.TheVariants.{NotToml}
-use Rattle.mcal_config.specs.Whole.{fault_of, record_of}
 use Rattle.bench_script.specs.Lines.{file}
 use Rattle.bench_script.specs.Script.{script}
 use Rattle.bench_script.specs.declared.fault.ScriptFault.{ScriptFault}
@@ -22,7 +20,7 @@ use Rattle.bench_top.specs.declared.refusal.Refusal.{Refusal}
 use Rattle.bench_top.specs.declared.refusal.Refusal.TheVariants as refusals
 use Rattle.bench_top.specs.declared.words.Form.{Form}
 use Rattle.bench_top.specs.declared.words.Form.TheVariants.{Check, Run}
-use Rattle.bench_top.specs.Judged.{Ending, Judgement, Prints, Runs, ending_of, judged, judged_built, judged_whole, judged_script, judged_parts, judged_file, too_many_bytes, too_many_steps, usage, read_fault}
+use Rattle.bench_top.specs.Judged.{Ending, Judgement, Prints, Runs, ending_of, judged, judged_built, judged_whole, judged_script, configuration_of, judged_parts, judged_file, too_many_bytes, too_many_steps, usage, read_fault}
 use Rattle.bench_top.specs.Outcomes.{Concludes, Ends, FrontOf, WritesFront, output}
 use Rattle.bench_top.specs.Runs.{IsStoppedRun, bound_of_script}
 
@@ -136,14 +134,13 @@ script_after : (form : Form) (config : Config) (r : Result (List Directive) Scri
 script_after form config (Ok script) = whole_after form config script
 script_after form config (Err fault) = prints_after (refusals.Script fault)
 
-parts_after : (form : Form) (fault : Option ConfigFault) (config : Option Config) (text : List ℕ) → IsOfFile (judged_parts form fault config text)
-parts_after form (Some fault) config text = prints_after (refusals.Configuration fault)
-parts_after form None (Some config) text = script_after form config (script text)
-parts_after form None None text = prints_after (refusals.Configuration NotToml)
+parts_after : (form : Form) (r : Result Config ConfigFault) (text : List ℕ) → IsOfFile (judged_parts form r text)
+parts_after form (Err fault) text = prints_after (refusals.Configuration fault)
+parts_after form (Ok config) text = script_after form config (script text)
 
 pub file_after : (form : Form) (parts : Option (List ℕ × List ℕ)) → IsOfFile (judged_file form parts)
 file_after form None = prints_after refusals.NoSeparator
-file_after form (Some parts) = parts_after form (fault_of parts.0) (record_of parts.0) parts.1
+file_after form (Some parts) = parts_after form (configuration_of parts.0) parts.1
 
 -- what was read to the end is judged
 file_judged_at : (f : Form) (xs bytes ys : List ℕ) → xs ≡ bytes ++ ys → ys ≡ [] → length bytes ≤ 1048576 → judged (Some f) xs ≡ judged_file f (file bytes)

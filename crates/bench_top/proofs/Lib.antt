@@ -1,4 +1,5 @@
 pub mod Board
+pub mod Configurations
 pub mod Judging
 pub mod Known
 pub mod Running

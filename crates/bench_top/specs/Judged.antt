@@ -1,13 +1,15 @@
 -- What a call of the bench prints without a run, in the order of its refusals, and what it runs.
-use Rattle.std.specs.Prelude.{ℕ, ◌++◌, nat_lt, List, length, Bool, Option, Some, None, Result, Ok, Err, codes, decimal, if◌then◌else◌}
+use Rattle.std.specs.Prelude.{◌≡◌, ℕ, ◌++◌, nat_lt, List, length, Bool, Option, Some, None, IsSome, Result, Ok, Err, codes, decimal, if◌then◌else◌}
+use Rattle.std.proofs.Common.{refl}
+use Rattle.std.proofs.lemmas.Bool.{false≢true}
 use Rattle.mcal_base.specs.Names.{module_text}
 use Rattle.mcal_base.specs.declared.config.whole.Config.{Config}
 use Rattle.mcal_base.specs.declared.directive.Directive.{Directive}
 use Rattle.mcal_base.specs.declared.module_name.ModuleName.{ModuleName}
 use Rattle.config_rows.specs.Printed.{fault_text}
 use Rattle.config_rows.specs.declared.fault.ConfigFault.{ConfigFault}
-use Rattle.config_rows.specs.declared.fault.ConfigFault.TheVariants.{NotToml}
 use Rattle.mcal_config.specs.Whole.{fault_of, record_of}
+use Rattle.mcal_config.proofs.Recorded.{faultless}
 use Rattle.bench_script.specs.Faults.{line_of, kind_text}
 use Rattle.bench_script.specs.Lines.{file}
 use Rattle.bench_script.specs.Script.{script}
@@ -78,16 +80,24 @@ abbrev pub judged_script : Form → Config → Result (List Directive) ScriptFau
 judged_script form config (Ok directives) = judged_whole form config directives
 judged_script form config (Err fault) = Prints (ending_of (refusals.Script fault))
 
--- the configuration, and then the script; a text without a fault has a record
-abbrev pub judged_parts : Form → Option ConfigFault → Option Config → List ℕ → Judgement
-judged_parts form (Some fault) config text = Prints (ending_of (refusals.Configuration fault))
-judged_parts form None (Some config) text = judged_script form config (script text)
-judged_parts form None None text = Prints (ending_of (refusals.Configuration NotToml))
+-- the fault of a configuration, or else its record, which is there where no fault is
+abbrev pub fault_or_record : (fault : Option ConfigFault) (config : Option Config) → (fault ≡ None → IsSome config) → Result Config ConfigFault
+fault_or_record (Some fault) config there = Err fault
+fault_or_record None (Some config) there = Ok config
+fault_or_record None None there = absurd (false≢true (there refl))
+
+abbrev pub configuration_of : List ℕ → Result Config ConfigFault
+configuration_of text = fault_or_record (fault_of text) (record_of text) (faultless text)
+
+-- the configuration, and then the script
+abbrev pub judged_parts : Form → Result Config ConfigFault → List ℕ → Judgement
+judged_parts form (Err fault) text = Prints (ending_of (refusals.Configuration fault))
+judged_parts form (Ok config) text = judged_script form config (script text)
 
 -- the separator, and then both parts
 abbrev pub judged_file : Form → Option (List ℕ × List ℕ) → Judgement
 judged_file form None = Prints (ending_of refusals.NoSeparator)
-judged_file form (Some parts) = judged_parts form (fault_of parts.0) (record_of parts.0) parts.1
+judged_file form (Some parts) = judged_parts form (configuration_of parts.0) parts.1
 
 -- the words, and then the number of bytes
 abbrev pub judged : Option Form → List ℕ → Judgement

@@ -1,7 +1,6 @@
 ghost use Rattle.std.specs.Prelude.{◌≡◌, ◌≤◌, ℕ, List, Err, Ok, IfOk, length};
 ghost use Rattle.mcal_base.specs.declared.config.whole.Config as records;
 ghost use Rattle.config_facts.specs.Valid.{IsValid};
-ghost use Rattle.mcal_config.specs.Whole.{fault_of, record_of};
 ghost use Rattle.bench_script.specs.Lines.{file};
 ghost use Rattle.bench_script.specs.Script as spec_script;
 ghost use Rattle.bench_top.specs.Built.{IsRead};
@@ -34,10 +33,11 @@ pub enum FileEnd {
 }
 
 /// The configuration of a text.
+#[tactic(auto, using(crate::proofs::Configurations::record_is, crate::proofs::Configurations::fault_is))]
 fn configuration(alloc: Global, text: &[u8]) -> Result<Config, FileEnd>
-    ensures read { IfOk result (λ config. (script : List ℕ) (form : Form) → spec.judged_parts form (fault_of text.now) (record_of text.now) script ≡ spec.judged_script form config (spec_script.script script)) }
+    ensures read { IfOk result (λ config. (script : List ℕ) (form : Form) → spec.judged_parts form (spec.configuration_of text.now) script ≡ spec.judged_script form config (spec_script.script script)) }
     ensures valid { IfOk result IsValid }
-    ensures refused { (refusal : Refusal) → result ≡ Err (FileEnd.Refused refusal) → (script : List ℕ) (form : Form) → spec.judged_parts form (fault_of text.now) (record_of text.now) script ≡ Prints (spec.ending_of refusal) }
+    ensures refused { (refusal : Refusal) → result ≡ Err (FileEnd.Refused refusal) → (script : List ℕ) (form : Form) → spec.judged_parts form (spec.configuration_of text.now) script ≡ Prints (spec.ending_of refusal) }
 {
     match read_config(alloc, text) {
         Ok(config) => Ok(config),
