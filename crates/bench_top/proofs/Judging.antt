@@ -11,6 +11,7 @@ use Rattle.run_model.specs.Entry.{Entry}
 use Rattle.mcal_base.specs.Causes.{Rose}
 use Rattle.mcal_base.specs.declared.module_name.ModuleName.{ModuleName}
 use Rattle.config_rows.specs.declared.fault.ConfigFault.{ConfigFault}
+use Rattle.bench_report.specs.Report.{report}
 use Rattle.bench_script.specs.Lines.{file}
 use Rattle.bench_script.specs.Script.{script}
 use Rattle.bench_script.specs.declared.fault.ScriptFault.{ScriptFault}
@@ -22,7 +23,7 @@ use Rattle.bench_top.specs.declared.words.Form.{Form}
 use Rattle.bench_top.specs.declared.words.Form.TheVariants.{Check, Run}
 use Rattle.bench_top.specs.Judged.{Ending, Judgement, Prints, Runs, ending_of, judged, judged_built, judged_whole, judged_script, configuration_of, judged_parts, judged_file, too_many_bytes, too_many_steps, usage, read_fault}
 use Rattle.bench_top.specs.Outcomes.{Concludes, Ends, FrontOf, WritesFront, output}
-use Rattle.bench_top.specs.Runs.{IsStoppedRun, bound_of_script}
+use Rattle.bench_top.specs.Runs.{IsWholeRun, IsStoppedRun, bound_of_script}
 
 -- the bytes are judged so, where they are told
 pub record JudgesSo (left : Option (List ℕ)) (form : Option Form) (judgement : Judgement) : Type 0 where
@@ -87,6 +88,21 @@ stopped_concludes traced config script status entries before after faults now te
   ends = λ a b. inr (is a, run);
   written = λ a b. subst (λ (n : ℕ). Appends before after (output (Runs traced config script) n entries)) (sym (is a)) (subst (Appends before after) said (wrote a));
   front = λ e. record { status = too_many_steps.status; ends = inr (refl, run); front = subst (WritesFront before after) said (front e) };
+  nothing = λ e. absurd (let f : status ≢ 3 = λ g. absurd (omega (arith, e, g)) in let i = is f in omega (arith, e, i));
+  no_journal = λ e. absurd (let f : status ≢ 3 = λ g. absurd (omega (arith, e, g)) in let i = is f in omega (arith, e, i));
+  still = still;
+  fault = fault;
+}
+
+-- a run that went to its end, and its report
+pub whole_concludes : (traced : Bool) (config : Config) (script : List Directive) (status : ℕ) (entries : List Entry) (before after : Option (List ℕ)) (faults now : ℕ) (text : List ℕ) → text ≡ report traced script entries → status ≤ 7 →
+    IsWholeRun config script entries → (status ≢ 3 → status ≡ 0) → (status ≢ 3 → Appends before after text) → (status ≢ 3 → now ≡ faults) → (status ≡ 3 → Rose faults now) → (status ≡ 3 → WritesFront before after text)
+    → Concludes (Runs traced config script) status entries before after faults now
+whole_concludes traced config script status entries before after faults now text said known run is wrote still fault front = record {
+  known = known;
+  ends = λ a b. inl (is a, run);
+  written = λ a b. subst (λ (n : ℕ). Appends before after (output (Runs traced config script) n entries)) (sym (is a)) (subst (Appends before after) said (wrote a));
+  front = λ e. record { status = 0; ends = inl (refl, run); front = subst (WritesFront before after) said (front e) };
   nothing = λ e. absurd (let f : status ≢ 3 = λ g. absurd (omega (arith, e, g)) in let i = is f in omega (arith, e, i));
   no_journal = λ e. absurd (let f : status ≢ 3 = λ g. absurd (omega (arith, e, g)) in let i = is f in omega (arith, e, i));
   still = still;

@@ -1,5 +1,7 @@
--- What the run of a script leaves in the journal: a run of the timers' machine over the configured channels.
+-- What the run of a script leaves in the journal: a run of the timers' machine over the configured channels, from power
+-- on with the chip that the configuration wires. No script gives words that come in yet, so there is room for none.
 use Rattle.std.specs.Prelude.{ℕ, ◌<◌, ◌≤◌, List}
+use Rattle.chip_model.specs.Chip.{power_on}
 use Rattle.mcal_base.specs.declared.config.whole.Config.{Config}
 use Rattle.mcal_base.specs.declared.directive.Directive.{Directive}
 use Rattle.run_model.specs.Entry.{Entry}
@@ -26,10 +28,10 @@ bound_of_script config script = script_bound (setting_of config) call_of script
 
 -- The whole script was run.
 pub record IsWholeRun (config : Config) (script : List Directive) (journal : List Entry) : Type 0 where
-  pub run : IsRun (setting_of config) call_of script journal
+  pub run : IsRun (setting_of config) (power_on config 0) call_of script journal
   pub steps : steps_in journal ≤ most_steps
 
 -- The run stopped where one more step than the most would have been taken, which needs frames whose bounds come to more.
 pub record IsStoppedRun (config : Config) (script : List Directive) (journal : List Entry) : Type 0 where
-  pub run : IsStopped (setting_of config) call_of most_steps script journal
+  pub run : IsStopped (setting_of config) (power_on config 0) call_of most_steps script journal
   pub bound : most_steps < bound_of_script config script

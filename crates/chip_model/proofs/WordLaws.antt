@@ -16,9 +16,12 @@ read_zeros n k (inr le) = get_or_past (replicate n 0) k 0 (rw (length-replicate 
 within_or_past : (n k : ℕ) → (k < n) ⊎ (n ≤ k)
 within_or_past n k = grind arith
 
+pub index-replicate : (n k : ℕ) → ◌≡◌ {A = ℕ} (slice_index (replicate n 0) k) 0
+index-replicate n k = read_zeros n k (within_or_past n k)
+
 pub slice_index-zeros : (n k : ℕ) → slice_index (zeros n) k ≡ 0
 unfolding zeros
-slice_index-zeros n k = read_zeros n k (within_or_past n k)
+slice_index-zeros n k = index-replicate n k
 
 pub blank-zeros : (n : ℕ) → n ≡ WORDS → zeros n ≡ blank
 unfolding blank

@@ -1,49 +1,136 @@
 -- The chip: what each move, each hardware event and a reset leave, and what each move gives.
-use Rattle.std.specs.Prelude.{◌≡◌, ◌≢◌, ℕ, ◌+◌, ◌*◌, ◌<◌, ◌^◌, length, Bool, true, false, List, [], ◌∷◌, slice_index, slice_set}
-use Rattle.mcal_base.specs.declared.TheConstants.{WORDS}
-use Rattle.mcal_base.specs.declared.register.Reg.{Reg}
-use Rattle.mcal_base.specs.declared.register.Reg.TheVariants.{EnableSet, EnableClear}
+use Rattle.std.specs.Prelude.{ℕ, ◌+◌, ◌*◌, ◌-◌, ◌<◌, ◌≤◌, ◌^◌, ◌++◌, nat_lt, Bool, true, false, not, ◌&&◌, if◌then◌else◌, List, [], ◌∷◌, length, take, drop, replicate, Option, Some, None, option_map, slice_index, slice_index_or, slice_set}
+use Rattle.mcal_base.specs.Bits.{has_bit}
+use Rattle.mcal_base.specs.Layout.{place_of}
+use Rattle.mcal_base.specs.declared.config.whole.Config.{Config}
+use Rattle.mcal_base.specs.declared.directive.Order.{Order}
+use Rattle.mcal_base.specs.declared.directive.Order.TheVariants.{Tick, Level, Analog, Trigger, Miso, SpiFault, Fill}
+use Rattle.mcal_base.specs.declared.directive.Reason.{Reason}
+use Rattle.mcal_base.specs.declared.directive.Reason.TheVariants.{PowerOn}
+use Rattle.mcal_base.specs.declared.layout.Array.TheVariants.{Source}
 use Rattle.mcal_base.specs.declared.moves.Move.{Move}
 use Rattle.mcal_base.specs.declared.moves.Move.TheVariants.{Read, Write, Load, Store, Mask, Unmask, Note, Report}
-use Rattle.mcal_base.specs.declared.directive.Order.{Order}
-use Rattle.mcal_base.specs.declared.directive.Order.TheVariants.{Tick}
-use Rattle.mcal_base.specs.declared.directive.Reason.{Reason}
-use Rattle.irq_control.specs.Control.{Control, control_fresh, enabling, disabling, masking, is_pending_line}
+use Rattle.mcal_base.specs.declared.register.Reg.{Reg}
+use Rattle.mcal_base.specs.declared.register.Reg.TheVariants.{EnableSet, EnableClear, TimerRun, TimerFlags, TimerLow, TimerHigh, PulseOut, PulseFlags, CaptureCountLow, CaptureCountHigh, CaptureTimeLow, CaptureTimeHigh, CaptureInfo, ConverterState, ConverterResult, ConverterDone, ConverterAbort, TriggerFlags, SerialData, SerialReceived, SerialState, ClockLock, ResetReason, Ram}
+use Rattle.irq_control.specs.Control.{Control, control_fresh, enabling, disabling, masking}
 use Rattle.chip_timers.specs.Timers as timers
+use Rattle.chip_pulses.specs.Pulses as pulses
+use Rattle.chip_captures.specs.Captures as captures
+use Rattle.chip_units.specs.Clock as clock
+use Rattle.chip_converter.specs.Converters as converters
+use Rattle.chip_converter.specs.Rounds as rounds
+use Rattle.chip_units.specs.Serials as serials
+use Rattle.chip_units.specs.Pins as pins
+use Rattle.chip_units.specs.Ram as ram
+use Rattle.chip_model.specs.declared.wiring.Wiring.{Wiring}
+use Rattle.chip_model.specs.Wiring.{wiring_of}
 use Rattle.chip_model.specs.Words.{blank}
+use Rattle.chip_model.specs.Waiting.{Waiting}
 
--- The time of the oscillator, the rate of peripheral time, the timer block, the interrupt controller and the
--- driver words. Peripheral time is that of the timer block.
+-- The blocks, the interrupt controller and the driver words; and what stands outside: the levels of the pins, the
+-- words that wait to come in on each serial unit, and what the configuration wires.
 pub record Chip : Type 0 where
-  pub osc : ℕ
-  pub rate : ℕ
+  pub clock : clock.Clock
   pub timers : timers.Timers
+  pub pulses : pulses.Pulses
+  pub captures : captures.Captures
+  pub converters : converters.Converters
+  pub serials : serials.Serials
+  pub pins : pins.Pins
+  pub ram : List ℕ
   pub control : Control
   pub words : List ℕ
-
--- after a reset at these times of oscillator and peripherals
-abbrev pub fresh : (osc now : ℕ) → Chip
-fresh osc now = record { osc = osc; rate = 1; timers = timers.timers_fresh now; control = control_fresh; words = blank }
+  pub outside : List Bool
+  pub incoming : List Waiting
+  pub wiring : Wiring
 
 -- the peripheral time
 abbrev pub now_of : Chip → ℕ
 now_of c = c.timers.time
 
+-- at power on, with room for so many incoming words on each unit
+abbrev pub power_on : Config → (room : ℕ) → Chip
+power_on config room = record {
+  clock = clock.fresh 0 PowerOn;
+  timers = timers.timers_fresh 0;
+  pulses = pulses.pulses_fresh 0;
+  captures = captures.captures_fresh (captures.pins_in config.icu.channels) 0;
+  converters = converters.fresh 0 converters.silent;
+  serials = serials.fresh 0;
+  pins = pins.fresh;
+  ram = ram.blank;
+  control = control_fresh;
+  words = blank;
+  outside = replicate 64 false;
+  incoming = (record { waiting = []; room = room }) ∷ (record { waiting = []; room = room }) ∷ [];
+  wiring = wiring_of config;
+}
+
 -- ---- moves
 
--- what a read of a register gives
+-- what a read of a register gives: those that can be read
 abbrev pub register_of : Chip → Reg → ℕ
-register_of c r = timers.read_of c.timers r
+register_of c TimerRun = timers.read_of c.timers TimerRun
+register_of c TimerFlags = timers.read_of c.timers TimerFlags
+register_of c (TimerLow k) = timers.read_of c.timers (TimerLow k)
+register_of c (TimerHigh k) = timers.read_of c.timers (TimerHigh k)
+register_of c (PulseOut k) = pulses.read_of c.pulses (PulseOut k)
+register_of c PulseFlags = pulses.read_of c.pulses PulseFlags
+register_of c (CaptureCountLow k) = captures.read_of c.captures (CaptureCountLow k)
+register_of c (CaptureCountHigh k) = captures.read_of c.captures (CaptureCountHigh k)
+register_of c (CaptureTimeLow k) = captures.read_of c.captures (CaptureTimeLow k)
+register_of c (CaptureTimeHigh k) = captures.read_of c.captures (CaptureTimeHigh k)
+register_of c (CaptureInfo k) = captures.read_of c.captures (CaptureInfo k)
+register_of c (ConverterState u) = converters.read_of c.converters (ConverterState u)
+register_of c (ConverterResult u i) = converters.read_of c.converters (ConverterResult u i)
+register_of c (ConverterDone u) = converters.read_of c.converters (ConverterDone u)
+register_of c (ConverterAbort u) = converters.read_of c.converters (ConverterAbort u)
+register_of c TriggerFlags = converters.read_of c.converters TriggerFlags
+register_of c (SerialReceived u) = serials.read_of c.serials (SerialReceived u)
+register_of c (SerialState u) = serials.read_of c.serials (SerialState u)
+register_of c ClockLock = clock.read_of c.clock ClockLock
+register_of c ResetReason = clock.read_of c.clock ResetReason
+register_of c (Ram k) = ram.read_of c.ram (Ram k)
+register_of c _ = 0
 
--- what a read leaves
+-- what a read leaves: three kinds of reads act
 abbrev pub after_read : Chip → Reg → Chip
-after_read c r = record c { timers = timers.after_read c.timers r }
+after_read c (TimerLow k) = record c { timers = timers.after_read c.timers (TimerLow k) }
+after_read c (CaptureCountLow k) = record c { captures = captures.after_read c.captures (CaptureCountLow k) }
+after_read c (CaptureTimeLow k) = record c { captures = captures.after_read c.captures (CaptureTimeLow k) }
+after_read c (ConverterAbort u) = record c { converters = converters.after_read c.converters (ConverterAbort u) }
+after_read c _ = c
 
--- what a write leaves
-abbrev pub after_write : Chip → Reg → ℕ → Chip
-after_write c EnableSet value = record c { control = enabling c.control value }
-after_write c EnableClear value = record c { control = disabling c.control value }
-after_write c r value = record c { timers = timers.after_write c.timers r value }
+-- the words that wait to come in on a serial unit
+abbrev pub incoming_at : Chip → ℕ → Waiting
+incoming_at c u = slice_index_or c.incoming u (record { waiting = []; room = 0 })
+
+-- the word that comes in next on a serial unit: the first one that waits, and else all ones
+abbrev pub next_word : Chip → ℕ → ℕ
+next_word c u = slice_index_or (incoming_at c u).waiting 0 65535
+
+-- a word begins on a serial unit, and this one comes in
+abbrev pub word_begun : Chip → (u received : ℕ) → Chip
+word_begun c u received = record c {
+  serials = serials.after_word c.serials u received;
+  incoming = slice_set c.incoming u (record (incoming_at c u) { waiting = drop 1 (incoming_at c u).waiting });
+}
+
+-- what a write leaves, with the word that comes in: each block takes the writes to its registers
+abbrev pub after_write : Chip → Reg → (value received : ℕ) → Chip
+after_write c EnableSet value received = record c { control = enabling c.control value }
+after_write c EnableClear value received = record c { control = disabling c.control value }
+after_write c (SerialData u) value received = word_begun c u received
+after_write c r value received = record c {
+  clock = clock.after_write c.clock r value;
+  timers = timers.after_write c.timers r value;
+  pulses = pulses.after_write c.pulses r value;
+  captures = captures.after_write c.captures r value;
+  converters = converters.after_write c.converters r value;
+  serials = serials.after_write c.serials r value;
+  pins = pins.after_write c.pins r value;
+  ram = ram.after_write c.ram r value;
+}
 
 -- a driver word
 abbrev pub word_of : Chip → ℕ → ℕ
@@ -55,91 +142,129 @@ value_of c (Read r) = register_of c r
 value_of c (Load k) = word_of c k
 value_of c _ = 0
 
--- what a move leaves
-abbrev pub chip_after : Chip → Move → Chip
-chip_after c (Read r) = after_read c r
-chip_after c (Write r value) = after_write c r value
-chip_after c (Load k) = c
-chip_after c (Store k value) = record c { words = slice_set c.words k value }
-chip_after c Mask = record c { control = masking c.control true }
-chip_after c Unmask = record c { control = masking c.control false }
-chip_after c (Note notice) = c
-chip_after c (Report fault) = c
+-- the word that comes in with a move: one does where a serial word begins
+abbrev pub received_of : Chip → Move → ℕ
+received_of c (Write (SerialData u) value) = next_word c u
+received_of c _ = 0
+
+-- what a move leaves, with the word that came in
+abbrev pub chip_after : Chip → Move → (received : ℕ) → Chip
+chip_after c (Read r) received = after_read c r
+chip_after c (Write r value) received = after_write c r value received
+chip_after c (Load k) received = c
+chip_after c (Store k value) received = record c { words = slice_set c.words k value }
+chip_after c Mask received = record c { control = masking c.control true }
+chip_after c Unmask received = record c { control = masking c.control false }
+chip_after c (Note notice) received = c
+chip_after c (Report fault) received = c
 
 -- ---- hardware
 
 -- what so many ticks of the oscillator leave
 abbrev pub ticked : Chip → ℕ → Chip
-ticked c n = record c { osc = c.osc + n; timers = timers.ticked c.timers (n * c.rate) }
+ticked c n = record c {
+  clock = clock.ticked c.clock n;
+  timers = timers.ticked c.timers (n * c.clock.rate);
+  pulses = pulses.ticked c.pulses (n * c.clock.rate);
+  captures = captures.ticked c.captures (n * c.clock.rate);
+  converters = converters.ticked c.converters (n * c.clock.rate);
+  serials = serials.ticked c.serials (n * c.clock.rate);
+}
+
+-- the outside level of a pin
+abbrev pub outside_at : Chip → ℕ → Bool
+outside_at c p = slice_index_or c.outside p false
+
+abbrev pub is_other : Bool → Bool → Bool
+is_other true v = not v
+is_other false v = v
+
+-- the outside level of a pin is set: where that changes it, an edge comes
+abbrev pub levelled : Chip → ℕ → Bool → Chip
+levelled c p v =
+    if is_other (outside_at c p) v
+    then record c { outside = slice_set c.outside p v; captures = captures.after_edge c.captures p v }
+    else c
+
+-- words are given to come in next on a serial unit
+abbrev pub given : Chip → ℕ → List ℕ → Chip
+given c u ws = record c { incoming = slice_set c.incoming u (record (incoming_at c u) { waiting = (incoming_at c u).waiting ++ ws; room = (incoming_at c u).room - length ws }) }
+
+-- the words from a place on become these
+abbrev pub overwritten : List ℕ → (at : ℕ) → List ℕ → List ℕ
+overwritten words at xs = take at words ++ xs ++ drop (at + length xs) words
+
+-- the places of a serial channel's source array
+abbrev pub source_length : Chip → ℕ → ℕ
+source_length c channel = slice_index c.wiring.sources channel
+
+-- the first places of a serial channel's source array become these; words past its end are dropped
+abbrev pub filled : Chip → ℕ → List ℕ → Chip
+filled c channel ws = record c { words = overwritten c.words (place_of (Source channel) 0) (take (source_length c channel) ws) }
 
 -- what a hardware event leaves
 abbrev pub happened : Chip → Order → Chip
 happened c (Tick n) = ticked c n
+happened c (Level p v) = levelled c p v
+happened c (Analog i v) = record c { converters = converters.after_analog c.converters i v }
+happened c (Trigger i) = record c { converters = converters.after_pulse c.converters i }
+happened c (Miso u ws) = given c u ws
+happened c (SpiFault u) = record c { serials = serials.after_fault c.serials u }
+happened c (Fill channel ws) = filled c channel ws
 happened c _ = c
 
--- the times stay within their registers
+-- the times stay within their registers, there is room for the words that come in, and the source array is within its room
 abbrev pub CanHappen : Chip → Order → Type 0
-CanHappen c (Tick n) = (c.osc + n < 2 ^ 64) × (now_of c + n * c.rate < 2 ^ 64)
+CanHappen c (Tick n) = (c.clock.osc + n < 2 ^ 64) × (now_of c + n * c.clock.rate < 2 ^ 64)
+CanHappen c (Miso u ws) = (u < 2) × (length ws ≤ (incoming_at c u).room)
+CanHappen c (Fill channel ws) = (channel < 16) × (source_length c channel ≤ 64)
 CanHappen c _ = Unit {0}
 
 -- ---- resets
 
--- what a reset leaves: the times go on
+-- what a reset leaves: all registers, RAM words and driver words are 0; the times go on, and what stands outside stays
 abbrev pub reset_chip : Chip → Reason → Chip
-reset_chip c reason = fresh c.osc (now_of c)
+reset_chip c reason = record c {
+  clock = clock.fresh c.clock.osc reason;
+  timers = timers.timers_fresh c.timers.time;
+  pulses = pulses.pulses_fresh c.pulses.time;
+  captures = captures.captures_fresh c.captures.pins c.captures.time;
+  converters = converters.fresh c.converters.time c.converters.levels.values;
+  serials = serials.fresh c.serials.time;
+  pins = pins.fresh;
+  ram = ram.blank;
+  control = control_fresh;
+  words = blank;
+}
 
--- ---- what stands outside
+-- ---- what is seen from outside
 
--- the flags of all lines
-abbrev pub line_flags : Chip → ℕ
-line_flags c = timers.flags_of c.timers
+-- the flag of a line: of a timer, a pulse output, a capture input, a converter unit, a serial unit or a trigger input
+abbrev pub flag_of : Chip → ℕ → Bool
+flag_of c line =
+    if nat_lt line 8 then timers.is_flagged (timers.timer_at c.timers line) c.timers.time
+    else if nat_lt line 16 then pulses.is_due c.pulses (line - 8)
+    else if nat_lt line 24 then captures.is_waiting (captures.capture_at c.captures (line - 16))
+    else if nat_lt line 26 then rounds.is_finished (converters.unit_at c.converters (line - 24)).round c.converters.time
+    else if nat_lt line 28 then serials.is_done (serials.unit_at c.serials (line - 26)) c.serials.time
+    else has_bit c.converters.pulses (line - 28)
 
 -- a line is pending while its flag and its enable bit are set
 abbrev pub is_pending : Chip → ℕ → Bool
-is_pending c line = is_pending_line c.control line (line_flags c)
+is_pending c line = flag_of c line && has_bit c.control.enabled line
 
 abbrev pub is_masked : Chip → Bool
 is_masked c = c.control.masked
 
--- ---- histories
+-- the pulse channel whose output is seen at a pin, from this number on
+abbrev pub channel_from : ℕ → List (Option ℕ) → ℕ → Option ℕ
+channel_from k [] p = None
+channel_from k (x ∷ xs) p = if captures.is_pin x p then Some k else channel_from (k + 1) xs p
 
--- What happens to a chip.
-pub data Happening : Type 0 where
-  Made : Move → Happening
-  Hardware : Order → Happening
-  WasReset : Reason → Happening
+-- the output that is seen at a pin, where a pulse channel names it
+abbrev pub output_at : Chip → ℕ → Option Bool
+output_at c p = option_map (λ k. pulses.level_at c.pulses k) (channel_from 0 c.wiring.outputs p)
 
--- what it leaves
-abbrev pub chip_step : Chip → Happening → Chip
-chip_step c (Made made) = chip_after c made
-chip_step c (Hardware order) = happened c order
-chip_step c (WasReset reason) = reset_chip c reason
-
--- what a list of happenings leaves, the first one first
-abbrev pub chip_after_all : Chip → List Happening → Chip
-chip_after_all c [] = c
-chip_after_all c (x ∷ xs) = chip_after_all (chip_step c x) xs
-
--- the chip as a history leaves it, from power on
-abbrev pub chip_of : List Happening → Chip
-chip_of history = chip_after_all (fresh 0 0) history
-
--- ---- what holds of every chip that a history leaves
-
--- it has all its driver words and timer channels
-pub record IsWhole (c : Chip) : Type 0 where
-  pub words : length c.words ≡ WORDS
-  pub timers : length c.timers.timers ≡ 8
-
--- stores to other words only, and is no reset
-abbrev pub LeavesWord : ℕ → Happening → Type 0
-LeavesWord k (Made (Store j value)) = j ≢ k
-LeavesWord k (WasReset reason) = ⊥
-LeavesWord k _ = Unit {0}
-
--- neither opens nor closes the mask, and is no reset
-abbrev pub LeavesMask : Happening → Type 0
-LeavesMask (Made Mask) = ⊥
-LeavesMask (Made Unmask) = ⊥
-LeavesMask (WasReset reason) = ⊥
-LeavesMask _ = Unit {0}
+-- the level of a pin
+abbrev pub pin_of : Chip → ℕ → Bool
+pin_of c p = pins.level c.pins p (outside_at c p) (output_at c p)

@@ -1,3 +1,5 @@
 pub mod Chip
-pub mod Reach
+pub mod Histories
+pub mod Waiting
+pub mod Wiring
 pub mod Words

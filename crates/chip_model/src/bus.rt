@@ -1,13 +1,24 @@
-ghost use Rattle.std.specs.Prelude.{◌≡◌, ◌<◌, IfOk};
-ghost use Rattle.chip_model.specs.Chip.{fresh, now_of, register_of, after_read, after_write, word_of, value_of, chip_after, ticked, happened, CanHappen, is_pending, is_masked};
-ghost use Rattle.chip_model.specs.Reach.{CanApply};
+ghost use Rattle.std.specs.Prelude.{◌≡◌, ◌<◌, ◌≤◌, IfOk, length, slice_index};
+ghost use Rattle.mcal_base.specs.Bits.{has_bit};
+ghost use Rattle.mcal_base.specs.declared.moves.Move.TheVariants.{Write};
+ghost use Rattle.chip_model.specs.Chip.{power_on, register_of, after_read, next_word, word_begun, after_write, word_of, value_of, received_of, chip_after, ticked, outside_at, levelled, filled, happened, CanHappen, reset_chip, flag_of, is_pending, is_masked, channel_from, output_at, pin_of};
+ghost use Rattle.mcal_base.specs.Reach.{CanApply};
 
+use crate::incoming::Incoming;
+use crate::wiring::Wiring;
 use crate::words;
+use chip_captures::CaptureBlock;
+use chip_converter::ConverterBlock;
+use chip_pulses::PulseBlock;
 use chip_timers::TimerBlock;
+use chip_units::{ClockBlock, PinBlock, RamBlock, SerialBlock};
 use irq_control::Irq;
-use mcal_base::{Config, Directive, Move, NoMemory, Order, Reason, Reg, WORDS};
+use mcal_base::{Config, Directive, Move, NoMemory, Order, Reason, Reg, SOURCES, WORDS};
 use std::alloc::Global;
 use std::marker::Model;
+
+/// How many pins there are.
+const PINS: u32 = 64;
 
 /// What a move gave.
 #[derive(Clone, Copy, Debug, PartialEq, Eq)]
@@ -18,14 +29,22 @@ pub struct Applied {
     pub received: u32,
 }
 
-/// The chip as frames and the script see it: registers and driver words behind one bus.
+/// The chip: its blocks, the interrupt controller and the driver words, with what stands outside.
 #[derive(Debug, Drop)]
 pub struct Bus {
-    osc: u64,
-    rate: u32,
+    clock: ClockBlock,
     timers: TimerBlock,
+    pulses: PulseBlock,
+    captures: CaptureBlock,
+    converters: ConverterBlock,
+    serials: SerialBlock,
+    pins: PinBlock,
+    ram: RamBlock,
     irq: Irq,
     words: Vec<u32>,
+    outside: [bool; 64],
+    incoming: [Incoming; 2],
+    wiring: Wiring,
 }
 
 impl Model for Bus {
@@ -35,23 +54,37 @@ impl Model for Bus {
 
     ghost Value = { Chip };
 
-    ghost view = { λ b. record { osc = b.osc; rate = b.rate; timers = b.timers; control = b.irq; words = b.words.items } };
+    ghost view = { λ b. record { clock = b.clock; timers = b.timers; pulses = b.pulses; captures = b.captures; converters = b.converters; serials = b.serials; pins = b.pins; ram = b.ram; control = b.irq; words = b.words.items; outside = b.outside; incoming = b.incoming; wiring = b.wiring } };
 
-    ghost invariant = { λ b. length b.words.items ≡ WORDS };
+    ghost invariant = { λ b. (length b.words.items ≡ WORDS) × (length b.outside ≡ 64) × (length b.incoming ≡ 2) × (length b.wiring.outputs ≡ 8) × (length b.wiring.sources ≡ 16) × (b.pulses.time ≡ b.timers.time) × (b.captures.time ≡ b.timers.time) × (b.converters.time ≡ b.timers.time) × (b.serials.time ≡ b.timers.time) };
 }
 
 impl Bus {
-    /// The chip as at power on, with room for so many incoming words. All memory is taken here.
-    pub fn new(alloc: Global, config: &Config, _waiting: usize) -> Result<Bus, NoMemory>
-        ensures { IfOk result (λ bus. bus ≡ fresh 0 0) }
+    /// The chip as at power on, with room for so many incoming words on each serial unit. All memory is taken here.
+    pub fn new(alloc: Global, config: &Config, waiting: usize) -> Result<Bus, NoMemory>
+        ensures { IfOk result (λ bus. bus ≡ power_on config.now waiting) }
     {
         let words = words::made(alloc, WORDS as usize)?;
+        let (Ok(first), Ok(second)) = (
+            Incoming::with_room(alloc, waiting),
+            Incoming::with_room(alloc, waiting),
+        ) else {
+            return Err(NoMemory);
+        };
         Ok(Bus {
-            osc: 0,
-            rate: 1,
+            clock: ClockBlock::new(config),
             timers: TimerBlock::new(config),
+            pulses: PulseBlock::new(config),
+            captures: CaptureBlock::new(config),
+            converters: ConverterBlock::new(config),
+            serials: SerialBlock::new(config),
+            pins: PinBlock::new(config),
+            ram: RamBlock::new(config),
             irq: Irq::new(),
             words,
+            outside: [false; 64],
+            incoming: [first, second],
+            wiring: Wiring::of(config),
         })
     }
 
@@ -59,41 +92,133 @@ impl Bus {
     pub fn apply(&mut self, made: &Move) -> Applied
         requires { CanApply made.now }
         ensures value { result.value ≡ value_of self.old made.now }
-        ensures received { result.received ≡ 0 }
-        ensures state { self.new ≡ chip_after self.old made.now }
+        ensures received { result.received ≡ received_of self.old made.now }
+        ensures state { self.new ≡ chip_after self.old made.now result.received }
     {
-        let value = match made {
-            Move::Read(reg) => self.timers.read(*reg),
-            Move::Write(reg, value) => {
-                self.write(*reg, *value);
-                0
-            }
-            Move::Load(number) => self.words[*number as usize],
-            Move::Store(number, value) => {
-                self.words[*number as usize] = *value;
-                0
-            }
-            Move::Mask => {
-                self.irq.mask();
-                0
-            }
-            Move::Unmask => {
-                self.irq.unmask();
-                0
-            }
-            Move::Note(_) | Move::Report(_) => 0,
+        let mut applied = Applied {
+            value: 0,
+            received: 0,
         };
-        Applied { value, received: 0 }
+        match *made {
+            Move::Read(reg) => applied.value = self.read(reg),
+            Move::Write(reg, value) => applied.received = self.write(reg, value),
+            Move::Load(number) => applied.value = self.words[number as usize],
+            Move::Store(number, value) => self.words[number as usize] = value,
+            Move::Mask => self.irq.mask(),
+            Move::Unmask => self.irq.unmask(),
+            Move::Note(_) | Move::Report(_) => {}
+        }
+        applied
     }
 
-    fn write(&mut self, reg: Reg, value: u32)
-        ensures { self.new ≡ after_write self.old reg value }
+    /// Reads a register.
+    fn read(&mut self, reg: Reg) -> u32
+        ensures value { result ≡ register_of self.old reg }
+        ensures state { self.new ≡ after_read self.old reg }
     {
+        match reg {
+            Reg::TimerRun | Reg::TimerFlags | Reg::TimerLow(_) | Reg::TimerHigh(_) => {
+                self.timers.read(reg)
+            }
+            Reg::PulseOut(_) | Reg::PulseFlags => self.pulses.read(reg),
+            Reg::CaptureCountLow(_)
+            | Reg::CaptureCountHigh(_)
+            | Reg::CaptureTimeLow(_)
+            | Reg::CaptureTimeHigh(_)
+            | Reg::CaptureInfo(_) => self.captures.read(reg),
+            Reg::ConverterState(_)
+            | Reg::ConverterResult(_, _)
+            | Reg::ConverterDone(_)
+            | Reg::ConverterAbort(_)
+            | Reg::TriggerFlags => self.converters.read(reg),
+            Reg::SerialReceived(_) | Reg::SerialState(_) => self.serials.read(reg),
+            Reg::ClockLock | Reg::ResetReason => self.clock.read(reg),
+            Reg::Ram(_) => self.ram.read(reg),
+            _ => 0,
+        }
+    }
+
+    /// Begins a word on a serial unit, and answers the one that comes in.
+    fn begin_word(&mut self, unit: u32, sent: u32) -> u32
+        requires { unit < 2 }
+        ensures word { result ≡ next_word self.old unit }
+        ensures state { self.new ≡ word_begun self.old unit result }
+    {
+        let received = self.incoming[unit as usize].take();
+        self.serials.word(unit, sent, received);
+        received
+    }
+
+    /// Writes a register, and answers the word that comes in where that begins a serial word, else 0.
+    fn write(&mut self, reg: Reg, value: u32) -> u32
+        requires { CanApply (Write reg value) }
+        ensures word { result ≡ received_of self.old (Write reg value) }
+        ensures state { self.new ≡ after_write self.old reg value result }
+    {
+        if let Reg::SerialData(unit) = reg {
+            return self.begin_word(unit, value);
+        }
         match reg {
             Reg::EnableSet => self.irq.set(value),
             Reg::EnableClear => self.irq.clear(value),
-            _ => self.timers.write(reg, value),
+            Reg::TimerTarget(_)
+            | Reg::TimerPrescaler(_)
+            | Reg::TimerOneShot
+            | Reg::TimerGateSet
+            | Reg::TimerGateClear
+            | Reg::TimerFlags
+            | Reg::TimerZero => self.timers.write(reg, value),
+            Reg::PulsePeriod(_)
+            | Reg::PulseDuty(_)
+            | Reg::PulsePolarity(_)
+            | Reg::PulseCommit(_)
+            | Reg::PulseIdle(_)
+            | Reg::PulseEdges
+            | Reg::PulseFlags => self.pulses.write(reg, value),
+            Reg::CaptureCondition(_)
+            | Reg::CaptureMode(_)
+            | Reg::CaptureGateSet
+            | Reg::CaptureGateClear
+            | Reg::CaptureZero(_)
+            | Reg::CapturePop(_)
+            | Reg::CaptureFlush(_) => self.captures.write(reg, value),
+            Reg::ConverterList(_, _) | Reg::ConverterGo(_) | Reg::ConverterAck(_) => {
+                self.converters.write(reg, value)
+            }
+            Reg::TriggerSet | Reg::TriggerClear | Reg::TriggerFlags => {
+                self.converters.write(reg, value)
+            }
+            Reg::SerialSelect(_) | Reg::SerialWidth(_) | Reg::SerialAck(_) => {
+                self.serials.write(reg, value)
+            }
+            Reg::PinDirectionSet(_)
+            | Reg::PinDirectionClear(_)
+            | Reg::PinOutSet(_)
+            | Reg::PinOutClear(_)
+            | Reg::PinMode(_) => self.pins.write(reg, value),
+            Reg::ClockPll | Reg::ClockRate => self.clock.write(reg, value),
+            Reg::Ram(_) => self.ram.write(reg, value),
+            Reg::SerialData(_)
+            | Reg::TimerRun
+            | Reg::TimerLow(_)
+            | Reg::TimerHigh(_)
+            | Reg::PulseOut(_)
+            | Reg::CaptureCountLow(_)
+            | Reg::CaptureCountHigh(_)
+            | Reg::CaptureTimeLow(_)
+            | Reg::CaptureTimeHigh(_)
+            | Reg::CaptureInfo(_)
+            | Reg::ConverterState(_)
+            | Reg::ConverterResult(_, _)
+            | Reg::ConverterDone(_)
+            | Reg::ConverterAbort(_)
+            | Reg::SerialReceived(_)
+            | Reg::SerialState(_)
+            | Reg::ClockLock
+            | Reg::ResetReason
+            | Reg::ResetRequest => {}
         }
+        0
     }
 
     /// A hardware event of the script.
@@ -103,25 +228,74 @@ impl Bus {
     {
         match &happening.order {
             Order::Tick(ticks) => self.tick(*ticks),
+            Order::Level(pin, level) => self.set_level(*pin, *level),
+            Order::Analog(input, value) => self.converters.analog(*input, *value),
+            Order::Trigger(input) => self.converters.trigger(*input),
+            Order::Miso(unit, words) => self.incoming[*unit as usize].give(words.as_slice()),
+            Order::SpiFault(unit) => self.serials.fault(*unit),
+            Order::Fill(channel, words) => self.fill(*channel, words.as_slice()),
             _ => {}
         }
     }
 
+    /// So many ticks of the oscillator.
     fn tick(&mut self, ticks: u32)
         requires { CanHappen self.old (Order.Tick ticks) }
         ensures { self.new ≡ ticked self.old ticks }
     {
         let ticks = u64::from(ticks);
-        self.osc += ticks;
-        self.timers.tick(ticks * u64::from(self.rate));
+        let peripheral = ticks * u64::from(self.clock.rate());
+        self.clock.tick(ticks);
+        self.timers.tick(peripheral);
+        self.pulses.tick(peripheral);
+        self.captures.tick(peripheral);
+        self.converters.tick(peripheral);
+        self.serials.tick(peripheral);
     }
 
-    /// A reset: all registers and driver words become 0, and the times go on.
-    pub fn reset(&mut self, _reason: Reason)
-        ensures { self.new ≡ fresh self.old.osc (now_of self.old) }
+    /// The outside level of a pin. Where that changes it, the capture channels at the pin see an edge.
+    fn set_level(&mut self, pin: u32, level: bool)
+        ensures { self.new ≡ levelled self.old pin level }
     {
-        self.rate = 1;
+        if self.outside_level(pin) != level {
+            if pin < PINS {
+                self.outside[pin as usize] = level;
+            }
+            self.captures.edge(pin, level);
+        }
+    }
+
+    /// The outside level of a pin.
+    fn outside_level(&self, pin: u32) -> bool
+        ensures { result ≡ outside_at self.now pin }
+    {
+        pin < PINS && self.outside[pin as usize]
+    }
+
+    /// The first places of a serial channel's source array become these words; those past its end are dropped.
+    fn fill(&mut self, channel: u32, words: &[u32])
+        requires { CanHappen self.old (Order.Fill channel words.now) }
+        ensures { self.new ≡ filled self.old channel words.now }
+    {
+        let count = words
+            .len()
+            .min(self.wiring.sources[channel as usize] as usize);
+        let first = (SOURCES + 64 * channel) as usize;
+        self.words[first..first + count].copy_from_slice(&words[..count]);
+    }
+
+    /// A reset: all registers, RAM words and driver words become 0. The times go on, and what stands outside stays.
+    pub fn reset(&mut self, reason: Reason)
+        ensures { self.new ≡ reset_chip self.old reason }
+    {
+        self.clock.reset(reason);
         self.timers.reset();
+        self.pulses.reset();
+        self.captures.reset();
+        self.converters.reset();
+        self.serials.reset();
+        self.pins.reset();
+        self.ram.reset();
         self.irq = Irq::new();
         words::clear(&mut self.words);
     }
@@ -130,7 +304,21 @@ impl Bus {
     pub fn pending(&self, line: u32) -> bool
         ensures { result ≡ is_pending self.now line }
     {
-        self.irq.pending(line, self.timers.flags())
+        self.irq.pending(line, self.flags_with(line))
+    }
+
+    /// The flags of the block to which a line belongs.
+    fn flags_with(&self, line: u32) -> u32
+        ensures { has_bit result line ≡ flag_of self.now line }
+    {
+        match line {
+            0..=7 => self.timers.flags(),
+            8..=15 => self.pulses.flags(),
+            16..=23 => self.captures.flags(),
+            24..=25 => self.converters.flags(),
+            26..=27 => self.serials.flags(),
+            _ => self.converters.flags(),
+        }
     }
 
     /// Whether the interrupt mask is closed.
@@ -147,4 +335,43 @@ impl Bus {
     {
         self.words[number as usize]
     }
+
+    /// A RAM word.
+    pub fn ram(&self, number: u32) -> u32
+        requires { number < 512 }
+        ensures { result ≡ slice_index self.now.ram number }
+    {
+        self.ram.ram(number)
+    }
+
+    /// The level of a pin.
+    pub fn pin(&self, pin: u32) -> bool
+        ensures { result ≡ pin_of self.now pin }
+    {
+        self.pins
+            .pin(pin, self.outside_level(pin), self.output(pin))
+    }
+
+    /// The output that is seen at a pin, where a pulse channel names it.
+    fn output(&self, pin: u32) -> Option<bool>
+        ensures { result ≡ output_at self.now pin }
+    {
+        match channel_at(&self.wiring.outputs, pin) {
+            Some(channel) => Some(self.pulses.level(channel)),
+            None => None,
+        }
+    }
+}
+
+/// The pulse channel whose output is seen at a pin.
+fn channel_at(outputs: &[Option<u32>], pin: u32) -> Option<u32>
+    requires { length outputs.now ≤ 8 }
+    ensures { result ≡ channel_from 0 outputs.now pin }
+{
+    for (channel, output) in outputs.iter().enumerate() {
+        if *output == Some(pin) {
+            return Some(channel as u32);
+        }
+    }
+    None
 }

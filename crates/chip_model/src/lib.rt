@@ -1,11 +1,11 @@
-//! The reference chip: the bus to its blocks, and the driver words.
+//! The chip as frames and the script see it: all blocks, the interrupt controller and the driver words behind one bus.
 #![tactic(auto)]
 
 mod bus;
+mod incoming;
 pub mod laws;
+mod wiring;
 mod words;
 
 pub use bus::{Applied, Bus};
-
-#[cfg(test)]
-mod tests;
+pub use incoming::Incoming;

@@ -3,10 +3,7 @@ ghost use Rattle.std.specs.Prelude.{length, ◌≤◌, ◌+◌, ◌^◌, ◌<◌
 use chip_captures::CaptureBlock;
 use chip_pulses::PulseBlock;
 use chip_timers::TimerBlock;
-use mcal_base::{
-    AdcConfig, AdcPriorityImplementation, Config, GptConfig, IcuChannel, IcuConfig, McuConfig,
-    PortConfig, PwmConfig, Reg, Short, SpiConfig,
-};
+use mcal_base::{Config, IcuChannel, IcuConfig, Reg, Short};
 
 /// A line of a table.
 #[derive(Clone, Copy)]
@@ -40,46 +37,11 @@ fn config() -> Config {
     channels.push(capture_input(6, 40));
     channels.push(capture_input(2, 63));
     Config {
-        mcu: McuConfig {
-            dev_error_detect: true,
-            clock_settings: Short::new(),
-            modes: Short::new(),
-            ram_sections: Short::new(),
-        },
-        port: PortConfig {
-            dev_error_detect: true,
-            pins: Short::new(),
-        },
-        gpt: GptConfig {
-            dev_error_detect: true,
-            classification: 1,
-            channels: Short::new(),
-        },
-        pwm: PwmConfig {
-            dev_error_detect: true,
-            channels: Short::new(),
-        },
         icu: IcuConfig {
-            dev_error_detect: true,
-            classification: 1,
             channels,
+            ..IcuConfig::default()
         },
-        adc: AdcConfig {
-            dev_error_detect: true,
-            classification: 1,
-            priority_implementation: AdcPriorityImplementation::None,
-            enable_queuing: false,
-            units: Short::new(),
-            groups: Short::new(),
-        },
-        spi: SpiConfig {
-            dev_error_detect: true,
-            classification: 1,
-            levels: Short::new(),
-            channels: Short::new(),
-            jobs: Short::new(),
-            sequences: Short::new(),
-        },
+        ..Config::default()
     }
 }
 

@@ -2,10 +2,7 @@ ghost use Rattle.std.specs.Prelude.{length, ◌≡◌, ◌≤◌, ◌+◌, ◌^�
 
 use chip_converter::ConverterBlock;
 use chip_units::SerialBlock;
-use mcal_base::{
-    AdcConfig, AdcPriorityImplementation, Config, GptConfig, IcuConfig, McuConfig, PortConfig,
-    PwmConfig, Reg, Short, SpiConfig,
-};
+use mcal_base::{Config, Reg};
 
 /// A line of a table.
 #[derive(Clone, Copy)]
@@ -30,52 +27,6 @@ pub enum Line {
     Reset,
 }
 
-/// A configuration without objects.
-pub fn nothing() -> Config {
-    Config {
-        mcu: McuConfig {
-            dev_error_detect: true,
-            clock_settings: Short::new(),
-            modes: Short::new(),
-            ram_sections: Short::new(),
-        },
-        port: PortConfig {
-            dev_error_detect: true,
-            pins: Short::new(),
-        },
-        gpt: GptConfig {
-            dev_error_detect: true,
-            classification: 2,
-            channels: Short::new(),
-        },
-        pwm: PwmConfig {
-            dev_error_detect: true,
-            channels: Short::new(),
-        },
-        icu: IcuConfig {
-            dev_error_detect: true,
-            classification: 2,
-            channels: Short::new(),
-        },
-        adc: AdcConfig {
-            dev_error_detect: true,
-            classification: 2,
-            priority_implementation: AdcPriorityImplementation::None,
-            enable_queuing: false,
-            units: Short::new(),
-            groups: Short::new(),
-        },
-        spi: SpiConfig {
-            dev_error_detect: true,
-            classification: 2,
-            levels: Short::new(),
-            channels: Short::new(),
-            jobs: Short::new(),
-            sequences: Short::new(),
-        },
-    }
-}
-
 /// The converter block and the serial block, on one time. Each access is given to both, so a register of the other
 /// block is seen to read 0 and to be ignored.
 #[derive(Drop)]
@@ -90,7 +41,7 @@ impl Units {
         ensures converter { result.converter.time ≡ 0 }
         ensures serial { result.serial.time ≡ 0 }
     {
-        let config = nothing();
+        let config = Config::default();
         Units {
             converter: ConverterBlock::new(&config),
             serial: SerialBlock::new(&config),

@@ -1,12 +1,11 @@
 ghost use Rattle.std.specs.Prelude.{◌≡◌, ◌+◌, ◌^◌, ◌<◌};
 
-use crate::blocks::nothing;
 use chip_units::{ClockBlock, PinBlock, RamBlock, SerialBlock};
-use mcal_base::{Reason, Reg};
+use mcal_base::{Config, Reason, Reg};
 
 #[test]
 fn the_pll_and_the_rate(rt: HostRuntime) {
-    let mut clock = ClockBlock::new(&nothing());
+    let mut clock = ClockBlock::new(&Config::default());
     assert_eq!(rt; clock.read(Reg::ResetReason), 0);
     clock.write(Reg::ClockRate, 1);
     assert_eq!(rt; clock.rate(), 1);
@@ -44,7 +43,7 @@ fn the_pll_and_the_rate(rt: HostRuntime) {
 
 #[test]
 fn the_levels_of_pins(rt: HostRuntime) {
-    let mut pins = PinBlock::new(&nothing());
+    let mut pins = PinBlock::new(&Config::default());
     assert!(rt; pins.pin(63, true, Some(false)));
     pins.write(Reg::PinDirectionSet(1), 0x8000_0000);
     assert!(rt; !pins.pin(63, true, Some(true)));
@@ -74,7 +73,7 @@ fn the_levels_of_pins(rt: HostRuntime) {
 
 #[test]
 fn ram_words(rt: HostRuntime) {
-    let mut ram = RamBlock::new(&nothing());
+    let mut ram = RamBlock::new(&Config::default());
     ram.write(Reg::Ram(511), u32::MAX);
     ram.write(Reg::Ram(0), 3);
     ram.tick(9);
@@ -87,7 +86,7 @@ fn ram_words(rt: HostRuntime) {
 
 #[test]
 fn selected_devices(rt: HostRuntime) {
-    let mut serial = SerialBlock::new(&nothing());
+    let mut serial = SerialBlock::new(&Config::default());
     serial.write(Reg::SerialSelect(1), 3);
     assert_eq!(rt; serial.selected(1), 3);
     assert_eq!(rt; serial.selected(0), 0);

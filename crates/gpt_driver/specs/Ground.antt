@@ -1,6 +1,6 @@
 -- How words and registers stand for the machine's state.
 use Rattle.std.specs.Prelude.{◌≡◌, ℕ, ◌+◌, ◌*◌, ◌<◌, ◌^◌, ◌%◌, ◌==◌, nat_lt, Bool, true, false, ◌&&◌, ◌||◌, not, Option, Some, None, is_some}
-use Rattle.chip_model.specs.Chip.{Chip, IsWhole, word_of}
+use Rattle.chip_model.specs.Chip.{Chip, word_of}
 use Rattle.chip_timers.specs.Timers.{Timers, timer_at, expired_between}
 use Rattle.chip_timers.specs.declared.timer.Count.{Count}
 use Rattle.chip_timers.specs.declared.timer.Count.TheVariants.{Still, Since}
@@ -16,6 +16,7 @@ use Rattle.run_model.specs.declared.class.Kind.TheVariants.{Exclusive, Keyed}
 use Rattle.run_model.specs.declared.class.KeyKind.TheVariants as keys
 use Rattle.run_model.specs.World.{World}
 use Rattle.run_model.specs.Frame.{Origin, Called}
+use Rattle.run_model.specs.Outside.{StandsIn}
 use Rattle.run_model.specs.Moment.{Halves, Setting}
 use Rattle.service_outline.specs.Outline.{Ground}
 use Rattle.service_outline.specs.There.{names_there}
@@ -130,12 +131,10 @@ gpt_setting d = record {
   window_of = λ o. 32;
   may = λ o made. gpt_may made;
   halves = halves;
-  begins_word = λ w s line. None;
   fills = λ c. false;
   fill_busy = λ w s origins c. false;
-  receives = λ chip w number received. Unit {0};
-  selects = λ origin chip w s e number. Unit {0};
   rest = λ chip w s. Unit {0};
+  unmasked = λ chip w s origins. Unit {0};
   shows = λ origin n chip s. Unit {0};
 }
 
@@ -232,8 +231,7 @@ LinesAgree lines m enabled = (c : ℕ) → c < 8 → has_bit enabled c ≡ all_a
 
 -- the words and registers agree with the state, but for what is under work; an uninitialised module has touched no channel
 pub record GptAgrees (d : GptDriver) (gap : Gap) (chip : Chip) (w : World) (s : GptState) : Type 0 where
-  pub whole : IsWhole chip
-  pub time : chip.timers.time ≡ w.now
+  pub outside : StandsIn chip w
   pub block : BlockAgrees d gap.block chip.timers s
   pub words : WordsAgree gap.words chip s
   pub lines : LinesAgree gap.lines s.mode chip.control.enabled
@@ -243,6 +241,7 @@ pub record GptAgrees (d : GptDriver) (gap : Gap) (chip : Chip) (w : World) (s : 
 abbrev pub gpt_ground : GptDriver → Ground GptState Call
 gpt_ground d = record {
   setting = gpt_setting d;
+  wired = λ chip. Unit {0};
   lines = λ l. nat_lt l 8;
   owns = λ o made. gpt_owns made;
   count = λ s. 0;

@@ -1,14 +1,14 @@
 -- A toy module whose frames hold something while the mask is open: a section that is filled word by word, the promise of a
 -- start, and the pin of a bank that is copied.
-use Rattle.std.specs.Prelude.{◌≡◌, ◌≢◌, ℕ, ◌+◌, ◌*◌, ◌<◌, ◌==◌, nat_lt, Bool, true, false, ◌&&◌, ◌||◌, not, length, List, [], ◌∷◌, Option, Some, None, if◌then◌else◌, slice_index_or}
+use Rattle.std.specs.Prelude.{◌≡◌, ◌≢◌, ℕ, ◌+◌, ◌*◌, ◌<◌, ◌==◌, nat_lt, Bool, true, false, ◌&&◌, ◌||◌, not, List, [], ◌∷◌, Option, Some, None, if◌then◌else◌, slice_index_or}
 use Rattle.chip_model.specs.Chip.{Chip, word_of}
+use Rattle.chip_model.specs.Histories.{HasAll}
 use Rattle.det_errors.specs.Reports.{Reporting}
-use Rattle.mcal_base.specs.declared.TheConstants.{WORDS}
 use Rattle.mcal_base.specs.declared.error_name.ErrorName.TheVariants.{McuParamRamsection, AdcIdle}
 use Rattle.mcal_base.specs.declared.module_name.ModuleName.TheVariants.{Mcu}
 use Rattle.mcal_base.specs.declared.moves.Event.TheVariants.{Act, Serve, Start}
 use Rattle.mcal_base.specs.declared.moves.Move.{Move}
-use Rattle.mcal_base.specs.declared.moves.Move.TheVariants.{Read, Write, Load, Store, Mask, Unmask, Note, Report}
+use Rattle.mcal_base.specs.declared.moves.Move.TheVariants.{Read, Write, Load, Store, Mask, Unmask, Note}
 use Rattle.mcal_base.specs.declared.moves.Unit as units
 use Rattle.mcal_base.specs.declared.moves.Unit.TheVariants.{Adc0, Adc1, Spi0, Spi1}
 use Rattle.mcal_base.specs.declared.notice.Notice.{Notice}
@@ -193,10 +193,8 @@ setting = record {
   halves = λ c. None;
   fills = λ c. false;
   fill_busy = λ w s origins c. false;
-  receives = λ chip w number received. Unit {0};
-  begins_word = λ w s line. None;
-  selects = λ origin chip w s e number. Unit {0};
   rest = λ chip w s. Unit {0};
+  unmasked = λ chip w s origins. Unit {0};
   shows = λ origin n chip s. Unit {0};
 }
 
@@ -290,7 +288,7 @@ KeptAgrees (Publishing b) chip kept = (b < 2) × (kept ≡ Some (word_of chip (b
 -- the words agree with the state and with what is held, but for what is under work
 pub record Agrees (held : Holds) (work : Work) (chip : Chip) (w : World) (s : State) : Type 0 where
   pub right : AllRight chip held
-  pub words : length chip.words ≡ WORDS
+  pub all : HasAll chip
   pub cells : (c j : ℕ) → c < 4 → j < 8 → word_of chip (cell c j) ≡ want held (cells_of s) c j
   pub mark : MarkAgrees work chip s.waiting
   pub kept : KeptAgrees work chip s.kept
@@ -300,6 +298,7 @@ pub record Agrees (held : Holds) (work : Work) (chip : Chip) (w : World) (s : St
 abbrev pub basis : Basis State Call
 basis = record {
   setting = setting;
+  wired = λ chip. Unit {0};
   lines = λ l. false;
   owns = λ o made. owns made;
   count = λ s. 0;

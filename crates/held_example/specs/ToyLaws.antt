@@ -1,43 +1,43 @@
 -- The toy module is lawful.
-use Rattle.std.proofs.Common.{◌≡◌, ℕ, ◌+◌, ◌*◌, ◌<◌, ◌≤◌, ◌≢◌, ◌==◌, nat_lt, Bool, true, false, ◌&&◌, ◌||◌, not, length, List, [], ◌∷◌, Option, Some, None, zero, suc, refl, sym, ◌∙◌, ap, subst, arith, length-set, get_or-set_same, get_or-set_other}
-use Rattle.std.specs.Prelude.{if◌then◌else◌, slice_index, slice_index_or}
+use Rattle.std.proofs.Common.{◌≡◌, ℕ, ◌+◌, ◌*◌, ◌<◌, ◌≤◌, ◌≢◌, ◌==◌, nat_lt, Bool, true, false, ◌&&◌, ◌||◌, not, length, [], ◌∷◌, Option, Some, None, zero, suc, refl, sym, ◌∙◌, ap, subst, arith, get_or-set_same, get_or-set_other}
+use Rattle.std.specs.Prelude.{if◌then◌else◌, slice_index_or}
 use Rattle.std.proofs.lemmas.Bool.Decides.{nat_tests}
-use Rattle.chip_model.specs.Chip.{Chip, chip_after, value_of, happened, fresh, word_of}
-use Rattle.chip_model.specs.Reach.{IsThere, CanApply}
-use Rattle.chip_model.proofs.WordLaws.{length-blank, slice_index-blank}
+use Rattle.chip_model.specs.Chip.{Chip, chip_after, value_of, happened, reset_chip, is_masked, word_of}
+use Rattle.chip_model.specs.Histories.{HasAll, Made, Hardware, WasReset, FillsThere}
+use Rattle.mcal_base.specs.Reach.{IsThere, CanApply}
+use Rattle.chip_model.proofs.WholeLaws.{all-step}
+use Rattle.chip_model.proofs.WordLaws.{slice_index-blank}
 use Rattle.mcal_base.specs.declared.TheConstants.{WORDS}
 use Rattle.mcal_base.specs.declared.answer.Answer.{Answer}
 use Rattle.mcal_base.specs.declared.directive.Order.{Order}
-use Rattle.mcal_base.specs.declared.directive.Order.TheVariants.{Tick}
-use Rattle.mcal_base.specs.declared.moves.Event.TheVariants.{Act}
+use Rattle.mcal_base.specs.declared.directive.Reason.{Reason}
+use Rattle.mcal_base.specs.declared.directive.Reason.TheVariants.{PowerOn}
+use Rattle.mcal_base.specs.declared.layout.TheConstants.{SOURCES}
 use Rattle.mcal_base.specs.declared.moves.Move.{Move}
 use Rattle.mcal_base.specs.declared.moves.Move.TheVariants.{Read, Write, Load, Store, Mask, Unmask, Note, Report}
 use Rattle.mcal_base.specs.declared.moves.Unit as units
 use Rattle.mcal_base.specs.declared.moves.Unit.TheVariants.{Adc0, Adc1, Spi0, Spi1}
 use Rattle.mcal_base.specs.declared.register.Reg.{Reg}
-use Rattle.mcal_base.specs.declared.register.Reg.TheVariants.{EnableSet, EnableClear, ConverterGo, ResetRequest}
+use Rattle.mcal_base.specs.declared.register.Reg.TheVariants.{ConverterGo, ResetRequest}
 use Rattle.run_model.specs.World.{World, world_after}
-use Rattle.run_model.specs.Machine.{Told, tells_nothing, no_answer, outcome}
-use Rattle.run_model.specs.Frame.{Origin, Called, Entered, is_shared, resets_chip, missed_after}
+use Rattle.run_model.specs.Machine.{Acts, Outcome, ErrorLeaves, tells_nothing, no_answer, outcome}
+use Rattle.run_model.specs.Frame.{Origin, Called, is_shared, resets_chip, begins_word, missed_after}
 use Rattle.run_model.specs.Causes.{blocks}
-use Rattle.run_model.specs.Legal.{ReceivedRight}
-use Rattle.step_runner.specs.Driver.{IsLawful, most_steps}
+use Rattle.step_runner.specs.Driver.{IsLawful}
 use Rattle.service_outline.specs.Acts.{Cleans}
 use Rattle.service_outline.specs.Both.{both}
 use Rattle.service_outline.specs.Done.{goes, acts, number}
 use Rattle.service_outline.specs.Fuel.{Shortens}
 use Rattle.service_outline.specs.Past.{Past, nothing_yet, Is_being}
-use Rattle.service_outline.specs.Services.{Held, IsBasis, Steady, Stand, AreLong, Right, Works, TurnsTo, AreServices, Decides, Beside, AllLet, MayCome, services_driver, mark_of, place_at, holds_at, with_holds}
+use Rattle.service_outline.specs.Services.{Held, IsBasis, Steady, Stand, AreLong, Right, Works, TurnsTo, AreServices, Decides, Beside, AllLet, services_driver, mark_of, place_at}
 use Rattle.service_outline.specs.declared.done.BodyTaken.{BodyTaken}
 use Rattle.service_outline.specs.Short.{short_move, short_left, short_gave}
-use Rattle.service_outline.specs.Sweeping.{IsSweeping}
 use Rattle.service_outline.specs.laws.Acts.{never_clean}
 use Rattle.service_outline.specs.laws.Both.{both_right}
 use Rattle.service_outline.specs.laws.Lawful.{services_lawful}
-use Rattle.service_outline.specs.laws.Reports.{error_told}
 use Rattle.service_outline.specs.laws.Sweeping.{sweep_right}
-use Rattle.service_outline.specs.laws.Words.{length_after, stored_same, stored_other, stores_in, word_apart}
-use Rattle.held_example.specs.Toy.{State, first_state, cells_of, table, put, filled, fills_by, tells_kept, starts_by, machine, class_of, reporting, is_own_word, is_own_register, owns, setting, Hold, Part, Promise, Pinned, Holds, cell, MARK, STATE, NEWEST, PIN, bank, flag, want_by, want, HeldRight, AllRight, Work, Settled, Marking, Publishing, MarkAgrees, IsKept, KeptAgrees, Agrees, basis, job_move, filled_bodies, filled_takes, is_of, Free, IsFilling, filling, fill_bodies, notice, tells_notice, told_all, ask_work, ask_bodies, ask_takes, ask_fuel, look_takes, put_work, put_takes, put_fuel, put_bodies, take_work, named, none_kept, take_takes, take_fuel, take_clean, take_bodies, is_pin, NonePinned, answered, poll_work, poll_takes, poll_fuel, poll_bodies, reboot_work, reboot_takes, reboot_bodies, fill_looked, looked, toy}
+use Rattle.service_outline.specs.laws.Words.{stored_same, stored_other, stores_in, word_apart, word_later, fills_there}
+use Rattle.held_example.specs.Toy.{State, first_state, cells_of, table, put, filled, fills_by, tells_kept, starts_by, machine, class_of, is_own_word, is_own_register, owns, setting, Hold, Part, Promise, Pinned, Holds, cell, MARK, STATE, NEWEST, PIN, bank, flag, want_by, want, HeldRight, AllRight, Work, Settled, Marking, Publishing, MarkAgrees, IsKept, KeptAgrees, Agrees, basis, job_move, filled_bodies, filled_takes, is_of, Free, filling, fill_bodies, notice, tells_notice, told_all, ask_work, ask_bodies, ask_takes, ask_fuel, look_takes, put_work, put_takes, put_fuel, put_bodies, take_work, named, none_kept, take_takes, take_fuel, take_clean, take_bodies, is_pin, NonePinned, answered, poll_work, poll_takes, poll_fuel, poll_bodies, reboot_work, reboot_takes, reboot_bodies, fill_looked, looked, toy}
 use Rattle.held_example.specs.declared.asking.Asking.{Asking}
 use Rattle.held_example.specs.declared.asking.Asking.TheVariants.{Want, OpenOnce, Tell, ShutAgain, Look, Go, Unmark}
 use Rattle.held_example.specs.declared.call.Call.{Call}
@@ -114,10 +114,10 @@ table_at f (suc (suc zero)) lt = refl
 table_at f (suc (suc (suc zero))) lt = refl
 table_at f (suc (suc (suc (suc c)))) lt = absurd (omega (arith, lt))
 
-fresh_agrees : (osc now : ℕ) (w : World) → Agrees [] Settled (fresh osc now) w first_state
-fresh_agrees osc now w = record {
+reset_agrees : (chip : Chip) (w : World) (reason : Reason) → HasAll chip → Agrees [] Settled (reset_chip chip reason) w first_state
+reset_agrees chip w reason all = record {
   right = tt;
-  words = length-blank;
+  all = all-step chip (WasReset reason) tt all;
   cells = λ c j a b. slice_index-blank (cell c j) ∙ sym (first_zero c a);
   mark = slice_index-blank MARK;
   kept = slice_index-blank NEWEST;
@@ -125,32 +125,35 @@ fresh_agrees osc now w = record {
 }
 
 -- the words are the same
-same_words : (held : Holds) (work : Work) (a b : Chip) (w x : World) (s : State) → length b.words ≡ length a.words → ((k : ℕ) → is_own_word k ≡ true → word_of b k ≡ word_of a k) → Agrees held work a w s → Agrees held work b x s
-same_words held work a b w x s size same h = record {
+same_words : (held : Holds) (work : Work) (a b : Chip) (w x : World) (s : State) → HasAll b → ((k : ℕ) → is_own_word k ≡ true → word_of b k ≡ word_of a k) → Agrees held work a w s → Agrees held work b x s
+same_words held work a b w x s all same h = record {
   right = right_by a b held (same PIN refl) (λ i p lt. same (bank i) (own_bank i lt)) h.right;
-  words = size ∙ h.words;
+  all = all;
   cells = λ c j p q. same (cell c j) (own_cell c j p q) ∙ h.cells c j p q;
   mark = mark_by work a b s.waiting (same MARK refl) h.mark;
   kept = kept_by work a b s.kept (same NEWEST refl) (λ i lt. same (bank i) (own_bank i lt)) h.kept;
   starts = h.starts;
 }
 
-happened_words : (chip : Chip) (order : Order) → (happened chip order).words ≡ chip.words
-happened_words chip (Tick n) = refl
-happened_words chip _ = refl
+below_sources : (k : ℕ) → is_own_word k ≡ true → k < SOURCES
+below_sources k e = let lt : k < 32832 = grind (arith, nat_tests) in omega (arith, lt)
 
-later : (held : Holds) (work : Work) (chip : Chip) (w : World) (s : State) (order : Order) → Agrees held work chip w s → Agrees held work (happened chip order) (world_after w chip.rate order) s
-later held work chip w s order h = let e = happened_words chip order in same_words held work chip (happened chip order) w (world_after w chip.rate order) s (ap length e) (λ k own. ap (λ x. slice_index x k) e) h
+later : (held : Holds) (work : Work) (chip : Chip) (w : World) (s : State) (order : Order) → FillsThere (Hardware order) → Agrees held work chip w s → Agrees held work (happened chip order) (world_after w chip.clock.rate order) s
+later held work chip w s order fills h = same_words held work chip (happened chip order) w (world_after w chip.clock.rate order) s (all-step chip (Hardware order) fills h.all) (λ k own. word_later chip order k h.all.words (below_sources k own)) h
 
 unstored : (made : Move) → owns made ≡ false → stores_in is_own_word made ≡ false
 unstored (Store k v) e = e
 unstored _ e = refl
 
-apart : (held : Holds) (work : Work) (chip : Chip) (w : World) (s : State) (made : Move) → owns made ≡ false → Agrees held work chip w s → Agrees held work (chip_after chip made) w s
-apart held work chip w s made e h = same_words held work chip (chip_after chip made) w w s (length_after chip made) (λ k own. word_apart is_own_word chip made k (unstored made e) own) h
+-- a move leaves all parts
+all_moved : (chip : Chip) (made : Move) (received : ℕ) → HasAll chip → HasAll (chip_after chip made received)
+all_moved chip made received all = all-step chip (Made made received) tt all
 
-foot_apart : (chip : Chip) (made : Move) → owns made ≡ false → basis.foot (chip_after chip made) ≡ basis.foot chip
-foot_apart chip made e = ap (λ x. (x, word_of (chip_after chip made) PIN)) (word_apart is_own_word chip made NEWEST (unstored made e) refl) ∙ ap (λ x. (word_of chip NEWEST, x)) (word_apart is_own_word chip made PIN (unstored made e) refl)
+apart : (held : Holds) (work : Work) (chip : Chip) (w : World) (s : State) (made : Move) (received : ℕ) → owns made ≡ false → Agrees held work chip w s → Agrees held work (chip_after chip made received) w s
+apart held work chip w s made received e h = same_words held work chip (chip_after chip made received) w w s (all_moved chip made received h.all) (λ k own. word_apart is_own_word chip made received k (unstored made e) own) h
+
+foot_apart : (chip : Chip) (made : Move) (received : ℕ) → owns made ≡ false → basis.foot (chip_after chip made received) ≡ basis.foot chip
+foot_apart chip made received e = ap (λ x. (x, word_of (chip_after chip made received) PIN)) (word_apart is_own_word chip made received NEWEST (unstored made e) refl) ∙ ap (λ x. (word_of chip NEWEST, x)) (word_apart is_own_word chip made received PIN (unstored made e) refl)
 
 plain : (made : Move) → owns made ≡ true → is_shared made ≡ false
 plain (Read r) e = refl
@@ -177,14 +180,23 @@ there (Load k) e = word_there k e
 there (Store k v) e = word_there k e
 there _ e = tt
 
-written_steady : (chip : Chip) (r : Reg) (v : ℕ) → (chip_after chip (Write r v)).rate ≡ chip.rate
-written_steady chip EnableSet v = refl
-written_steady chip EnableClear v = refl
-written_steady chip _ v = refl
+-- no move of the module's sets the rate
+steady_read : (chip : Chip) (r : Reg) (received : ℕ) → is_own_register r ≡ true → (chip_after chip (Read r) received).clock.rate ≡ chip.clock.rate
+steady_read chip (ConverterGo u) received e = refl
+steady_read chip ResetRequest received e = refl
+steady_read chip _ received e = absurd (cc)
 
-steady : (chip : Chip) (made : Move) → (chip_after chip made).rate ≡ chip.rate
-steady chip (Write r v) = written_steady chip r v
-steady chip _ = refl
+steady_write : (chip : Chip) (r : Reg) (v received : ℕ) → is_own_register r ≡ true → (chip_after chip (Write r v) received).clock.rate ≡ chip.clock.rate
+steady_write chip (ConverterGo u) v received e = refl
+steady_write chip ResetRequest v received e = refl
+steady_write chip _ v received e = absurd (cc)
+
+steady : (chip : Chip) (made : Move) (received : ℕ) → owns made ≡ true → (chip_after chip made received).clock.rate ≡ chip.clock.rate
+steady chip (Read r) received e = steady_read chip r received e
+steady chip (Write r v) received e = steady_write chip r v received e
+steady chip (Load k) received e = refl
+steady chip (Store k v) received e = refl
+steady chip _ received e = absurd (cc)
 
 not_waiting : (b : Bool) → (b ≡ true → false ≡ true) → b ≡ false
 not_waiting true h = sym (h refl)
@@ -196,39 +208,63 @@ waits chip w s Adc1 h = refl
 waits chip w s Spi0 h = refl
 waits chip w s Spi1 h = refl
 
+given : {A : Type 0} {x y : A} → Some x ≡ Some y → x ≡ y
+given e = cc
+
+-- only a section that isn't there and a value that was never kept are errors
+fill_leaves : (s : State) (n v : ℕ) (q : Bool) → ErrorLeaves s (fills_by s n v q)
+fill_leaves s n v true some = absurd (cc)
+fill_leaves s n v false some = (refl, refl)
+
+take_leaves : (s : State) (kept : Option ℕ) → ErrorLeaves s (outcome s (tells_kept kept))
+take_leaves s None some = (refl, refl)
+take_leaves s (Some v) some = absurd (cc)
+
+error_leaves : (w : World) (s : State) (c : Call) (times : ℕ → ℕ) (out : Outcome State) → machine.happens w s (Acts c times) ≡ Some out → ErrorLeaves s out
+error_leaves w s (Fill n v) times out e = subst (λ o. ErrorLeaves s o) (given e) (fill_leaves s n v (nat_lt n 4))
+error_leaves w s Ask times out e = subst (λ o. ErrorLeaves s o) (given e) (λ some. absurd (cc))
+error_leaves w s (Put v) times out e = subst (λ o. ErrorLeaves s o) (given e) (λ some. absurd (cc))
+error_leaves w s Take times out e = subst (λ o. ErrorLeaves s o) (given e) (take_leaves s s.kept)
+error_leaves w s Poll times out e = subst (λ o. ErrorLeaves s o) (given e) (λ some. absurd (cc))
+error_leaves w s Reboot times out e = subst (λ o. ErrorLeaves s o) (given e) (λ some. absurd (cc))
+
 pub basis_right : IsBasis basis
 basis_right = record {
-  starts = λ w. fresh_agrees w.osc w.now w;
+  starts = λ chip w wired stands. reset_agrees chip w PowerOn stands.all;
   moves = λ held chip w s order come. refl;
-  resets = λ held work chip w s reason h. (outcome first_state tells_nothing, refl, fresh_agrees chip.osc chip.timers.time w);
-  agrees_later = λ held work chip w s order come h. later held work chip w s order h;
-  agrees_apart = λ held work chip w s made e h. apart held work chip w s made (e (Called Ask)) h;
-  foot_apart = λ chip made e. foot_apart chip made (e (Called Ask));
+  resets = λ held work chip w s reason h. (outcome first_state tells_nothing, refl, reset_agrees chip w reason h.all);
+  agrees_later = λ held work chip w s order come h. later held work chip w s order (fills_there setting (is_masked chip) w s come.frames order come.free) h;
+  agrees_apart = λ held work chip w s made received e h. apart held work chip w s made received (e (Called Ask)) h;
+  foot_apart = λ chip made received e. foot_apart chip made received (e (Called Ask));
   may_owns = λ o made e. e;
   owns_plain = λ o made e. plain made e;
   may_there = λ o made e. there made e;
+  enables = λ o bits line e other. absurd (cc);
   owns_called = λ line made e. (Ask, e);
   used_lines = λ line e. absurd (cc);
   due_used = λ held chip w s line h e. absurd (cc);
   pends = λ held chip w s line there h e. absurd (cc);
+  unused = λ held chip w s line there h free. absurd (cc);
   rests = λ chip w s line there h. absurd (cc);
+  unmasked = λ held chip w s origins among h. tt;
   rest = λ chip w s h. tt;
   waits = waits;
+  error_leaves = error_leaves;
   count_first = refl;
   count_happens = λ w s h out e. omega arith;
   count_moves = λ w s order out e. omega arith;
   count_resets = λ w s reason out e. omega arith;
-  rated = Steady (λ chip o made e. steady chip made) (λ w s h out e. refl);
+  rated = Steady (λ chip o made received e. steady chip made received e) (λ w s h out e. refl);
   rate_starts = refl;
   rate_moves = λ w s order out e. refl;
   rate_resets = λ chip w s reason out e. refl;
 }
 
-masked : (held : Holds) (work : Work) (chip : Chip) (w : World) (s : State) → Agrees held work chip w s → Agrees held work (chip_after chip Mask) w s
-masked held work chip w s h = apart held work chip w s Mask refl h
+masked : (held : Holds) (work : Work) (chip : Chip) (w : World) (s : State) → Agrees held work chip w s → Agrees held work (chip_after chip Mask 0) w s
+masked held work chip w s h = apart held work chip w s Mask 0 refl h
 
-unmasked : (held : Holds) (work : Work) (chip : Chip) (w : World) (s : State) → Agrees held work chip w s → Agrees held work (chip_after chip Unmask) w s
-unmasked held work chip w s h = apart held work chip w s Unmask refl h
+unmasked : (held : Holds) (work : Work) (chip : Chip) (w : World) (s : State) → Agrees held work chip w s → Agrees held work (chip_after chip Unmask 0) w s
+unmasked held work chip w s h = apart held work chip w s Unmask 0 refl h
 
 -- ---- a section is filled
 
@@ -255,19 +291,19 @@ small n i p q = omega (arith, p, q)
 -- the words of sections after a store in one
 stored_cells : (held : Holds) (chip : Chip) (f : ℕ → ℕ) (n v i : ℕ) → n < 4 → i < 8 → length chip.words ≡ WORDS
     → ((c j : ℕ) → c < 4 → j < 8 → word_of chip (cell c j) ≡ want_by (Part n v i) (want held f c j) c j)
-    → (c j : ℕ) → c < 4 → j < 8 → word_of (chip_after chip (Store (cell n i) v)) (cell c j) ≡ want_by (Part n v (i + 1)) (want held f c j) c j
+    → (c j : ℕ) → c < 4 → j < 8 → word_of (chip_after chip (Store (cell n i) v) 0) (cell c j) ≡ want_by (Part n v (i + 1)) (want held f c j) c j
 stored_cells held chip f n v i p q size h c j a b = by (c == n && j == i) refl
   where
     grows : (c == n && j == i) ≡ false → (c == n && nat_lt j i) ≡ (c == n && nat_lt j (i + 1))
     grows e = grind (arith, nat_tests)
 
-    by : (x : Bool) → (c == n && j == i) ≡ x → word_of (chip_after chip (Store (cell n i) v)) (cell c j) ≡ (if c == n && nat_lt j (i + 1) then v else want held f c j)
+    by : (x : Bool) → (c == n && j == i) ≡ x → word_of (chip_after chip (Store (cell n i) v) 0) (cell c j) ≡ (if c == n && nat_lt j (i + 1) then v else want held f c j)
     by true e =
         let k : c ≡ n = grind (arith, nat_tests) in
         let l : j ≡ i = grind (arith, nat_tests) in
         let m : (c == n && nat_lt j (i + 1)) ≡ true = grind (arith, nat_tests) in
         let fits : cell n i < length chip.words = subst (λ x. cell n i < x) (sym size) (small n i p q) in
-        subst (λ x. word_of (chip_after chip (Store (cell n i) v)) x ≡ v) (ap (λ x. cell x i) (sym k) ∙ ap (λ x. cell c x) (sym l)) (get_or-set_same chip.words (cell n i) v 0 fits)
+        subst (λ x. word_of (chip_after chip (Store (cell n i) v) 0) x ≡ v) (ap (λ x. cell x i) (sym k) ∙ ap (λ x. cell c x) (sym l)) (get_or-set_same chip.words (cell n i) v 0 fits)
         ∙ sym (if_true (c == n && nat_lt j (i + 1)) v (want held f c j) m)
     by false e =
         get_or-set_other chip.words (cell n i) (cell c j) v 0 (other_cell c j n i b q e)
@@ -290,15 +326,15 @@ want_put (x ∷ xs) f n v c j h = by x.what h.0 (want_put xs f n v c j h.1)
     by (Pinned b) e g = g
 
 -- a store in a section leaves the rest
-grown : (held : Held Call Hold) (below : Holds) (chip : Chip) (w : World) (s : State) (r : Job) (i : ℕ) → r.section < 4 → i < 8 → Agrees (record held { what = Part r.section r.value i } ∷ below) Settled chip w s → Agrees (record held { what = Part r.section r.value (i + 1) } ∷ below) Settled (chip_after chip (job_move r i)) w s
+grown : (held : Held Call Hold) (below : Holds) (chip : Chip) (w : World) (s : State) (r : Job) (i : ℕ) → r.section < 4 → i < 8 → Agrees (record held { what = Part r.section r.value i } ∷ below) Settled chip w s → Agrees (record held { what = Part r.section r.value (i + 1) } ∷ below) Settled (chip_after chip (job_move r i) 0) w s
 grown held below chip w s r i p q h =
-    let after = chip_after chip (job_move r i) in
+    let after = chip_after chip (job_move r i) 0 in
     record {
-      right = (h.right.0, right_by chip after below (stored_other chip (cell r.section i) r.value PIN (omega (arith, p, q))) (λ k pin lt. stored_other chip (cell r.section i) r.value (bank k) (omega (arith, p, q, lt))) h.right.1);
-      words = length-set chip.words (cell r.section i) r.value ∙ h.words;
-      cells = stored_cells below chip (cells_of s) r.section r.value i p q h.words h.cells;
-      mark = stored_other chip (cell r.section i) r.value MARK (omega (arith, p, q)) ∙ h.mark;
-      kept = is_kept_by chip after s.kept (stored_other chip (cell r.section i) r.value NEWEST (omega (arith, p, q))) (λ k lt. stored_other chip (cell r.section i) r.value (bank k) (omega (arith, p, q, lt))) h.kept;
+      right = (h.right.0, right_by chip after below (stored_other chip (cell r.section i) r.value 0 PIN (omega (arith, p, q))) (λ k pin lt. stored_other chip (cell r.section i) r.value 0 (bank k) (omega (arith, p, q, lt))) h.right.1);
+      all = all_moved chip (job_move r i) 0 h.all;
+      cells = stored_cells below chip (cells_of s) r.section r.value i p q h.all.words h.cells;
+      mark = stored_other chip (cell r.section i) r.value 0 MARK (omega (arith, p, q)) ∙ h.mark;
+      kept = is_kept_by chip after s.kept (stored_other chip (cell r.section i) r.value 0 NEWEST (omega (arith, p, q))) (λ k lt. stored_other chip (cell r.section i) r.value 0 (bank k) (omega (arith, p, q, lt))) h.kept;
       starts = h.starts;
     }
 
@@ -317,7 +353,7 @@ want_same (x ∷ xs) f g c j e = ap (λ y. want_by x.what y c j) (want_same xs f
 acted : (held : Held Call Hold) (below : Holds) (chip : Chip) (w : World) (s : State) (r : Job) → Free r.section below → Agrees (record held { what = Part r.section r.value 8 } ∷ below) Settled chip w s → Agrees below Settled chip w (filled s r.section r.value)
 acted held below chip w s r free h = record {
   right = h.right.1;
-  words = h.words;
+  all = h.all;
   cells = λ c j p q. h.cells c j p q ∙ (whole_by below (cells_of s) r.section r.value c j q free ∙ want_same below (put (cells_of s) r.section r.value) (cells_of (filled s r.section r.value)) c j (sym (table_at (put (cells_of s) r.section r.value) c p)));
   mark = h.mark;
   kept = h.kept;
@@ -327,7 +363,7 @@ acted held below chip w s r free h = record {
 begun : (held : Held Call Hold) (below : Holds) (chip : Chip) (w : World) (s : State) (r : Job) → held.by ≡ Called (Fill r.section r.value) → Agrees below Settled chip w s → Agrees (record held { what = Part r.section r.value 0 } ∷ below) Settled chip w s
 begun held below chip w s r e h = record {
   right = (e, h.right);
-  words = h.words;
+  all = h.all;
   cells = λ c j p q. h.cells c j p q ∙ sym (if_false (c == r.section && nat_lt j 0) r.value (want below (cells_of s) c j) (none (c == r.section) j));
   mark = h.mark;
   kept = h.kept;
@@ -345,10 +381,11 @@ filled_steps : (below : Holds) (chip : Chip) (w : World) (s : State) (k : Filled
 filled_steps below chip w s (fills.Act r) o y t m (h, (Is_being, lt, free)) = record {
   may = refl;
   stands = tt;
-  selects = tt;
   state = filled s r.section r.value;
   told = tells_nothing;
+  begins = None;
   is = ap (λ x. Some (fills_by s r.section r.value x)) (below_four r.section lt);
+  sends = tt;
   acts = tt;
   reset = refl;
   next = (acted (record { by = o; what = Promise; acted = None }) below chip w s r free h, record { may = (refl, refl); served = false; owed = refl; shown = λ e. absurd (cc); report = refl });
@@ -359,8 +396,8 @@ filled_right = record {
   own = λ below chip w s k o t h. refl;
   turns = λ below chip w s k o t h. turns k;
   steps = λ below chip w s k o y t m come few h. filled_steps below chip w s k o y t m h;
-  later = λ below chip w s order k o t come h. stays below w (world_after w chip.rate order) chip (happened chip order) s k o t h.1;
-  calm = λ below chip w s k o t h e. refl;
+  later = λ below chip w s order k o t come h. stays below w (world_after w chip.clock.rate order) chip (happened chip order) s k o t h.1;
+  calm = λ below chip w s k o t h e. (refl, refl);
   shortens = λ k x. omega arith;
   cleans = λ k x. tt;
 }
@@ -374,7 +411,7 @@ filled_right = record {
 pub fill_right : AreLong basis fill_bodies
 fill_right = sweep_right basis filling filled_bodies basis_right filled_right (record {
   own = λ r i below o t lt h. own_cell r.section i h.1 lt;
-  still = λ r i. refl;
+  still = λ r i. (refl, refl);
   step = λ r i below chip w s o t lt h a. grown (record { by = o; what = Promise; acted = t.acted }) below chip w s r i h.1 lt a;
   stays = λ r i below w o t h. h;
   follows = λ r below chip w s o t h a. (a, h);
@@ -392,40 +429,40 @@ bank_apart : (i k : ℕ) → k < 32812 → bank i ≢ k
 bank_apart i k below e = omega (arith, below, e)
 
 -- the words but the mark, after a store of it
-right_marked : (held : Holds) (chip : Chip) (v : ℕ) → AllRight chip held → AllRight (chip_after chip (Store MARK v)) held
-right_marked held chip v r = right_by chip (chip_after chip (Store MARK v)) held (stored_other chip MARK v PIN (omega arith)) (λ i p lt. stored_other chip MARK v (bank i) (bank_apart i MARK (omega arith))) r
+right_marked : (held : Holds) (chip : Chip) (v : ℕ) → AllRight chip held → AllRight (chip_after chip (Store MARK v) 0) held
+right_marked held chip v r = right_by chip (chip_after chip (Store MARK v) 0) held (stored_other chip MARK v 0 PIN (omega arith)) (λ i p lt. stored_other chip MARK v 0 (bank i) (bank_apart i MARK (omega arith))) r
 
-kept_marked : (chip : Chip) (v : ℕ) (k : Option ℕ) → IsKept chip k → IsKept (chip_after chip (Store MARK v)) k
-kept_marked chip v k h = is_kept_by chip (chip_after chip (Store MARK v)) k (stored_other chip MARK v NEWEST (omega arith)) (λ i lt. stored_other chip MARK v (bank i) (bank_apart i MARK (omega arith))) h
+kept_marked : (chip : Chip) (v : ℕ) (k : Option ℕ) → IsKept chip k → IsKept (chip_after chip (Store MARK v) 0) k
+kept_marked chip v k h = is_kept_by chip (chip_after chip (Store MARK v) 0) k (stored_other chip MARK v 0 NEWEST (omega arith)) (λ i lt. stored_other chip MARK v 0 (bank i) (bank_apart i MARK (omega arith))) h
 
 -- the act: the unit waits, and the frame has promised its start
-wanted : (below : Holds) (chip : Chip) (w : World) (s : State) (o : Origin Call) (t : Past) → Agrees below Settled chip w s → Agrees (record { by = o; what = Promise; acted = t.acted } ∷ below) Settled (chip_after chip (Store MARK 1)) w (record s { waiting = true })
+wanted : (below : Holds) (chip : Chip) (w : World) (s : State) (o : Origin Call) (t : Past) → Agrees below Settled chip w s → Agrees (record { by = o; what = Promise; acted = t.acted } ∷ below) Settled (chip_after chip (Store MARK 1) 0) w (record s { waiting = true })
 wanted below chip w s o t h = record {
   right = (tt, right_marked below chip 1 h.right);
-  words = length-set chip.words MARK 1 ∙ h.words;
-  cells = λ c j p q. stored_other chip MARK 1 (cell c j) (marked_apart c j p q) ∙ h.cells c j p q;
-  mark = stored_same chip MARK 1 (omega arith) h.words;
+  all = all_moved chip (Store MARK 1) 0 h.all;
+  cells = λ c j p q. stored_other chip MARK 1 0 (cell c j) (marked_apart c j p q) ∙ h.cells c j p q;
+  mark = stored_same chip MARK 1 0 (omega arith) h.all.words;
   kept = kept_marked chip 1 s.kept h.kept;
   starts = λ e. refl;
 }
 
 -- the start: the unit waits no longer, and the mark is yet to say so
-started : (below : Holds) (chip : Chip) (w : World) (s : State) (o : Origin Call) (t : Past) → Agrees (record { by = o; what = Promise; acted = t.acted } ∷ below) Settled chip w s → Agrees below Marking (chip_after chip (Write (ConverterGo 0) 1)) w (record s { waiting = false })
-started below chip w s o t h = record { right = right_by chip (chip_after chip (Write (ConverterGo 0) 1)) below refl (λ i p lt. refl) h.right.1; words = h.words; cells = h.cells; mark = tt; kept = is_kept_by chip (chip_after chip (Write (ConverterGo 0) 1)) s.kept refl (λ i lt. refl) h.kept; starts = λ e. absurd (cc) }
+started : (below : Holds) (chip : Chip) (w : World) (s : State) (o : Origin Call) (t : Past) → Agrees (record { by = o; what = Promise; acted = t.acted } ∷ below) Settled chip w s → Agrees below Marking (chip_after chip (Write (ConverterGo 0) 1) 0) w (record s { waiting = false })
+started below chip w s o t h = record { right = right_by chip (chip_after chip (Write (ConverterGo 0) 1) 0) below refl (λ i p lt. refl) h.right.1; all = all_moved chip (Write (ConverterGo 0) 1) 0 h.all; cells = h.cells; mark = tt; kept = is_kept_by chip (chip_after chip (Write (ConverterGo 0) 1) 0) s.kept refl (λ i lt. refl) h.kept; starts = λ e. absurd (cc) }
 
-unmarked : (below : Holds) (chip : Chip) (w : World) (s : State) → s.waiting ≡ false → Agrees below Marking chip w s → Agrees below Settled (chip_after chip (Store MARK 0)) w s
+unmarked : (below : Holds) (chip : Chip) (w : World) (s : State) → s.waiting ≡ false → Agrees below Marking chip w s → Agrees below Settled (chip_after chip (Store MARK 0) 0) w s
 unmarked below chip w s none h = record {
   right = right_marked below chip 0 h.right;
-  words = length-set chip.words MARK 0 ∙ h.words;
-  cells = λ c j p q. stored_other chip MARK 0 (cell c j) (marked_apart c j p q) ∙ h.cells c j p q;
-  mark = stored_same chip MARK 0 (omega arith) h.words ∙ ap flag (sym none);
+  all = all_moved chip (Store MARK 0) 0 h.all;
+  cells = λ c j p q. stored_other chip MARK 0 0 (cell c j) (marked_apart c j p q) ∙ h.cells c j p q;
+  mark = stored_same chip MARK 0 0 (omega arith) h.all.words ∙ ap flag (sym none);
   kept = kept_marked chip 0 s.kept h.kept;
   starts = h.starts;
 }
 
 -- nothing waits: the promise is void
 void : (below : Holds) (chip : Chip) (w : World) (s : State) (o : Origin Call) (t : Past) → s.waiting ≡ false → Agrees (record { by = o; what = Promise; acted = t.acted } ∷ below) Settled chip w s → Agrees below Settled chip w s
-void below chip w s o t none h = record { right = h.right.1; words = h.words; cells = h.cells; mark = h.mark; kept = h.kept; starts = λ e. let f : false ≡ true = sym none ∙ e in absurd (cc) }
+void below chip w s o t none h = record { right = h.right.1; all = h.all; cells = h.cells; mark = h.mark; kept = h.kept; starts = λ e. let f : false ≡ true = sym none ∙ e in absurd (cc) }
 
 mark_says : (b : Bool) (x : ℕ) (q : Bool) → x ≡ flag b → (x == 0) ≡ q → b ≡ not q
 mark_says true x true e f = absurd (grind (arith, nat_tests))
@@ -438,12 +475,12 @@ looks_on below chip w s before x y m true e h = (void below chip w s (Called Ask
 looks_on below chip w s before x y m false e h = (h, (Is_being, e))
 
 ask_steps : (below : Holds) (chip : Chip) (w : World) (s : State) (k : Asking) (o : Origin Call) (y : ℕ) (t : Past) (m : ℕ → Bool) → Stand basis ask_bodies below chip w s k o t → Right basis ask_bodies below chip w s k o y t m
-ask_steps below chip w s Want o y t m (h, Is_being) = record { may = refl; stands = tt; selects = tt; state = record s { waiting = true }; told = tells_notice; is = refl; acts = tt; reset = refl; next = (wanted below chip w s o (record nothing_yet { acted = Some no_answer }) h, Is_being) }
+ask_steps below chip w s Want o y t m (h, Is_being) = record { may = refl; stands = tt; state = record s { waiting = true }; told = tells_notice; begins = None; is = refl; sends = tt; acts = tt; reset = refl; next = (wanted below chip w s o (record nothing_yet { acted = Some no_answer }) h, Is_being) }
 ask_steps below chip w s OpenOnce o y t m (h, f) = (unmasked _ Settled chip w s h, f)
-ask_steps below chip w s Tell o y t m (h, Is_being) = record { served = false; others = []; is = refl; shown = λ e. absurd (cc); next = (apart _ Settled chip w s (Note notice) refl h, Is_being) }
+ask_steps below chip w s Tell o y t m (h, Is_being) = record { served = false; others = []; is = refl; shown = λ e. absurd (cc); next = (apart _ Settled chip w s (Note notice) 0 refl h, Is_being) }
 ask_steps below chip w s ShutAgain o y t m (h, f) = (masked _ Settled chip w s h, f)
 ask_steps below chip w s Look o y t m (h, Is_being) = looks_on below chip w s chip (word_of chip MARK) y (missed_after machine w s m) (word_of chip MARK == 0) (mark_says s.waiting (word_of chip MARK) (word_of chip MARK == 0) h.mark refl) h
-ask_steps below chip w s Go o y t m (h, (Is_being, waiting)) = record { may = refl; stands = (refl, refl); selects = tt; state = record s { waiting = false }; told = tells_nothing; is = ap (λ x. starts_by s x) waiting; acts = tt; reset = refl; next = (started below chip w s o told_all h, (Is_being, refl)) }
+ask_steps below chip w s Go o y t m (h, (Is_being, waiting)) = record { may = refl; stands = (refl, refl); state = record s { waiting = false }; told = tells_nothing; begins = None; is = ap (λ x. starts_by s x) waiting; sends = tt; acts = tt; reset = refl; next = (started below chip w s o told_all h, (Is_being, refl)) }
 ask_steps below chip w s Unmark o y t m (h, (Is_being, none)) = (unmarked below chip w s none h, record { may = (refl, refl); served = false; owed = refl; shown = λ e. absurd (cc); report = refl })
 
 ask_own : (k : Asking) → is_shared (ask_work k) || owns (ask_work k) ≡ true
@@ -490,21 +527,21 @@ ask_stays below a b w w1 s Look o t h = h
 ask_stays below a b w w1 s Go o t h = h
 ask_stays below a b w w1 s Unmark o t h = h
 
-ask_calm : (k : Asking) → resets_chip (ask_work k) ≡ false
-ask_calm Want = refl
-ask_calm OpenOnce = refl
-ask_calm Tell = refl
-ask_calm ShutAgain = refl
-ask_calm Look = refl
-ask_calm Go = refl
-ask_calm Unmark = refl
+ask_calm : (k : Asking) → (resets_chip (ask_work k) ≡ false) × (begins_word (ask_work k) ≡ false)
+ask_calm Want = (refl, refl)
+ask_calm OpenOnce = (refl, refl)
+ask_calm Tell = (refl, refl)
+ask_calm ShutAgain = (refl, refl)
+ask_calm Look = (refl, refl)
+ask_calm Go = (refl, refl)
+ask_calm Unmark = (refl, refl)
 
 pub ask_right : AreLong basis ask_bodies
 ask_right = record {
   own = λ below chip w s k o t h. ask_own k;
   turns = λ below chip w s k o t h. ask_turns k (value_of chip (ask_work k));
   steps = λ below chip w s k o y t m come few h. ask_steps below chip w s k o y t m h;
-  later = λ below chip w s order k o t come h. ask_stays below chip (happened chip order) w (world_after w chip.rate order) s k o t h.1;
+  later = λ below chip w s order k o t come h. ask_stays below chip (happened chip order) w (world_after w chip.clock.rate order) s k o t h.1;
   calm = λ below chip w s k o t h e. ask_calm k;
   shortens = ask_shortens;
   cleans = λ k x. never_clean (ask_work k) k (ask_takes k x);
@@ -521,34 +558,34 @@ put_on below chip w s before x y v m true ne h = (h, (Is_being, omega arith, ne)
 put_on below chip w s before x y v m false ne h = (h, (Is_being, omega arith, ne))
 
 -- the act: the value stands in a bank that isn't pinned, which is to be the newest
-put_kept : (below : Holds) (chip : Chip) (w : World) (s : State) (b v : ℕ) → b < 2 → word_of chip PIN ≢ 1 + b → Agrees below Settled chip w s → Agrees below (Publishing b) (chip_after chip (Store (bank b) v)) w (record s { kept = Some v })
+put_kept : (below : Holds) (chip : Chip) (w : World) (s : State) (b v : ℕ) → b < 2 → word_of chip PIN ≢ 1 + b → Agrees below Settled chip w s → Agrees below (Publishing b) (chip_after chip (Store (bank b) v) 0) w (record s { kept = Some v })
 put_kept below chip w s b v lt free h =
-    let after = chip_after chip (Store (bank b) v) in
+    let after = chip_after chip (Store (bank b) v) 0 in
     record {
-      right = right_by chip after below (stored_other chip (bank b) v PIN (omega arith)) (λ i p q. stored_other chip (bank b) v (bank i) (λ e. let same : i ≡ b = omega (arith, e) in free (p ∙ ap (λ x. 1 + x) same))) h.right;
-      words = length-set chip.words (bank b) v ∙ h.words;
-      cells = λ c j p q. stored_other chip (bank b) v (cell c j) (omega (arith, p, q)) ∙ h.cells c j p q;
-      mark = stored_other chip (bank b) v MARK (omega arith) ∙ h.mark;
-      kept = (lt, ap (λ x. Some x) (sym (stored_same chip (bank b) v (omega (arith, lt)) h.words)));
+      right = right_by chip after below (stored_other chip (bank b) v 0 PIN (omega arith)) (λ i p q. stored_other chip (bank b) v 0 (bank i) (λ e. let same : i ≡ b = omega (arith, e) in free (p ∙ ap (λ x. 1 + x) same))) h.right;
+      all = all_moved chip (Store (bank b) v) 0 h.all;
+      cells = λ c j p q. stored_other chip (bank b) v 0 (cell c j) (omega (arith, p, q)) ∙ h.cells c j p q;
+      mark = stored_other chip (bank b) v 0 MARK (omega arith) ∙ h.mark;
+      kept = (lt, ap (λ x. Some x) (sym (stored_same chip (bank b) v 0 (omega (arith, lt)) h.all.words)));
       starts = h.starts;
     }
 
-put_published : (below : Holds) (chip : Chip) (w : World) (s : State) (b : ℕ) → Agrees below (Publishing b) chip w s → Agrees below Settled (chip_after chip (Store NEWEST (1 + b))) w s
+put_published : (below : Holds) (chip : Chip) (w : World) (s : State) (b : ℕ) → Agrees below (Publishing b) chip w s → Agrees below Settled (chip_after chip (Store NEWEST (1 + b)) 0) w s
 put_published below chip w s b h =
     let v = 1 + b in
-    let after = chip_after chip (Store NEWEST v) in
+    let after = chip_after chip (Store NEWEST v) 0 in
     record {
-      right = right_by chip after below (stored_other chip NEWEST v PIN (omega arith)) (λ i p lt. stored_other chip NEWEST v (bank i) (bank_apart i NEWEST (omega arith))) h.right;
-      words = length-set chip.words NEWEST v ∙ h.words;
-      cells = λ c j p q. stored_other chip NEWEST v (cell c j) (omega (arith, p, q)) ∙ h.cells c j p q;
-      mark = stored_other chip NEWEST v MARK (omega arith) ∙ h.mark;
-      kept = subst (λ k. IsKept after k) (sym h.kept.1) (b, h.kept.0, stored_same chip NEWEST v (omega arith) h.words, stored_other chip NEWEST v (bank b) (bank_apart b NEWEST (omega arith)));
+      right = right_by chip after below (stored_other chip NEWEST v 0 PIN (omega arith)) (λ i p lt. stored_other chip NEWEST v 0 (bank i) (bank_apart i NEWEST (omega arith))) h.right;
+      all = all_moved chip (Store NEWEST v) 0 h.all;
+      cells = λ c j p q. stored_other chip NEWEST v 0 (cell c j) (omega (arith, p, q)) ∙ h.cells c j p q;
+      mark = stored_other chip NEWEST v 0 MARK (omega arith) ∙ h.mark;
+      kept = subst (λ k. IsKept after k) (sym h.kept.1) (b, h.kept.0, stored_same chip NEWEST v 0 (omega arith) h.all.words, stored_other chip NEWEST v 0 (bank b) (bank_apart b NEWEST (omega arith)));
       starts = h.starts;
     }
 
 put_steps : (below : Holds) (chip : Chip) (w : World) (s : State) (k : Putting) (o : Origin Call) (y : ℕ) (t : Past) (m : ℕ → Bool) → Stand basis put_bodies below chip w s k o t → Right basis put_bodies below chip w s k o y t m
 put_steps below chip w s (puts.Look v) o y t m (h, Is_being) = let x = word_of chip PIN in put_on below chip w s chip x y v (missed_after machine w s m) (x == 1) (other_bank x (x == 1) refl) h
-put_steps below chip w s (puts.Keep b v) o y t m (h, (Is_being, lt, free)) = record { may = refl; stands = tt; selects = tt; state = record s { kept = Some v }; told = tells_nothing; is = refl; acts = tt; reset = refl; next = (put_kept below chip w s b v lt free h, (v, Is_being)) }
+put_steps below chip w s (puts.Keep b v) o y t m (h, (Is_being, lt, free)) = record { may = refl; stands = tt; state = record s { kept = Some v }; told = tells_nothing; begins = None; is = refl; sends = tt; acts = tt; reset = refl; next = (put_kept below chip w s b v lt free h, (v, Is_being)) }
 put_steps below chip w s (puts.Publish b) o y t m (h, (v, Is_being)) = (put_published below chip w s b h, record { may = (refl, refl); served = false; owed = refl; shown = λ e. absurd (cc); report = refl })
 
 put_own : (below : Holds) (chip : Chip) (w : World) (s : State) (k : Putting) (o : Origin Call) (t : Past) → Stand basis put_bodies below chip w s k o t → is_shared (put_work k) || owns (put_work k) ≡ true
@@ -575,28 +612,28 @@ put_shortens (puts.Keep b v) x = omega arith
 put_shortens (puts.Publish b) x = omega arith
 
 -- what the hardware does leaves the words
-pin_happened : (chip : Chip) (order : Order) → word_of (happened chip order) PIN ≡ word_of chip PIN
-pin_happened chip order = ap (λ x. slice_index x PIN) (happened_words chip order)
+pin_happened : (chip : Chip) (order : Order) → HasAll chip → word_of (happened chip order) PIN ≡ word_of chip PIN
+pin_happened chip order all = word_later chip order PIN all.words (omega arith)
 
-newest_happened : (chip : Chip) (order : Order) → word_of (happened chip order) NEWEST ≡ word_of chip NEWEST
-newest_happened chip order = ap (λ x. slice_index x NEWEST) (happened_words chip order)
+newest_happened : (chip : Chip) (order : Order) → HasAll chip → word_of (happened chip order) NEWEST ≡ word_of chip NEWEST
+newest_happened chip order all = word_later chip order NEWEST all.words (omega arith)
 
-put_later : (below : Holds) (chip : Chip) (w w1 : World) (s : State) (order : Order) (k : Putting) (o : Origin Call) (t : Past) → place_at (put_bodies.spot k) below (basis.foot chip) w s o t → place_at (put_bodies.spot k) below (basis.foot (happened chip order)) w1 s o t
-put_later below chip w w1 s order (puts.Look v) o t h = h
-put_later below chip w w1 s order (puts.Keep b v) o t h = (h.0, h.1, λ e. h.2 (sym (pin_happened chip order) ∙ e))
-put_later below chip w w1 s order (puts.Publish b) o t h = h
+put_later : (below : Holds) (chip : Chip) (w w1 : World) (s : State) (order : Order) (k : Putting) (o : Origin Call) (t : Past) → HasAll chip → place_at (put_bodies.spot k) below (basis.foot chip) w s o t → place_at (put_bodies.spot k) below (basis.foot (happened chip order)) w1 s o t
+put_later below chip w w1 s order (puts.Look v) o t all h = h
+put_later below chip w w1 s order (puts.Keep b v) o t all h = (h.0, h.1, λ e. h.2 (sym (pin_happened chip order all) ∙ e))
+put_later below chip w w1 s order (puts.Publish b) o t all h = h
 
-put_calm : (k : Putting) → resets_chip (put_work k) ≡ false
-put_calm (puts.Look v) = refl
-put_calm (puts.Keep b v) = refl
-put_calm (puts.Publish b) = refl
+put_calm : (k : Putting) → (resets_chip (put_work k) ≡ false) × (begins_word (put_work k) ≡ false)
+put_calm (puts.Look v) = (refl, refl)
+put_calm (puts.Keep b v) = (refl, refl)
+put_calm (puts.Publish b) = (refl, refl)
 
 pub put_right : AreLong basis put_bodies
 put_right = record {
   own = put_own;
   turns = λ below chip w s k o t h. put_turns k (value_of chip (put_work k));
   steps = λ below chip w s k o y t m come few h. put_steps below chip w s k o y t m h;
-  later = λ below chip w s order k o t come h. put_later below chip w (world_after w chip.rate order) s order k o t h.1;
+  later = λ below chip w s order k o t come h. put_later below chip w (world_after w chip.clock.rate order) s order k o t h.0.all h.1;
   calm = λ below chip w s k o t h e. put_calm k;
   shortens = put_shortens;
   cleans = λ k x. never_clean (put_work k) k (put_takes k x);
@@ -616,10 +653,11 @@ newest_on : (below : Holds) (chip : Chip) (w : World) (s : State) (y : ℕ) (m :
 newest_on below chip w s y m None e k none h true i = record {
   may = refl;
   stands = tt;
-  selects = tt;
   state = s;
   told = tells_kept None;
+  begins = None;
   is = ap (λ x. Some (outcome s (tells_kept x))) e;
+  sends = tt;
   acts = (refl, refl);
   reset = refl;
   next = (h, record { may = (refl, refl); served = false; owed = refl; shown = λ e. absurd (cc); report = refl });
@@ -631,39 +669,40 @@ newest_on below chip w s y m (Some v) e (b, lt, is, has) none h false i =
     (h, (Is_being, none, subst (λ x. x < 2) (sym n) lt, is ∙ ap (λ x. 1 + x) (sym n)))
 
 -- the act: the newest bank is pinned, and has what is answered
-pinned_now : (below : Holds) (chip : Chip) (w : World) (s : State) (b v : ℕ) → b < 2 → word_of chip (bank b) ≡ v → NonePinned below → Agrees below Settled chip w s → Agrees (record { by = Called Take; what = Pinned b; acted = Some (number v) } ∷ below) Settled (chip_after chip (Store PIN (1 + b))) w s
+pinned_now : (below : Holds) (chip : Chip) (w : World) (s : State) (b v : ℕ) → b < 2 → word_of chip (bank b) ≡ v → NonePinned below → Agrees below Settled chip w s → Agrees (record { by = Called Take; what = Pinned b; acted = Some (number v) } ∷ below) Settled (chip_after chip (Store PIN (1 + b)) 0) w s
 pinned_now below chip w s b v lt has none h =
-    let after = chip_after chip (Store PIN (1 + b)) in
+    let after = chip_after chip (Store PIN (1 + b)) 0 in
     record {
-      right = ((refl, lt, stored_same chip PIN (1 + b) (omega arith) h.words, ap (λ x. Some (number x)) (sym (stored_other chip PIN (1 + b) (bank b) (bank_apart b PIN (omega arith)) ∙ has))), unpinned chip after below none h.right);
-      words = length-set chip.words PIN (1 + b) ∙ h.words;
-      cells = λ c j p q. stored_other chip PIN (1 + b) (cell c j) (omega (arith, p, q)) ∙ h.cells c j p q;
-      mark = stored_other chip PIN (1 + b) MARK (omega arith) ∙ h.mark;
-      kept = is_kept_by chip after s.kept (stored_other chip PIN (1 + b) NEWEST (omega arith)) (λ i q. stored_other chip PIN (1 + b) (bank i) (bank_apart i PIN (omega arith))) h.kept;
+      right = ((refl, lt, stored_same chip PIN (1 + b) 0 (omega arith) h.all.words, ap (λ x. Some (number x)) (sym (stored_other chip PIN (1 + b) 0 (bank b) (bank_apart b PIN (omega arith)) ∙ has))), unpinned chip after below none h.right);
+      all = all_moved chip (Store PIN (1 + b)) 0 h.all;
+      cells = λ c j p q. stored_other chip PIN (1 + b) 0 (cell c j) (omega (arith, p, q)) ∙ h.cells c j p q;
+      mark = stored_other chip PIN (1 + b) 0 MARK (omega arith) ∙ h.mark;
+      kept = is_kept_by chip after s.kept (stored_other chip PIN (1 + b) 0 NEWEST (omega arith)) (λ i q. stored_other chip PIN (1 + b) 0 (bank i) (bank_apart i PIN (omega arith))) h.kept;
       starts = h.starts;
     }
 
-released : (below : Holds) (chip : Chip) (w : World) (s : State) (b : ℕ) (o : Origin Call) (t : Past) → NonePinned below → Agrees (record { by = o; what = Pinned b; acted = t.acted } ∷ below) Settled chip w s → Agrees below Settled (chip_after chip (Store PIN 0)) w s
+released : (below : Holds) (chip : Chip) (w : World) (s : State) (b : ℕ) (o : Origin Call) (t : Past) → NonePinned below → Agrees (record { by = o; what = Pinned b; acted = t.acted } ∷ below) Settled chip w s → Agrees below Settled (chip_after chip (Store PIN 0) 0) w s
 released below chip w s b o t none h =
-    let after = chip_after chip (Store PIN 0) in
+    let after = chip_after chip (Store PIN 0) 0 in
     record {
       right = unpinned chip after below none h.right.1;
-      words = length-set chip.words PIN 0 ∙ h.words;
-      cells = λ c j p q. stored_other chip PIN 0 (cell c j) (omega (arith, p, q)) ∙ h.cells c j p q;
-      mark = stored_other chip PIN 0 MARK (omega arith) ∙ h.mark;
-      kept = is_kept_by chip after s.kept (stored_other chip PIN 0 NEWEST (omega arith)) (λ i q. stored_other chip PIN 0 (bank i) (bank_apart i PIN (omega arith))) h.kept;
+      all = all_moved chip (Store PIN 0) 0 h.all;
+      cells = λ c j p q. stored_other chip PIN 0 0 (cell c j) (omega (arith, p, q)) ∙ h.cells c j p q;
+      mark = stored_other chip PIN 0 0 MARK (omega arith) ∙ h.mark;
+      kept = is_kept_by chip after s.kept (stored_other chip PIN 0 0 NEWEST (omega arith)) (λ i q. stored_other chip PIN 0 0 (bank i) (bank_apart i PIN (omega arith))) h.kept;
       starts = h.starts;
     }
 
-pin_on : (below : Holds) (chip : Chip) (w : World) (s : State) (y b : ℕ) (m : ℕ → Bool) (kept : Option ℕ) → s.kept ≡ kept → IsKept chip kept → b < 2 → word_of chip NEWEST ≡ 1 + b → NonePinned below → Agrees below Settled chip w s → Works basis take_bodies below chip (chip_after chip (Store PIN (1 + b))) w s (Called Take) (Store PIN (1 + b)) false 0 y nothing_yet m (Open b) acts.event acts.done
+pin_on : (below : Holds) (chip : Chip) (w : World) (s : State) (y b : ℕ) (m : ℕ → Bool) (kept : Option ℕ) → s.kept ≡ kept → IsKept chip kept → b < 2 → word_of chip NEWEST ≡ 1 + b → NonePinned below → Agrees below Settled chip w s → Works basis take_bodies below chip (chip_after chip (Store PIN (1 + b)) 0) w s (Called Take) (Store PIN (1 + b)) false 0 y nothing_yet m (Open b) acts.event acts.done
 pin_on below chip w s y b m None e k lt newest none h = absurd (let z : 0 ≡ 1 + b = sym k ∙ newest in omega (arith, z))
 pin_on below chip w s y b m (Some v) e (i, below2, is, has) lt newest none h = record {
   may = refl;
   stands = tt;
-  selects = tt;
   state = s;
   told = tells_kept (Some v);
+  begins = None;
   is = ap (λ x. Some (outcome s (tells_kept x))) e;
+  sends = tt;
   acts = tt;
   reset = refl;
   next = (pinned_now below chip w s b v lt (let same : i ≡ b = let z : 1 + i ≡ 1 + b = sym is ∙ newest in omega (arith, z) in ap (λ x. word_of chip (bank x)) (sym same) ∙ has) none h, (v, (Is_being, none)));
@@ -728,28 +767,28 @@ take_cleans (Copy b) x = λ e. absurd (cc)
 take_cleans (Shut b y) x = λ e. absurd (cc)
 take_cleans (Release b y) x = tt
 
-take_later : (below : Holds) (chip : Chip) (w w1 : World) (s : State) (order : Order) (k : Taking) (o : Origin Call) (t : Past) → place_at (take_bodies.spot k) below (basis.foot chip) w s o t → place_at (take_bodies.spot k) below (basis.foot (happened chip order)) w1 s o t
-take_later below chip w w1 s order Newest o t h = h
-take_later below chip w w1 s order (Pin b) o t h = (h.0, h.1, h.2, newest_happened chip order ∙ h.3)
-take_later below chip w w1 s order (Open b) o t h = h
-take_later below chip w w1 s order (Copy b) o t h = h
-take_later below chip w w1 s order (Shut b x) o t h = h
-take_later below chip w w1 s order (Release b x) o t h = h
+take_later : (below : Holds) (chip : Chip) (w w1 : World) (s : State) (order : Order) (k : Taking) (o : Origin Call) (t : Past) → HasAll chip → place_at (take_bodies.spot k) below (basis.foot chip) w s o t → place_at (take_bodies.spot k) below (basis.foot (happened chip order)) w1 s o t
+take_later below chip w w1 s order Newest o t all h = h
+take_later below chip w w1 s order (Pin b) o t all h = (h.0, h.1, h.2, newest_happened chip order all ∙ h.3)
+take_later below chip w w1 s order (Open b) o t all h = h
+take_later below chip w w1 s order (Copy b) o t all h = h
+take_later below chip w w1 s order (Shut b x) o t all h = h
+take_later below chip w w1 s order (Release b x) o t all h = h
 
-take_calm : (k : Taking) → resets_chip (take_work k) ≡ false
-take_calm Newest = refl
-take_calm (Pin b) = refl
-take_calm (Open b) = refl
-take_calm (Copy b) = refl
-take_calm (Shut b x) = refl
-take_calm (Release b x) = refl
+take_calm : (k : Taking) → (resets_chip (take_work k) ≡ false) × (begins_word (take_work k) ≡ false)
+take_calm Newest = (refl, refl)
+take_calm (Pin b) = (refl, refl)
+take_calm (Open b) = (refl, refl)
+take_calm (Copy b) = (refl, refl)
+take_calm (Shut b x) = (refl, refl)
+take_calm (Release b x) = (refl, refl)
 
 pub take_right : AreLong basis take_bodies
 take_right = record {
   own = take_own;
   turns = λ below chip w s k o t h. take_turns k (value_of chip (take_work k));
   steps = λ below chip w s k o y t m come few h. take_steps below chip w s k o y t m h;
-  later = λ below chip w s order k o t come h. take_later below chip w (world_after w chip.rate order) s order k o t h.1;
+  later = λ below chip w s order k o t come h. take_later below chip w (world_after w chip.clock.rate order) s order k o t h.0.all h.1;
   calm = λ below chip w s k o t h e. take_calm k;
   shortens = take_shortens;
   cleans = take_cleans;
@@ -758,14 +797,15 @@ take_right = record {
 -- ---- a line is polled
 
 poll_steps : (below : Holds) (chip : Chip) (w : World) (s : State) (k : Polling) (o : Origin Call) (y : ℕ) (t : Past) (m : ℕ → Bool) → Stand basis poll_bodies below chip w s k o t → Right basis poll_bodies below chip w s k o y t m
-poll_steps below chip w s polls.Act o y t m (h, Is_being) = record { may = refl; stands = tt; selects = tt; state = s; told = tells_nothing; is = refl; acts = tt; reset = refl; next = (h, Is_being) }
+poll_steps below chip w s polls.Act o y t m (h, Is_being) = record { may = refl; stands = tt; state = s; told = tells_nothing; begins = None; is = refl; sends = tt; acts = tt; reset = refl; next = (h, Is_being) }
 poll_steps below chip w s polls.Serve o y t m (h, Is_being) = record {
   may = (refl, refl);
   stands = tt;
-  selects = tt;
   state = s;
   told = tells_nothing;
+  begins = None;
   is = refl;
+  sends = tt;
   acts = tt;
   reset = refl;
   next = (h, record { may = (refl, refl); served = true; owed = refl; shown = λ e. tt; report = refl });
@@ -776,8 +816,8 @@ poll_right = record {
   own = λ below chip w s k o t h. refl;
   turns = λ below chip w s k o t h. turns k (value_of chip (poll_work k));
   steps = λ below chip w s k o y t m come few h. poll_steps below chip w s k o y t m h;
-  later = λ below chip w s order k o t come h. stays below chip (happened chip order) w (world_after w chip.rate order) s k o t h.1;
-  calm = λ below chip w s k o t h e. refl;
+  later = λ below chip w s order k o t come h. stays below chip (happened chip order) w (world_after w chip.clock.rate order) s k o t h.1;
+  calm = λ below chip w s k o t h e. (refl, refl);
   shortens = shortens;
   cleans = λ k x. never_clean (poll_work k) k (poll_takes k x);
 }
@@ -800,13 +840,14 @@ reboot_steps : (below : Holds) (chip : Chip) (w : World) (s : State) (k : Reboot
 reboot_steps below chip w s Reset o y t m (h, Is_being) = record {
   may = refl;
   stands = tt;
-  selects = tt;
   state = s;
   told = tells_nothing;
+  begins = None;
   is = refl;
+  sends = tt;
   acts = tt;
   reset = refl;
-  next = (same_words below Settled chip _ w w s refl (λ k own. refl) h, record { may = (refl, refl); served = false; owed = refl; shown = λ e. absurd (cc); report = refl });
+  next = (same_words below Settled chip _ w w s (all_moved chip (Write ResetRequest 1) 0 h.all) (λ k own. refl) h, record { may = (refl, refl); served = false; owed = refl; shown = λ e. absurd (cc); report = refl });
 }
 
 pub reboot_right : AreLong basis reboot_bodies
@@ -814,7 +855,7 @@ reboot_right = record {
   own = λ below chip w s k o t h. own k;
   turns = λ below chip w s k o t h. turns k (value_of chip (reboot_work k));
   steps = λ below chip w s k o y t m come few h. reboot_steps below chip w s k o y t m h;
-  later = λ below chip w s order k o t come h. stays below chip (happened chip order) w (world_after w chip.rate order) s k o t h.1;
+  later = λ below chip w s order k o t come h. stays below chip (happened chip order) w (world_after w chip.clock.rate order) s k o t h.1;
   calm = λ below chip w s k o t h e. acts_there k (value_of chip (reboot_work k)) e;
   shortens = shortens;
   cleans = λ k x. never_clean (reboot_work k) k (reboot_takes k x);
@@ -829,7 +870,7 @@ reboot_right = record {
     stays : (below : Holds) (a b : Chip) (w w1 : World) (s : State) (k : Rebooting) (o : Origin Call) (t : Past) → place_at (reboot_bodies.spot k) below (basis.foot a) w s o t → place_at (reboot_bodies.spot k) below (basis.foot b) w1 s o t
     stays below a b w w1 s Reset o t h = h
 
-    acts_there : (k : Rebooting) (x : ℕ) → (reboot_takes k x).1.event ≡ None → resets_chip (reboot_work k) ≡ false
+    acts_there : (k : Rebooting) (x : ℕ) → (reboot_takes k x).1.event ≡ None → (resets_chip (reboot_work k) ≡ false) × (begins_word (reboot_work k) ≡ false)
     acts_there Reset x e = absurd (cc)
 
     shortens : (k : Rebooting) (x : ℕ) → Shortens reboot_bodies.fuel k (reboot_takes k x)

@@ -4,3 +4,4 @@ pub mod Expiry
 pub mod Faults
 pub mod Layout
 pub mod Names
+pub mod Reach

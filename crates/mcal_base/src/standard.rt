@@ -81,26 +81,3 @@ impl<W: Write> Sink for StdSink<W> {
         Err(Failed)
     }
 }
-
-#[cfg(test)]
-mod tests {
-    use super::{StdSink, StdSource};
-    use crate::ends::{Sink, Source};
-    use std::io::Cursor;
-    use std::test::Fail;
-
-    // What the real ends do with a reader and a writer of std, of which no clause tells.
-    #[test]
-    fn bytes_go_through(rt: HostRuntime) -> Result<(), Fail> {
-        let bytes = b"abc".to_vec(rt.alloc())?;
-        let mut source = StdSource::new(Cursor::new(bytes));
-        let mut buf = [0u8; 2];
-        assert_eq!(rt; source.read(&mut buf), Ok(2));
-        assert_eq!(rt; buf, [b'a', b'b']);
-        assert_eq!(rt; source.read(&mut buf), Ok(1));
-        assert_eq!(rt; source.read(&mut buf), Ok(0));
-        let mut sink = StdSink::new(Vec::new(rt.alloc()));
-        assert_eq!(rt; sink.write(b"xyz"), Ok(3));
-        Ok(())
-    }
-}

@@ -8,7 +8,7 @@ use Rattle.mcal_base.specs.declared.directive.Request.{Request}
 use Rattle.run_model.specs.declared.item.Stepped.{Stepped}
 use Rattle.run_model.specs.Entry as entry
 use Rattle.run_model.specs.Frame.{Open}
-use Rattle.run_model.specs.Moment.{Setting, Moment, Steps, after_step, after_all}
+use Rattle.run_model.specs.Moment.{Setting, Moment, after_step, after_all}
 use Rattle.run_model.specs.Script.{order_at, beginnings_of, moved_by, deed_of, deeds_of}
 use Rattle.run_model.specs.Stops.{is_step, steps_in}
 use Rattle.run_model.proofs.Following.{after_all-append}

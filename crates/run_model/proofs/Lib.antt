@@ -1,3 +1,4 @@
 pub mod Counts
 pub mod Following
 pub mod Lists
+pub mod OutsideLaws

@@ -1,5 +1,5 @@
 -- When a journal follows a script: directive by directive its items are those that the bench language gives.
-use Rattle.std.specs.Prelude.{◌≡◌, ℕ, zero, suc, ◌+◌, ◌-◌, nat_lt, Bool, true, false, ◌||◌, ◌&&◌, ◌==◌, List, [], ◌∷◌, ◌++◌, length, Option, Some, None, is_some, MatchBool}
+use Rattle.std.specs.Prelude.{◌≡◌, ℕ, zero, suc, ◌+◌, ◌-◌, nat_lt, Bool, true, false, ◌||◌, ◌==◌, List, [], ◌∷◌, ◌++◌, length, Option, Some, None, is_some, MatchBool}
 use Rattle.chip_model.specs.Chip.{is_pending, is_masked}
 use Rattle.irq_control.specs.declared.held.Held.{Held}
 use Rattle.irq_control.specs.declared.held.Held.TheVariants.{Empty, Frames}
@@ -113,7 +113,7 @@ abbrev pub call_held : {State Call : Type 0} → Setting State Call → Moment S
 call_held g m c level = call_cause (is_masked m.chip) (tags_of m.opens) (top_noted m.opens) (g.class_of c) level
 
 abbrev pub line_held : {State Call : Type 0} → Setting State Call → Moment State Call → (line : ℕ) → Option Held
-line_held g m l = line_cause (is_masked m.chip) (tags_of m.opens) (g.level_of l) (g.used l && is_pending m.chip l)
+line_held g m l = line_cause (is_masked m.chip) (tags_of m.opens) (g.level_of l) (is_pending m.chip l)
 
 -- a held beginning gives its cause, and another one `Begun`
 abbrev pub BeginsOnly : {State Call : Type 0} → Moment State Call → (line : ℕ) → Option Held → List entry.Entry → Type 0

@@ -10,12 +10,12 @@ use Rattle.mcal_base.specs.declared.moves.Event.{Event}
 use Rattle.mcal_base.specs.declared.moves.Event.TheVariants.{Act, Serve, Abort, Start}
 use Rattle.mcal_base.specs.declared.notice.Notice.{Notice}
 use Rattle.mcal_base.specs.declared.register.Reg.{Reg}
-use Rattle.mcal_base.specs.declared.register.Reg.TheVariants.{ResetRequest, PulseCommit}
+use Rattle.mcal_base.specs.declared.register.Reg.TheVariants.{ResetRequest, PulseCommit, SerialData}
 use Rattle.mcal_base.specs.declared.service.Service.{Service}
 use Rattle.mcal_base.specs.declared.service.Service.TheVariants.{McuPerformReset}
 use Rattle.run_model.specs.declared.class.Tag.{Tag}
 use Rattle.run_model.specs.World.{World, with_at}
-use Rattle.run_model.specs.Machine.{Happening, Acts, Serves, Starts, Aborts, Outcome, Machine}
+use Rattle.run_model.specs.Machine.{Happening, Acts, Serves, Starts, Aborts, Begun, Outcome, Machine}
 
 -- what a frame was begun for: a call, or a line
 pub data Origin (Call : Type 0) : Type 0 where
@@ -110,6 +110,11 @@ outcome_at mac w s o made received e = outcome_of mac w s (happening_at o.origin
 abbrev pub state_by : {State : Type 0} → State → Option (Outcome State) → State
 state_by s None = s
 state_by s (Some out) = out.state
+
+-- the word that begins on a serial unit at a step, where one does
+abbrev pub begun_by : {State : Type 0} → Option (Outcome State) → Option Begun
+begun_by None = None
+begun_by (Some out) = out.begins
 
 -- the answer of the act
 abbrev pub acted_by : {State : Type 0} → Option Answer → Option Event → Option (Outcome State) → Option Answer
@@ -301,6 +306,11 @@ top_after x (Some answer) rest = rest
 abbrev pub resets_chip : Move → Bool
 resets_chip (Write ResetRequest v) = true
 resets_chip _ = false
+
+-- the move begins a serial word
+abbrev pub begins_word : Move → Bool
+begins_word (Write (SerialData u) v) = true
+begins_word _ = false
 
 -- the service asks for a reset
 abbrev pub is_reset_service : Service → Bool

@@ -1,8 +1,10 @@
 -- When a run is legal: what each of its deeds has to be, in the moment before it.
-use Rattle.std.specs.Prelude.{◌≡◌, ℕ, ◌<◌, ◌≤◌, Bool, true, false, ◌||◌, ◌==◌, cond, List, [], ◌∷◌, Option, Some, None, IsSome}
+use Rattle.std.specs.Prelude.{◌≡◌, ℕ, ◌<◌, ◌≤◌, min, nat_lt, nat_le, Bool, true, false, ◌&&◌, ◌||◌, ◌==◌, cond, List, [], ◌∷◌, Option, Some, None, IsSome, MatchBool}
 use Rattle.std.specs.List.{Contains, list_any, list_all}
-use Rattle.chip_model.specs.Chip.{Chip, value_of, is_pending, is_masked}
-use Rattle.chip_model.specs.Reach.{CanApply}
+use Rattle.chip_units.specs.Serials.{unit_at, outgoing}
+use Rattle.chip_units.specs.declared.serial.Serial.{Serial}
+use Rattle.chip_model.specs.Chip.{Chip, value_of, received_of, is_pending, is_masked}
+use Rattle.mcal_base.specs.Reach.{CanApply}
 use Rattle.irq_control.specs.declared.held.Held.{Held}
 use Rattle.mcal_base.specs.declared.answer.Answer.{Answer}
 use Rattle.mcal_base.specs.declared.error_name.ErrorName.{ErrorName}
@@ -21,8 +23,8 @@ use Rattle.mcal_base.specs.declared.directive.Order.{Order}
 use Rattle.mcal_base.specs.declared.directive.Order.TheVariants as orders
 use Rattle.mcal_base.specs.declared.directive.Reason.TheVariants.{Watchdog}
 use Rattle.run_model.specs.World.{World}
-use Rattle.run_model.specs.Machine.{Moves, Restarts, Machine, no_answer}
-use Rattle.run_model.specs.Frame.{Origin, Called, Entered, Owing, ActedAt, Open, outcome_at, report_by, open_after, is_shared, resets_chip, asks_reset}
+use Rattle.run_model.specs.Machine.{Moves, Restarts, Begun, Machine, no_answer}
+use Rattle.run_model.specs.Frame.{Origin, Called, Entered, Owing, ActedAt, Open, outcome_at, begun_by, report_by, open_after, is_shared, resets_chip, asks_reset}
 use Rattle.run_model.specs.Causes.{call_cause, line_cause, fill_cause, tags_of, origins_of, top_noted}
 use Rattle.run_model.specs.Moment.{Halves, Setting, Moment, Deed, Begins, Enters, Steps, Happens, Resets, after}
 
@@ -63,20 +65,6 @@ is_converter Adc1 = true
 is_converter Spi0 = false
 is_converter Spi1 = false
 
--- a serving that begins a word stands at the write of that word, under the select of its job
-abbrev pub BeginsRight : {State Call : Type 0} → Setting State Call → Origin Call → Chip → World → State → Event → (unit : Option ℕ) → Move → Type 0
-BeginsRight g origin chip w s e None made = Unit {0}
-BeginsRight g origin chip w s e (Some u) (Write (SerialData k) v) = (k ≡ u) × g.selects origin chip w s e u
-BeginsRight g origin chip w s e (Some u) _ = ⊥
-
--- a word begins only under the select of its job, at a start of a serial unit and at a serving
-abbrev pub SelectsRight : {State Call : Type 0} → Setting State Call → Origin Call → Chip → World → State → Event → Move → Type 0
-SelectsRight g origin chip w s (Start u) (Write (SerialData k) v) = g.selects origin chip w s (Start u) k
-SelectsRight g origin chip w s (Start u) _ = Unit {0}
-SelectsRight g origin chip w s (Serve l) made = BeginsRight g origin chip w s (Serve l) (g.begins_word w s l) made
-SelectsRight g origin chip w s Act made = Unit {0}
-SelectsRight g origin chip w s (Abort u) made = Unit {0}
-
 -- a unit is started at the write of its own register that does it, and aborted at the read that did it
 abbrev pub StandsAt : Event → Move → (value : ℕ) → Type 0
 StandsAt Act made value = Unit {0}
@@ -90,7 +78,7 @@ StandsAt (Abort u) _ value = ⊥
 -- the machine allows the event here
 abbrev pub EventRight : {State Call : Type 0} → Setting State Call → Moment State Call → Open Call → Stepped → Option Event → Type 0
 EventRight g m o s None = Unit {0}
-EventRight g m o s (Some e) = IsOwnEvent g.machine m.world m.state o e o.origin × StandsAt e s.made s.value × SelectsRight g o.origin m.chip m.world m.state e s.made × IsSome (outcome_at g.machine m.world m.state o s.made s.received (Some e))
+EventRight g m o s (Some e) = IsOwnEvent g.machine m.world m.state o e o.origin × StandsAt e s.made s.value × IsSome (outcome_at g.machine m.world m.state o s.made s.received (Some e))
 
 -- ---- where a frame acts, and what it does besides
 
@@ -117,19 +105,31 @@ abbrev pub ErrorsRight : (wrote : Bool) → Option ActedAt → Type 0
 ErrorsRight wrote None = Unit {0}
 ErrorsRight wrote (Some at) = WritesNothing wrote at.error
 
--- ---- the word that comes in
+-- ---- serial words
 
--- no word comes in but at a write that begins a serial word; there it may be any of 16 bits, or 65,536, where a device failed
-abbrev pub ReceivedRight : {State Call : Type 0} → Setting State Call → Chip → World → Move → (received : ℕ) → Type 0
-ReceivedRight g chip w (Write (SerialData u) v) received = (received ≤ 65536) × g.receives chip w u received
-ReceivedRight g chip w (Write r v) received = received ≡ 0
-ReceivedRight g chip w (Read r) received = received ≡ 0
-ReceivedRight g chip w (Load k) received = received ≡ 0
-ReceivedRight g chip w (Store k v) received = received ≡ 0
-ReceivedRight g chip w Mask received = received ≡ 0
-ReceivedRight g chip w Unmask received = received ≡ 0
-ReceivedRight g chip w (Note n) received = received ≡ 0
-ReceivedRight g chip w (Report e) received = received ≡ 0
+-- a serial unit selects a device that is there
+abbrev pub has_device : Serial → World → Bool
+has_device unit w = nat_lt 0 unit.select && nat_le unit.select w.devices
+
+-- the word that comes in where one begins: whatever the selected device answers, 65,536 where it fails, and without a
+-- device the unit's next waiting word; with any other move 0
+abbrev pub ReceivedRight : Chip → World → Move → (received : ℕ) → Type 0
+ReceivedRight chip w (Write (SerialData u) v) received = MatchBool (has_device (unit_at chip.serials u) w) (received ≤ 65536) (received ≡ received_of chip (Write (SerialData u) v))
+ReceivedRight chip w made received = received ≡ 0
+
+-- the word is the machine's, by unit and width, and the unit selects its device
+pub record IsBegun (b : Begun) (u v : ℕ) (unit : Serial) : Type 0 where
+  pub on : u ≡ b.unit
+  pub word : outgoing unit v ≡ b.word
+  pub width : min unit.width 16 ≡ b.width
+  pub select : unit.select ≡ b.select
+
+-- a word is written to a serial unit exactly where the machine begins one
+abbrev pub SendsRight : Chip → Option Begun → Move → Type 0
+SendsRight chip None (Write (SerialData u) v) = ⊥
+SendsRight chip None _ = Unit {0}
+SendsRight chip (Some b) (Write (SerialData u) v) = IsBegun b u v (unit_at chip.serials u)
+SendsRight chip (Some b) _ = ⊥
 
 -- ---- the moves of a step
 
@@ -175,10 +175,10 @@ abbrev pub MayEnd : {Call : Type 0} → Origin Call → Open Call → Answer →
 MayEnd (Called c) o answer = (o.acted ≡ Some answer) × (list_all (has_met o) o.polled ≡ true)
 MayEnd (Entered l) o answer = (has_met o l ≡ true) × (answer ≡ no_answer)
 
--- a frame that ends owes nothing and holds no mask
+-- a frame that ends owes nothing and holds no mask, and it never ends at a notice: its last move is another one
 abbrev pub EndRight : {Call : Type 0} → Open Call → Option Answer → Type 0
 EndRight o None = Unit {0}
-EndRight o (Some answer) = MayEnd o.origin o answer × (o.owed ≡ []) × (o.report ≡ None) × (o.inside ≡ false)
+EndRight o (Some answer) = MayEnd o.origin o answer × (o.owed ≡ []) × (o.report ≡ None) × (o.inside ≡ false) × (o.noted ≡ false)
 
 -- ---- a step
 
@@ -187,9 +187,11 @@ pub record IsLegalStep {State Call : Type 0} (g : Setting State Call) (m : Momen
   -- the value read is the chip's
   pub value : s.value ≡ value_of m.chip s.made
   -- the word that comes in is the one of that moment
-  pub received : ReceivedRight g m.chip m.world s.made s.received
+  pub received : ReceivedRight m.chip m.world s.made s.received
   -- the machine allows the event, and it is one that the frame may have
   pub event : EventRight g m o s s.event
+  -- a serial word begins exactly where the machine begins it
+  pub sends : SendsRight m.chip (begun_by (outcome_at g.machine m.world m.state o s.made s.received s.event)) s.made
   -- a counter that was read in halves was read at the act, with the mask closed
   pub halves : let o1 = open_after g.machine m.world m.state o s.made s.received s.event in HalvesRight (halves_of g o.origin) o1.reads o1.acted_at
   -- a call that finds an error leaves the chip alone
@@ -234,7 +236,7 @@ InTime (Some left) _ = 0 < left
 -- a deed is legal in the moment before it
 abbrev pub IsLegalDeed : {State Call : Type 0} → Setting State Call → Moment State Call → Deed Call → Type 0
 IsLegalDeed g m (Begins c level) = call_cause (is_masked m.chip) (tags_of m.opens) (top_noted m.opens) (g.class_of c) level ≡ None
-IsLegalDeed g m (Enters l) = (g.used l ≡ true) × (line_cause (is_masked m.chip) (tags_of m.opens) (g.level_of l) (is_pending m.chip l) ≡ None)
+IsLegalDeed g m (Enters l) = line_cause (is_masked m.chip) (tags_of m.opens) (g.level_of l) (is_pending m.chip l) ≡ None
 IsLegalDeed g m (Steps s) = LegalStep g m m.opens s
 IsLegalDeed g m (Happens order) = (hardware_held g m order ≡ None) × IsSome (g.machine.happens m.world m.state (Moves order))
 IsLegalDeed g m (Resets reason) = IsSome (g.machine.happens m.world m.state (Restarts reason))
@@ -242,6 +244,10 @@ IsLegalDeed g m (Resets reason) = IsSome (g.machine.happens m.world m.state (Res
 -- wherever the mask is open, each line that is due is pending
 abbrev pub DueIsPending : {State Call : Type 0} → Setting State Call → Moment State Call → Type 0
 DueIsPending g m = is_masked m.chip ≡ false → (l : ℕ) → g.machine.due m.world m.state l ≡ true → is_pending m.chip l ≡ true
+
+-- and each line that no configured object uses is not
+abbrev pub UnusedIsIdle : {State Call : Type 0} → Setting State Call → Moment State Call → Type 0
+UnusedIsIdle g m = is_masked m.chip ≡ false → (l : ℕ) → g.used l ≡ false → is_pending m.chip l ≡ false
 
 -- at rest no unit waits for a start, each line is pending exactly where it is due, and the rest is the machine's too
 pub record IsQuiet {State Call : Type 0} (g : Setting State Call) (m : Moment State Call) : Type 0 where
@@ -253,9 +259,15 @@ abbrev pub QuietAtRest : {State Call : Type 0} → Setting State Call → Moment
 QuietAtRest g m [] = IsQuiet g m
 QuietAtRest g m (o ∷ os) = Unit {0}
 
+-- wherever the mask is open, the outputs are the machine's that are so at every time
+abbrev pub OutputsRight : {State Call : Type 0} → Setting State Call → Moment State Call → Type 0
+OutputsRight g m = is_masked m.chip ≡ false → g.unmasked m.chip m.world m.state (origins_of m.opens)
+
 -- what holds of every moment of a legal run
 pub record IsServed {State Call : Type 0} (g : Setting State Call) (m : Moment State Call) : Type 0 where
   pub due : DueIsPending g m
+  pub unused : UnusedIsIdle g m
+  pub outputs : OutputsRight g m
   pub quiet : QuietAtRest g m m.opens
 
 -- each deed is legal in the moment before it, and comes in time, and each moment is served

@@ -5,6 +5,7 @@ pub mod Frame
 pub mod Legal
 pub mod Machine
 pub mod Moment
+pub mod Outside
 pub mod Rooms
 pub mod Script
 pub mod Stops

@@ -1,5 +1,5 @@
 -- A machine of the specifications: what happens to a module, and what comes of it. It knows no register, no mask and no place in a program.
-use Rattle.std.specs.Prelude.{ℕ, List, [], Bool, Option, None}
+use Rattle.std.specs.Prelude.{◌≡◌, ℕ, List, [], Bool, Option, None, IsSome}
 use Rattle.det_errors.specs.Reports.{Reporting}
 use Rattle.mcal_base.specs.declared.answer.Answer.{Answer}
 use Rattle.mcal_base.specs.declared.answer.Head.TheVariants.{Nothing}
@@ -32,10 +32,18 @@ pub record Told : Type 0 where
   pub error : Option ErrorName
   pub notices : List Notice
 
--- the state that comes of it, with what is told
+-- a word that begins on a serial unit: masked by a width, under the number of a device's place plus 1, or 0 for none
+pub record Begun : Type 0 where
+  pub unit : ℕ
+  pub word : ℕ
+  pub width : ℕ
+  pub select : ℕ
+
+-- the state that comes of it, with what is told, and the word that begins there, where one does
 pub record Outcome (State : Type 0) : Type 0 where
   pub state : State
   pub told : Told
+  pub begins : Option Begun
 
 -- no answer, no error and no notice
 abbrev pub no_answer : Answer
@@ -44,8 +52,16 @@ no_answer = record { head = Nothing; words = [] }
 abbrev pub tells_nothing : Told
 tells_nothing = record { answer = no_answer; error = None; notices = [] }
 
+-- what comes of what begins no word, and of what does
 abbrev pub outcome : {State : Type 0} → State → Told → Outcome State
-outcome s t = record { state = s; told = t }
+outcome s t = record { state = s; told = t; begins = None }
+
+abbrev pub outcome_with : {State : Type 0} → State → Told → Option Begun → Outcome State
+outcome_with s t word = record { state = s; told = t; begins = word }
+
+-- with an error the state is as it was, and no notice is given
+abbrev pub ErrorLeaves : {State : Type 0} → State → Outcome State → Type 0
+ErrorLeaves s out = IsSome out.told.error → (out.state ≡ s) × (out.told.notices ≡ [])
 
 -- A machine of states and calls.
 pub record Machine (State Call : Type 0) : Type 0 where

@@ -1,11 +1,10 @@
 -- A moment of a run: the chip, the outside, the machine's state and the frames under way; and what comes after it.
 use Rattle.std.specs.Prelude.{ℕ, ◌+◌, Bool, List, [], ◌∷◌, Option, Some, None}
-use Rattle.chip_model.specs.Chip.{Chip, chip_after, happened, reset_chip, fresh}
+use Rattle.chip_model.specs.Chip.{Chip, chip_after, happened, reset_chip}
 use Rattle.mcal_base.specs.declared.notice.Notice.{Notice}
 use Rattle.mcal_base.specs.declared.directive.Order.{Order}
 use Rattle.mcal_base.specs.declared.directive.Reason.{Reason}
 use Rattle.mcal_base.specs.declared.module_name.ModuleName.{ModuleName}
-use Rattle.mcal_base.specs.declared.moves.Event.{Event}
 use Rattle.mcal_base.specs.declared.moves.Move.{Move}
 use Rattle.mcal_base.specs.declared.register.Reg.{Reg}
 use Rattle.run_model.specs.declared.class.Class.{Class}
@@ -40,14 +39,10 @@ pub record Setting (State Call : Type 0) : Type 1 where
   -- the source arrays that there are, and whether one is in use, by the frames under way
   pub fills : (channel : ℕ) → Bool
   pub fill_busy : World → State → List (Origin Call) → (channel : ℕ) → Bool
-  -- the words that may come in on a serial unit: its next waiting word, or whatever the selected device answers
-  pub receives : Chip → World → (number received : ℕ) → Type 0
-  -- the serial unit on which the serving of a line begins a word
-  pub begins_word : World → State → (line : ℕ) → Option ℕ
-  -- where a word begins on a serial unit by this event of a frame: the unit selects the device of the word's job
-  pub selects : Origin Call → Chip → World → State → Event → (number : ℕ) → Type 0
-  -- with no frame: pins, RAM, user arrays and what was sent and received are the machine's
+  -- with no frame: pins, RAM and user arrays are the machine's
   pub rest : Chip → World → State → Type 0
+  -- wherever the mask is open, with these frames under way: outputs that are the machine's at every time
+  pub unmasked : Chip → World → State → List (Origin Call) → Type 0
   -- at a notice of a frame of this origin: the user arrays of the object that it names are the machine's
   pub shows : Origin Call → Notice → Chip → State → Type 0
 
@@ -76,15 +71,15 @@ call_tag g c level = record { level = level; owner = (g.class_of c).module; clas
 abbrev pub line_tag : {State Call : Type 0} → Setting State Call → ℕ → Tag
 line_tag g l = record { level = g.level_of l; owner = g.owner_of l; class = None }
 
--- at power on
-abbrev pub start_moment : {State Call : Type 0} → Setting State Call → Moment State Call
-start_moment g = record { chip = fresh 0 0; world = world_start 0; state = g.first; opens = []; steps = 0 }
+-- at power on, with this chip
+abbrev pub start_moment : {State Call : Type 0} → Setting State Call → Chip → Moment State Call
+start_moment g chip = record { chip = chip; world = world_start 0; state = g.first; opens = []; steps = 0 }
 
 -- after a step of the top frame
 abbrev pub after_step : {State Call : Type 0} → Setting State Call → Moment State Call → List (Open Call) → Stepped → Moment State Call
 after_step g m [] s = m
 after_step g m (o ∷ os) s = record {
-  chip = chip_after m.chip s.made;
+  chip = chip_after m.chip s.made s.received;
   world = m.world;
   state = state_after g.machine m.world m.state o s.made s.received s.event;
   opens = top_after (open_after g.machine m.world m.state o s.made s.received s.event) s.ended os;

@@ -3,5 +3,4 @@ pub mod Orders
 pub mod Scripts
 pub mod Stops
 pub mod Taken
-pub mod Times
 pub mod Walks

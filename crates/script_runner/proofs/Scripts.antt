@@ -1,19 +1,23 @@
 -- A script's directives, one after another.
-use Rattle.std.proofs.Common.{◌≡◌, ℕ, zero, suc, ◌+◌, ◌-◌, ◌*◌, ◌<◌, ◌≤◌, true, false, cond, List, [], ◌∷◌, ◌++◌, length, take, drop, Some, sym, ◌∙◌, ap, subst, arith, add-one}
-use Rattle.std.specs.Prelude.{slice_get, slice_index_or, ◌==◌}
+use Rattle.std.proofs.Common.{◌≡◌, ℕ, zero, suc, ◌+◌, ◌-◌, ◌*◌, ◌<◌, ◌≤◌, Bool, true, false, cond, Ok, Err, List, [], ◌∷◌, ◌++◌, length, take, drop, Some, sym, ◌∙◌, ap, subst, arith, add-one}
+use Rattle.std.specs.Prelude.{slice_get, slice_index_or, ◌==◌, min, IfOk, Result}
+use Rattle.std.specs.Bool.{OnTrue, OnFalse}
+use Rattle.std.proofs.Math.Nat.{min-le_left}
 use Rattle.std.proofs.lemmas.Bool.Decides.{nat_tests}
-use Rattle.chip_model.specs.Chip.{Chip, fresh, now_of}
+use Rattle.chip_model.specs.Chip.{Chip, now_of}
 use Rattle.mcal_base.specs.declared.directive.Directive.{Directive}
 use Rattle.mcal_base.specs.declared.directive.Request.{Request}
-use Rattle.run_model.specs.Entry.{Written}
-use Rattle.run_model.specs.Moment.{start_moment}
-use Rattle.run_model.specs.Script.{order_at, beginnings_of}
+use Rattle.run_model.specs.Entry.{Entry, Written}
+use Rattle.run_model.specs.Follows.{Follows}
+use Rattle.run_model.specs.Legal.{IsLegal}
+use Rattle.run_model.specs.Moment.{Setting, start_moment}
+use Rattle.run_model.specs.Script.{deeds_of, order_at, beginnings_of}
 use Rattle.run_model.specs.Stops.{FollowsToStop, steps_in}
 use Rattle.run_model.proofs.Following.{FollowsTo, Nothing_followed, follows_more}
 use Rattle.step_runner.specs.Driver.{Driver}
 use Rattle.step_runner.specs.Kept.{Kept, kept_empty}
 use Rattle.step_runner.specs.Stands.{Stands}
-use Rattle.script_runner.specs.Scripts.{LinesRise, AllBuilt, script_bound}
+use Rattle.script_runner.specs.Scripts.{LinesRise, AllBuilt, script_bound, IsRun, IsStopped}
 use Rattle.script_runner.specs.Standing.{moment_of, IsStanding, Obeyed, Stuck, is_built, work_of, bounds_of}
 use Rattle.script_runner.proofs.Stops.{follows_to_stop}
 
@@ -71,25 +75,25 @@ script_bound-take d call_of (suc n) [] = omega arith
 script_bound-take d call_of (suc n) (x ∷ xs) = let h = script_bound-take d call_of n xs in omega (arith, h)
 
 -- Some of a script was obeyed.
-pub record Going {State Call Frame : Type 0} (d : Driver State Call Frame) (call_of : Request → Call) (script : List Directive) (most at : ℕ) (chip : Chip) (k : Kept Frame) (w : Written) : Type 0 where
-  pub follows : FollowsTo d.setting call_of (start_moment d.setting) (take at script) w.entries (moment_of d call_of script w.entries)
-  pub stands : IsStanding d call_of script chip k.frames w.entries
+pub record Going {State Call Frame : Type 0} (d : Driver State Call Frame) (first : Chip) (call_of : Request → Call) (script : List Directive) (most at : ℕ) (chip : Chip) (k : Kept Frame) (w : Written) : Type 0 where
+  pub follows : FollowsTo d.setting call_of (start_moment d.setting first) (take at script) w.entries (moment_of d first call_of script w.entries)
+  pub stands : IsStanding d first call_of script chip k.frames w.entries
   pub steps : k.steps ≤ most
   pub counted : steps_in w.entries ≡ k.steps
   pub spent : work_of d k ≤ script_bound d.setting call_of (take at script)
   pub room : w.room ≡ most + 2 * length script
   pub items : length w.entries + (most - k.steps) + 2 * (length script - at) ≤ w.room
   pub words : length w.words + 64 * (length script - at) ≤ w.words_room
-  pub osc : chip.osc ≤ 1000000 * at
+  pub osc : chip.clock.osc ≤ 1000000 * at
   pub now : now_of chip ≤ 16000000 * at
 
-module _ {State Call Frame : Type 0} (d : Driver State Call Frame) (call_of : Request → Call) (script : List Directive) where
-  pub goes_on : (most at : ℕ) (directive : Directive) (chip : Chip) (k : Kept Frame) (before : Written) (chip1 : Chip) (k1 : Kept Frame) (after : Written) → at < length script → slice_get script at ≡ Some directive → Going d call_of script most at chip k before → Obeyed d call_of script most directive.line directive.order chip k before chip1 k1 after → Going d call_of script most (at + 1) chip1 k1 after
+module _ {State Call Frame : Type 0} (d : Driver State Call Frame) (first : Chip) (call_of : Request → Call) (script : List Directive) where
+  pub goes_on : (most at : ℕ) (directive : Directive) (chip : Chip) (k : Kept Frame) (before : Written) (chip1 : Chip) (k1 : Kept Frame) (after : Written) → at < length script → slice_get script at ≡ Some directive → Going d first call_of script most at chip k before → Obeyed d first call_of script most directive.line directive.order chip k before chip1 k1 after → Going d first call_of script most (at + 1) chip1 k1 after
   goes_on most at directive chip k before chip1 k1 after lt e h o =
       let a = o.adds in
       let more = follows_more d.setting call_of directive a.items h.follows a.right in
       record {
-        follows = subst (λ ds. FollowsTo d.setting call_of (start_moment d.setting) ds after.entries (moment_of d call_of script after.entries)) (sym (take_more script at directive e)) (subst (λ es. FollowsTo d.setting call_of (start_moment d.setting) (take at script ++ directive ∷ []) es (moment_of d call_of script after.entries)) (sym a.is) (subst (λ m. FollowsTo d.setting call_of (start_moment d.setting) (take at script ++ directive ∷ []) (before.entries ++ a.items) m) a.leads more));
+        follows = subst (λ ds. FollowsTo d.setting call_of (start_moment d.setting first) ds after.entries (moment_of d first call_of script after.entries)) (sym (take_more script at directive e)) (subst (λ es. FollowsTo d.setting call_of (start_moment d.setting first) (take at script ++ directive ∷ []) es (moment_of d first call_of script after.entries)) (sym a.is) (subst (λ m. FollowsTo d.setting call_of (start_moment d.setting first) (take at script ++ directive ∷ []) (before.entries ++ a.items) m) a.leads more));
         stands = a.stands;
         steps = o.filled.steps;
         counted = omega (arith, o.filled.counted, h.counted);
@@ -109,18 +113,18 @@ module _ {State Call Frame : Type 0} (d : Driver State Call Frame) (call_of : Re
       omega (arith, taken, more, spent, wants)
 
   -- a run that stops in a directive
-  pub stops_in : (most at : ℕ) (directive : Directive) (chip : Chip) (k : Kept Frame) (before : Written) (chip1 : Chip) (k1 : Kept Frame) (after : Written) → slice_get script at ≡ Some directive → Going d call_of script most at chip k before → Stuck d call_of script most directive.line directive.order k before chip1 k1 after → FollowsToStop d.setting call_of (start_moment d.setting) script after.entries
+  pub stops_in : (most at : ℕ) (directive : Directive) (chip : Chip) (k : Kept Frame) (before : Written) (chip1 : Chip) (k1 : Kept Frame) (after : Written) → slice_get script at ≡ Some directive → Going d first call_of script most at chip k before → Stuck d first call_of script most directive.line directive.order k before chip1 k1 after → FollowsToStop d.setting call_of (start_moment d.setting first) script after.entries
   stops_in most at directive chip k before chip1 k1 after e h s =
-      subst (λ es. FollowsToStop d.setting call_of (start_moment d.setting) script es) (sym s.is)
-      (subst (λ ds. FollowsToStop d.setting call_of (start_moment d.setting) ds (before.entries ++ s.items)) (sym (split_at script at directive e))
+      subst (λ es. FollowsToStop d.setting call_of (start_moment d.setting first) script es) (sym s.is)
+      (subst (λ ds. FollowsToStop d.setting call_of (start_moment d.setting first) ds (before.entries ++ s.items)) (sym (split_at script at directive e))
       (follows_to_stop d.setting call_of directive (drop (at + 1) script) s.items h.follows s.right))
 
   -- as many steps are in it as were taken
-  pub stops_counted : (most at : ℕ) (directive : Directive) (chip : Chip) (k : Kept Frame) (before : Written) (chip1 : Chip) (k1 : Kept Frame) (after : Written) → Going d call_of script most at chip k before → Stuck d call_of script most directive.line directive.order k before chip1 k1 after → steps_in after.entries ≡ most
+  pub stops_counted : (most at : ℕ) (directive : Directive) (chip : Chip) (k : Kept Frame) (before : Written) (chip1 : Chip) (k1 : Kept Frame) (after : Written) → Going d first call_of script most at chip k before → Stuck d first call_of script most directive.line directive.order k before chip1 k1 after → steps_in after.entries ≡ most
   stops_counted most at directive chip k before chip1 k1 after h s = omega (arith, h.counted, s.counted, s.steps)
 
-  pub going_start : (most : ℕ) (chip : Chip) (k : Kept Frame) (w : Written) → chip ≡ fresh 0 0 → k ≡ kept_empty → w ≡ record { entries = []; room = most + 2 * length script; words = []; words_room = 64 * length script } → Stands d (fresh 0 0) k.frames [] → Going d call_of script most 0 chip k w
-  going_start most chip k w chip_is k_is w_is stands =
+  pub going_start : (most : ℕ) (chip : Chip) (k : Kept Frame) (w : Written) → chip ≡ first → first.clock.osc ≡ 0 → now_of first ≡ 0 → k ≡ kept_empty → w ≡ record { entries = []; room = most + 2 * length script; words = []; words_room = 64 * length script } → Stands d first first k.frames [] → Going d first call_of script most 0 chip k w
+  going_start most chip k w chip_is none_osc none_now k_is w_is stands =
       let entries_are : w.entries ≡ [] = ap (λ x. x.entries) w_is in
       let e1 = ap (λ x. x.room) w_is in
       let e2 = ap (λ x. x.words_room) w_is in
@@ -128,18 +132,37 @@ module _ {State Call Frame : Type 0} (d : Driver State Call Frame) (call_of : Re
       let e4 = ap (λ x. length x.words) w_is in
       let e5 = ap (λ x. x.steps) k_is in
       record {
-        follows = subst (λ es. FollowsTo d.setting call_of (start_moment d.setting) [] es (moment_of d call_of script es)) (sym entries_are) (Nothing_followed (start_moment d.setting));
-        stands = subst (λ es. IsStanding d call_of script chip k.frames es) (sym entries_are) (subst (λ c. Stands d c k.frames []) (sym chip_is) stands);
+        follows = subst (λ es. FollowsTo d.setting call_of (start_moment d.setting first) [] es (moment_of d first call_of script es)) (sym entries_are) (Nothing_followed (start_moment d.setting first));
+        stands = subst (λ es. IsStanding d first call_of script chip k.frames es) (sym entries_are) (subst (λ c. Stands d first c k.frames []) (sym chip_is) stands);
         steps = omega (arith, e5);
         counted = ap (λ es. steps_in es) entries_are ∙ sym e5;
         spent = subst (λ x. work_of d x ≤ 0) (sym k_is) (omega arith);
         room = e1;
         items = omega (arith, e1, e3);
         words = omega (arith, e2, e4);
-        osc = subst (λ c. c.osc ≤ 0) (sym chip_is) (omega arith);
-        now = subst (λ c. now_of c ≤ 0) (sym chip_is) (omega arith);
+        osc = subst (λ c. c.clock.osc ≤ 0) (sym chip_is) (omega (arith, none_osc));
+        now = subst (λ c. now_of c ≤ 0) (sym chip_is) (omega (arith, none_now));
       }
 
 -- the bounds with one directive more
 pub bound_more : {State Call Frame : Type 0} (d : Driver State Call Frame) (call_of : Request → Call) (script : List Directive) (at : ℕ) (directive : Directive) → slice_get script at ≡ Some directive → script_bound d.setting call_of (take (at + 1) script) ≡ script_bound d.setting call_of (take at script) + bounds_of d.setting (beginnings_of call_of (Some directive.order))
 bound_more d call_of script at directive e = ap (script_bound d.setting call_of) (take_more script at directive e) ∙ script_bound-append d call_of (take at script) directive
+
+-- ---- a run within a limit
+
+pub if_ok_both : {T E : Type 0} (r : Result T E) (P Q : T → Type 0) → IfOk r P → IfOk r Q → IfOk r (λ x. P x × Q x)
+if_ok_both (Ok x) P Q p q = (p, q)
+if_ok_both (Err e) P Q p q = tt
+
+module _ {State Call : Type 0} (g : Setting State Call) (first : Chip) (call_of : Request → Call) (script : List Directive) where
+  -- a run that was not stopped
+  pub is_run : (stopped : Bool) (es : List Entry) → OnFalse stopped (Follows g call_of (start_moment g first) script es) → IsLegal g (start_moment g first) (deeds_of call_of script es) → OnFalse stopped (IsRun g first call_of script es)
+  is_run true es follows legal = tt
+  is_run false es follows legal = record { follows = follows; legal = legal }
+
+  -- one that was, which so made as many steps as the limit says, since that is below all bounds
+  pub is_stopped : (most limit bound : ℕ) (stopped : Bool) (es : List Entry) → most ≡ min limit bound → OnTrue stopped (FollowsToStop g call_of (start_moment g first) script es) → IsLegal g (start_moment g first) (deeds_of call_of script es) → OnTrue stopped (steps_in es ≡ most) → OnTrue stopped (most < bound) → OnTrue stopped (IsStopped g first call_of limit script es)
+  is_stopped most limit bound false es is follows legal steps below = tt
+  is_stopped most limit bound true es is follows legal steps below =
+      let all : most ≡ limit = grind (arith, nat_tests, min-le_left limit bound) in
+      record { follows = follows; legal = legal; steps = steps ∙ all }

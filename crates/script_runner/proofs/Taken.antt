@@ -1,7 +1,8 @@
 -- A step that was taken, and its item.
 use Rattle.std.proofs.Common.{◌≡◌, ℕ, ◌<◌, ◌≤◌, List, [], ◌∷◌, ◌++◌, length, Option, Some, None, Ok, refl, sym, ◌∙◌, ap, subst, arith}
 use Rattle.std.specs.Prelude.{Result}
-use Rattle.chip_model.specs.Chip.{Chip, value_of}
+use Rattle.chip_model.specs.Chip.{Chip, value_of, received_of, chip_after}
+use Rattle.chip_model.proofs.HistoryLaws.{osc-move, now-move}
 use Rattle.mcal_base.specs.declared.answer.Answer.{Answer}
 use Rattle.mcal_base.specs.declared.directive.Directive.{Directive}
 use Rattle.mcal_base.specs.declared.directive.Request.{Request}
@@ -22,7 +23,10 @@ use Rattle.step_runner.specs.Stands.{Stands, FuelFalls}
 use Rattle.step_runner.specs.declared.stack.Under.{Under}
 use Rattle.script_runner.specs.Standing.{IsStanding, SameTime, TookStep}
 use Rattle.script_runner.proofs.Arms.{deeds_more}
-use Rattle.script_runner.proofs.Times.{move_time}
+
+-- no move takes time
+move_time : (chip : Chip) (made : Move) (received : ℕ) → SameTime chip (chip_after chip made received)
+move_time chip made received = record { osc = osc-move chip made received; now = now-move chip made received }
 
 -- a frame that goes on is still there
 top_there : {A : Type 0} (x : A) (ended : Option Answer) (rest : List A) → ended ≡ None → 0 < length (top_after x ended rest)
@@ -32,16 +36,16 @@ top_there x (Some a) rest e = cc
 ok_is : {T E : Type 0} (x y : T) → ◌≡◌ {A = Result T E} (Ok x) (Ok y) → x ≡ y
 ok_is x y e = cc
 
-module _ {State Call Frame : Type 0} (d : Driver State Call Frame) (call_of : Request → Call) (script : List Directive) (move_of : Frame → Move) (left : Frame → ℕ → Frame) (gave : Frame → ℕ → Taken) where
-  pub took : (most line : ℕ) (chip : Chip) (us : List (Under Frame)) (taken : ℕ) (before : Written) (s : Stepped) (chip1 : Chip) (k1 : Kept Frame) (after : Written) → TakesStep move_of left gave us taken chip k1 chip1 (Ok s) → 0 < length us → taken < most → FuelFalls d.fuel us k1.frames (Ok s) → length (words_of_answer s.ended) ≤ 64 → Stands d chip1 k1.frames (deeds_of call_of script before.entries ++ moment.Steps s ∷ []) → after ≡ written before line (length us) (Steps s) (words_of_answer s.ended) → TookStep d call_of script most line chip (record { frames = us; steps = taken }) before s chip1 k1 after
+module _ {State Call Frame : Type 0} (d : Driver State Call Frame) (first : Chip) (call_of : Request → Call) (script : List Directive) (move_of : Frame → Move) (left : Frame → ℕ → Frame) (gave : Frame → ℕ → Taken) where
+  pub took : (most line : ℕ) (chip : Chip) (us : List (Under Frame)) (taken : ℕ) (before : Written) (s : Stepped) (chip1 : Chip) (k1 : Kept Frame) (after : Written) → TakesStep move_of left gave us taken chip k1 chip1 (Ok s) → 0 < length us → taken < most → FuelFalls d.fuel us k1.frames (Ok s) → length (words_of_answer s.ended) ≤ 64 → Stands d first chip1 k1.frames (deeds_of call_of script before.entries ++ moment.Steps s ∷ []) → after ≡ written before line (length us) (Steps s) (words_of_answer s.ended) → TookStep d first call_of script most line chip (record { frames = us; steps = taken }) before s chip1 k1 after
   took most line chip [] taken before s chip1 k1 after t some few falls short stands is = absurd (omega arith)
   took most line chip (u ∷ us) taken before s chip1 k1 after t some few falls short stands is =
       let e : Entry = record { line = line; depth = length (u ∷ us); said = Steps s } in
-      let s_is : s ≡ stepped (move_of u.frame) (value_of chip (move_of u.frame)) 0 (gave u.frame (value_of chip (move_of u.frame))) = ok_is _ _ t.result_is in
-      let time : SameTime chip chip1 = subst (λ x. SameTime chip x) (sym t.chip_is) (move_time chip (move_of u.frame)) in
+      let s_is : s ≡ stepped (move_of u.frame) (value_of chip (move_of u.frame)) (received_of chip (move_of u.frame)) (gave u.frame (value_of chip (move_of u.frame))) = ok_is _ _ t.result_is in
+      let time : SameTime chip chip1 = subst (λ x. SameTime chip x) (sym t.chip_is) (move_time chip (move_of u.frame) (received_of chip (move_of u.frame))) in
       record {
         written = is;
-        stands = subst (λ w. IsStanding d call_of script chip1 k1.frames w.entries) (sym is) (subst (λ h. Stands d chip1 k1.frames h) (sym (deeds_more d call_of script before.entries e (moment.Steps s ∷ []) refl)) stands);
+        stands = subst (λ w. IsStanding d first call_of script chip1 k1.frames w.entries) (sym is) (subst (λ h. Stands d first chip1 k1.frames h) (sym (deeds_more d first call_of script before.entries e (moment.Steps s ∷ []) refl)) stands);
         steps = t.steps_are;
         few = few;
         goes = λ on. subst (λ fs. 0 < length fs) (sym t.frames) (top_there _ (gave u.frame (value_of chip (move_of u.frame))).ended us (sym (ap (λ x. x.ended) s_is) ∙ on));
@@ -51,10 +55,10 @@ module _ {State Call Frame : Type 0} (d : Driver State Call Frame) (call_of : Re
       }
 
   -- the moment has no more steps than the journal
-  pub few_steps : (es : List Entry) (taken most : ℕ) → steps_in es ≡ taken → taken ≤ most → most < 4294967295 → (after_all d.setting (start_moment d.setting) (deeds_of call_of script es)).steps < most_steps
-  few_steps es taken most is few limit = let k = steps_counted d.setting call_of script (start_moment d.setting) es in omega (arith, k, is, few, limit)
+  pub few_steps : (es : List Entry) (taken most : ℕ) → steps_in es ≡ taken → taken ≤ most → most < 4294967295 → (after_all d.setting (start_moment d.setting first) (deeds_of call_of script es)).steps < most_steps
+  few_steps es taken most is few limit = let k = steps_counted d.setting call_of script (start_moment d.setting first) es in omega (arith, k, is, few, limit)
 
   -- a frame that is there has a step left
-  pub has_fuel : IsLawful d move_of left gave → (chip : Chip) (us : List (Under Frame)) (h : List (Deed Call)) → (after_all d.setting (start_moment d.setting) h).steps < most_steps → Stands d chip us h → 0 < length us → 0 < total_fuel d.fuel us
+  pub has_fuel : IsLawful d move_of left gave → (chip : Chip) (us : List (Under Frame)) (h : List (Deed Call)) → (after_all d.setting (start_moment d.setting first) h).steps < most_steps → Stands d first chip us h → 0 < length us → 0 < total_fuel d.fuel us
   has_fuel law chip [] h few st some = absurd (omega arith)
-  has_fuel law chip (u ∷ us) h few st some = let k = goes-on d move_of left gave law chip u us (after_all d.setting (start_moment d.setting) h) st.covers few st.matches in omega (arith, k.fuel)
+  has_fuel law chip (u ∷ us) h few st some = let k = goes-on d move_of left gave law chip u us (after_all d.setting (start_moment d.setting first) h) few st.matches in omega (arith, k.fuel)

@@ -26,11 +26,11 @@ use Rattle.script_runner.proofs.Arms.{depth_is, deeds_more, moment_more}
 use Rattle.script_runner.proofs.Stops.{goes_to_stop, steps_written, no_step_counted}
 
 -- Steps were made, at none of which the directive stops.
-pub record Walked {State Call Frame : Type 0} (d : Driver State Call Frame) (call_of : Request → Call) (script : List Directive) (most line : ℕ) (reach : Reach) (chip : Chip) (k : Kept Frame) (before : Written) (made : ℕ) (chip1 : Chip) (k1 : Kept Frame) (after : Written) : Type 0 where
+pub record Walked {State Call Frame : Type 0} (d : Driver State Call Frame) (first : Chip) (call_of : Request → Call) (script : List Directive) (most line : ℕ) (reach : Reach) (chip : Chip) (k : Kept Frame) (before : Written) (made : ℕ) (chip1 : Chip) (k1 : Kept Frame) (after : Written) : Type 0 where
   pub items : List Entry
   pub is : after.entries ≡ before.entries ++ items
-  pub went : Went d.setting line reach 0 (moment_of d call_of script before.entries) items made (moment_of d call_of script after.entries)
-  pub stands : IsStanding d call_of script chip1 k1.frames after.entries
+  pub went : Went d.setting line reach 0 (moment_of d first call_of script before.entries) items made (moment_of d first call_of script after.entries)
+  pub stands : IsStanding d first call_of script chip1 k1.frames after.entries
   pub taken : k1.steps ≡ k.steps + made
   pub few : k1.steps ≤ most
   pub frame : 0 < length k1.frames
@@ -42,13 +42,13 @@ pub record Walked {State Call Frame : Type 0} (d : Driver State Call Frame) (cal
   pub time : SameTime chip chip1
   pub spent : work_of d k1 ≤ work_of d k
 
-module _ {State Call Frame : Type 0} (d : Driver State Call Frame) (call_of : Request → Call) (script : List Directive) (most line : ℕ) (reach : Reach) where
+module _ {State Call Frame : Type 0} (d : Driver State Call Frame) (first : Chip) (call_of : Request → Call) (script : List Directive) (most line : ℕ) (reach : Reach) where
   -- before the first step
-  pub walk_start : (chip : Chip) (k : Kept Frame) (before : Written) → IsStanding d call_of script chip k.frames before.entries → k.steps ≤ most → 0 < length k.frames → Walked d call_of script most line reach chip k before 0 chip k before
+  pub walk_start : (chip : Chip) (k : Kept Frame) (before : Written) → IsStanding d first call_of script chip k.frames before.entries → k.steps ≤ most → 0 < length k.frames → Walked d first call_of script most line reach chip k before 0 chip k before
   walk_start chip k before stands few frame = record {
     items = [];
     is = sym (append-nil before.entries);
-    went = Not_yet 0 (moment_of d call_of script before.entries);
+    went = Not_yet 0 (moment_of d first call_of script before.entries);
     stands = stands;
     taken = omega arith;
     few = few;
@@ -63,25 +63,25 @@ module _ {State Call Frame : Type 0} (d : Driver State Call Frame) (call_of : Re
   }
 
   -- the item of a step, as the moment sees it
-  step_item : (chip1 : Chip) (k1 : Kept Frame) (between : Written) (s : Stepped) → IsStanding d call_of script chip1 k1.frames between.entries → (let e : Entry = record { line = line; depth = length k1.frames; said = Steps s } in e) ≡ record { line = line; depth = length (moment_of d call_of script between.entries).opens; said = Steps s }
-  step_item chip1 k1 between s stands = ap (λ x. record { line = line; depth = x; said = Steps s }) (depth_is d call_of script chip1 k1.frames between.entries stands)
+  step_item : (chip1 : Chip) (k1 : Kept Frame) (between : Written) (s : Stepped) → IsStanding d first call_of script chip1 k1.frames between.entries → (let e : Entry = record { line = line; depth = length k1.frames; said = Steps s } in e) ≡ record { line = line; depth = length (moment_of d first call_of script between.entries).opens; said = Steps s }
+  step_item chip1 k1 between s stands = ap (λ x. record { line = line; depth = x; said = Steps s }) (depth_is d first call_of script chip1 k1.frames between.entries stands)
 
   -- a step is counted
   step_counted : (between : Written) (s : Stepped) (depth : ℕ) (after : Written) → after ≡ written between line depth (Steps s) (words_of_answer s.ended) → steps_in after.entries ≡ steps_in between.entries + 1
   step_counted between s depth after is = ap (λ x. steps_in x.entries) is ∙ steps_written between line depth (Steps s) (words_of_answer s.ended)
 
   -- one more step, at which it goes on
-  pub walk_more : (chip : Chip) (k : Kept Frame) (before : Written) (made : ℕ) (chip1 : Chip) (k1 : Kept Frame) (between : Written) (s : Stepped) (chip2 : Chip) (k2 : Kept Frame) (after : Written) → Walked d call_of script most line reach chip k before made chip1 k1 between → TookStep d call_of script most line chip1 k1 between s chip2 k2 after → resets_chip s.made ≡ false → s.ended ≡ None → is_some s.ended || is_reached reach (made + 1) s ≡ false → Walked d call_of script most line reach chip k before (made + 1) chip2 k2 after
+  pub walk_more : (chip : Chip) (k : Kept Frame) (before : Written) (made : ℕ) (chip1 : Chip) (k1 : Kept Frame) (between : Written) (s : Stepped) (chip2 : Chip) (k2 : Kept Frame) (after : Written) → Walked d first call_of script most line reach chip k before made chip1 k1 between → TookStep d first call_of script most line chip1 k1 between s chip2 k2 after → resets_chip s.made ≡ false → s.ended ≡ None → is_some s.ended || is_reached reach (made + 1) s ≡ false → Walked d first call_of script most line reach chip k before (made + 1) chip2 k2 after
   walk_more chip k before made chip1 k1 between s chip2 k2 after w t r on go =
       let e : Entry = record { line = line; depth = length k1.frames; said = Steps s } in
-      let more : moment_of d call_of script after.entries ≡ moment.after d.setting (moment_of d call_of script between.entries) (moment.Steps s) =
-      ap (λ x. moment_of d call_of script x.entries) t.written ∙ moment_more d call_of script between.entries e (moment.Steps s ∷ []) refl in
+      let more : moment_of d first call_of script after.entries ≡ moment.after d.setting (moment_of d first call_of script between.entries) (moment.Steps s) =
+      ap (λ x. moment_of d first call_of script x.entries) t.written ∙ moment_more d first call_of script between.entries e (moment.Steps s ∷ []) refl in
       let words_same : after.words ≡ between.words = ap (λ x. x.words) t.written ∙ ap (λ a. between.words ++ words_of_answer a) on ∙ append-nil between.words in
       record {
         items = w.items ++ e ∷ [];
         is = ap (λ x. x.entries) t.written ∙ ap (λ es. es ++ e ∷ []) w.is ∙ append_assoc before.entries w.items (e ∷ []);
-        went = subst (λ m. Went d.setting line reach 0 (moment_of d call_of script before.entries) (w.items ++ e ∷ []) (made + 1) m) (sym more)
-            (subst (λ x. Went d.setting line reach 0 (moment_of d call_of script before.entries) (w.items ++ x ∷ []) (made + 1) (moment.after d.setting (moment_of d call_of script between.entries) (moment.Steps s))) (sym (step_item chip1 k1 between s w.stands)) (went_more d.setting line reach s w.went r go));
+        went = subst (λ m. Went d.setting line reach 0 (moment_of d first call_of script before.entries) (w.items ++ e ∷ []) (made + 1) m) (sym more)
+            (subst (λ x. Went d.setting line reach 0 (moment_of d first call_of script before.entries) (w.items ++ x ∷ []) (made + 1) (moment.after d.setting (moment_of d first call_of script between.entries) (moment.Steps s))) (sym (step_item chip1 k1 between s w.stands)) (went_more d.setting line reach s w.went r go));
         stands = t.stands;
         taken = omega (arith, t.steps, w.taken);
         few = omega (arith, t.steps, t.few);
@@ -96,12 +96,12 @@ module _ {State Call Frame : Type 0} (d : Driver State Call Frame) (call_of : Re
       }
 
   -- a last step, at which it stops
-  pub walk_end : (chip : Chip) (k : Kept Frame) (before : Written) (made : ℕ) (chip1 : Chip) (k1 : Kept Frame) (between : Written) (s : Stepped) (chip2 : Chip) (k2 : Kept Frame) (after : Written) → Walked d call_of script most line reach chip k before made chip1 k1 between → TookStep d call_of script most line chip1 k1 between s chip2 k2 after → resets_chip s.made ≡ false → is_some s.ended || is_reached reach (made + 1) s ≡ true → WentFar d call_of script most line reach chip k before chip2 k2 after
+  pub walk_end : (chip : Chip) (k : Kept Frame) (before : Written) (made : ℕ) (chip1 : Chip) (k1 : Kept Frame) (between : Written) (s : Stepped) (chip2 : Chip) (k2 : Kept Frame) (after : Written) → Walked d first call_of script most line reach chip k before made chip1 k1 between → TookStep d first call_of script most line chip1 k1 between s chip2 k2 after → resets_chip s.made ≡ false → is_some s.ended || is_reached reach (made + 1) s ≡ true → WentFar d first call_of script most line reach chip k before chip2 k2 after
   walk_end chip k before made chip1 k1 between s chip2 k2 after w t r stop =
       let e : Entry = record { line = line; depth = length k1.frames; said = Steps s } in
-      let m = moment_of d call_of script before.entries in
-      let more : moment_of d call_of script after.entries ≡ moment.after d.setting (moment_of d call_of script between.entries) (moment.Steps s) =
-      ap (λ x. moment_of d call_of script x.entries) t.written ∙ moment_more d call_of script between.entries e (moment.Steps s ∷ []) refl in
+      let m = moment_of d first call_of script before.entries in
+      let more : moment_of d first call_of script after.entries ≡ moment.after d.setting (moment_of d first call_of script between.entries) (moment.Steps s) =
+      ap (λ x. moment_of d first call_of script x.entries) t.written ∙ moment_more d first call_of script between.entries e (moment.Steps s ∷ []) refl in
       record {
         adds = λ order. record {
           items = w.items ++ e ∷ [];
@@ -123,17 +123,17 @@ module _ {State Call Frame : Type 0} (d : Driver State Call Frame) (call_of : Re
       }
 
   -- a last step, which resets the chip
-  pub walk_reset : (chip : Chip) (k : Kept Frame) (before : Written) (made : ℕ) (chip1 : Chip) (k1 : Kept Frame) (between : Written) (s : Stepped) (chip2 : Chip) (k2 : Kept Frame) (stepped : Written) (chip3 : Chip) (k3 : Kept Frame) (after : Written) → Walked d call_of script most line reach chip k before made chip1 k1 between → TookStep d call_of script most line chip1 k1 between s chip2 k2 stepped → resets_chip s.made ≡ true → SameTime chip2 chip3 → k3.steps ≡ k2.steps → work_of d k3 ≤ work_of d k2 → after ≡ written stepped line (length k2.frames) (Resets Software (length k2.frames)) [] → Stands d chip3 k3.frames (deeds_of call_of script stepped.entries ++ moment.Resets Software ∷ []) → WentFar d call_of script most line reach chip k before chip3 k3 after
+  pub walk_reset : (chip : Chip) (k : Kept Frame) (before : Written) (made : ℕ) (chip1 : Chip) (k1 : Kept Frame) (between : Written) (s : Stepped) (chip2 : Chip) (k2 : Kept Frame) (stepped : Written) (chip3 : Chip) (k3 : Kept Frame) (after : Written) → Walked d first call_of script most line reach chip k before made chip1 k1 between → TookStep d first call_of script most line chip1 k1 between s chip2 k2 stepped → resets_chip s.made ≡ true → SameTime chip2 chip3 → k3.steps ≡ k2.steps → work_of d k3 ≤ work_of d k2 → after ≡ written stepped line (length k2.frames) (Resets Software (length k2.frames)) [] → Stands d first chip3 k3.frames (deeds_of call_of script stepped.entries ++ moment.Resets Software ∷ []) → WentFar d first call_of script most line reach chip k before chip3 k3 after
   walk_reset chip k before made chip1 k1 between s chip2 k2 stepped chip3 k3 after w t r time steps less is stands =
       let e : Entry = record { line = line; depth = length k1.frames; said = Steps s } in
       let f : Entry = record { line = line; depth = length k2.frames; said = Resets Software (length k2.frames) } in
-      let m = moment_of d call_of script before.entries in
-      let m1 = moment_of d call_of script between.entries in
-      let stepped_is : moment_of d call_of script stepped.entries ≡ moment.after d.setting m1 (moment.Steps s) =
-      ap (λ x. moment_of d call_of script x.entries) t.written ∙ moment_more d call_of script between.entries e (moment.Steps s ∷ []) refl in
-      let after_is : moment_of d call_of script after.entries ≡ moment.after d.setting (moment_of d call_of script stepped.entries) (moment.Resets Software) =
-      ap (λ x. moment_of d call_of script x.entries) is ∙ moment_more d call_of script stepped.entries f (moment.Resets Software ∷ []) refl in
-      let n2 : length k2.frames ≡ length (moment.after d.setting m1 (moment.Steps s)).opens = depth_is d call_of script chip2 k2.frames stepped.entries t.stands ∙ ap (λ x. length x.opens) stepped_is in
+      let m = moment_of d first call_of script before.entries in
+      let m1 = moment_of d first call_of script between.entries in
+      let stepped_is : moment_of d first call_of script stepped.entries ≡ moment.after d.setting m1 (moment.Steps s) =
+      ap (λ x. moment_of d first call_of script x.entries) t.written ∙ moment_more d first call_of script between.entries e (moment.Steps s ∷ []) refl in
+      let after_is : moment_of d first call_of script after.entries ≡ moment.after d.setting (moment_of d first call_of script stepped.entries) (moment.Resets Software) =
+      ap (λ x. moment_of d first call_of script x.entries) is ∙ moment_more d first call_of script stepped.entries f (moment.Resets Software ∷ []) refl in
+      let n2 : length k2.frames ≡ length (moment.after d.setting m1 (moment.Steps s)).opens = depth_is d first call_of script chip2 k2.frames stepped.entries t.stands ∙ ap (λ x. length x.opens) stepped_is in
       let words_are : after.words ≡ between.words ++ words_of_answer s.ended = ap (λ x. x.words) is ∙ append-nil stepped.words ∙ ap (λ x. x.words) t.written in
       let f_is : f ≡ (let x : Entry = record { line = line; depth = length (moment.after d.setting m1 (moment.Steps s)).opens; said = Resets Software (length (moment.after d.setting m1 (moment.Steps s)).opens) } in x) = ap (λ n. let x : Entry = record { line = line; depth = n; said = Resets Software n } in x) n2 in
       record {
@@ -142,7 +142,7 @@ module _ {State Call Frame : Type 0} (d : Driver State Call Frame) (call_of : Re
           is = ap (λ x. x.entries) is ∙ ap (λ x. x.entries ++ f ∷ []) t.written ∙ ap (λ es. es ++ e ∷ [] ++ f ∷ []) w.is ∙ append_assoc (before.entries ++ w.items) (e ∷ []) (f ∷ []) ∙ append_assoc before.entries w.items (e ∷ f ∷ []);
           right = subst (λ x. GoesOn d.setting line reach 0 m (w.items ++ e ∷ x ∷ [])) (sym f_is) (subst (λ x. GoesOn d.setting line reach 0 m (w.items ++ x ∷ (record { line = line; depth = length (moment.after d.setting m1 (moment.Steps s)).opens; said = Resets Software (length (moment.after d.setting m1 (moment.Steps s)).opens) }) ∷ [])) (sym (step_item chip1 k1 between s w.stands)) (goes_on_to_reset d.setting line reach s w.went r));
           leads = ap (λ ds. after_all d.setting m ds) (deeds_in-append call_of order w.items (e ∷ f ∷ [])) ∙ after_all-append d.setting m (deeds_in call_of order w.items) (moment.Steps s ∷ moment.Resets Software ∷ []) ∙ ap (λ x. moment.after d.setting (moment.after d.setting x (moment.Steps s)) (moment.Resets Software)) (went_deeds d.setting call_of order line reach w.went) ∙ ap (λ x. moment.after d.setting x (moment.Resets Software)) (sym stepped_is) ∙ sym after_is;
-          stands = subst (λ x. IsStanding d call_of script chip3 k3.frames x.entries) (sym is) (subst (λ h. Stands d chip3 k3.frames h) (sym (deeds_more d call_of script stepped.entries f (moment.Resets Software ∷ []) refl)) stands);
+          stands = subst (λ x. IsStanding d first call_of script chip3 k3.frames x.entries) (sym is) (subst (λ h. Stands d first chip3 k3.frames h) (sym (deeds_more d first call_of script stepped.entries f (moment.Resets Software ∷ []) refl)) stands);
         };
         filled = record {
           steps = omega (arith, t.steps, t.few, steps);
@@ -157,10 +157,10 @@ module _ {State Call Frame : Type 0} (d : Driver State Call Frame) (call_of : Re
       }
 
   -- one more step is wanted than may be taken
-  pub stuck : (move_of : Frame → Move) (left : Frame → ℕ → Frame) (gave : Frame → ℕ → Taken) → IsLawful d move_of left gave → most < 4294967295 → (chip : Chip) (k : Kept Frame) (before : Written) (made : ℕ) (chip1 : Chip) (k1 : Kept Frame) (after : Written) (chip2 : Chip) (k2 : Kept Frame) (after2 : Written) → steps_in before.entries ≡ k.steps → Walked d call_of script most line reach chip k before made chip1 k1 after → (k2 ≡ k1) × (chip2 ≡ chip1) × (after2 ≡ after) × (k1.steps ≡ most) → IsStuck d call_of script most 0 k before chip2 k2 after2 (λ m items. GoesToStop d.setting line reach 0 m items)
+  pub stuck : (move_of : Frame → Move) (left : Frame → ℕ → Frame) (gave : Frame → ℕ → Taken) → IsLawful d move_of left gave → most < 4294967295 → (chip : Chip) (k : Kept Frame) (before : Written) (made : ℕ) (chip1 : Chip) (k1 : Kept Frame) (after : Written) (chip2 : Chip) (k2 : Kept Frame) (after2 : Written) → steps_in before.entries ≡ k.steps → Walked d first call_of script most line reach chip k before made chip1 k1 after → (k2 ≡ k1) × (chip2 ≡ chip1) × (after2 ≡ after) × (k1.steps ≡ most) → IsStuck d first call_of script most 0 k before chip2 k2 after2 (λ m items. GoesToStop d.setting line reach 0 m items)
   stuck move_of left gave law limit chip k before made chip1 k1 after chip2 k2 after2 begun w same =
-      let few = few_steps d call_of script move_of left gave after.entries k1.steps most (omega (arith, begun, w.counted, w.taken)) w.few limit in
-      let some = has_fuel d call_of script move_of left gave law chip1 k1.frames (deeds_of call_of script after.entries) few w.stands w.frame in
+      let few = few_steps d first call_of script move_of left gave after.entries k1.steps most (omega (arith, begun, w.counted, w.taken)) w.few limit in
+      let some = has_fuel d first call_of script move_of left gave law chip1 k1.frames (deeds_of call_of script after.entries) few w.stands w.frame in
       let k_is = same.0 in
       let chip_is = same.1 in
       let after_is = same.2 in
@@ -171,7 +171,7 @@ module _ {State Call Frame : Type 0} (d : Driver State Call Frame) (call_of : Re
         items = w.items;
         is = ap (λ x. x.entries) after_is ∙ w.is;
         right = goes_to_stop d.setting line reach w.went;
-        stands = subst (λ x. IsStanding d call_of script x k2.frames after2.entries) (sym chip_is) (subst (λ x. IsStanding d call_of script chip1 x.frames after2.entries) (sym k_is) (subst (λ x. IsStanding d call_of script chip1 k1.frames x.entries) (sym after_is) w.stands));
+        stands = subst (λ x. IsStanding d first call_of script x k2.frames after2.entries) (sym chip_is) (subst (λ x. IsStanding d first call_of script chip1 x.frames after2.entries) (sym k_is) (subst (λ x. IsStanding d first call_of script chip1 k1.frames x.entries) (sym after_is) w.stands));
         steps = taken ∙ steps;
         counted = omega (arith, taken, counted, w.counted, w.taken);
         room = ap (λ x. x.room) after_is ∙ w.room;

@@ -1,5 +1,6 @@
 -- A script that may be run.
 use Rattle.std.specs.Prelude.{◌≡◌, ℕ, ◌+◌, ◌<◌, ◌≤◌, true, Some, List, [], ◌∷◌, length}
+use Rattle.chip_model.specs.Chip.{Chip}
 use Rattle.mcal_base.specs.declared.directive.Directive.{Directive}
 use Rattle.mcal_base.specs.declared.directive.Request.{Request}
 use Rattle.run_model.specs.Entry.{Entry}
@@ -31,13 +32,13 @@ abbrev pub script_bound : {State Call : Type 0} → Setting State Call → (Requ
 script_bound g call_of [] = 0
 script_bound g call_of (x ∷ xs) = bounds_of g (beginnings_of call_of (Some x.order)) + script_bound g call_of xs
 
--- A journal is a run of a script from power on: it says what the directives ask for, one after another, and what happened is legal.
-pub record IsRun {State Call : Type 0} (setting : Setting State Call) (call_of : Request → Call) (script : List Directive) (journal : List Entry) : Type 0 where
-  pub follows : Follows setting call_of (start_moment setting) script journal
-  pub legal : IsLegal setting (start_moment setting) (deeds_of call_of script journal)
+-- A journal is a run of a script from power on with this chip: it says what the directives ask for, one after another, and what happened is legal.
+pub record IsRun {State Call : Type 0} (setting : Setting State Call) (first : Chip) (call_of : Request → Call) (script : List Directive) (journal : List Entry) : Type 0 where
+  pub follows : Follows setting call_of (start_moment setting first) script journal
+  pub legal : IsLegal setting (start_moment setting first) (deeds_of call_of script journal)
 
--- A journal is a run of a script that stopped after so many steps: it says what the directives ask for up to there, where one more step is asked for, and what happened is legal.
-pub record IsStopped {State Call : Type 0} (setting : Setting State Call) (call_of : Request → Call) (most : ℕ) (script : List Directive) (journal : List Entry) : Type 0 where
-  pub follows : FollowsToStop setting call_of (start_moment setting) script journal
-  pub legal : IsLegal setting (start_moment setting) (deeds_of call_of script journal)
+-- A journal is a run of a script, from power on with this chip, that stopped after so many steps: it says what the directives ask for up to there, where one more step is asked for, and what happened is legal.
+pub record IsStopped {State Call : Type 0} (setting : Setting State Call) (first : Chip) (call_of : Request → Call) (most : ℕ) (script : List Directive) (journal : List Entry) : Type 0 where
+  pub follows : FollowsToStop setting call_of (start_moment setting first) script journal
+  pub legal : IsLegal setting (start_moment setting first) (deeds_of call_of script journal)
   pub steps : steps_in journal ≡ most

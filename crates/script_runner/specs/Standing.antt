@@ -21,13 +21,13 @@ use Rattle.step_runner.specs.Kept.{Kept, total_fuel}
 use Rattle.step_runner.specs.Stands.{Stands}
 use Rattle.step_runner.specs.declared.stack.Under.{Under}
 
--- the moment after the items of a journal
-abbrev pub moment_of : {State Call Frame : Type 0} → Driver State Call Frame → (Request → Call) → List Directive → List Entry → Moment State Call
-moment_of d call_of script entries = after_all d.setting (start_moment d.setting) (deeds_of call_of script entries)
+-- the moment after the items of a journal, from power on with this chip
+abbrev pub moment_of : {State Call Frame : Type 0} → Driver State Call Frame → (first : Chip) → (Request → Call) → List Directive → List Entry → Moment State Call
+moment_of d first call_of script entries = after_all d.setting (start_moment d.setting first) (deeds_of call_of script entries)
 
 -- the chip and the frames stand for the items of a journal
-abbrev pub IsStanding : {State Call Frame : Type 0} → Driver State Call Frame → (Request → Call) → List Directive → Chip → List (Under Frame) → List Entry → Type 0
-IsStanding d call_of script chip us entries = Stands d chip us (deeds_of call_of script entries)
+abbrev pub IsStanding : {State Call Frame : Type 0} → Driver State Call Frame → (first : Chip) → (Request → Call) → List Directive → Chip → List (Under Frame) → List Entry → Type 0
+IsStanding d first call_of script chip us entries = Stands d first chip us (deeds_of call_of script entries)
 
 -- The journal has room for the steps that may still be taken, for so many other items, and for the words of an answer.
 pub record HasRoom (most taken : ℕ) (others : ℕ) (w : Written) : Type 0 where
@@ -56,21 +56,21 @@ work_of d k = k.steps + total_fuel d.fuel k.frames
 
 -- the time stood still
 pub record SameTime (before after : Chip) : Type 0 where
-  pub osc : after.osc ≡ before.osc
+  pub osc : after.clock.osc ≡ before.clock.osc
   pub now : now_of after ≡ now_of before
 
 -- Items were added to a journal, for which the chip and the frames stand.
-pub record Adds {State Call Frame : Type 0} (d : Driver State Call Frame) (call_of : Request → Call) (script : List Directive) (order : Order) (before after : Written) (chip1 : Chip) (us1 : List (Under Frame)) (Right : Moment State Call → List Entry → Type 0) : Type 0 where
+pub record Adds {State Call Frame : Type 0} (d : Driver State Call Frame) (first : Chip) (call_of : Request → Call) (script : List Directive) (order : Order) (before after : Written) (chip1 : Chip) (us1 : List (Under Frame)) (Right : Moment State Call → List Entry → Type 0) : Type 0 where
   pub items : List Entry
   pub is : after.entries ≡ before.entries ++ items
-  pub right : Right (moment_of d call_of script before.entries) items
-  pub leads : after_all d.setting (moment_of d call_of script before.entries) (deeds_in call_of order items) ≡ moment_of d call_of script after.entries
-  pub stands : IsStanding d call_of script chip1 us1 after.entries
+  pub right : Right (moment_of d first call_of script before.entries) items
+  pub leads : after_all d.setting (moment_of d first call_of script before.entries) (deeds_in call_of order items) ≡ moment_of d first call_of script after.entries
+  pub stands : IsStanding d first call_of script chip1 us1 after.entries
 
 -- What a step adds: its item.
-pub record TookStep {State Call Frame : Type 0} (d : Driver State Call Frame) (call_of : Request → Call) (script : List Directive) (most : ℕ) (line : ℕ) (chip : Chip) (k : Kept Frame) (before : Written) (s : Stepped) (chip1 : Chip) (k1 : Kept Frame) (after : Written) : Type 0 where
+pub record TookStep {State Call Frame : Type 0} (d : Driver State Call Frame) (first : Chip) (call_of : Request → Call) (script : List Directive) (most : ℕ) (line : ℕ) (chip : Chip) (k : Kept Frame) (before : Written) (s : Stepped) (chip1 : Chip) (k1 : Kept Frame) (after : Written) : Type 0 where
   pub written : after ≡ written before line (length k.frames) (Steps s) (words_of_answer s.ended)
-  pub stands : IsStanding d call_of script chip1 k1.frames after.entries
+  pub stands : IsStanding d first call_of script chip1 k1.frames after.entries
   pub steps : k1.steps ≡ k.steps + 1
   pub few : k.steps < most
   pub goes : s.ended ≡ None → 0 < length k1.frames
@@ -79,8 +79,8 @@ pub record TookStep {State Call Frame : Type 0} (d : Driver State Call Frame) (c
   pub spent : work_of d k1 ≤ work_of d k
 
 -- What the steps of a directive add.
-pub record WentFar {State Call Frame : Type 0} (d : Driver State Call Frame) (call_of : Request → Call) (script : List Directive) (most : ℕ) (line : ℕ) (reach : Reach) (chip : Chip) (k : Kept Frame) (before : Written) (chip1 : Chip) (k1 : Kept Frame) (after : Written) : Type 0 where
-  pub adds : (order : Order) → Adds d call_of script order before after chip1 k1.frames (λ m items. GoesOn d.setting line reach 0 m items)
+pub record WentFar {State Call Frame : Type 0} (d : Driver State Call Frame) (first : Chip) (call_of : Request → Call) (script : List Directive) (most : ℕ) (line : ℕ) (reach : Reach) (chip : Chip) (k : Kept Frame) (before : Written) (chip1 : Chip) (k1 : Kept Frame) (after : Written) : Type 0 where
+  pub adds : (order : Order) → Adds d first call_of script order before after chip1 k1.frames (λ m items. GoesOn d.setting line reach 0 m items)
   pub filled : IsFilled most k.steps before 1 k1.steps after
   pub time : SameTime chip chip1
   pub spent : work_of d k1 ≤ work_of d k
@@ -98,35 +98,35 @@ bounds_of g [] = 0
 bounds_of g (h ∷ hs) = bound_of g h + bounds_of g hs
 
 -- A call, or the handler of a line, began: one item, and the frame is there.
-pub record Began {State Call Frame : Type 0} (d : Driver State Call Frame) (call_of : Request → Call) (script : List Directive) (line : ℕ) (deed : Deed Call) (held : Option Held) (chip : Chip) (k : Kept Frame) (before : Written) (k1 : Kept Frame) (after : Written) : Type 0 where
+pub record Began {State Call Frame : Type 0} (d : Driver State Call Frame) (first : Chip) (call_of : Request → Call) (script : List Directive) (line : ℕ) (deed : Deed Call) (held : Option Held) (chip : Chip) (k : Kept Frame) (before : Written) (k1 : Kept Frame) (after : Written) : Type 0 where
   pub written : after ≡ written before line (length k.frames) Begins []
   pub free : held ≡ None
-  pub leads : moment_of d call_of script after.entries ≡ moment.after d.setting (moment_of d call_of script before.entries) deed
-  pub stands : IsStanding d call_of script chip k1.frames after.entries
+  pub leads : moment_of d first call_of script after.entries ≡ moment.after d.setting (moment_of d first call_of script before.entries) deed
+  pub stands : IsStanding d first call_of script chip k1.frames after.entries
   pub steps : k1.steps ≡ k.steps
   pub counted : steps_in after.entries ≡ steps_in before.entries
   pub frame : 0 < length k1.frames
   pub spent : work_of d k1 ≤ work_of d k + bound_of d.setting deed
 
 -- It was held: one item, with its cause, and nothing else.
-pub record StayedOff {State Call Frame : Type 0} (d : Driver State Call Frame) (call_of : Request → Call) (script : List Directive) (line : ℕ) (held : Option Held) (chip : Chip) (k : Kept Frame) (before : Written) (k1 : Kept Frame) (after : Written) : Type 0 where
+pub record StayedOff {State Call Frame : Type 0} (d : Driver State Call Frame) (first : Chip) (call_of : Request → Call) (script : List Directive) (line : ℕ) (held : Option Held) (chip : Chip) (k : Kept Frame) (before : Written) (k1 : Kept Frame) (after : Written) : Type 0 where
   pub cause : Held
   pub written : after ≡ written before line (length k.frames) (Stays cause) []
   pub because : held ≡ Some cause
   pub spent : work_of d k1 ≤ work_of d k
-  pub stands : IsStanding d call_of script chip k1.frames after.entries
+  pub stands : IsStanding d first call_of script chip k1.frames after.entries
   pub steps : k1.steps ≡ k.steps
 
 -- What a directive adds, which are the items that are right for it.
-pub record ObeyedBy {State Call Frame : Type 0} (d : Driver State Call Frame) (call_of : Request → Call) (script : List Directive) (most : ℕ) (order : Order) (chip : Chip) (k : Kept Frame) (before : Written) (chip1 : Chip) (k1 : Kept Frame) (after : Written) (Right : Moment State Call → List Entry → Type 0) : Type 0 where
-  pub adds : Adds d call_of script order before after chip1 k1.frames Right
+pub record ObeyedBy {State Call Frame : Type 0} (d : Driver State Call Frame) (first : Chip) (call_of : Request → Call) (script : List Directive) (most : ℕ) (order : Order) (chip : Chip) (k : Kept Frame) (before : Written) (chip1 : Chip) (k1 : Kept Frame) (after : Written) (Right : Moment State Call → List Entry → Type 0) : Type 0 where
+  pub adds : Adds d first call_of script order before after chip1 k1.frames Right
   pub filled : IsFilled most k.steps before 2 k1.steps after
-  pub osc : chip1.osc ≤ chip.osc + 1000000
+  pub osc : chip1.clock.osc ≤ chip.clock.osc + 1000000
   pub now : now_of chip1 ≤ now_of chip + 16000000
   pub spent : work_of d k1 ≤ work_of d k + bounds_of d.setting (beginnings_of call_of (Some order))
 
-abbrev pub Obeyed : {State Call Frame : Type 0} → Driver State Call Frame → (Request → Call) → List Directive → (most line : ℕ) → Order → Chip → Kept Frame → Written → Chip → Kept Frame → Written → Type 0
-Obeyed d call_of script most line order chip k before chip1 k1 after = ObeyedBy d call_of script most order chip k before chip1 k1 after (λ m items. Gives d.setting call_of m line order items)
+abbrev pub Obeyed : {State Call Frame : Type 0} → Driver State Call Frame → (first : Chip) → (Request → Call) → List Directive → (most line : ℕ) → Order → Chip → Kept Frame → Written → Chip → Kept Frame → Written → Type 0
+Obeyed d first call_of script most line order chip k before chip1 k1 after = ObeyedBy d first call_of script most order chip k before chip1 k1 after (λ m items. Gives d.setting call_of m line order items)
 
 -- to run no steps at all
 abbrev pub makes_no_step : Reach → Bool
@@ -148,15 +148,15 @@ is_built (orders.Tick n) = nat_le n 1000000
 is_built _ = false
 
 -- As many steps were taken as may be, and the directive wants one more: the items up to there are right, the run so far is legal, and the steps that were taken, with those that the frames had left and so many more, pass the most.
-pub record IsStuck {State Call Frame : Type 0} (d : Driver State Call Frame) (call_of : Request → Call) (script : List Directive) (most more : ℕ) (k : Kept Frame) (before : Written) (chip1 : Chip) (k1 : Kept Frame) (after : Written) (Right : Moment State Call → List Entry → Type 0) : Type 0 where
+pub record IsStuck {State Call Frame : Type 0} (d : Driver State Call Frame) (first : Chip) (call_of : Request → Call) (script : List Directive) (most more : ℕ) (k : Kept Frame) (before : Written) (chip1 : Chip) (k1 : Kept Frame) (after : Written) (Right : Moment State Call → List Entry → Type 0) : Type 0 where
   pub items : List Entry
   pub is : after.entries ≡ before.entries ++ items
-  pub right : Right (moment_of d call_of script before.entries) items
-  pub stands : IsStanding d call_of script chip1 k1.frames after.entries
+  pub right : Right (moment_of d first call_of script before.entries) items
+  pub stands : IsStanding d first call_of script chip1 k1.frames after.entries
   pub steps : k1.steps ≡ most
   pub counted : IsCounted k.steps before k1.steps after
   pub room : after.room ≡ before.room
   pub wants : most < work_of d k + more
 
-abbrev pub Stuck : {State Call Frame : Type 0} → Driver State Call Frame → (Request → Call) → List Directive → (most line : ℕ) → Order → Kept Frame → Written → Chip → Kept Frame → Written → Type 0
-Stuck d call_of script most line order k before chip1 k1 after = IsStuck d call_of script most (bounds_of d.setting (beginnings_of call_of (Some order))) k before chip1 k1 after (λ m items. GivesToStop d.setting call_of m line order items)
+abbrev pub Stuck : {State Call Frame : Type 0} → Driver State Call Frame → (first : Chip) → (Request → Call) → List Directive → (most line : ℕ) → Order → Kept Frame → Written → Chip → Kept Frame → Written → Type 0
+Stuck d first call_of script most line order k before chip1 k1 after = IsStuck d first call_of script most (bounds_of d.setting (beginnings_of call_of (Some order))) k before chip1 k1 after (λ m items. GivesToStop d.setting call_of m line order items)

@@ -1,6 +1,6 @@
 ghost use Rattle.std.specs.Prelude.{ℕ, ◌≡◌, ◌<◌, ◌≤◌, ◌+◌, ◌*◌, ◌^◌, ◌∷◌, [], length, OnOk, OnErr, Some, true};
 ghost use Rattle.std.specs.Bool.{OnTrue, OnFalse};
-ghost use Rattle.chip_model.specs.Chip.{now_of};
+ghost use Rattle.chip_model.specs.Chip.{power_on, now_of};
 ghost use Rattle.mcal_base.specs.declared.directive.Order.{Order};
 ghost use Rattle.run_model.specs.Follows.{call_held, line_held, Goes, BeginsOnly, BeginsWhole};
 ghost use Rattle.run_model.specs.Moment.{Begins, Enters};
@@ -12,13 +12,14 @@ use crate::caller::Caller;
 use crate::steps::{TooLong, run_steps};
 use chip_model::Bus;
 use irq_control::Held;
-use mcal_base::{Directive, Order, Request};
+use mcal_base::{Config, Directive, Order, Request};
 use run_model::{Journal, Reach};
 use step_runner::{Stack, begin, enter, hardware};
 
 /// Begins a call, or notes why it is held; tells whether it began.
 fn obey_call<M: Caller>(
     driver: &M,
+    config: &Config,
     script: &[Directive],
     line: u32,
     level: u32,
@@ -32,14 +33,17 @@ fn obey_call<M: Caller>(
         beginnings_of calls (order_at script.now line) ≡ Begins (calls request.now) level ∷ [] }
     requires room { length journal.old.entries < journal.old.room }
     requires stands { let d = M.spec driver.now in let calls = M.call_of driver.now in
-        IsStanding d calls script.now bus.now stack.old.frames journal.old.entries }
+        let first = power_on config.now 0 in
+        IsStanding d first calls script.now bus.now stack.old.frames journal.old.entries }
     ensures began { let d = M.spec driver.now in let calls = M.call_of driver.now in
-        let held = call_held d.setting (moment_of d calls script.now journal.old.entries) (calls request.now) level in
+        let first = power_on config.now 0 in
+        let held = call_held d.setting (moment_of d first calls script.now journal.old.entries) (calls request.now) level in
         let deed = Begins (calls request.now) level in
-        OnTrue result (Began d calls script.now line deed held bus.now stack.old journal.old stack.new journal.new) }
+        OnTrue result (Began d first calls script.now line deed held bus.now stack.old journal.old stack.new journal.new) }
     ensures held { let d = M.spec driver.now in let calls = M.call_of driver.now in
-        let held = call_held d.setting (moment_of d calls script.now journal.old.entries) (calls request.now) level in
-        OnFalse result (StayedOff d calls script.now line held bus.now stack.old journal.old stack.new journal.new) }
+        let first = power_on config.now 0 in
+        let held = call_held d.setting (moment_of d first calls script.now journal.old.entries) (calls request.now) level in
+        OnFalse result (StayedOff d first calls script.now line held bus.now stack.old journal.old stack.new journal.new) }
 {
     let depth = stack.depth();
     let call = driver.call(request);
@@ -58,6 +62,7 @@ fn obey_call<M: Caller>(
 /// Begins the handler of a line, or notes why it is held; tells whether it began.
 fn obey_enter<M: Caller>(
     driver: &M,
+    config: &Config,
     script: &[Directive],
     line: u32,
     irq: u32,
@@ -69,14 +74,17 @@ fn obey_enter<M: Caller>(
     requires at { beginnings_of (M.call_of driver.now) (order_at script.now line) ≡ Enters irq ∷ [] }
     requires room { length journal.old.entries < journal.old.room }
     requires stands { let d = M.spec driver.now in let calls = M.call_of driver.now in
-        IsStanding d calls script.now bus.now stack.old.frames journal.old.entries }
+        let first = power_on config.now 0 in
+        IsStanding d first calls script.now bus.now stack.old.frames journal.old.entries }
     ensures began { let d = M.spec driver.now in let calls = M.call_of driver.now in
-        let held = line_held d.setting (moment_of d calls script.now journal.old.entries) irq in
-        OnTrue result (Began d calls script.now line (Enters irq) held bus.now stack.old journal.old stack.new
+        let first = power_on config.now 0 in
+        let held = line_held d.setting (moment_of d first calls script.now journal.old.entries) irq in
+        OnTrue result (Began d first calls script.now line (Enters irq) held bus.now stack.old journal.old stack.new
         journal.new) }
     ensures held { let d = M.spec driver.now in let calls = M.call_of driver.now in
-        let held = line_held d.setting (moment_of d calls script.now journal.old.entries) irq in
-        OnFalse result (StayedOff d calls script.now line held bus.now stack.old journal.old stack.new journal.new) }
+        let first = power_on config.now 0 in
+        let held = line_held d.setting (moment_of d first calls script.now journal.old.entries) irq in
+        OnFalse result (StayedOff d first calls script.now line held bus.now stack.old journal.old stack.new journal.new) }
 {
     let depth = stack.depth();
     match enter(stack, driver, bus, irq) {
@@ -94,6 +102,7 @@ fn obey_enter<M: Caller>(
 /// A directive that begins a call, and no more.
 fn obey_call_alone<M: Caller>(
     driver: &M,
+    config: &Config,
     script: &[Directive],
     most: u32,
     line: u32,
@@ -108,18 +117,23 @@ fn obey_call_alone<M: Caller>(
         beginnings_of calls (order_at script.now line) ≡ Begins (calls request.now) level ∷ [] }
     requires room { HasRoom most stack.old.steps 2 journal.old }
     requires stands { let d = M.spec driver.now in let calls = M.call_of driver.now in
-        IsStanding d calls script.now bus.now stack.old.frames journal.old.entries }
+        let first = power_on config.now 0 in
+        IsStanding d first calls script.now bus.now stack.old.frames journal.old.entries }
     ensures { let d = M.spec driver.now in let calls = M.call_of driver.now in
+        let first = power_on config.now 0 in
         (order : Order) → beginnings_of calls (Some order) ≡ Begins (calls request.now) level ∷ [] →
-        ObeyedBy d calls script.now most order bus.now stack.old journal.old bus.now stack.new journal.new
+        ObeyedBy d first calls script.now most order bus.now stack.old journal.old bus.now stack.new journal.new
         (λ m items. BeginsOnly m line (call_held d.setting m (calls request.now) level) items) }
 {
-    let _began = obey_call(driver, script, line, level, request, stack, bus, journal);
+    let _began = obey_call(
+        driver, config, script, line, level, request, stack, bus, journal,
+    );
 }
 
 /// A directive that begins a call and runs it to its end.
 fn obey_call_whole<M: Caller>(
     driver: &M,
+    config: &Config,
     script: &[Directive],
     most: u32,
     line: u32,
@@ -135,21 +149,27 @@ fn obey_call_whole<M: Caller>(
         beginnings_of calls (order_at script.now line) ≡ Begins (calls request.now) level ∷ [] }
     requires room { HasRoom most stack.old.steps 2 journal.old }
     requires stands { let d = M.spec driver.now in let calls = M.call_of driver.now in
-        IsStanding d calls script.now bus.old stack.old.frames journal.old.entries }
+        let first = power_on config.now 0 in
+        IsStanding d first calls script.now bus.old stack.old.frames journal.old.entries }
     ensures obeyed { let d = M.spec driver.now in let calls = M.call_of driver.now in
+        let first = power_on config.now 0 in
         let deed = Begins (calls request.now) level in
         OnOk result ((order : Order) → beginnings_of calls (Some order) ≡ deed ∷ [] →
-        ObeyedBy d calls script.now most order bus.old stack.old journal.old bus.new stack.new journal.new
+        ObeyedBy d first calls script.now most order bus.old stack.old journal.old bus.new stack.new journal.new
         (λ m items. BeginsWhole d.setting m line deed (call_held d.setting m (calls request.now) level) items)) }
     ensures too_long { let d = M.spec driver.now in let calls = M.call_of driver.now in
+        let first = power_on config.now 0 in
         let deed = Begins (calls request.now) level in
-        OnErr result (IsStuck d calls script.now most (bounds_of d.setting (deed ∷ []))
+        OnErr result (IsStuck d first calls script.now most (bounds_of d.setting (deed ∷ []))
         stack.old journal.old bus.new stack.new journal.new
         (λ m items. BeginsToStop d.setting line m deed (call_held d.setting m (calls request.now) level) items)) }
 {
-    if obey_call(driver, script, line, level, request, stack, bus, journal) {
+    if obey_call(
+        driver, config, script, line, level, request, stack, bus, journal,
+    ) {
         run_steps(
             driver,
+            config,
             script,
             most,
             line,
@@ -166,6 +186,7 @@ fn obey_call_whole<M: Caller>(
 /// A directive that begins the handler of a line, and no more.
 fn obey_enter_alone<M: Caller>(
     driver: &M,
+    config: &Config,
     script: &[Directive],
     most: u32,
     line: u32,
@@ -178,18 +199,21 @@ fn obey_enter_alone<M: Caller>(
     requires at { beginnings_of (M.call_of driver.now) (order_at script.now line) ≡ Enters irq ∷ [] }
     requires room { HasRoom most stack.old.steps 2 journal.old }
     requires stands { let d = M.spec driver.now in let calls = M.call_of driver.now in
-        IsStanding d calls script.now bus.now stack.old.frames journal.old.entries }
+        let first = power_on config.now 0 in
+        IsStanding d first calls script.now bus.now stack.old.frames journal.old.entries }
     ensures { let d = M.spec driver.now in let calls = M.call_of driver.now in
+        let first = power_on config.now 0 in
         (order : Order) → beginnings_of calls (Some order) ≡ Enters irq ∷ [] →
-        ObeyedBy d calls script.now most order bus.now stack.old journal.old bus.now stack.new journal.new
+        ObeyedBy d first calls script.now most order bus.now stack.old journal.old bus.now stack.new journal.new
         (λ m items. BeginsOnly m line (line_held d.setting m irq) items) }
 {
-    let _began = obey_enter(driver, script, line, irq, stack, bus, journal);
+    let _began = obey_enter(driver, config, script, line, irq, stack, bus, journal);
 }
 
 /// A directive that begins the handler of a line and runs it to its end.
 fn obey_enter_whole<M: Caller>(
     driver: &M,
+    config: &Config,
     script: &[Directive],
     most: u32,
     line: u32,
@@ -203,19 +227,23 @@ fn obey_enter_whole<M: Caller>(
     requires at { beginnings_of (M.call_of driver.now) (order_at script.now line) ≡ Enters irq ∷ [] }
     requires room { HasRoom most stack.old.steps 2 journal.old }
     requires stands { let d = M.spec driver.now in let calls = M.call_of driver.now in
-        IsStanding d calls script.now bus.old stack.old.frames journal.old.entries }
+        let first = power_on config.now 0 in
+        IsStanding d first calls script.now bus.old stack.old.frames journal.old.entries }
     ensures obeyed { let d = M.spec driver.now in let calls = M.call_of driver.now in
+        let first = power_on config.now 0 in
         OnOk result ((order : Order) → beginnings_of calls (Some order) ≡ Enters irq ∷ [] →
-        ObeyedBy d calls script.now most order bus.old stack.old journal.old bus.new stack.new journal.new
+        ObeyedBy d first calls script.now most order bus.old stack.old journal.old bus.new stack.new journal.new
         (λ m items. BeginsWhole d.setting m line (Enters irq) (line_held d.setting m irq) items)) }
     ensures too_long { let d = M.spec driver.now in let calls = M.call_of driver.now in
-        OnErr result (IsStuck d calls script.now most (bounds_of d.setting (Enters irq ∷ []))
+        let first = power_on config.now 0 in
+        OnErr result (IsStuck d first calls script.now most (bounds_of d.setting (Enters irq ∷ []))
         stack.old journal.old bus.new stack.new journal.new
         (λ m items. BeginsToStop d.setting line m (Enters irq) (line_held d.setting m irq) items)) }
 {
-    if obey_enter(driver, script, line, irq, stack, bus, journal) {
+    if obey_enter(driver, config, script, line, irq, stack, bus, journal) {
         run_steps(
             driver,
+            config,
             script,
             most,
             line,
@@ -239,6 +267,7 @@ fn is_no_step(reach: Reach) -> bool
 /// Steps the top frame as far as a directive reaches, or notes that there is none.
 fn obey_steps<M: Caller>(
     driver: &M,
+    config: &Config,
     script: &[Directive],
     most: u32,
     line: u32,
@@ -251,13 +280,16 @@ fn obey_steps<M: Caller>(
     requires limit { most < 4294967295 }
     requires room { HasRoom most stack.old.steps 2 journal.old }
     requires stands { let d = M.spec driver.now in let calls = M.call_of driver.now in
-        IsStanding d calls script.now bus.old stack.old.frames journal.old.entries }
+        let first = power_on config.now 0 in
+        IsStanding d first calls script.now bus.old stack.old.frames journal.old.entries }
     ensures obeyed { let d = M.spec driver.now in let calls = M.call_of driver.now in
+        let first = power_on config.now 0 in
         OnOk result ((order : Order) →
-        ObeyedBy d calls script.now most order bus.old stack.old journal.old bus.new stack.new journal.new
+        ObeyedBy d first calls script.now most order bus.old stack.old journal.old bus.new stack.new journal.new
         (λ m items. Goes d.setting line reach m m.opens items)) }
     ensures too_long { let d = M.spec driver.now in let calls = M.call_of driver.now in
-        OnErr result (IsStuck d calls script.now most 0 stack.old journal.old bus.new stack.new journal.new
+        let first = power_on config.now 0 in
+        OnErr result (IsStuck d first calls script.now most 0 stack.old journal.old bus.new stack.new journal.new
         (λ m items. StopsWithin d.setting line reach m m.opens items)) }
 {
     if stack.depth() == 0 {
@@ -267,12 +299,15 @@ fn obey_steps<M: Caller>(
     if is_no_step(reach) {
         return Ok(());
     }
-    run_steps(driver, script, most, line, reach, stack, bus, journal)
+    run_steps(
+        driver, config, script, most, line, reach, stack, bus, journal,
+    )
 }
 
 /// Lets the oscillator tick.
 fn obey_tick<M: Caller>(
     driver: &M,
+    config: &Config,
     script: &[Directive],
     most: u32,
     directive: &Directive,
@@ -284,13 +319,15 @@ fn obey_tick<M: Caller>(
     requires fits { (M.spec driver.now).fits }
     requires tick { directive.now.order ≡ Order.Tick ticks }
     requires few { ticks ≤ 1000000 }
-    requires time { bus.old.osc + 1000000 < 2 ^ 64 }
+    requires time { bus.old.clock.osc + 1000000 < 2 ^ 64 }
     requires late { now_of bus.old + 16000000 < 2 ^ 64 }
     requires room { HasRoom most stack.now.steps 2 journal.old }
     requires stands { let d = M.spec driver.now in let calls = M.call_of driver.now in
-        IsStanding d calls script.now bus.old stack.now.frames journal.old.entries }
+        let first = power_on config.now 0 in
+        IsStanding d first calls script.now bus.old stack.now.frames journal.old.entries }
     ensures { let d = M.spec driver.now in let calls = M.call_of driver.now in
-        Obeyed d calls script.now most directive.now.line (Order.Tick ticks) bus.old stack.now journal.old bus.new
+        let first = power_on config.now 0 in
+        Obeyed d first calls script.now most directive.now.line (Order.Tick ticks) bus.old stack.now journal.old bus.new
         stack.now journal.new }
 {
     hardware(stack, bus, directive);
@@ -300,6 +337,7 @@ fn obey_tick<M: Caller>(
 /// Obeys a directive.
 pub(crate) fn obey_one<M: Caller>(
     driver: &M,
+    config: &Config,
     script: &[Directive],
     most: u32,
     directive: &Directive,
@@ -311,41 +349,47 @@ pub(crate) fn obey_one<M: Caller>(
     requires limit { most < 4294967295 }
     requires at { order_at script.now directive.now.line ≡ Some directive.now.order }
     requires built { is_built directive.now.order ≡ true }
-    requires time { bus.old.osc + 1000000 < 2 ^ 64 }
+    requires time { bus.old.clock.osc + 1000000 < 2 ^ 64 }
     requires late { now_of bus.old + 16000000 < 2 ^ 64 }
     requires room { HasRoom most stack.old.steps 2 journal.old }
     requires stands { let d = M.spec driver.now in let calls = M.call_of driver.now in
-        IsStanding d calls script.now bus.old stack.old.frames journal.old.entries }
+        let first = power_on config.now 0 in
+        IsStanding d first calls script.now bus.old stack.old.frames journal.old.entries }
     ensures obeyed { let d = M.spec driver.now in let calls = M.call_of driver.now in
-        OnOk result (Obeyed d calls script.now most directive.now.line directive.now.order bus.old
+        let first = power_on config.now 0 in
+        OnOk result (Obeyed d first calls script.now most directive.now.line directive.now.order bus.old
         stack.old journal.old bus.new stack.new journal.new) }
     ensures too_long { let d = M.spec driver.now in let calls = M.call_of driver.now in
-        OnErr result (Stuck d calls script.now most directive.now.line directive.now.order
+        let first = power_on config.now 0 in
+        OnErr result (Stuck d first calls script.now most directive.now.line directive.now.order
         stack.old journal.old bus.new stack.new journal.new) }
 {
     let line = directive.line;
     match &directive.order {
         Order::Call(level, request) => {
             obey_call_alone(
-                driver, script, most, line, *level, request, stack, bus, journal,
+                driver, config, script, most, line, *level, request, stack, bus, journal,
             );
             Ok(())
         }
         Order::Do(level, request) => {
             obey_call_whole(
-                driver, script, most, line, *level, request, stack, bus, journal,
+                driver, config, script, most, line, *level, request, stack, bus, journal,
             )
         }
         Order::Enter(irq) => {
-            obey_enter_alone(driver, script, most, line, *irq, stack, bus, journal);
+            obey_enter_alone(
+                driver, config, script, most, line, *irq, stack, bus, journal,
+            );
             Ok(())
         }
         Order::Serve(irq) => obey_enter_whole(
-            driver, script, most, line, *irq, stack, bus, journal,
+            driver, config, script, most, line, *irq, stack, bus, journal,
         ),
         Order::Run(count) => {
             obey_steps(
                 driver,
+                config,
                 script,
                 most,
                 line,
@@ -358,6 +402,7 @@ pub(crate) fn obey_one<M: Caller>(
         Order::Upto(stop) => {
             obey_steps(
                 driver,
+                config,
                 script,
                 most,
                 line,
@@ -369,6 +414,7 @@ pub(crate) fn obey_one<M: Caller>(
         }
         Order::Finish => obey_steps(
             driver,
+            config,
             script,
             most,
             line,
@@ -378,7 +424,9 @@ pub(crate) fn obey_one<M: Caller>(
             journal,
         ),
         Order::Tick(ticks) => {
-            obey_tick(driver, script, most, directive, *ticks, stack, bus, journal);
+            obey_tick(
+                driver, config, script, most, directive, *ticks, stack, bus, journal,
+            );
             Ok(())
         }
         _ => unreachable!(),

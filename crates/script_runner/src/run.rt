@@ -1,5 +1,7 @@
 ghost use Rattle.std.specs.Prelude.{◌≡◌, ◌<◌, ◌≤◌, ◌*◌, ◌+◌, [], length, IfOk, Some, slice_get};
 ghost use Rattle.std.specs.Bool.{OnFalse, OnTrue};
+ghost use Rattle.chip_model.specs.Chip.{power_on};
+ghost use Rattle.mcal_base.specs.Layout.{WithinLimits};
 ghost use Rattle.run_model.specs.Follows.{Follows};
 ghost use Rattle.run_model.specs.Legal.{IsLegal};
 ghost use Rattle.run_model.specs.Moment.{start_moment};
@@ -55,17 +57,19 @@ pub fn run_script<M: Caller>(
 ) -> Result<Ran, NoMemory>
     requires fits { (M.spec driver.now).fits }
     requires covers { Covers (M.spec driver.now) }
+    requires config { WithinLimits config.now }
+    requires wired { (M.spec driver.now).wired (power_on config.now 0) }
     requires script { IsScript script.now }
     requires limit { most < 4294967295 }
     ensures follows { let d = M.spec driver.now in let calls = M.call_of driver.now in
-        IfOk result (λ ran. OnFalse ran.too_long (Follows d.setting calls (start_moment d.setting) script.now
+        IfOk result (λ ran. OnFalse ran.too_long (Follows d.setting calls (start_moment d.setting (power_on config.now 0)) script.now
         ran.journal.entries)) }
     // A run that stopped says what the directives ask for up to there, where one more step is asked for.
     ensures stops { let d = M.spec driver.now in let calls = M.call_of driver.now in
-        IfOk result (λ ran. OnTrue ran.too_long (FollowsToStop d.setting calls (start_moment d.setting) script.now
+        IfOk result (λ ran. OnTrue ran.too_long (FollowsToStop d.setting calls (start_moment d.setting (power_on config.now 0)) script.now
         ran.journal.entries)) }
     ensures legal { let d = M.spec driver.now in let calls = M.call_of driver.now in
-        IfOk result (λ ran. IsLegal d.setting (start_moment d.setting) (deeds_of calls script.now
+        IfOk result (λ ran. IsLegal d.setting (start_moment d.setting (power_on config.now 0)) (deeds_of calls script.now
         ran.journal.entries)) }
     ensures few { IfOk result (λ ran. steps_in ran.journal.entries ≤ most) }
     ensures most_taken { IfOk result (λ ran. OnTrue ran.too_long (steps_in ran.journal.entries ≡ most)) }
@@ -82,6 +86,7 @@ pub fn run_script<M: Caller>(
         let directive = directive_at(script, at);
         match obey_one(
             driver,
+            config,
             script,
             most,
             directive,

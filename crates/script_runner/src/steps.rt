@@ -1,4 +1,5 @@
 ghost use Rattle.std.specs.Prelude.{ℕ, ◌≡◌, ◌<◌, ◌≤◌, ◌+◌, ◌∷◌, length, OnOk, OnErr, None, ◌||◌, is_some};
+ghost use Rattle.chip_model.specs.Chip.{power_on};
 ghost use Rattle.mcal_base.specs.declared.directive.Order.{Order};
 ghost use Rattle.run_model.specs.Entry as entry;
 ghost use Rattle.run_model.specs.Follows as follows;
@@ -9,7 +10,7 @@ ghost use Rattle.script_runner.specs.Standing.{IsStanding, HasRoom, TookStep, We
 
 use crate::caller::Caller;
 use chip_model::Bus;
-use mcal_base::{Directive, Event, Move, Reason, Reg, Stop};
+use mcal_base::{Config, Directive, Event, Move, Reason, Reg, Stop};
 use run_model::{Journal, Reach, Stepped};
 use step_runner::{Stack, reset, step_into};
 
@@ -68,6 +69,7 @@ fn answer_is_short(stepped: &Stepped) -> usize
 /// no answer.
 pub(crate) fn take_step<M: Caller>(
     driver: &M,
+    config: &Config,
     script: &[Directive],
     most: u32,
     line: u32,
@@ -81,10 +83,12 @@ pub(crate) fn take_step<M: Caller>(
     requires frame { 0 < length stack.old.frames }
     requires room { HasRoom most stack.old.steps 1 journal.old }
     requires stands { let d = M.spec driver.now in let calls = M.call_of driver.now in
-        IsStanding d calls script.now bus.old stack.old.frames journal.old.entries }
+        let first = power_on config.now 0 in
+        IsStanding d first calls script.now bus.old stack.old.frames journal.old.entries }
     requires free { stepped.old.ended ≡ None }
     ensures took { let d = M.spec driver.now in let calls = M.call_of driver.now in
-        OnOk result (TookStep d calls script.now most line bus.old stack.old journal.old stepped.new bus.new
+        let first = power_on config.now 0 in
+        OnOk result (TookStep d first calls script.now most line bus.old stack.old journal.old stepped.new bus.new
         stack.new journal.new) }
     ensures too_long { OnErr result ((stack.new ≡ stack.old) × (bus.new ≡ bus.old) × (journal.new ≡ journal.old) × (stack.old.steps
         ≡ most)) }
@@ -106,6 +110,7 @@ pub(crate) fn take_step<M: Caller>(
 /// Steps the top frame as far as a directive reaches, which is at least one step.
 pub(crate) fn run_steps<M: Caller>(
     driver: &M,
+    config: &Config,
     script: &[Directive],
     most: u32,
     line: u32,
@@ -119,12 +124,15 @@ pub(crate) fn run_steps<M: Caller>(
     requires frame { 0 < length stack.old.frames }
     requires room { HasRoom most stack.old.steps 1 journal.old }
     requires stands { let d = M.spec driver.now in let calls = M.call_of driver.now in
-        IsStanding d calls script.now bus.old stack.old.frames journal.old.entries }
+        let first = power_on config.now 0 in
+        IsStanding d first calls script.now bus.old stack.old.frames journal.old.entries }
     ensures went { let d = M.spec driver.now in let calls = M.call_of driver.now in
-        OnOk result (WentFar d calls script.now most line reach bus.old
+        let first = power_on config.now 0 in
+        OnOk result (WentFar d first calls script.now most line reach bus.old
         stack.old journal.old bus.new stack.new journal.new) }
     ensures too_long { let d = M.spec driver.now in let calls = M.call_of driver.now in
-        OnErr result (IsStuck d calls script.now most 0 stack.old journal.old bus.new stack.new journal.new
+        let first = power_on config.now 0 in
+        OnErr result (IsStuck d first calls script.now most 0 stack.old journal.old bus.new stack.new journal.new
         (λ m items. GoesToStop d.setting line reach 0 m items)) }
 {
     let mut made = 0u32;
@@ -132,6 +140,7 @@ pub(crate) fn run_steps<M: Caller>(
     loop {
         match take_step(
             driver,
+            config,
             script,
             most,
             line,

@@ -1,5 +1,7 @@
 ghost use Rattle.std.specs.Prelude.{◌≡◌, ◌<◌, ◌≤◌, ◌+◌, ◌*◌, min, length, IfOk, Some};
 ghost use Rattle.std.specs.Bool.{OnFalse, OnTrue};
+ghost use Rattle.chip_model.specs.Chip.{power_on};
+ghost use Rattle.mcal_base.specs.Layout.{WithinLimits};
 ghost use Rattle.run_model.specs.Script.{beginnings_of};
 ghost use Rattle.run_model.specs.Stops.{steps_in};
 ghost use Rattle.script_runner.specs.Scripts.{IsScript, IsRun, IsStopped, script_bound};
@@ -50,13 +52,15 @@ pub fn run_within<M: Caller>(
 ) -> Result<Ran, NoMemory>
     requires fits { (M.spec driver.now).fits }
     requires covers { Covers (M.spec driver.now) }
+    requires config { WithinLimits config.now }
+    requires wired { (M.spec driver.now).wired (power_on config.now 0) }
     requires script { IsScript script.now }
     requires limit { limit < 4294967295 }
     ensures whole { let d = M.spec driver.now in let calls = M.call_of driver.now in
-        IfOk result (λ ran. OnFalse ran.too_long (IsRun d.setting calls script.now ran.journal.entries)) }
+        IfOk result (λ ran. OnFalse ran.too_long (IsRun d.setting (power_on config.now 0) calls script.now ran.journal.entries)) }
     ensures few { IfOk result (λ ran. steps_in ran.journal.entries ≤ limit) }
     ensures stopped { let d = M.spec driver.now in let calls = M.call_of driver.now in
-        IfOk result (λ ran. OnTrue ran.too_long (IsStopped d.setting calls limit script.now ran.journal.entries)) }
+        IfOk result (λ ran. OnTrue ran.too_long (IsStopped d.setting (power_on config.now 0) calls limit script.now ran.journal.entries)) }
     // The room is for no more steps than the limit, and than those frames may take, which are at most 10,176 each.
     ensures room { let d = M.spec driver.now in let calls = M.call_of driver.now in
         IfOk result (λ ran. ran.journal.room ≡ min limit (script_bound d.setting calls script.now) + 2 * length

@@ -1,7 +1,8 @@
 -- What a step of a body is, plain answers, and what is owed for an error.
-use Rattle.std.specs.Prelude.{ℕ, Option, Some, None, [], ◌∷◌}
+use Rattle.std.specs.Prelude.{ℕ, List, [], ◌∷◌, Option, Some, None}
 use Rattle.mcal_base.specs.declared.answer.Answer.{Answer}
-use Rattle.mcal_base.specs.declared.answer.Head.TheVariants.{Numbers}
+use Rattle.mcal_base.specs.declared.answer.Head.TheVariants.{Name, Numbers}
+use Rattle.mcal_base.specs.declared.answer_name.AnswerName.{AnswerName}
 use Rattle.mcal_base.specs.declared.moves.Event.{Event}
 use Rattle.mcal_base.specs.declared.moves.Event.TheVariants.{Act}
 use Rattle.mcal_base.specs.declared.error_name.ErrorName.{ErrorName}
@@ -14,9 +15,19 @@ use Rattle.service_outline.specs.declared.done.Owed.{Owed}
 use Rattle.service_outline.specs.declared.done.Owed.TheVariants.{Nothing, Error}
 use Rattle.service_outline.specs.declared.done.BodyTaken.{BodyTaken}
 
+-- the answer that is a name, alone or with words, and the one that is numbers
+abbrev pub named_with : AnswerName → List ℕ → Answer
+named_with n ws = record { head = Name n; words = ws }
+
+abbrev pub named : AnswerName → Answer
+named n = named_with n []
+
+abbrev pub numbers : List ℕ → Answer
+numbers ns = record { head = Numbers; words = ns }
+
 -- the answer that is a number
 abbrev pub number : ℕ → Answer
-number n = record { head = Numbers; words = n ∷ [] }
+number n = numbers (n ∷ [])
 
 -- it goes on
 abbrev pub goes : BodyTaken
@@ -39,6 +50,9 @@ owed_report (Some e) = Error e
 abbrev pub owed_error : Reporting → Service → ErrorName → Owed
 owed_error r s e = owed_report (report_as s e (reported r e))
 
--- an act that finds an error, and answers this
+-- an act that answers this, and one that finds an error
+abbrev pub answers : Answer → Told
+answers a = record { answer = a; error = None; notices = [] }
+
 abbrev pub tells_error : Answer → ErrorName → Told
 tells_error a e = record { answer = a; error = Some e; notices = [] }

@@ -1,21 +1,25 @@
 -- What a driver of short services is, what its frames have to do with its machine, and what it owes.
 use Rattle.std.specs.Prelude.{◌≡◌, ℕ, ◌+◌, ◌≤◌, Bool, true, false, List, [], ◌∷◌, Option, Some, None, is_some}
-use Rattle.chip_model.specs.Chip.{Chip, value_of, chip_after, happened, reset_chip, fresh, is_masked, is_pending}
-use Rattle.chip_model.specs.Reach.{CanApply}
+use Rattle.chip_model.specs.Chip.{Chip, value_of, chip_after, happened, reset_chip, is_masked, is_pending}
+use Rattle.mcal_base.specs.Bits.{has_bit}
+use Rattle.mcal_base.specs.Reach.{CanApply}
 use Rattle.mcal_base.specs.declared.answer.Answer.{Answer}
 use Rattle.mcal_base.specs.declared.directive.Order.{Order}
 use Rattle.mcal_base.specs.declared.directive.Reason.{Reason}
+use Rattle.mcal_base.specs.declared.directive.Reason.TheVariants.{PowerOn}
 use Rattle.mcal_base.specs.declared.moves.DevError.{DevError}
 use Rattle.mcal_base.specs.declared.moves.Event.{Event}
 use Rattle.mcal_base.specs.declared.moves.Event.TheVariants.{Act, Serve, Abort, Start}
 use Rattle.mcal_base.specs.declared.moves.Move.{Move}
-use Rattle.mcal_base.specs.declared.moves.Move.TheVariants.{Load}
+use Rattle.mcal_base.specs.declared.moves.Move.TheVariants.{Write, Load}
 use Rattle.mcal_base.specs.declared.moves.Unit as units
 use Rattle.mcal_base.specs.declared.notice.Notice.{Notice}
+use Rattle.mcal_base.specs.declared.register.Reg.TheVariants.{EnableSet}
 use Rattle.run_model.specs.World.{World, world_after}
-use Rattle.run_model.specs.Machine.{Happening, Acts, Moves, Restarts, Told, Outcome, Machine, no_answer, tells_nothing, outcome}
-use Rattle.run_model.specs.Frame.{Origin, Called, Entered, Owing, Open, Brought, owing, happening_of, happening_at, outcome_of, report_of, missed_after, is_shared, resets_chip, is_reset_service}
+use Rattle.run_model.specs.Machine.{Happening, Acts, Moves, Restarts, Told, Outcome, ErrorLeaves, Machine, no_answer, tells_nothing, outcome}
+use Rattle.run_model.specs.Frame.{Origin, Called, Entered, Owing, Open, Brought, owing, happening_of, outcome_of, report_of, missed_after, is_shared, resets_chip, begins_word, is_reset_service}
 use Rattle.run_model.specs.Moment.{Setting}
+use Rattle.run_model.specs.Outside.{StandsIn}
 use Rattle.step_runner.specs.Driver.{IsFree}
 use Rattle.service_outline.specs.declared.done.Owed.{Owed}
 use Rattle.service_outline.specs.declared.done.Owed.TheVariants.{Nothing, Error, One, Two}
@@ -76,6 +80,8 @@ form r origin acted served owed report inside = record { origin = origin; tag = 
 -- what all bodies of a driver stand on: the machine with its bounds, and how words and registers agree with its state
 pub record Ground (State Call : Type 0) : Type 1 where
   pub setting : Setting State Call
+  -- what the configuration has wired to the chip, as far as the driver rests on it
+  pub wired : Chip → Type 0
   -- the lines of its units, and whether a move names anything of a frame's module
   pub lines : ℕ → Bool
   pub owns : Origin Call → Move → Bool
@@ -103,20 +109,24 @@ pub record Comes {State Call : Type 0} (g : Setting State Call) (chip : Chip) (w
 
 -- what a driver owes of its ground, once
 pub record IsGround {State Call : Type 0} (g : Ground State Call) : Type 0 where
-  pub starts : (w : World) → g.agrees g.settled (fresh w.osc w.now) w g.setting.first
+  pub starts : (chip : Chip) (w : World) → g.wired chip → StandsIn chip w → g.agrees g.settled (reset_chip chip PowerOn) w g.setting.first
   pub moves : (w : World) (s : State) (order : Order) → g.setting.machine.happens w s (Moves order) ≡ Some (outcome (g.later w s order) tells_nothing)
   pub resets : (gap : g.Gap) (chip : Chip) (w : World) (s : State) (reason : Reason) → g.agrees gap chip w s → (out : Outcome State) × (g.setting.machine.happens w s (Restarts reason) ≡ Some out) × g.agrees g.settled (reset_chip chip reason) w out.state
-  pub agrees_later : (gap : g.Gap) (chip : Chip) (w : World) (s : State) (order : Order) → g.agrees gap chip w s → g.agrees gap (happened chip order) (world_after w chip.rate order) (g.later w s order)
-  pub agrees_apart : (gap : g.Gap) (chip : Chip) (w : World) (s : State) (made : Move) → Apart g made → g.agrees gap chip w s → g.agrees gap (chip_after chip made) w s
-  pub foot_apart : (chip : Chip) (made : Move) → Apart g made → g.foot (chip_after chip made) ≡ g.foot chip
+  pub agrees_later : (gap : g.Gap) (chip : Chip) (w : World) (s : State) (order : Order) → Comes g.setting chip w s order → g.agrees gap chip w s → g.agrees gap (happened chip order) (world_after w chip.clock.rate order) (g.later w s order)
+  pub agrees_apart : (gap : g.Gap) (chip : Chip) (w : World) (s : State) (made : Move) (received : ℕ) → Apart g made → g.agrees gap chip w s → g.agrees gap (chip_after chip made received) w s
+  pub foot_apart : (chip : Chip) (made : Move) (received : ℕ) → Apart g made → g.foot (chip_after chip made received) ≡ g.foot chip
   -- what a frame may do names what is the driver's own, and that is a register or a word, which is there
   pub may_owns : (origin : Origin Call) (made : Move) → g.setting.may origin made ≡ true → g.owns origin made ≡ true
   pub owns_plain : (origin : Origin Call) (made : Move) → g.owns origin made ≡ true → is_shared made ≡ false
   pub may_there : (origin : Origin Call) (made : Move) → g.setting.may origin made ≡ true → CanApply made
+  -- no frame enables a line that isn't one of the driver's
+  pub enables : (origin : Origin Call) (bits line : ℕ) → g.setting.may origin (Write EnableSet bits) ≡ true → g.lines line ≡ false → has_bit bits line ≡ false
   -- no call asks for a reset or polls a line, and no frame may make a reset
   pub asks_none : (c : Call) → is_reset_service (g.setting.machine.service_of c) ≡ false
   pub polls_none : (w : World) (s : State) (c : Call) → g.setting.machine.polls w s c ≡ []
   pub resets_none : (origin : Origin Call) (made : Move) → g.setting.may origin made ≡ true → resets_chip made ≡ false
+  -- no frame begins a serial word
+  pub words_none : (origin : Origin Call) (made : Move) → g.setting.may origin made ≡ true → begins_word made ≡ false
   -- what a handler owns some call owns
   pub owns_called : (line : ℕ) (made : Move) → g.owns (Entered line) made ≡ true → (c : Call) × (g.owns (Called c) made ≡ true)
   -- a line that an object uses is one of the modules' lines, and one that no object uses is not due
@@ -124,11 +134,13 @@ pub record IsGround {State Call : Type 0} (g : Ground State Call) : Type 0 where
   pub due_used : (chip : Chip) (w : World) (s : State) (line : ℕ) → g.agrees g.settled chip w s → g.setting.machine.due w s line ≡ true → g.setting.used line ≡ true
   -- each line, used or not, is pending exactly where it is due, and no unit waits for a start
   pub pends : (chip : Chip) (w : World) (s : State) (line : ℕ) → g.lines line ≡ true → g.agrees g.settled chip w s → is_pending chip line ≡ g.setting.machine.due w s line
-  -- the rest is the machine's too, and so is what a notice shows; no serving begins a word on a serial unit
+  -- the rest is the machine's too, and so are the outputs that are so at every time, and what a notice shows
   pub rest : (chip : Chip) (w : World) (s : State) → g.agrees g.settled chip w s → g.setting.rest chip w s
-  pub begins_none : (w : World) (s : State) (line : ℕ) → g.setting.begins_word w s line ≡ None
+  pub unmasked : (chip : Chip) (w : World) (s : State) (origins : List (Origin Call)) → g.agrees g.settled chip w s → g.setting.unmasked chip w s origins
   pub shows : (chip : Chip) (w : World) (s : State) (origin : Origin Call) (n : Notice) → g.agrees g.settled chip w s → g.setting.shows origin n chip s
   pub waits : (chip : Chip) (w : World) (s : State) (u : units.Unit) → g.agrees g.settled chip w s → g.setting.machine.startable w s u ≡ false
+  -- an act that finds an error leaves the state as it was, and gives no notice
+  pub error_leaves : (w : World) (s : State) (c : Call) (times : ℕ → ℕ) (out : Outcome State) → g.setting.machine.happens w s (Acts c times) ≡ Some out → ErrorLeaves s out
   -- none are given out at first, at most one by what happens, and none by the hardware and by a reset
   pub count_first : g.count g.setting.first ≡ 0
   pub count_happens : (w : World) (s : State) (h : Happening Call) (out : Outcome State) → g.setting.machine.happens w s h ≡ Some out → g.count out.state ≤ g.count s + 1
@@ -136,9 +148,9 @@ pub record IsGround {State Call : Type 0} (g : Ground State Call) : Type 0 where
   pub count_resets : (w : World) (s : State) (reason : Reason) (out : Outcome State) → g.setting.machine.happens w s (Restarts reason) ≡ Some out → g.count out.state ≤ g.count s
   pub rate_starts : g.setting.machine.rate g.setting.first ≡ 1
   -- what a frame may do leaves the chip's rate, and what happens leaves the machine's
-  pub may_steady : (chip : Chip) (origin : Origin Call) (made : Move) → g.setting.may origin made ≡ true → (chip_after chip made).rate ≡ chip.rate
+  pub may_steady : (chip : Chip) (origin : Origin Call) (made : Move) (received : ℕ) → g.setting.may origin made ≡ true → (chip_after chip made received).clock.rate ≡ chip.clock.rate
   pub rate_happens : (w : World) (s : State) (h : Happening Call) (out : Outcome State) → g.setting.machine.happens w s h ≡ Some out → g.setting.machine.rate out.state ≡ g.setting.machine.rate s
-  pub rate_resets : (chip : Chip) (w : World) (s : State) (reason : Reason) (out : Outcome State) → g.setting.machine.happens w s (Restarts reason) ≡ Some out → (reset_chip chip reason).rate ≡ g.setting.machine.rate out.state
+  pub rate_resets : (chip : Chip) (w : World) (s : State) (reason : Reason) (out : Outcome State) → g.setting.machine.happens w s (Restarts reason) ≡ Some out → (reset_chip chip reason).clock.rate ≡ g.setting.machine.rate out.state
 
 -- bodies: their places, and what holds at each
 pub record Bodies {State Call : Type 0} (g : Ground State Call) (Body : Type 0) : Type 1 where
@@ -211,7 +223,7 @@ IsOwn (Entered l) (Serve k) = k ≡ l
 IsOwn (Entered l) (Abort u) = ⊥
 IsOwn (Entered l) (Start u) = ⊥
 
--- an event: what the machine gives, whatever the step brings
+-- an event: what the machine gives, whatever the step brings; it begins no serial word
 pub record Happens {State Call : Type 0} (g : Setting State Call) (w : World) (s : State) (origin : Origin Call) (made : Move) (clean : Bool) (e : Event) (left : Option Done) (Then : State → Told → Type 0) : Type 0 where
   pub own : IsOwn origin e
   pub state : State
@@ -230,16 +242,16 @@ StepsRight g b chip w s origin made clean (Some t) missed k (Some e) left = ⊥
 abbrev pub StepsTo : {State Call Body : Type 0} (g : Ground State Call) → Bodies g Body → Chip → World → State → Origin Call → Move → (clean : Bool) → Option Told → (ℕ → Bool) → Body × BodyTaken → Type 0
 StepsTo g b chip w s origin made clean told missed p = StepsRight g b chip w s origin made clean told missed p.0 p.1.event p.1.done
 
--- a body's step at a place
+-- a body's step at a place, where no word comes in
 abbrev pub RightAt : {State Call Body : Type 0} (g : Ground State Call) → Bodies g Body → Chip → World → State → Body → Origin Call → Option Told → (ℕ → Bool) → Type 0
-RightAt g b chip w s k origin told missed = StepsTo g b (chip_after chip (b.work_of k)) w s origin (b.work_of k) (b.clean k) told (missed_after g.setting.machine w s missed) (b.takes k (value_of chip (b.work_of k)))
+RightAt g b chip w s k origin told missed = StepsTo g b (chip_after chip (b.work_of k) 0) w s origin (b.work_of k) (b.clean k) told (missed_after g.setting.machine w s missed) (b.takes k (value_of chip (b.work_of k)))
 
 -- what bodies owe
 pub record AreRight {State Call Body : Type 0} (g : Ground State Call) (b : Bodies g Body) : Type 0 where
   -- a body's move is one that its frame may make
   pub own : (chip : Chip) (w : World) (s : State) (k : Body) (origin : Origin Call) (told : Option Told) → At g b chip w s k origin told → g.setting.may origin (b.work_of k) ≡ true
   pub steps : (chip : Chip) (w : World) (s : State) (k : Body) (origin : Origin Call) (told : Option Told) (missed : ℕ → Bool) → At g b chip w s k origin told → RightAt g b chip w s k origin told missed
-  pub later : (chip : Chip) (w : World) (s : State) (order : Order) (k : Body) (origin : Origin Call) (told : Option Told) → Comes g.setting chip w s order → At g b chip w s k origin told → b.place (g.foot (happened chip order)) (world_after w chip.rate order) (g.later w s order) k origin told
+  pub later : (chip : Chip) (w : World) (s : State) (order : Order) (k : Body) (origin : Origin Call) (told : Option Told) → Comes g.setting chip w s order → At g b chip w s k origin told → b.place (g.foot (happened chip order)) (world_after w chip.clock.rate order) (g.later w s order) k origin told
   pub shortens : (k : Body) (x : ℕ) → Shortens b.fuel k (b.takes k x)
   pub cleans : (k : Body) (x : ℕ) → Cleans b.clean (b.work_of k) k (b.takes k x)
 

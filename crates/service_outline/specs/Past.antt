@@ -7,7 +7,7 @@ use Rattle.mcal_base.specs.declared.moves.Event.{Event}
 use Rattle.mcal_base.specs.declared.moves.Event.TheVariants.{Act, Serve, Abort, Start}
 use Rattle.mcal_base.specs.declared.moves.Move.{Move}
 use Rattle.run_model.specs.World.{World}
-use Rattle.run_model.specs.Machine.{Told, Machine, no_answer, outcome}
+use Rattle.run_model.specs.Machine.{Told, Machine, no_answer}
 use Rattle.run_model.specs.Frame.{Origin, Called, Entered, Owing, Open, owing, committed_after, report_of}
 use Rattle.run_model.specs.Legal.{has_line, IsNext}
 use Rattle.service_outline.specs.Outline.{form, acted_in, served_in, owed_in, report_in}

@@ -2,25 +2,29 @@
 -- what it needs; the words and registers agree with the state and with what the frames under way hold.
 use Rattle.std.specs.Prelude.{◌≡◌, ℕ, ◌+◌, ◌<◌, ◌≤◌, nat_lt, Bool, true, false, ◌||◌, List, [], ◌∷◌, map, Option, Some, None, is_some}
 use Rattle.std.specs.List.{list_any}
-use Rattle.chip_model.specs.Chip.{Chip, value_of, chip_after, happened, reset_chip, fresh, is_masked, is_pending}
-use Rattle.chip_model.specs.Reach.{CanApply}
+use Rattle.chip_model.specs.Chip.{Chip, value_of, chip_after, happened, reset_chip, is_masked, is_pending}
+use Rattle.mcal_base.specs.Bits.{has_bit}
+use Rattle.mcal_base.specs.Reach.{CanApply}
 use Rattle.mcal_base.specs.declared.answer.Answer.{Answer}
 use Rattle.mcal_base.specs.declared.directive.Order.{Order}
 use Rattle.mcal_base.specs.declared.directive.Reason.{Reason}
+use Rattle.mcal_base.specs.declared.directive.Reason.TheVariants.{PowerOn}
 use Rattle.mcal_base.specs.declared.moves.Event.{Event}
 use Rattle.mcal_base.specs.declared.moves.Event.TheVariants.{Act}
 use Rattle.mcal_base.specs.declared.moves.Move.{Move}
 use Rattle.mcal_base.specs.declared.moves.Move.TheVariants.{Read, Write, Load, Store, Mask, Unmask, Note, Report}
 use Rattle.mcal_base.specs.declared.moves.Unit as units
 use Rattle.mcal_base.specs.declared.notice.Notice.{Notice}
+use Rattle.mcal_base.specs.declared.register.Reg.TheVariants.{EnableSet}
 use Rattle.run_model.specs.declared.class.Class.{Class}
 use Rattle.run_model.specs.declared.class.Tag.{Tag}
 use Rattle.run_model.specs.Causes.{blocks}
 use Rattle.run_model.specs.World.{World, world_after}
-use Rattle.run_model.specs.Machine.{Happening, Acts, Moves, Restarts, Told, Outcome, tells_nothing, outcome}
-use Rattle.run_model.specs.Frame.{Origin, Called, Entered, Owing, Open, owing, brought_by, happening_of, happening_at, outcome_of, state_by, missed_after, is_shared, resets_chip, asks_reset}
+use Rattle.run_model.specs.Machine.{Happening, Acts, Moves, Restarts, Told, Begun, Outcome, ErrorLeaves, tells_nothing, outcome, outcome_with}
+use Rattle.run_model.specs.Frame.{Origin, Called, Entered, Owing, Open, owing, brought_by, happening_of, outcome_of, missed_after, is_shared, resets_chip, begins_word, asks_reset}
 use Rattle.run_model.specs.Moment.{Setting, call_tag, line_tag}
-use Rattle.run_model.specs.Legal.{MayEnd, StandsAt, SelectsRight, ReceivedRight}
+use Rattle.run_model.specs.Legal.{MayEnd, StandsAt, SendsRight, ReceivedRight}
+use Rattle.run_model.specs.Outside.{StandsIn}
 use Rattle.step_runner.specs.Driver.{Driver, IsFree, most_steps}
 use Rattle.service_outline.specs.declared.done.Done.{Done}
 use Rattle.service_outline.specs.declared.done.BodyTaken.{BodyTaken}
@@ -79,6 +83,8 @@ Beside g (Entered l) hs = AllLower g (g.level_of l) hs
 -- what all bodies of a driver stand on: the machine with its bounds, and how words and registers agree with its state
 pub record Basis (State Call : Type 0) : Type 1 where
   pub setting : Setting State Call
+  -- what the configuration has wired to the chip, as far as the driver rests on it
+  pub wired : Chip → Type 0
   -- the lines of its units, and whether a move names anything of a frame's module
   pub lines : ℕ → Bool
   pub owns : Origin Call → Move → Bool
@@ -99,7 +105,7 @@ pub record Basis (State Call : Type 0) : Type 1 where
 
 -- what short bodies stand on above these
 abbrev pub over : {State Call : Type 0} (g : Basis State Call) → List (Held Call g.Hold) → Ground State Call
-over g below = record { setting = g.setting; lines = g.lines; owns = g.owns; count = g.count; later = g.later; Gap = g.Gap; settled = g.settled; agrees = g.agrees below; Foot = g.Foot; foot = g.foot }
+over g below = record { setting = g.setting; wired = g.wired; lines = g.lines; owns = g.owns; count = g.count; later = g.later; Gap = g.Gap; settled = g.settled; agrees = g.agrees below; Foot = g.Foot; foot = g.foot }
 
 -- the move names nothing of the driver's
 abbrev pub Elsewhere : {State Call : Type 0} → Basis State Call → Move → Type 0
@@ -114,21 +120,23 @@ pub record MayCome {State Call Hold : Type 0} (g : Setting State Call) (held : L
 -- how the chip's rate stays the machine's: what a frame may do leaves the one, and what happens the other; or, for the
 -- driver of the clock, they agree
 pub data Rates {State Call : Type 0} (g : Basis State Call) : Type 0 where
-  Steady : ((chip : Chip) (origin : Origin Call) (made : Move) → g.setting.may origin made ≡ true → (chip_after chip made).rate ≡ chip.rate) → ((w : World) (s : State) (h : Happening Call) (out : Outcome State) → g.setting.machine.happens w s h ≡ Some out → g.setting.machine.rate out.state ≡ g.setting.machine.rate s) → Rates g
-  Agreed : ((held : List (Held Call g.Hold)) (gap : g.Gap) (chip : Chip) (w : World) (s : State) → g.agrees held gap chip w s → chip.rate ≡ g.setting.machine.rate s) → Rates g
+  Steady : ((chip : Chip) (origin : Origin Call) (made : Move) (received : ℕ) → g.setting.may origin made ≡ true → (chip_after chip made received).clock.rate ≡ chip.clock.rate) → ((w : World) (s : State) (h : Happening Call) (out : Outcome State) → g.setting.machine.happens w s h ≡ Some out → g.setting.machine.rate out.state ≡ g.setting.machine.rate s) → Rates g
+  Agreed : ((held : List (Held Call g.Hold)) (gap : g.Gap) (chip : Chip) (w : World) (s : State) → g.agrees held gap chip w s → chip.clock.rate ≡ g.setting.machine.rate s) → Rates g
 
 -- what a driver owes of its basis, once
 pub record IsBasis {State Call : Type 0} (g : Basis State Call) : Type 0 where
-  pub starts : (w : World) → g.agrees [] g.settled (fresh w.osc w.now) w g.setting.first
+  pub starts : (chip : Chip) (w : World) → g.wired chip → StandsIn chip w → g.agrees [] g.settled (reset_chip chip PowerOn) w g.setting.first
   pub moves : (held : List (Held Call g.Hold)) (chip : Chip) (w : World) (s : State) (order : Order) → MayCome g.setting held chip w s order → g.setting.machine.happens w s (Moves order) ≡ Some (outcome (g.later w s order) tells_nothing)
   pub resets : (held : List (Held Call g.Hold)) (gap : g.Gap) (chip : Chip) (w : World) (s : State) (reason : Reason) → g.agrees held gap chip w s → (out : Outcome State) × (g.setting.machine.happens w s (Restarts reason) ≡ Some out) × g.agrees [] g.settled (reset_chip chip reason) w out.state
-  pub agrees_later : (held : List (Held Call g.Hold)) (gap : g.Gap) (chip : Chip) (w : World) (s : State) (order : Order) → MayCome g.setting held chip w s order → g.agrees held gap chip w s → g.agrees held gap (happened chip order) (world_after w chip.rate order) (g.later w s order)
-  pub agrees_apart : (held : List (Held Call g.Hold)) (gap : g.Gap) (chip : Chip) (w : World) (s : State) (made : Move) → Elsewhere g made → g.agrees held gap chip w s → g.agrees held gap (chip_after chip made) w s
-  pub foot_apart : (chip : Chip) (made : Move) → Elsewhere g made → g.foot (chip_after chip made) ≡ g.foot chip
+  pub agrees_later : (held : List (Held Call g.Hold)) (gap : g.Gap) (chip : Chip) (w : World) (s : State) (order : Order) → MayCome g.setting held chip w s order → g.agrees held gap chip w s → g.agrees held gap (happened chip order) (world_after w chip.clock.rate order) (g.later w s order)
+  pub agrees_apart : (held : List (Held Call g.Hold)) (gap : g.Gap) (chip : Chip) (w : World) (s : State) (made : Move) (received : ℕ) → Elsewhere g made → g.agrees held gap chip w s → g.agrees held gap (chip_after chip made received) w s
+  pub foot_apart : (chip : Chip) (made : Move) (received : ℕ) → Elsewhere g made → g.foot (chip_after chip made received) ≡ g.foot chip
   -- what a frame may do names what is the driver's own, and that is a register or a word, which is there
   pub may_owns : (origin : Origin Call) (made : Move) → g.setting.may origin made ≡ true → g.owns origin made ≡ true
   pub owns_plain : (origin : Origin Call) (made : Move) → g.owns origin made ≡ true → is_shared made ≡ false
   pub may_there : (origin : Origin Call) (made : Move) → g.setting.may origin made ≡ true → CanApply made
+  -- no frame enables a line that isn't one of the driver's
+  pub enables : (origin : Origin Call) (bits line : ℕ) → g.setting.may origin (Write EnableSet bits) ≡ true → g.lines line ≡ false → has_bit bits line ≡ false
   -- what a handler owns some call owns
   pub owns_called : (line : ℕ) (made : Move) → g.owns (Entered line) made ≡ true → (c : Call) × (g.owns (Called c) made ≡ true)
   -- a line that an object uses is one of the modules' lines, and one that no object uses is not due
@@ -137,9 +145,15 @@ pub record IsBasis {State Call : Type 0} (g : Basis State Call) : Type 0 where
   -- each line, used or not, is pending where it is due, whatever is held, and at rest nowhere else; and at rest no unit waits for a start
   pub pends : (held : List (Held Call g.Hold)) (chip : Chip) (w : World) (s : State) (line : ℕ) → g.lines line ≡ true → g.agrees held g.settled chip w s → g.setting.machine.due w s line ≡ true → is_pending chip line ≡ true
   pub rests : (chip : Chip) (w : World) (s : State) (line : ℕ) → g.lines line ≡ true → g.agrees [] g.settled chip w s → is_pending chip line ≡ g.setting.machine.due w s line
+  -- and with nothing under work no line is that no object uses
+  pub unused : (held : List (Held Call g.Hold)) (chip : Chip) (w : World) (s : State) (line : ℕ) → g.lines line ≡ true → g.agrees held g.settled chip w s → g.setting.used line ≡ false → is_pending chip line ≡ false
+  -- and the outputs that are so at every time are the machine's; what is so of no frame under way is so of none that holds anything
+  pub unmasked : (held : List (Held Call g.Hold)) (chip : Chip) (w : World) (s : State) (origins : List (Origin Call)) → ((p : Origin Call → Bool) → list_any p origins ≡ false → list_any p (owners held) ≡ false) → g.agrees held g.settled chip w s → g.setting.unmasked chip w s origins
   -- and at rest the rest is the machine's too
   pub rest : (chip : Chip) (w : World) (s : State) → g.agrees [] g.settled chip w s → g.setting.rest chip w s
   pub waits : (chip : Chip) (w : World) (s : State) (u : units.Unit) → g.agrees [] g.settled chip w s → g.setting.machine.startable w s u ≡ false
+  -- an act that finds an error leaves the state as it was, and gives no notice
+  pub error_leaves : (w : World) (s : State) (c : Call) (times : ℕ → ℕ) (out : Outcome State) → g.setting.machine.happens w s (Acts c times) ≡ Some out → ErrorLeaves s out
   -- none are given out at first, at most one by what happens, and none by the hardware and by a reset
   pub count_first : g.count g.setting.first ≡ 0
   pub count_happens : (w : World) (s : State) (h : Happening Call) (out : Outcome State) → g.setting.machine.happens w s h ≡ Some out → g.count out.state ≤ g.count s + 1
@@ -148,7 +162,7 @@ pub record IsBasis {State Call : Type 0} (g : Basis State Call) : Type 0 where
   pub rated : Rates g
   pub rate_starts : g.setting.machine.rate g.setting.first ≡ 1
   pub rate_moves : (w : World) (s : State) (order : Order) (out : Outcome State) → g.setting.machine.happens w s (Moves order) ≡ Some out → g.setting.machine.rate out.state ≡ g.setting.machine.rate s
-  pub rate_resets : (chip : Chip) (w : World) (s : State) (reason : Reason) (out : Outcome State) → g.setting.machine.happens w s (Restarts reason) ≡ Some out → (reset_chip chip reason).rate ≡ g.setting.machine.rate out.state
+  pub rate_resets : (chip : Chip) (w : World) (s : State) (reason : Reason) (out : Outcome State) → g.setting.machine.happens w s (Restarts reason) ≡ Some out → (reset_chip chip reason).clock.rate ≡ g.setting.machine.rate out.state
 
 -- how a frame stands at a place of a body. In a window: what is under work, what it holds, and what holds there. With
 -- the mask open: what it holds, and what is known of the frame itself, since it rests on what it holds alone
@@ -333,6 +347,7 @@ services_driver d = record {
   setting = d.basis.setting;
   frame_of = λ c. Calling (d.asked c);
   handler_of = λ l. entering (d.body_of l);
+  wired = d.basis.wired;
   relates = Relates d;
   fuel = short_fuel d.most d.bodies.fuel;
   room = short_room d.wide d.bodies.room;
@@ -372,12 +387,13 @@ Continues g b below chip w s origin past missed k (Some n) = g.agrees below g.se
 pub record Occurs {State Call : Type 0} (g : Setting State Call) (chip : Chip) (w : World) (s : State) (origin : Origin Call) (made : Move) (clean : Bool) (value received : ℕ) (past : Past) (e : Event) (left : Option Done) (Then : State → Past → Type 0) : Type 0 where
   pub may : MayDo g.machine w s past e origin
   pub stands : StandsAt e made value
-  pub selects : SelectsRight g origin chip w s e made
   pub state : State
   pub told : Told
-  pub is : outcome_of g.machine w s (happening_of origin (brought_by w past.committed made received) e) ≡ Some (outcome state told)
+  pub begins : Option Begun
+  pub is : outcome_of g.machine w s (happening_of origin (brought_by w past.committed made received) e) ≡ Some (outcome_with state told begins)
+  pub sends : SendsRight chip begins made
   pub acts : ActsRight g origin e clean made told left
-  pub reset : resets_chip made ≡ asks_reset g.machine origin (Some e) (Some (outcome state told))
+  pub reset : resets_chip made ≡ asks_reset g.machine origin (Some e) (Some (outcome_with state told begins))
   pub next : Then state (past_after g.machine w s origin e told (past_wrote w made past))
 
 -- a step that names a register or a word; it was made at the first chip, and left the second
@@ -410,7 +426,7 @@ MakesTo g b below before chip w s origin made clean x y past missed p = Makes g 
 
 -- a body's step at a place
 abbrev pub Right : {State Call Body : Type 0} (g : Basis State Call) → LongBodies g Body → List (Held Call g.Hold) → Chip → World → State → Body → Origin Call → (received : ℕ) → Past → (ℕ → Bool) → Type 0
-Right g b below chip w s k origin received past missed = MakesTo g b below chip (chip_after chip (b.work_of k)) w s origin (b.work_of k) (b.clean k) (value_of chip (b.work_of k)) received past (missed_after g.setting.machine w s missed) (b.takes k (value_of chip (b.work_of k)))
+Right g b below chip w s k origin received past missed = MakesTo g b below chip (chip_after chip (b.work_of k) received) w s origin (b.work_of k) (b.clean k) (value_of chip (b.work_of k)) received past (missed_after g.setting.machine w s missed) (b.takes k (value_of chip (b.work_of k)))
 
 -- a move of a register or a word: in a window it leaves fewer moves, and a body ends in a window; outside no event stands
 abbrev pub KeepsMask : (was is : Bool) → (room later : ℕ) → Option Event → Option Done → Type 0
@@ -439,10 +455,10 @@ pub record AreLong {State Call Body : Type 0} (g : Basis State Call) (b : LongBo
   -- a body's move is one that its frame may make
   pub own : (below : List (Held Call g.Hold)) (chip : Chip) (w : World) (s : State) (k : Body) (origin : Origin Call) (past : Past) → Stand g b below chip w s k origin past → is_shared (b.work_of k) || g.setting.may origin (b.work_of k) ≡ true
   pub turns : (below : List (Held Call g.Hold)) (chip : Chip) (w : World) (s : State) (k : Body) (origin : Origin Call) (past : Past) → Stand g b below chip w s k origin past → TurnsTo b (g.setting.window_of origin) k (b.takes k (value_of chip (b.work_of k)))
-  pub steps : (below : List (Held Call g.Hold)) (chip : Chip) (w : World) (s : State) (k : Body) (origin : Origin Call) (received : ℕ) (past : Past) (missed : ℕ → Bool) → ReceivedRight g.setting chip w (b.work_of k) received → g.count s < most_steps → Stand g b below chip w s k origin past → Right g b below chip w s k origin received past missed
-  pub later : (below : List (Held Call g.Hold)) (chip : Chip) (w : World) (s : State) (order : Order) (k : Body) (origin : Origin Call) (past : Past) → MayCome g.setting (with_holds origin past.acted (holds_at (b.spot k)) below) chip w s order → Stand g b below chip w s k origin past → place_at (b.spot k) below (g.foot (happened chip order)) (world_after w chip.rate order) (g.later w s order) origin past
-  -- a move at which no event stands resets nothing
-  pub calm : (below : List (Held Call g.Hold)) (chip : Chip) (w : World) (s : State) (k : Body) (origin : Origin Call) (past : Past) → Stand g b below chip w s k origin past → (b.takes k (value_of chip (b.work_of k))).1.event ≡ None → resets_chip (b.work_of k) ≡ false
+  pub steps : (below : List (Held Call g.Hold)) (chip : Chip) (w : World) (s : State) (k : Body) (origin : Origin Call) (received : ℕ) (past : Past) (missed : ℕ → Bool) → ReceivedRight chip w (b.work_of k) received → g.count s < most_steps → Stand g b below chip w s k origin past → Right g b below chip w s k origin received past missed
+  pub later : (below : List (Held Call g.Hold)) (chip : Chip) (w : World) (s : State) (order : Order) (k : Body) (origin : Origin Call) (past : Past) → MayCome g.setting (with_holds origin past.acted (holds_at (b.spot k)) below) chip w s order → Stand g b below chip w s k origin past → place_at (b.spot k) below (g.foot (happened chip order)) (world_after w chip.clock.rate order) (g.later w s order) origin past
+  -- a move at which no event stands resets nothing, and begins no serial word
+  pub calm : (below : List (Held Call g.Hold)) (chip : Chip) (w : World) (s : State) (k : Body) (origin : Origin Call) (past : Past) → Stand g b below chip w s k origin past → (b.takes k (value_of chip (b.work_of k))).1.event ≡ None → (resets_chip (b.work_of k) ≡ false) × (begins_word (b.work_of k) ≡ false)
   pub shortens : (k : Body) (x : ℕ) → Shortens b.fuel k (b.takes k x)
   pub cleans : (k : Body) (x : ℕ) → Cleans b.clean (b.work_of k) k (b.takes k x)
 

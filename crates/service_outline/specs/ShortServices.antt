@@ -1,10 +1,10 @@
 -- Short bodies among services: they hold nothing, and the mask is closed wherever they stand. And drivers of short services alone.
-use Rattle.std.specs.Prelude.{◌≡◌, ℕ, Bool, false, List, [], Option, None}
+use Rattle.std.specs.Prelude.{◌≡◌, false, List, [], Option}
 use Rattle.mcal_base.specs.declared.moves.Move.{Move}
 use Rattle.mcal_base.specs.declared.notice.Notice.{Notice}
 use Rattle.run_model.specs.World.{World}
 use Rattle.run_model.specs.Machine.{Told}
-use Rattle.run_model.specs.Frame.{Origin, Called, Entered, resets_chip, is_reset_service}
+use Rattle.run_model.specs.Frame.{Origin, Called, Entered, resets_chip, begins_word, is_reset_service}
 use Rattle.step_runner.specs.Driver.{Driver}
 use Rattle.service_outline.specs.declared.short.Short.{Short}
 use Rattle.service_outline.specs.Outline.{Ground, Bodies, Outlined}
@@ -29,20 +29,22 @@ pub record ShortAt {State Call Body : Type 0} (g : Basis State Call) (place : Pl
 abbrev pub short : {State Call Body : Type 0} (g : Basis State Call) → Bodies (over g []) Body → Places g Body → LongBodies g Body
 short g b place = record { work_of = b.work_of; takes = b.takes; fuel = b.fuel; room = b.fuel; clean = b.clean; spot = λ k. Within (b.gap_of k) [] (λ below f w s origin past. ShortAt g place below f w s k origin past) }
 
--- the move resets nothing, its call asks for no reset and polls no line, and its handler shows what its notices have to and begins no word
+-- its call asks for no reset and polls no line, and its handler shows what its notices have to
 abbrev pub AsksNone : {State Call : Type 0} → Basis State Call → Origin Call → Type 0
 AsksNone {State} {Call} g (Called c) = (is_reset_service (g.setting.machine.service_of c) ≡ false) × ((w : World) (s : State) → g.setting.machine.polls w s c ≡ [])
-AsksNone {State} g (Entered l) = ((n : Notice) → Shown g (Entered l) n) × ((w : World) (s : State) → g.setting.begins_word w s l ≡ None)
+AsksNone g (Entered l) = (n : Notice) → Shown g (Entered l) n
 
+-- the move resets nothing and begins no serial word
 pub record IsCalm {State Call : Type 0} (g : Basis State Call) (origin : Origin Call) (made : Move) : Type 0 where
   pub still : resets_chip made ≡ false
+  pub silent : begins_word made ≡ false
   pub call : AsksNone g origin
 
 -- ---- drivers of short services alone
 
 -- nothing is held
 abbrev pub unheld : {State Call : Type 0} → Ground State Call → Basis State Call
-unheld g = record { setting = g.setting; lines = g.lines; owns = g.owns; count = g.count; later = g.later; Gap = g.Gap; settled = g.settled; Hold = ⊥; agrees = λ held. g.agrees; Foot = g.Foot; foot = g.foot }
+unheld g = record { setting = g.setting; wired = g.wired; lines = g.lines; owns = g.owns; count = g.count; later = g.later; Gap = g.Gap; settled = g.settled; Hold = ⊥; agrees = λ held. g.agrees; Foot = g.Foot; foot = g.foot }
 
 -- the driver's services
 abbrev pub services_of : {State Call Asked Body : Type 0} → Outlined State Call Asked Body → Services State Call Asked Body

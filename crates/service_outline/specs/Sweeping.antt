@@ -1,9 +1,9 @@
 -- A sweep among services: what it holds after so many objects, and what it owes.
-use Rattle.std.specs.Prelude.{◌≡◌, ℕ, ◌+◌, ◌-◌, ◌<◌, ◌≤◌, Bool, true, false, List, []}
+use Rattle.std.specs.Prelude.{◌≡◌, ℕ, ◌+◌, ◌-◌, ◌<◌, ◌≤◌, true, false, List}
 use Rattle.chip_model.specs.Chip.{Chip, chip_after}
 use Rattle.mcal_base.specs.declared.moves.Move.{Move}
 use Rattle.run_model.specs.World.{World}
-use Rattle.run_model.specs.Frame.{Origin, resets_chip}
+use Rattle.run_model.specs.Frame.{Origin, resets_chip, begins_word}
 use Rattle.service_outline.specs.Past.{Past, past_wrote}
 use Rattle.service_outline.specs.Services.{Held, Basis, Spot, Within, Outside, LongBodies, Stand, is_closed, with_holds}
 use Rattle.service_outline.specs.Sweep.{sweep_work, sweep_takes}
@@ -52,10 +52,10 @@ sweep v b = record {
 
 -- what it owes
 pub record IsSweeping {State Call S B : Type 0} (g : Basis State Call) (v : Sweeping g S B) (b : LongBodies g B) : Type 0 where
-  -- a move of an object is one that the frame may make, resets nothing, and makes what is held of one object more
+  -- a move of an object is one that the frame may make, resets nothing, begins no serial word, and makes what is held of one object more
   pub own : (a : S) (i : ℕ) (below : List (Held Call g.Hold)) (origin : Origin Call) (past : Past) → i < v.count a → v.place a below origin past → g.setting.may origin (v.move a i) ≡ true
-  pub still : (a : S) (i : ℕ) → resets_chip (v.move a i) ≡ false
-  pub step : (a : S) (i : ℕ) (below : List (Held Call g.Hold)) (chip : Chip) (w : World) (s : State) (origin : Origin Call) (past : Past) → i < v.count a → v.place a below origin past → g.agrees (with_holds origin past.acted (v.hold a i) below) g.settled chip w s → g.agrees (with_holds origin past.acted (v.hold a (i + 1)) below) g.settled (chip_after chip (v.move a i)) w s
+  pub still : (a : S) (i : ℕ) → (resets_chip (v.move a i) ≡ false) × (begins_word (v.move a i) ≡ false)
+  pub step : (a : S) (i : ℕ) (below : List (Held Call g.Hold)) (chip : Chip) (w : World) (s : State) (origin : Origin Call) (past : Past) → i < v.count a → v.place a below origin past → g.agrees (with_holds origin past.acted (v.hold a i) below) g.settled chip w s → g.agrees (with_holds origin past.acted (v.hold a (i + 1)) below) g.settled (chip_after chip (v.move a i) 0) w s
   pub stays : (a : S) (i : ℕ) (below : List (Held Call g.Hold)) (w : World) (origin : Origin Call) (past : Past) → v.place a below origin past → v.place a below origin (past_wrote w (v.move a i) past)
   -- with all of them held it may go on with what follows, in a window
   pub follows : (a : S) (below : List (Held Call g.Hold)) (chip : Chip) (w : World) (s : State) (origin : Origin Call) (past : Past) → v.place a below origin past → g.agrees (with_holds origin past.acted (v.hold a (v.count a)) below) g.settled chip w s → Stand g b below chip w s (v.after a) origin past

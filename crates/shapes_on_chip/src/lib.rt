@@ -3,7 +3,8 @@
 
 ghost use Rattle.std.specs.Prelude.{◌≡◌, ◌<◌, ℕ, suc, true, Bool, Some, List, length, slice_index};
 ghost use Rattle.mcal_base.specs.declared.moves.Move.TheVariants.{Load, Store};
-ghost use Rattle.chip_model.specs.Chip.{Chip, Happening, word_of, value_of, chip_after, chip_step};
+ghost use Rattle.chip_model.specs.Chip.{Chip, word_of, value_of, chip_after};
+ghost use Rattle.chip_model.specs.Histories.{Happening, chip_step};
 ghost use Rattle.word_shapes.specs.Banks.{Banks, Putting, Taking, filling};
 ghost use Rattle.word_shapes.specs.Order.{Entry};
 ghost use Rattle.word_shapes.specs.Playing.{Memory, Play, Ends};
@@ -15,14 +16,15 @@ ghost use Rattle.shapes_on_chip.specs.OnChip.{HasWords, AreThere, LooksAt, Leave
 
 use mcal_base::Routine;
 
-/// A routine that ends within some moves over the chip's words makes its next step on the chip with no event, and then
-/// it has ended with what it was to leave, or ends within one move less over the words that the step left.
+/// A routine that ends within some moves over the chip's words makes its next step on the chip with no event, whatever
+/// word comes in, and then it has ended with what it was to leave, or ends within one move less over the words that the
+/// step left.
 pub fn routine_step<R: Routine>()
-    ensures { (own : ℕ → Bool) (n : ℕ) (r : R) (chip : Chip) (done : Memory → List ℕ → Bool)
+    ensures { (own : ℕ → Bool) (n : ℕ) (r : R) (chip : Chip) (received : ℕ) (done : Memory → List ℕ → Bool)
         → HasWords chip → AreThere own → LooksAt own done
         → let play : Play R = record { move_of = R.move_of; left = R.left; gave = R.gave } in
         Ends play own (suc n) r (word_of chip) (λ m words. done m words ≡ true)
-        → StepsTo play own n r chip (λ m words. done m words ≡ true) }
+        → StepsTo play own n r chip received (λ m words. done m words ≡ true) }
 {}
 
 /// What leaves an order's words as they are leaves the order: a store elsewhere, any other move, and hardware.
@@ -34,9 +36,9 @@ pub fn order_elsewhere()
 /// A frame that fills the bank of the open put stores the next value, and one that reads loads the words of the newest
 /// list, or of the list that was newest at its pin. What leaves the banks' words as they are leaves all.
 pub fn bank_steps()
-    ensures fill { (t : Trio) (chip : Chip) (s : Banks) (p : Putting) (value : ℕ) → trio.Fits t → HasWords chip
+    ensures fill { (t : Trio) (chip : Chip) (s : Banks) (p : Putting) (value received : ℕ) → trio.Fits t → HasWords chip
         → s.put ≡ Some p → length p.filled < t.len → trio.Stands t (word_of chip) s
-        → trio.Stands t (word_of (chip_after chip (Store (trio.word_at t p.bank (length p.filled)) value))) (filling value p s) }
+        → trio.Stands t (word_of (chip_after chip (Store (trio.word_at t p.bank (length p.filled)) value) received)) (filling value p s) }
     ensures newest { (t : Trio) (chip : Chip) (s : Banks) (index : ℕ) → index < t.len → trio.Stands t (word_of chip) s
         → value_of chip (Load (trio.word_at t s.bank index)) ≡ slice_index s.newest index }
     ensures kept { (t : Trio) (chip : Chip) (s : Banks) (x : Taking) (index : ℕ) → index < t.len → s.take ≡ Some x

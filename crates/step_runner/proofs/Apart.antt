@@ -1,13 +1,12 @@
 -- Drivers that are apart from each of two are apart from both as one, so that drivers are joined one after another.
-use Rattle.std.proofs.Common.{◌≡◌, ℕ, Bool, true, false, cond, not, ◌&&◌, ◌||◌, List, [], ◌∷◌, Option, Some, None, is_some, refl}
+use Rattle.std.proofs.Common.{◌≡◌, ℕ, Bool, true, false, cond, not, ◌&&◌, List, [], ◌∷◌, Option, Some, None, is_some, refl}
 use Rattle.std.specs.Prelude.{IsSome}
 use Rattle.std.specs.List.{list_all}
-use Rattle.chip_model.specs.Chip.{Chip}
 use Rattle.mcal_base.specs.declared.moves.Move.{Move}
 use Rattle.run_model.specs.World.{World}
 use Rattle.run_model.specs.Machine.{Starts, Aborts, Outcome}
 use Rattle.run_model.specs.Frame.{Origin, Called, Entered}
-use Rattle.step_runner.specs.Driver.{Driver, has_unit, Covers}
+use Rattle.step_runner.specs.Driver.{Driver, Covers}
 use Rattle.step_runner.specs.Lifts.{and-left, and-right}
 use Rattle.step_runner.specs.Union.{either_handler, by_origin, in_first, others, has_handler, AreApart, union_of}
 use Rattle.step_runner.specs.declared.either.Either.{Either}
@@ -91,7 +90,7 @@ apart-second d e f a b = record {
   polls_other = λ w t c. polled-second d e f a b w t.0 t.1 c;
   starts = λ w s t u r some. some-either t.0 t.1 (e.setting.machine.happens w t.0 (Starts u r)) (f.setting.machine.happens w t.1 (Starts u r)) some (a.starts w s t.0 u r) (b.starts w s t.1 u r);
   aborts = λ w s t u some. some-either t.0 t.1 (e.setting.machine.happens w t.0 (Aborts u)) (f.setting.machine.happens w t.1 (Aborts u)) some (a.aborts w s t.0 u) (b.aborts w s t.1 u);
-  steady = λ chip q made h. may-either (has_handler e) e.setting.may f.setting.may q made h (λ x k. a.steady chip x made k) (λ y k. b.steady chip y made k);
+  steady = λ chip q made received h. may-either (has_handler e) e.setting.may f.setting.may q made h (λ x k. a.steady chip x made received k) (λ y k. b.steady chip y made received k);
 }
 
 -- drivers that are each apart from a third one are so as one
@@ -106,10 +105,6 @@ apart-first d e f a b = record {
   steady = a.steady;
 }
 
--- a driver of the whole chip, of two that have all its lines between them
-pub covers-both : {S T C D F G : Type 0} (d : Driver S C F) (e : Driver T D G) → ((line : ℕ) → has_unit line ≡ true → d.lines line || e.lines line ≡ true) → ((chip : Chip) (w : World) (number : ℕ) → d.setting.receives chip w number 0) → ((chip : Chip) (w : World) (number : ℕ) → e.setting.receives chip w number 0) → ((w : World) (s : S) → d.setting.machine.expires w s ≡ None) → ((w : World) (t : T) → e.setting.machine.expires w t ≡ None) → Covers (union_of d e)
-covers-both d e lines in_d in_e no_d no_e = record {
-  lines = lines;
-  incoming = λ chip w number. (in_d chip w number, in_e chip w number);
-  unwatched = λ w s. rw (no_d w s.0, no_e w s.1);
-}
+-- two drivers that may stand on the chip may do so as one
+pub covers-both : {S T C D F G : Type 0} (d : Driver S C F) (e : Driver T D G) → Covers d → Covers e → Covers (union_of d e)
+covers-both d e a b = record { unwatched = λ w s. rw (a.unwatched w s.0, b.unwatched w s.1) }

@@ -3,8 +3,11 @@ use Rattle.std.proofs.Common.{◌≡◌, ℕ, ◌≤◌, ◌==◌, nat_lt, nat_l
 use Rattle.std.specs.Prelude.{IsSome, Result, Ok, Err}
 use Rattle.std.proofs.lemmas.List.{append-nil}
 use Rattle.std.proofs.lemmas.Bool.Decides.{nat_tests}
-use Rattle.chip_model.specs.Chip.{Chip, happened, reset_chip, is_masked, is_pending}
+use Rattle.chip_model.specs.Chip.{Chip, happened, CanHappen, reset_chip, is_masked, is_pending}
+use Rattle.chip_model.proofs.HistoryLaws.{rate-event}
 use Rattle.irq_control.specs.declared.held.Held.{Held}
+use Rattle.mcal_base.specs.Bits.{has_bit}
+use Rattle.mcal_base.proofs.BitLaws.{has_bit-zero}
 use Rattle.mcal_base.specs.declared.directive.Order.{Order}
 use Rattle.mcal_base.specs.declared.directive.Order.TheVariants as orders
 use Rattle.mcal_base.specs.declared.directive.Reason.{Reason}
@@ -15,15 +18,17 @@ use Rattle.run_model.specs.World.{World, world_after}
 use Rattle.run_model.specs.Machine.{Moves}
 use Rattle.run_model.specs.Frame.{Origin, Called, Entered, Open, opened, state_by}
 use Rattle.run_model.specs.Causes.{may_reenter, none_above, all_below, call_level_allows, line_level_allows, first_cause, is_full, call_cause, line_cause, fill_cause, tags_of, origins_of, top_noted}
+use Rattle.run_model.specs.Outside.{StandsIn}
 use Rattle.run_model.specs.Legal.{order_held, hardware_held}
 use Rattle.run_model.specs.Moment.{Moment, Deed, Begins, Enters, Happens, Resets, call_tag, line_tag, start_moment, after_all}
-use Rattle.step_runner.specs.Driver.{Driver, Covers, IsLawful, AllOutside, tags_in, origins_in, TicksFit, IsFree}
+use Rattle.step_runner.specs.Driver.{Driver, Covers, IsLawful, AllOutside, tags_in, TicksFit, IsFree}
 use Rattle.step_runner.specs.Lifts.{and-left, and-right}
 use Rattle.step_runner.specs.Kept.{Kept, tags_under, top_is_noted, cause_of, beginning, put_by, enter_by}
 use Rattle.step_runner.specs.Stands.{paired, AreFramesOf, IsGuarded, LevelsRise, Matches, Stands, done}
 use Rattle.step_runner.specs.declared.stack.Under.{Under}
-use Rattle.step_runner.proofs.ChipFacts.{mask-happened, rate-happened}
-use Rattle.step_runner.proofs.Runs.{none-inside, outside-paired, stands-on}
+use Rattle.step_runner.proofs.ChipFacts.{mask-happened, enabled-happened, devices-after, fills-there}
+use Rattle.run_model.proofs.OutsideLaws.{stands-event, stands-reset}
+use Rattle.step_runner.proofs.Runs.{none-inside, outside-paired, origins-in, stands-on}
 
 -- ---- causes
 
@@ -105,16 +110,10 @@ module _ {State Call Frame : Type 0} (d : Driver State Call Frame) where
   tags-in (u ∷ us) [] a = absurd a
   tags-in (u ∷ us) (o ∷ os) a = ap (λ t. t ∷ tags_in (paired us os)) (sym a.0.tag) ∙ ap (λ ts. u.tag ∷ ts) (tags-in us os a.1)
 
-  origins-in : (us : List (Under Frame)) (os : List (Open Call)) → AreFramesOf d us os → origins_in (paired us os) ≡ origins_of os
-  origins-in [] [] a = refl
-  origins-in [] (o ∷ os) a = absurd a
-  origins-in (u ∷ us) [] a = absurd a
-  origins-in (u ∷ us) (o ∷ os) a = ap (λ x. o.origin ∷ x) (origins-in us os a.1)
-
-  free-of : Covers d → (masked : Bool) (w : World) (s : State) (os : List (Origin Call)) (order : Order) → order_held d.setting masked w s os order ≡ None → IsFree d.setting masked w s os order
-  free-of cover masked w s os (orders.Tick n) e = subst (λ x. TicksFit n x) (sym (cover.unwatched w s)) tt
-  free-of cover masked w s os (orders.Fill c ws) e = fill-free masked (d.setting.fills c) (d.setting.fill_busy w s os c) e
-  free-of cover masked w s os _ e = tt
+  free-of : Covers d → (chip : Chip) (masked : Bool) (w : World) (s : State) (os : List (Origin Call)) (order : Order) → CanHappen chip order → order_held d.setting masked w s os order ≡ None → IsFree d.setting masked w s os order
+  free-of cover chip masked w s os (orders.Tick n) can e = subst (λ x. TicksFit n x) (sym (cover.unwatched w s)) tt
+  free-of cover chip masked w s os (orders.Fill c ws) can e = (fill-free masked (d.setting.fills c) (d.setting.fill_busy w s os c) e, can.0)
+  free-of cover chip masked w s os _ can e = tt
 
   noted-is : (us : List (Under Frame)) (os : List (Open Call)) → AreFramesOf d us os → top_is_noted us ≡ top_noted os
   noted-is [] [] a = refl
@@ -134,15 +133,18 @@ module _ {State Call Frame : Type 0} (d : Driver State Call Frame) where
         counted = k.counted;
         levels = (above, k.levels);
         rate = k.rate;
+        outside = k.outside;
+        alone = k.alone;
+        enabled = k.enabled;
       }
 
 module _ {State Call Frame : Type 0} (d : Driver State Call Frame) (move_of : Frame → Move) (left : Frame → ℕ → Frame) (gave : Frame → ℕ → Taken) (law : IsLawful d move_of left gave) where
   -- a call begins, or is held
-  pub stands-begin : {A : Type 0} (h : List (Deed Call)) (chip : Chip) (k : Kept Frame) (r : Result A Held) (c : Call) (level : ℕ) → d.can_call c → cause_of r ≡ call_cause (is_masked chip) (tags_under k.frames) (top_is_noted k.frames) (d.setting.class_of c) level → Stands d chip k.frames h → Stands d chip (put_by r (beginning (d.frame_of c) (call_tag d.setting c level)) k).frames (h ++ done r (Begins c level))
-  stands-begin h chip k (Err cause) c level can is st = subst (λ x. Stands d chip k.frames x) (sym (append-nil h)) st
-  stands-begin h chip k (Ok a) c level can is st =
+  pub stands-begin : {A : Type 0} (first : Chip) (h : List (Deed Call)) (chip : Chip) (k : Kept Frame) (r : Result A Held) (c : Call) (level : ℕ) → d.can_call c → cause_of r ≡ call_cause (is_masked chip) (tags_under k.frames) (top_is_noted k.frames) (d.setting.class_of c) level → Stands d first chip k.frames h → Stands d first chip (put_by r (beginning (d.frame_of c) (call_tag d.setting c level)) k).frames (h ++ done r (Begins c level))
+  stands-begin first h chip k (Err cause) c level can is st = subst (λ x. Stands d first chip k.frames x) (sym (append-nil h)) st
+  stands-begin first h chip k (Ok a) c level can is st =
       let us = k.frames in
-      let m = after_all d.setting (start_moment d.setting) h in
+      let m = after_all d.setting (start_moment d.setting first) h in
       let mm = st.matches in
       let none : call_cause (is_masked chip) (tags_under us) (top_is_noted us) (d.setting.class_of c) level ≡ None = sym is in
       let x = first-none (is_masked chip) (not (call_level_allows (tags_under us) (top_is_noted us) level)) (not (may_reenter (d.setting.class_of c) (tags_under us))) false (is_full (tags_under us)) none in
@@ -155,19 +157,19 @@ module _ {State Call Frame : Type 0} (d : Driver State Call Frame) (move_of : Fr
       ap (λ b. call_cause (is_masked b) (tags_of m.opens) (top_noted m.opens) (d.setting.class_of c) level) (sym mm.chip_is)
       ∙ (ap (λ ts. call_cause (is_masked chip) ts (top_noted m.opens) (d.setting.class_of c) level) (sym (tags-are d us m.opens mm.frames))
       ∙ (ap (λ b. call_cause (is_masked chip) (tags_under us) b (d.setting.class_of c) level) (sym (noted-is d us m.opens mm.frames)) ∙ none)) in
-      stands-on d move_of left gave law chip chip us (beginning (d.frame_of c) (call_tag d.setting c level) ∷ us) h (Begins c level) st legal
+      stands-on d move_of left gave law first chip chip us (beginning (d.frame_of c) (call_tag d.setting c level) ∷ us) h (Begins c level) st legal
       (put-on d chip us m (d.frame_of c) (Called c) (call_tag d.setting c level) e above (law.call_fuel c can) (λ out. law.begins m.chip m.world (paired us m.opens) m.state c level can e out reenters above_in mm.relates) mm)
 
   -- a handler begins, or is held
-  pub stands-enter : {A : Type 0} (h : List (Deed Call)) (chip : Chip) (k : Kept Frame) (r : Result A Held) (line : ℕ) (handler : Option Frame) → d.handler_of line ≡ handler → cause_of r ≡ line_cause (is_masked chip) (tags_under k.frames) (d.setting.level_of line) (is_some handler && is_pending chip line) → Stands d chip k.frames h → Stands d chip (enter_by r handler (line_tag d.setting line) k).frames (h ++ done r (Enters line))
-  stands-enter h chip k (Err cause) line None there is st = subst (λ x. Stands d chip k.frames x) (sym (append-nil h)) st
-  stands-enter h chip k (Err cause) line (Some f) there is st = subst (λ x. Stands d chip k.frames x) (sym (append-nil h)) st
-  stands-enter h chip k (Ok a) line None there is st =
+  pub stands-enter : {A : Type 0} (first : Chip) (h : List (Deed Call)) (chip : Chip) (k : Kept Frame) (r : Result A Held) (line : ℕ) (handler : Option Frame) → d.handler_of line ≡ handler → cause_of r ≡ line_cause (is_masked chip) (tags_under k.frames) (d.setting.level_of line) (is_some handler && is_pending chip line) → Stands d first chip k.frames h → Stands d first chip (enter_by r handler (line_tag d.setting line) k).frames (h ++ done r (Enters line))
+  stands-enter first h chip k (Err cause) line None there is st = subst (λ x. Stands d first chip k.frames x) (sym (append-nil h)) st
+  stands-enter first h chip k (Err cause) line (Some f) there is st = subst (λ x. Stands d first chip k.frames x) (sym (append-nil h)) st
+  stands-enter first h chip k (Ok a) line None there is st =
       let x = first-none (is_masked chip) (not (line_level_allows (tags_under k.frames) (d.setting.level_of line))) false true (is_full (tags_under k.frames)) (sym is) in
       let e = x.2 in cc
-  stands-enter h chip k (Ok a) line (Some f) there is st =
+  stands-enter first h chip k (Ok a) line (Some f) there is st =
       let us = k.frames in
-      let m = after_all d.setting (start_moment d.setting) h in
+      let m = after_all d.setting (start_moment d.setting first) h in
       let mm = st.matches in
       let level = d.setting.level_of line in
       let none : line_cause (is_masked chip) (tags_under us) level (is_pending chip line) ≡ None = sym is in
@@ -176,39 +178,43 @@ module _ {State Call Frame : Type 0} (d : Driver State Call Frame) (move_of : Fr
       let allowed : line_level_allows (tags_of m.opens) level ≡ true = sym (ap (λ ts. line_level_allows ts level) (tags-are d us m.opens mm.frames)) ∙ not-false (line_level_allows (tags_under us) level) x.3 in
       let under : all_below (tags_of m.opens) level ≡ true = line-above (tags_of m.opens) level mm.levels allowed in
       let under_in : all_below (tags_in (paired us m.opens)) level ≡ true = ap (λ ts. all_below ts level) (tags-in d us m.opens mm.frames ∙ tags-are d us m.opens mm.frames) ∙ under in
-      let used : d.setting.used line ≡ true = sym (law.handled line) ∙ ap is_some there in
+      let pending : is_pending m.chip line ≡ true = ap (λ b. is_pending b line) (sym mm.chip_is) ∙ not-false (is_pending chip line) x.2 in
       let legal : line_cause (is_masked m.chip) (tags_of m.opens) level (is_pending m.chip line) ≡ None =
       ap (λ b. line_cause (is_masked b) (tags_of m.opens) level (is_pending b line)) (sym mm.chip_is)
       ∙ (ap (λ ts. line_cause (is_masked chip) ts level (is_pending chip line)) (sym (tags-are d us m.opens mm.frames)) ∙ none) in
-      stands-on d move_of left gave law chip chip us (beginning f (line_tag d.setting line) ∷ us) h (Enters line) st (used, legal)
-      (put-on d chip us m f (Entered line) (line_tag d.setting line) e (below-above (tags_of m.opens) level under) (law.line_fuel line f there) (λ out. law.enters m.chip m.world (paired us m.opens) m.state line f there e out under_in mm.relates) mm)
+      stands-on d move_of left gave law first chip chip us (beginning f (line_tag d.setting line) ∷ us) h (Enters line) st legal
+      (put-on d chip us m f (Entered line) (line_tag d.setting line) e (below-above (tags_of m.opens) level under) (law.line_fuel line f there) (λ out. law.enters m.chip m.world (paired us m.opens) m.state line f there e pending out under_in mm.relates) mm)
 
   -- the hardware moves
-  pub stands-happens : (h : List (Deed Call)) (chip : Chip) (us : List (Under Frame)) (order : Order) → hardware_held d.setting (after_all d.setting (start_moment d.setting) h) order ≡ None → Stands d chip us h → Stands d (happened chip order) us (h ++ Happens order ∷ [])
-  stands-happens h chip us order free st =
-      let m = after_all d.setting (start_moment d.setting) h in
+  pub stands-happens : (first : Chip) (h : List (Deed Call)) (chip : Chip) (us : List (Under Frame)) (order : Order) → CanHappen chip order → hardware_held d.setting (after_all d.setting (start_moment d.setting first) h) order ≡ None → Stands d first chip us h → Stands d first (happened chip order) us (h ++ Happens order ∷ [])
+  stands-happens first h chip us order can free st =
+      let m = after_all d.setting (start_moment d.setting first) h in
       let mm = st.matches in
-      let may = subst (λ os. IsFree d.setting (is_masked m.chip) m.world m.state os order) (sym (origins-in d us m.opens mm.frames)) (free-of d st.covers (is_masked m.chip) m.world m.state (origins_of m.opens) order free) in
+      let can_here : CanHappen m.chip order = subst (λ c. CanHappen c order) mm.chip_is can in
+      let may = subst (λ os. IsFree d.setting (is_masked m.chip) m.world m.state os order) (sym (origins-in d us m.opens mm.frames)) (free-of d st.covers m.chip (is_masked m.chip) m.world m.state (origins_of m.opens) order can_here free) in
       let t = law.moves m.chip m.world (paired us m.opens) m.state order may mm.relates in
-      stands-on d move_of left gave law chip (happened chip order) us us h (Happens order) st (free, subst (λ o. IsSome o) (sym t.1) refl)
+      stands-on d move_of left gave law first chip (happened chip order) us us h (Happens order) st (free, subst (λ o. IsSome o) (sym t.1) refl)
       (record {
         chip_is = ap (λ c. happened c order) mm.chip_is;
         frames = mm.frames;
         relates = subst (λ n. d.relates (happened m.chip order) (world_after m.world n order) (paired us m.opens) (state_by m.state (d.setting.machine.happens m.world m.state (Moves order)))) mm.rate
-            (subst (λ o. d.relates (happened m.chip order) (world_after m.world m.chip.rate order) (paired us m.opens) (state_by m.state o)) (sym t.1) t.2);
+            (subst (λ o. d.relates (happened m.chip order) (world_after m.world m.chip.clock.rate order) (paired us m.opens) (state_by m.state o)) (sym t.1) t.2);
         guarded = subst (λ b. IsGuarded b m.opens) (sym (mask-happened m.chip order)) mm.guarded;
         counted = let c = law.count_moves m.world m.state order t.0 t.1 in subst (λ o. d.count (state_by m.state o) ≤ m.steps) (sym t.1) (let k = mm.counted in omega (arith, c, k));
         levels = mm.levels;
-        rate = rate-happened m.chip order ∙ (mm.rate ∙ (sym (law.rate_moves m.world m.state order t.0 t.1) ∙ ap (λ o. d.setting.machine.rate (state_by m.state o)) (sym t.1)));
+        rate = rate-event m.chip order ∙ (mm.rate ∙ (sym (law.rate_moves m.world m.state order t.0 t.1) ∙ ap (λ o. d.setting.machine.rate (state_by m.state o)) (sym t.1)));
+        outside = subst (λ n. StandsIn (happened m.chip order) (world_after m.world n order)) mm.rate (stands-event m.chip m.world order (fills-there m.chip order can_here) mm.outside);
+        alone = devices-after m.world (d.setting.machine.rate m.state) order ∙ mm.alone;
+        enabled = λ line apart. ap (λ n. has_bit n line) (enabled-happened m.chip order) ∙ mm.enabled line apart;
       })
 
   -- the chip is reset, and every frame dropped
-  pub stands-resets : (h : List (Deed Call)) (chip : Chip) (us : List (Under Frame)) (reason : Reason) → Stands d chip us h → Stands d (reset_chip chip reason) [] (h ++ Resets reason ∷ [])
-  stands-resets h chip us reason st =
-      let m = after_all d.setting (start_moment d.setting) h in
+  pub stands-resets : (first : Chip) (h : List (Deed Call)) (chip : Chip) (us : List (Under Frame)) (reason : Reason) → Stands d first chip us h → Stands d first (reset_chip chip reason) [] (h ++ Resets reason ∷ [])
+  stands-resets first h chip us reason st =
+      let m = after_all d.setting (start_moment d.setting first) h in
       let mm = st.matches in
       let t = law.resets m.chip m.world (paired us m.opens) m.state reason mm.relates in
-      stands-on d move_of left gave law chip (reset_chip chip reason) us [] h (Resets reason) st (subst (λ o. IsSome o) (sym t.1) refl)
+      stands-on d move_of left gave law first chip (reset_chip chip reason) us [] h (Resets reason) st (subst (λ o. IsSome o) (sym t.1) refl)
       (record {
         chip_is = ap (λ c. reset_chip c reason) mm.chip_is;
         frames = tt;
@@ -217,20 +223,23 @@ module _ {State Call Frame : Type 0} (d : Driver State Call Frame) (move_of : Fr
         counted = let c = law.count_resets m.world m.state reason t.0 t.1 in subst (λ o. d.count (state_by m.state o) ≤ m.steps) (sym t.1) (let k = mm.counted in omega (arith, c, k));
         levels = tt;
         rate = law.rate_resets m.chip m.world m.state reason t.0 t.1 ∙ ap (λ o. d.setting.machine.rate (state_by m.state o)) (sym t.1);
+        outside = stands-reset m.chip m.world reason mm.outside;
+        alone = mm.alone;
+        enabled = λ line apart. has_bit-zero line;
       })
 
   -- the same, from what the runner's calls ensure
 
-  pub after-begin : {A : Type 0} (h : List (Deed Call)) (chip : Chip) (k k1 : Kept Frame) (r : Result A Held) (c : Call) (level : ℕ) → cause_of r ≡ call_cause (is_masked chip) (tags_under k.frames) (top_is_noted k.frames) (d.setting.class_of c) level → k1 ≡ put_by r (beginning (d.frame_of c) (call_tag d.setting c level)) k → d.can_call c → Stands d chip k.frames h → Stands d chip k1.frames (h ++ done r (Begins c level))
-  after-begin h chip k k1 r c level is new can st = subst (λ x. Stands d chip x.frames (h ++ done r (Begins c level))) (sym new) (stands-begin h chip k r c level can is st)
+  pub after-begin : {A : Type 0} (first : Chip) (h : List (Deed Call)) (chip : Chip) (k k1 : Kept Frame) (r : Result A Held) (c : Call) (level : ℕ) → cause_of r ≡ call_cause (is_masked chip) (tags_under k.frames) (top_is_noted k.frames) (d.setting.class_of c) level → k1 ≡ put_by r (beginning (d.frame_of c) (call_tag d.setting c level)) k → d.can_call c → Stands d first chip k.frames h → Stands d first chip k1.frames (h ++ done r (Begins c level))
+  after-begin first h chip k k1 r c level is new can st = subst (λ x. Stands d first chip x.frames (h ++ done r (Begins c level))) (sym new) (stands-begin first h chip k r c level can is st)
 
-  pub after-enter : {A : Type 0} (h : List (Deed Call)) (chip : Chip) (k k1 : Kept Frame) (r : Result A Held) (line : ℕ) → cause_of r ≡ line_cause (is_masked chip) (tags_under k.frames) (d.setting.level_of line) (is_some (d.handler_of line) && is_pending chip line) → k1 ≡ enter_by r (d.handler_of line) (line_tag d.setting line) k → Stands d chip k.frames h → Stands d chip k1.frames (h ++ done r (Enters line))
-  after-enter h chip k k1 r line is new st = subst (λ x. Stands d chip x.frames (h ++ done r (Enters line))) (sym new) (stands-enter h chip k r line (d.handler_of line) refl is st)
+  pub after-enter : {A : Type 0} (first : Chip) (h : List (Deed Call)) (chip : Chip) (k k1 : Kept Frame) (r : Result A Held) (line : ℕ) → cause_of r ≡ line_cause (is_masked chip) (tags_under k.frames) (d.setting.level_of line) (is_some (d.handler_of line) && is_pending chip line) → k1 ≡ enter_by r (d.handler_of line) (line_tag d.setting line) k → Stands d first chip k.frames h → Stands d first chip k1.frames (h ++ done r (Enters line))
+  after-enter first h chip k k1 r line is new st = subst (λ x. Stands d first chip x.frames (h ++ done r (Enters line))) (sym new) (stands-enter first h chip k r line (d.handler_of line) refl is st)
 
-  pub after-hardware : (h : List (Deed Call)) (chip chip1 : Chip) (us : List (Under Frame)) (order : Order) → chip1 ≡ happened chip order → hardware_held d.setting (after_all d.setting (start_moment d.setting) h) order ≡ None → Stands d chip us h → Stands d chip1 us (h ++ Happens order ∷ [])
-  after-hardware h chip chip1 us order is free st = subst (λ x. Stands d x us (h ++ Happens order ∷ [])) (sym is) (stands-happens h chip us order free st)
+  pub after-hardware : (first : Chip) (h : List (Deed Call)) (chip chip1 : Chip) (us : List (Under Frame)) (order : Order) → chip1 ≡ happened chip order → CanHappen chip order → hardware_held d.setting (after_all d.setting (start_moment d.setting first) h) order ≡ None → Stands d first chip us h → Stands d first chip1 us (h ++ Happens order ∷ [])
+  after-hardware first h chip chip1 us order is can free st = subst (λ x. Stands d first x us (h ++ Happens order ∷ [])) (sym is) (stands-happens first h chip us order can free st)
 
-  pub after-reset : (h : List (Deed Call)) (chip chip1 : Chip) (k k1 : Kept Frame) (reason : Reason) → chip1 ≡ reset_chip chip reason → k1 ≡ record k { frames = [] } → Stands d chip k.frames h → Stands d chip1 k1.frames (h ++ Resets reason ∷ [])
-  after-reset h chip chip1 k k1 reason is new st =
-      subst (λ x. Stands d x k1.frames (h ++ Resets reason ∷ [])) (sym is)
-      (subst (λ x. Stands d (reset_chip chip reason) x.frames (h ++ Resets reason ∷ [])) (sym new) (stands-resets h chip k.frames reason st))
+  pub after-reset : (first : Chip) (h : List (Deed Call)) (chip chip1 : Chip) (k k1 : Kept Frame) (reason : Reason) → chip1 ≡ reset_chip chip reason → k1 ≡ record k { frames = [] } → Stands d first chip k.frames h → Stands d first chip1 k1.frames (h ++ Resets reason ∷ [])
+  after-reset first h chip chip1 k k1 reason is new st =
+      subst (λ x. Stands d first x k1.frames (h ++ Resets reason ∷ [])) (sym is)
+      (subst (λ x. Stands d first (reset_chip chip reason) x.frames (h ++ Resets reason ∷ [])) (sym new) (stands-resets first h chip k.frames reason st))

@@ -1,48 +1,110 @@
--- What the runner needs of the chip: when the mask is closed, which lines are never pending, and that no hardware event changes the rate.
-use Rattle.std.proofs.Common.{◌≡◌, ℕ, ◌≤◌, nat_lt, ◌&&◌, false, refl, ap, arith}
+-- What the runner needs of the chip: when the mask is closed, which lines are enabled, and the word that comes in where no device is.
+use Rattle.std.proofs.Common.{◌≡◌, ℕ, ◌≤◌, nat_lt, nat_le, Bool, true, false, ◌&&◌, ◌||◌, ◌-◌, ◌^◌, refl, sym, ◌∙◌, ap, subst, arith}
+use Rattle.std.specs.Prelude.{MatchBool, bit_or}
 use Rattle.std.proofs.lemmas.Bool.Decides.{nat_tests}
-use Rattle.chip_model.specs.Chip.{Chip, chip_after, after_write, happened, is_masked, is_pending}
-use Rattle.chip_timers.specs.Timers.{is_flagged, timer_at}
-use Rattle.mcal_base.specs.Bits.{has_bit}
-use Rattle.mcal_base.proofs.BitLaws.{has_bit-bits_of_above}
-use Rattle.step_runner.specs.Driver.{has_unit}
+use Rattle.chip_units.specs.Serials.{unit_at}
+use Rattle.chip_model.specs.Chip.{Chip, received_of, after_read, after_write, chip_after, happened, CanHappen, flag_of, is_masked, is_pending}
+use Rattle.chip_model.specs.Histories.{Made, Hardware, FillsThere}
+use Rattle.chip_model.proofs.HistoryLaws.{mask-left, level_leaves}
+use Rattle.irq_control.specs.Control.{Control}
+use Rattle.mcal_base.specs.Bits.{has_bit, without}
+use Rattle.mcal_base.proofs.BitLaws.{has_bit-or, has_bit-and}
 use Rattle.mcal_base.specs.declared.directive.Order.{Order}
-use Rattle.mcal_base.specs.declared.directive.Order.TheVariants.{Tick}
+use Rattle.mcal_base.specs.declared.directive.Order.TheVariants.{Tick, Level, Analog, Fill}
 use Rattle.mcal_base.specs.declared.moves.Move.{Move}
 use Rattle.mcal_base.specs.declared.moves.Move.TheVariants.{Read, Write, Load, Store, Mask, Unmask, Note, Report}
 use Rattle.mcal_base.specs.declared.register.Reg.{Reg}
-use Rattle.mcal_base.specs.declared.register.Reg.TheVariants.{EnableSet, EnableClear}
+use Rattle.mcal_base.specs.declared.register.Reg.TheVariants.{EnableSet, EnableClear, TimerLow, CaptureCountLow, CaptureTimeLow, ConverterAbort, SerialData}
+use Rattle.run_model.specs.World.{World, world_after}
 use Rattle.run_model.specs.Frame.{inside_after}
+use Rattle.run_model.specs.Legal.{ReceivedRight}
 
-mask-write : (c : Chip) (r : Reg) (v : ℕ) → is_masked (after_write c r v) ≡ is_masked c
-mask-write c EnableSet v = refl
-mask-write c EnableClear v = refl
-mask-write c r v = refl
+-- ---- the mask
 
 -- the mask after a move
-pub mask-after : (c : Chip) (made : Move) → is_masked (chip_after c made) ≡ inside_after (is_masked c) made
-mask-after c Mask = refl
-mask-after c Unmask = refl
-mask-after c (Read r) = refl
-mask-after c (Write r v) = mask-write c r v
-mask-after c (Load k) = refl
-mask-after c (Store k v) = refl
-mask-after c (Note n) = refl
-mask-after c (Report e) = refl
-
-past-units : (line : ℕ) → nat_lt line 8 ≡ false → 8 ≤ line
-past-units line e = grind (arith, nat_tests)
-
--- a line whose unit the chip lacks is never pending
-pub unit-pending : (c : Chip) (line : ℕ) → has_unit line ≡ false → is_pending c line ≡ false
-unit-pending c line e = ap (λ b. b && has_bit c.control.enabled line) (has_bit-bits_of_above (λ k. is_flagged (timer_at c.timers k) c.timers.time) 8 line (past-units line e))
+pub mask-after : (c : Chip) (made : Move) (received : ℕ) → is_masked (chip_after c made received) ≡ inside_after (is_masked c) made
+mask-after c Mask received = refl
+mask-after c Unmask received = refl
+mask-after c (Read r) received = mask-left c (Made (Read r) received) tt
+mask-after c (Write r v) received = mask-left c (Made (Write r v) received) tt
+mask-after c (Load k) received = refl
+mask-after c (Store k v) received = refl
+mask-after c (Note n) received = refl
+mask-after c (Report e) received = refl
 
 -- no hardware event opens or closes the mask
 pub mask-happened : (c : Chip) (order : Order) → is_masked (happened c order) ≡ is_masked c
-mask-happened c (Tick n) = refl
-mask-happened c order = refl
+mask-happened c order = mask-left c (Hardware order) tt
 
--- or changes the rate
-pub rate-happened : (c : Chip) (order : Order) → (happened c order).rate ≡ c.rate
-rate-happened c (Tick n) = refl
-rate-happened c order = refl
+-- ---- the lines that are enabled
+
+no-and : (a : Bool) → a && false ≡ false
+no-and true = refl
+no-and false = refl
+
+-- a line that isn't enabled is never pending
+pub disabled-pending : (c : Chip) (line : ℕ) → has_bit c.control.enabled line ≡ false → is_pending c line ≡ false
+disabled-pending c line e = ap (λ b. flag_of c line && b) e ∙ no-and (flag_of c line)
+
+control-read : (c : Chip) (r : Reg) → (after_read c r).control ≡ c.control
+control-read c (TimerLow k) = refl
+control-read c (CaptureCountLow k) = refl
+control-read c (CaptureTimeLow k) = refl
+control-read c (ConverterAbort u) = refl
+control-read c _ = refl
+
+bit-or : (a b line : ℕ) → has_bit a line ≡ false → has_bit b line ≡ false → has_bit (bit_or a b) line ≡ false
+bit-or a b line e f = has_bit-or a b line ∙ (ap (λ x. x || has_bit b line) e ∙ f)
+
+bit-without : (a b line : ℕ) → has_bit a line ≡ false → has_bit (without a b) line ≡ false
+bit-without a b line e = has_bit-and a (2 ^ 32 - 1 - b) line ∙ ap (λ x. x && has_bit (2 ^ 32 - 1 - b) line) e
+
+disabled-write : (c : Chip) (r : Reg) (v received line : ℕ) → (r ≡ EnableSet → has_bit v line ≡ false) → has_bit c.control.enabled line ≡ false → has_bit (after_write c r v received).control.enabled line ≡ false
+disabled-write c EnableSet v received line none e = bit-or c.control.enabled v line e (none refl)
+disabled-write c EnableClear v received line none e = bit-without c.control.enabled v line e
+disabled-write c (SerialData u) v received line none e = e
+disabled-write c _ v received line none e = e
+
+-- a move that doesn't enable a line leaves it disabled
+pub disabled-after : (c : Chip) (made : Move) (received line : ℕ) → ((bits : ℕ) → made ≡ Write EnableSet bits → has_bit bits line ≡ false) → has_bit c.control.enabled line ≡ false → has_bit (chip_after c made received).control.enabled line ≡ false
+disabled-after c (Read r) received line none e = ap (λ (k : Control). has_bit k.enabled line) (control-read c r) ∙ e
+disabled-after c (Write r v) received line none e = disabled-write c r v received line (λ is. none v (ap (λ x. Write x v) is)) e
+disabled-after c (Load k) received line none e = e
+disabled-after c (Store k v) received line none e = e
+disabled-after c Mask received line none e = e
+disabled-after c Unmask received line none e = e
+disabled-after c (Note n) received line none e = e
+disabled-after c (Report x) received line none e = e
+
+-- no hardware event enables or disables a line
+pub enabled-happened : (c : Chip) (order : Order) → (happened c order).control.enabled ≡ c.control.enabled
+enabled-happened c (Level p v) = level_leaves (λ d. d.control.enabled) c p v refl
+enabled-happened c _ = refl
+
+-- ---- what is outside
+
+no-device : (select devices : ℕ) → devices ≡ 0 → nat_lt 0 select && nat_le select devices ≡ false
+no-device select devices e = grind (arith, nat_tests)
+
+waiting-comes : (c : Chip) (w : World) (r : Reg) (v : ℕ) → w.devices ≡ 0 → ReceivedRight c w (Write r v) (received_of c (Write r v))
+waiting-comes c w (SerialData u) v e =
+    let received = received_of c (Write (SerialData u) v) in
+    subst (λ b. MatchBool b (received ≤ 65536) (received ≡ received)) (sym (no-device (unit_at c.serials u).select w.devices e)) refl
+waiting-comes c w _ v e = refl
+
+-- without a device the word that comes in is the next one that waits
+pub received-alone : (c : Chip) (w : World) (made : Move) → w.devices ≡ 0 → ReceivedRight c w made (received_of c made)
+received-alone c w (Write r v) e = waiting-comes c w r v e
+received-alone c w _ e = refl
+
+-- no device comes by a hardware event
+pub devices-after : (w : World) (rate : ℕ) (order : Order) → (world_after w rate order).devices ≡ w.devices
+devices-after w rate (Tick n) = refl
+devices-after w rate (Level p v) = refl
+devices-after w rate (Analog i v) = refl
+devices-after w rate _ = refl
+
+-- a fill that may come is to a channel that there is
+pub fills-there : (c : Chip) (order : Order) → CanHappen c order → FillsThere (Hardware order)
+fills-there c (Fill channel ws) h = h.0
+fills-there c _ h = tt

@@ -2,7 +2,7 @@
 use Rattle.std.proofs.Common.{◌≡◌, ℕ, zero, suc, ◌+◌, false, List, [], ◌∷◌, ◌++◌, Option, Some, None, length, refl, sym, ◌∙◌, ap, subst, arith}
 use Rattle.std.specs.Prelude.{reverse, take, drop, slice_set, slice_index_or, Ok, is_some}
 use Rattle.std.proofs.lemmas.List.{set_split, set-get_or, reverse-append}
-use Rattle.chip_model.specs.Chip.{Chip, value_of, chip_after}
+use Rattle.chip_model.specs.Chip.{Chip, value_of, received_of, chip_after}
 use Rattle.mcal_base.specs.declared.answer.Answer.{Answer}
 use Rattle.mcal_base.specs.declared.moves.Move.{Move}
 use Rattle.mcal_base.specs.declared.routine.Taken.{Taken}
@@ -34,7 +34,7 @@ goes-on u us None e = refl
 goes-on u us (Some a) e = absurd (cc)
 
 -- The last frame made its move where it stands, and goes on.
-pub takes-last : {Frame : Type 0} (move_of : Frame → Move) (left : Frame → ℕ → Frame) (gave : Frame → ℕ → Taken) (xs : List (Under Frame)) (n : ℕ) (u top : Under Frame) (steps : ℕ) (chip chip1 : Chip) (s : Stepped) → length xs ≡ n + 1 → u ≡ slice_index_or xs n u → top ≡ moved u (left u.frame (value_of chip (move_of u.frame))) (move_of u.frame) → chip1 ≡ chip_after chip (move_of u.frame) → s ≡ stepped (move_of u.frame) (value_of chip (move_of u.frame)) 0 (gave u.frame (value_of chip (move_of u.frame))) → is_some s.ended ≡ false → TakesStep move_of left gave (reverse xs) steps chip (record { frames = reverse (slice_set xs n top); steps = steps + 1 }) chip1 (Ok s)
+pub takes-last : {Frame : Type 0} (move_of : Frame → Move) (left : Frame → ℕ → Frame) (gave : Frame → ℕ → Taken) (xs : List (Under Frame)) (n : ℕ) (u top : Under Frame) (steps : ℕ) (chip chip1 : Chip) (s : Stepped) → length xs ≡ n + 1 → u ≡ slice_index_or xs n u → top ≡ moved u (left u.frame (value_of chip (move_of u.frame))) (move_of u.frame) → chip1 ≡ chip_after chip (move_of u.frame) (received_of chip (move_of u.frame)) → s ≡ stepped (move_of u.frame) (value_of chip (move_of u.frame)) (received_of chip (move_of u.frame)) (gave u.frame (value_of chip (move_of u.frame))) → is_some s.ended ≡ false → TakesStep move_of left gave (reverse xs) steps chip (record { frames = reverse (slice_set xs n top); steps = steps + 1 }) chip1 (Ok s)
 takes-last move_of left gave xs n u top steps chip chip1 s count is top-is chip-is s-is none =
     let us = reverse (take n xs) in
     let value = value_of chip (move_of u.frame) in

@@ -5,3 +5,4 @@ pub mod ChipFacts
 pub mod KeptLemmas
 pub mod Runs
 pub mod LastFrame
+pub mod PowerOn

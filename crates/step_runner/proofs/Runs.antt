@@ -1,28 +1,30 @@
 -- What a chip and a stack stand for goes on by one deed.
-use Rattle.std.proofs.Common.{◌≡◌, ℕ, ◌+◌, ◌<◌, ◌≤◌, Bool, true, false, List, [], ◌∷◌, ◌++◌, Option, Some, None, refl, sym, ◌∙◌, ap, subst, arith}
+use Rattle.std.proofs.Common.{◌≡◌, ℕ, ◌+◌, ◌<◌, ◌≤◌, Bool, true, false, ◌||◌, List, [], ◌∷◌, ◌++◌, Option, Some, None, refl, sym, ◌∙◌, ap, subst, arith}
 use Rattle.std.specs.Prelude.{Result, Ok}
 use Rattle.std.proofs.lemmas.List.{append-nil}
-use Rattle.chip_model.specs.Chip.{Chip, value_of, chip_after, fresh, is_masked, is_pending}
+use Rattle.chip_model.specs.Chip.{Chip, value_of, received_of, chip_after, is_masked, is_pending}
 use Rattle.irq_control.specs.declared.held.Held.{Held}
+use Rattle.mcal_base.specs.Bits.{has_bit}
+use Rattle.mcal_base.proofs.BitLaws.{has_bit-zero}
 use Rattle.mcal_base.specs.declared.answer.Answer.{Answer}
 use Rattle.mcal_base.specs.declared.moves.Move.{Move}
 use Rattle.mcal_base.specs.declared.moves.Move.TheVariants.{Write}
-use Rattle.mcal_base.specs.declared.register.Reg.{Reg}
-use Rattle.mcal_base.specs.declared.register.Reg.TheVariants.{SerialData}
+use Rattle.mcal_base.specs.declared.register.Reg.TheVariants.{EnableSet}
 use Rattle.mcal_base.specs.declared.routine.Taken.{Taken}
 use Rattle.run_model.specs.declared.item.Stepped.{Stepped}
 use Rattle.run_model.specs.World.{World, world_start}
-use Rattle.run_model.specs.Causes.{tags_of}
-use Rattle.run_model.specs.Frame.{Open, brought_by, happening_at, outcome_of, state_by, state_after, open_after, report_by, outcome_at, inside_after, top_after}
+use Rattle.run_model.specs.Causes.{tags_of, origins_of}
+use Rattle.run_model.specs.Frame.{Open, brought_by, happening_at, outcome_of, state_by, state_after, open_after, report_by, outcome_at, inside_after, top_after, is_shared}
 use Rattle.run_model.specs.Machine.{Happening, Outcome}
 use Rattle.run_model.specs.Moment.{Setting, Moment, Deed, Steps, start_moment, after, after_all}
-use Rattle.run_model.specs.Legal.{ReceivedRight, InTime, IsLegalDeed, EndRight, IsServed, QuietAtRest, IsLegal}
-use Rattle.step_runner.specs.Driver.{Driver, most_steps, Covers, has_unit, IsLawful, AllOutside, FuelRight, stepped}
+use Rattle.run_model.specs.Legal.{InTime, IsLegalDeed, EndRight, IsServed, QuietAtRest, IsLegal}
+use Rattle.step_runner.specs.Driver.{Driver, most_steps, Covers, IsLawful, AllOutside, origins_in, FuelRight, stepped}
 use Rattle.step_runner.specs.Kept.{Kept, moved, TakesStep, CanStep, total_fuel}
-use Rattle.step_runner.specs.Stands.{paired, IsFrameOf, AreFramesOf, NoneInside, IsGuarded, LevelsRise, Matches, Stands, step_done, FuelFalls}
+use Rattle.step_runner.specs.Stands.{paired, IsFrameOf, AreFramesOf, NoneInside, IsGuarded, LevelsRise, Matches, IsFirst, Stands, step_done, FuelFalls}
 use Rattle.step_runner.specs.declared.stack.Under.{Under}
 use Rattle.step_runner.proofs.Bounds.{steps_bound, window_bound, room_bound}
-use Rattle.step_runner.proofs.ChipFacts.{mask-after, unit-pending}
+use Rattle.step_runner.proofs.ChipFacts.{mask-after, disabled-pending, disabled-after, received-alone}
+use Rattle.run_model.proofs.OutsideLaws.{stands-move}
 
 -- ---- lists of deeds
 
@@ -33,6 +35,11 @@ after_all-append g m (y ∷ h) x = after_all-append g (after g m y) h x
 pub legal-append : {State Call : Type 0} (g : Setting State Call) (m : Moment State Call) (h : List (Deed Call)) (x : Deed Call) → IsLegal g m h → InTime (g.machine.expires (after_all g m h).world (after_all g m h).state) x → IsLegalDeed g (after_all g m h) x → IsServed g (after g (after_all g m h) x) → IsLegal g m (h ++ x ∷ [])
 legal-append g m [] x l t k q = (l, t, k, q)
 legal-append g m (y ∷ h) x l t k q = (l.0, l.1, l.2, legal-append g (after g m y) h x l.3 t k q)
+
+-- the last moment of a legal run is served too
+pub served-last : {State Call : Type 0} (g : Setting State Call) (m : Moment State Call) (h : List (Deed Call)) → IsLegal g m h → IsServed g (after_all g m h)
+served-last g m [] l = l
+served-last g m (y ∷ h) l = served-last g (after g m y) h l.3
 
 -- ---- masks
 
@@ -65,44 +72,82 @@ never : (b : Bool) → (b ≡ true → ⊥) → b ≡ false
 never true h = absurd (h refl)
 never false h = refl
 
+or-second : (a b : Bool) → a ≡ false → a || b ≡ true → b ≡ true
+or-second true b e h = cc
+or-second false b e h = h
+
+-- ---- the frames that are there
+
+module _ {State Call Frame : Type 0} (d : Driver State Call Frame) where
+  pub origins-in : (us : List (Under Frame)) (os : List (Open Call)) → AreFramesOf d us os → origins_in (paired us os) ≡ origins_of os
+  origins-in [] [] a = refl
+  origins-in [] (o ∷ os) a = absurd a
+  origins-in (u ∷ us) [] a = absurd a
+  origins-in (u ∷ us) (o ∷ os) a = ap (λ x. o.origin ∷ x) (origins-in us os a.1)
+
 -- ---- the laws of a driver
 
 module _ {State Call Frame : Type 0} (d : Driver State Call Frame) (move_of : Frame → Move) (left : Frame → ℕ → Frame) (gave : Frame → ℕ → Taken) (law : IsLawful d move_of left gave) where
-  -- a line that isn't the driver's is neither pending nor due
-  apart-at : (chip : Chip) (w : World) (s : State) (line : ℕ) (q : Bool) → Covers d → d.lines line ≡ q → d.relates chip w [] s → is_pending chip line ≡ d.setting.machine.due w s line
-  apart-at chip w s line true cover e r = law.rests chip w s line e r
-  apart-at chip w s line false cover e r =
-      let unit : has_unit line ≡ false = never (has_unit line) (λ h. let k = cover.lines line h in cc) in
-      let due : d.setting.machine.due w s line ≡ false = never (d.setting.machine.due w s line) (λ h. let k = law.used_lines line (law.due_used chip w [] s line tt r h) in cc) in
-      unit-pending chip line unit ∙ sym due
+  -- no line is enabled that isn't the driver's
+  abbrev NoneEnabled : Chip → Type 0
+  NoneEnabled chip = (line : ℕ) → d.lines line ≡ false → has_bit chip.control.enabled line ≡ false
 
-  quiet-of : (us : List (Under Frame)) (os : List (Open Call)) (chip : Chip) (w : World) (s : State) (n : ℕ) → Covers d → AreFramesOf d us os → d.relates chip w (paired us os) s → QuietAtRest d.setting (record { chip = chip; world = w; state = s; opens = os; steps = n }) os
-  quiet-of [] [] chip w s n cover a r = record { units = λ u. law.waits chip w s u r; lines = λ l. apart-at chip w s l (d.lines l) cover refl r; rest = law.rest chip w s r }
-  quiet-of (u ∷ us) [] chip w s n cover a r = absurd a
-  quiet-of us (o ∷ os) chip w s n cover a r = tt
+  -- a line that isn't the driver's is neither pending nor due
+  apart-at : (chip : Chip) (w : World) (s : State) (line : ℕ) (q : Bool) → NoneEnabled chip → d.lines line ≡ q → d.relates chip w [] s → is_pending chip line ≡ d.setting.machine.due w s line
+  apart-at chip w s line true none e r = law.rests chip w s line e r
+  apart-at chip w s line false none e r =
+      let due : d.setting.machine.due w s line ≡ false = never (d.setting.machine.due w s line) (λ h. let k = law.used_lines line (law.due_used chip w [] s line tt r h) in cc) in
+      disabled-pending chip line (none line e) ∙ sym due
+
+  -- a line that no object uses isn't pending, whether it is the driver's or not
+  idle-at : (chip : Chip) (w : World) (ps : List (Frame × Open Call)) (s : State) (line : ℕ) (q : Bool) → NoneEnabled chip → d.lines line ≡ q → is_masked chip ≡ false → AllOutside ps → d.relates chip w ps s → d.setting.used line ≡ false → is_pending chip line ≡ false
+  idle-at chip w ps s line true none e unmasked out r free = law.unused chip w ps s line unmasked out r e free
+  idle-at chip w ps s line false none e unmasked out r free = disabled-pending chip line (none line e)
+
+  quiet-of : (us : List (Under Frame)) (os : List (Open Call)) (chip : Chip) (w : World) (s : State) (n : ℕ) → NoneEnabled chip → AreFramesOf d us os → d.relates chip w (paired us os) s → QuietAtRest d.setting (record { chip = chip; world = w; state = s; opens = os; steps = n }) os
+  quiet-of [] [] chip w s n none a r = record { units = λ u. law.waits chip w s u r; lines = λ l. apart-at chip w s l (d.lines l) none refl r; rest = law.rest chip w s r }
+  quiet-of (u ∷ us) [] chip w s n none a r = absurd a
+  quiet-of us (o ∷ os) chip w s n none a r = tt
 
   -- what matches a moment is served there
-  pub served-of : (chip : Chip) (us : List (Under Frame)) (m : Moment State Call) → Covers d → Matches d chip us m → IsServed d.setting m
-  served-of chip us m cover k = record {
-    due = λ e l due. law.due m.chip m.world (paired us m.opens) m.state l e (outside-paired us m.opens (none-inside (is_masked m.chip) m.opens e k.guarded)) k.relates due;
-    quiet = quiet-of us m.opens m.chip m.world m.state m.steps cover k.frames k.relates;
-  }
+  pub served-of : (chip : Chip) (us : List (Under Frame)) (m : Moment State Call) → Matches d chip us m → IsServed d.setting m
+  served-of chip us m k =
+      let out = λ (e : is_masked m.chip ≡ false). outside-paired us m.opens (none-inside (is_masked m.chip) m.opens e k.guarded) in
+      record {
+        due = λ e l due. law.due m.chip m.world (paired us m.opens) m.state l e (out e) k.relates due;
+        unused = λ e l free. idle-at m.chip m.world (paired us m.opens) m.state l (d.lines l) k.enabled refl e (out e) k.relates free;
+        outputs = λ e. subst (λ os. d.setting.unmasked m.chip m.world m.state os) (origins-in d us m.opens k.frames) (law.unmasked m.chip m.world (paired us m.opens) m.state e (out e) k.relates);
+        quiet = quiet-of us m.opens m.chip m.world m.state m.steps k.enabled k.frames k.relates;
+      }
 
-  pub stands-start : Covers d → Stands d (fresh 0 0) [] []
-  stands-start cover =
-      let k : Matches d (fresh 0 0) [] (start_moment d.setting) = record { chip_is = refl; frames = tt; relates = law.starts (world_start 0); guarded = refl; counted = let e = law.count_first in omega (arith, e); levels = tt; rate = sym law.rate_starts } in
-      record { covers = cover; legal = served-of (fresh 0 0) [] (start_moment d.setting) cover k; matches = k }
+  -- a chip as at power on, with what the driver has wired, stands for no deed
+  pub stands-first : (first : Chip) → Covers d → IsFirst first → d.wired first → Stands d first first [] []
+  stands-first first cover is wired =
+      let m = start_moment d.setting first in
+      let k : Matches d first [] m = record {
+        chip_is = refl;
+        frames = tt;
+        relates = subst (λ c. d.relates c (world_start 0) [] d.setting.first) is.is_reset (law.starts first (world_start 0) wired is.outside);
+        guarded = sym (ap is_masked is.is_reset);
+        counted = let e = law.count_first in omega (arith, e);
+        levels = tt;
+        rate = sym (ap (λ c. c.clock.rate) is.is_reset) ∙ sym law.rate_starts;
+        outside = is.outside;
+        alone = refl;
+        enabled = λ line apart. sym (ap (λ c. has_bit c.control.enabled line) is.is_reset) ∙ has_bit-zero line;
+      } in
+      record { covers = cover; legal = served-of first [] m k; matches = k }
 
   -- no time of a watchdog runs
   in-time : (m : Moment State Call) (x : Deed Call) → Covers d → InTime (d.setting.machine.expires m.world m.state) x
   in-time m x cover = subst (λ t. InTime t x) (sym (cover.unwatched m.world m.state)) tt
 
   -- a legal deed whose moment is matched again
-  pub stands-on : (chip chip1 : Chip) (us us1 : List (Under Frame)) (h : List (Deed Call)) (x : Deed Call) → Stands d chip us h → IsLegalDeed d.setting (after_all d.setting (start_moment d.setting) h) x → Matches d chip1 us1 (after d.setting (after_all d.setting (start_moment d.setting) h) x) → Stands d chip1 us1 (h ++ x ∷ [])
-  stands-on chip chip1 us us1 h x st l k = record {
+  pub stands-on : (first chip chip1 : Chip) (us us1 : List (Under Frame)) (h : List (Deed Call)) (x : Deed Call) → Stands d first chip us h → IsLegalDeed d.setting (after_all d.setting (start_moment d.setting first) h) x → Matches d chip1 us1 (after d.setting (after_all d.setting (start_moment d.setting first) h) x) → Stands d first chip1 us1 (h ++ x ∷ [])
+  stands-on first chip chip1 us us1 h x st l k = record {
     covers = st.covers;
-    legal = legal-append d.setting (start_moment d.setting) h x st.legal (in-time (after_all d.setting (start_moment d.setting) h) x st.covers) l (served-of chip1 us1 (after d.setting (after_all d.setting (start_moment d.setting) h) x) st.covers k);
-    matches = subst (λ m. Matches d chip1 us1 m) (sym (after_all-append d.setting (start_moment d.setting) h x)) k;
+    legal = legal-append d.setting (start_moment d.setting first) h x st.legal (in-time (after_all d.setting (start_moment d.setting first) h) x st.covers) l (served-of chip1 us1 (after d.setting (after_all d.setting (start_moment d.setting first) h) x) k);
+    matches = subst (λ m. Matches d chip1 us1 m) (sym (after_all-append d.setting (start_moment d.setting first) h x)) k;
   }
 
   -- ---- a step
@@ -121,18 +166,15 @@ module _ {State Call Frame : Type 0} (d : Driver State Call Frame) (move_of : Fr
 
   -- what a step of the top frame has to show
   pub record GoesOn (chip : Chip) (u : Under Frame) (us : List (Under Frame)) (m : Moment State Call) : Type 0 where
-    pub legal : IsLegalDeed d.setting m (Steps (stepped (move_of u.frame) (value_of chip (move_of u.frame)) 0 (gave u.frame (value_of chip (move_of u.frame)))))
-    pub matches : Matches d (chip_after chip (move_of u.frame)) (top_after (moved u (left u.frame (value_of chip (move_of u.frame))) (move_of u.frame)) (gave u.frame (value_of chip (move_of u.frame))).ended us) (after d.setting m (Steps (stepped (move_of u.frame) (value_of chip (move_of u.frame)) 0 (gave u.frame (value_of chip (move_of u.frame))))))
+    pub legal : IsLegalDeed d.setting m (Steps (stepped (move_of u.frame) (value_of chip (move_of u.frame)) (received_of chip (move_of u.frame)) (gave u.frame (value_of chip (move_of u.frame)))))
+    pub matches : Matches d (chip_after chip (move_of u.frame) (received_of chip (move_of u.frame))) (top_after (moved u (left u.frame (value_of chip (move_of u.frame))) (move_of u.frame)) (gave u.frame (value_of chip (move_of u.frame))).ended us) (after d.setting m (Steps (stepped (move_of u.frame) (value_of chip (move_of u.frame)) (received_of chip (move_of u.frame)) (gave u.frame (value_of chip (move_of u.frame))))))
     pub fuel : total_fuel d.fuel (top_after (moved u (left u.frame (value_of chip (move_of u.frame))) (move_of u.frame)) (gave u.frame (value_of chip (move_of u.frame))).ended us) < d.fuel u.frame + total_fuel d.fuel us
 
-  no-word-written : (chip : Chip) (w : World) (r : Reg) (v : ℕ) → Covers d → ReceivedRight d.setting chip w (Write r v) 0
-  no-word-written chip w (SerialData n) v cover = (omega arith, cover.incoming chip w n)
-  no-word-written chip w _ v cover = refl
-
-  -- no word comes in
-  no-word : (chip : Chip) (w : World) (made : Move) → Covers d → ReceivedRight d.setting chip w made 0
-  no-word chip w (Write r v) cover = no-word-written chip w r v cover
-  no-word chip w _ cover = refl
+  -- a frame enables no line that isn't the driver's
+  none-enabled : (chip : Chip) (o : Open Call) (made : Move) (received : ℕ) → is_shared made || d.setting.may o.origin made ≡ true → NoneEnabled chip → NoneEnabled (chip_after chip made received)
+  none-enabled chip o made received own none line apart =
+      let may = λ (bits : ℕ) (is : made ≡ Write EnableSet bits). subst (λ x. d.setting.may o.origin x ≡ true) is (or-second (is_shared made) (d.setting.may o.origin made) (ap is_shared is) own) in
+      disabled-after chip made received line (λ bits is. law.enables o.origin bits line (may bits is) apart) (none line apart)
 
   -- a step gives out one number at most
   count-by : (w : World) (s : State) (h : Happening Call) (x : Option (Outcome State)) → d.setting.machine.happens w s h ≡ x → d.count (state_by s x) ≤ d.count s + 1
@@ -143,27 +185,28 @@ module _ {State Call Frame : Type 0} (d : Driver State Call Frame) (move_of : Fr
   count-after w s n None c = omega (arith, c)
   count-after w s n (Some h) c = let k = count-by w s h (d.setting.machine.happens w s h) refl in omega (arith, k, c)
 
-  goes-step : (chip : Chip) (w : World) (s : State) (u : Under Frame) (us : List (Under Frame)) (o : Open Call) (os : List (Open Call)) (n : ℕ) → let m : Moment State Call = record { chip = chip; world = w; state = s; opens = o ∷ os; steps = n } in Covers d → n < most_steps → Matches d chip (u ∷ us) m → GoesOn chip u us m
-  goes-step chip w s u us o os n cover few k =
+  goes-step : (chip : Chip) (w : World) (s : State) (u : Under Frame) (us : List (Under Frame)) (o : Open Call) (os : List (Open Call)) (n : ℕ) → let m : Moment State Call = record { chip = chip; world = w; state = s; opens = o ∷ os; steps = n } in n < most_steps → Matches d chip (u ∷ us) m → GoesOn chip u us m
+  goes-step chip w s u us o os n few k =
       let made = move_of u.frame in
       let value = value_of chip made in
+      let received = received_of chip made in
       let taken = gave u.frame value in
-      let st = stepped made value 0 taken in
-      let out = outcome_at d.setting.machine w s o made 0 taken.event in
-      let o1 = open_after d.setting.machine w s o made 0 taken.event in
+      let out = outcome_at d.setting.machine w s o made received taken.event in
+      let o1 = open_after d.setting.machine w s o made received taken.event in
       let u1 = moved u (left u.frame value) made in
       let bound = d.setting.steps_of o.origin in
       let wide = d.setting.window_of o.origin in
       let here = k.frames.0 in
-      let come = no-word chip w made cover in
+      let come = received-alone chip w made k.alone in
       let fits : d.count s < most_steps = let c = k.counted in omega (arith, c, few) in
-      let counted = count-after w s n (happening_at o.origin (brought_by w o.committed made 0) taken.event) k.counted in
-      let x = law.steps chip w u.frame o (paired us os) s 0 come fits k.guarded.0 (outside-paired us os k.guarded.1) k.relates in
+      let counted = count-after w s n (happening_at o.origin (brought_by w o.committed made received) taken.event) k.counted in
+      let x = law.steps chip w u.frame o (paired us os) s received come fits k.guarded.0 (outside-paired us os k.guarded.1) k.relates in
       record {
         legal = record {
           value = refl;
           received = come;
           event = x.event;
+          sends = x.sends;
           halves = x.halves;
           errors = x.errors;
           move = x.move;
@@ -185,41 +228,44 @@ module _ {State Call Frame : Type 0} (d : Driver State Call Frame) (move_of : Fr
             window = window_bound made o.inside o.owed (report_by d.setting.machine o.origin o.report taken.event out) o.window (d.room u.frame) (d.room u1.frame) wide x.move x.room here.window here.room;
             room = room_bound made o.inside o.window (d.room u.frame) (d.room u1.frame) wide x.room here.room;
           }) x.fuel k.frames.1;
-          relates = subst (λ ps. d.relates (chip_after chip made) w ps (state_after d.setting.machine w s o made 0 taken.event)) (paired-after u1 us o1 os taken.ended) x.kept;
-          guarded = guarded-after (is_masked (chip_after chip made)) o1 os taken.ended (mask-after chip made ∙ ap (λ b. inside_after b made) k.guarded.0) k.guarded.1 x.ends;
+          relates = subst (λ ps. d.relates (chip_after chip made received) w ps (state_after d.setting.machine w s o made received taken.event)) (paired-after u1 us o1 os taken.ended) x.kept;
+          guarded = guarded-after (is_masked (chip_after chip made received)) o1 os taken.ended (mask-after chip made received ∙ ap (λ b. inside_after b made) k.guarded.0) k.guarded.1 x.ends;
           counted = counted;
           levels = levels-after o o1 os taken.ended refl k.levels;
-          rate = law.rate chip w u.frame o (paired us os) s 0 come fits k.guarded.0 (outside-paired us os k.guarded.1) k.relates k.rate;
+          rate = law.rate chip w u.frame o (paired us os) s received come fits k.guarded.0 (outside-paired us os k.guarded.1) k.relates k.rate;
+          outside = stands-move chip w made received k.outside;
+          alone = k.alone;
+          enabled = none-enabled chip o made received x.own k.enabled;
         };
         fuel = total-after (d.fuel u.frame) u1 us taken.ended x.fuel;
       }
 
-  goes-at : (chip : Chip) (w : World) (s : State) (u : Under Frame) (us : List (Under Frame)) (os : List (Open Call)) (n : ℕ) → let m : Moment State Call = record { chip = chip; world = w; state = s; opens = os; steps = n } in Covers d → n < most_steps → Matches d chip (u ∷ us) m → GoesOn chip u us m
-  goes-at chip w s u us [] n cover few k = absurd k.frames
-  goes-at chip w s u us (o ∷ os) n cover few k = goes-step chip w s u us o os n cover few k
+  goes-at : (chip : Chip) (w : World) (s : State) (u : Under Frame) (us : List (Under Frame)) (os : List (Open Call)) (n : ℕ) → let m : Moment State Call = record { chip = chip; world = w; state = s; opens = os; steps = n } in n < most_steps → Matches d chip (u ∷ us) m → GoesOn chip u us m
+  goes-at chip w s u us [] n few k = absurd k.frames
+  goes-at chip w s u us (o ∷ os) n few k = goes-step chip w s u us o os n few k
 
-  pub goes-on : (chip : Chip) (u : Under Frame) (us : List (Under Frame)) (m : Moment State Call) → Covers d → m.steps < most_steps → Matches d chip (u ∷ us) m → GoesOn chip u us m
-  goes-on chip u us m cover few k = subst (λ c. GoesOn c u us m) (sym k.chip_is) (goes-at m.chip m.world m.state u us m.opens m.steps cover few (subst (λ c. Matches d c (u ∷ us) m) k.chip_is k))
+  pub goes-on : (chip : Chip) (u : Under Frame) (us : List (Under Frame)) (m : Moment State Call) → m.steps < most_steps → Matches d chip (u ∷ us) m → GoesOn chip u us m
+  goes-on chip u us m few k = subst (λ c. GoesOn c u us m) (sym k.chip_is) (goes-at m.chip m.world m.state u us m.opens m.steps few (subst (λ c. Matches d c (u ∷ us) m) k.chip_is k))
 
   -- what a step leaves stands for the deeds with the step
-  pub stands-step : (h : List (Deed Call)) (chip chip1 : Chip) (us : List (Under Frame)) (steps : ℕ) (k1 : Kept Frame) (r : Result Stepped Held) → TakesStep move_of left gave us steps chip k1 chip1 r → (after_all d.setting (start_moment d.setting) h).steps < most_steps → Stands d chip us h → Stands d chip1 k1.frames (h ++ step_done r)
-  stands-step h chip chip1 [] steps k1 r t few st =
-      subst (λ x. Stands d chip1 k1.frames (h ++ step_done x)) (sym t.result_is)
-      (subst (λ x. Stands d chip1 k1.frames x) (sym (append-nil h))
-      (subst (λ x. Stands d x k1.frames h) (sym t.chip_is)
-      (subst (λ x. Stands d chip x h) (sym t.frames) st)))
-  stands-step h chip chip1 (u ∷ us) steps k1 r t few st =
-      let k = goes-on chip u us (after_all d.setting (start_moment d.setting) h) st.covers few st.matches in
-      subst (λ x. Stands d chip1 k1.frames (h ++ step_done x)) (sym t.result_is)
-      (subst (λ x. Stands d x k1.frames (h ++ step_done (Ok (stepped (move_of u.frame) (value_of chip (move_of u.frame)) 0 (gave u.frame (value_of chip (move_of u.frame))))))) (sym t.chip_is)
-      (subst (λ x. Stands d (chip_after chip (move_of u.frame)) x (h ++ step_done (Ok (stepped (move_of u.frame) (value_of chip (move_of u.frame)) 0 (gave u.frame (value_of chip (move_of u.frame))))))) (sym t.frames)
-      (stands-on chip (chip_after chip (move_of u.frame)) (u ∷ us) (top_after (moved u (left u.frame (value_of chip (move_of u.frame))) (move_of u.frame)) (gave u.frame (value_of chip (move_of u.frame))).ended us) h (Steps (stepped (move_of u.frame) (value_of chip (move_of u.frame)) 0 (gave u.frame (value_of chip (move_of u.frame))))) st k.legal k.matches)))
+  pub stands-step : (first : Chip) (h : List (Deed Call)) (chip chip1 : Chip) (us : List (Under Frame)) (steps : ℕ) (k1 : Kept Frame) (r : Result Stepped Held) → TakesStep move_of left gave us steps chip k1 chip1 r → (after_all d.setting (start_moment d.setting first) h).steps < most_steps → Stands d first chip us h → Stands d first chip1 k1.frames (h ++ step_done r)
+  stands-step first h chip chip1 [] steps k1 r t few st =
+      subst (λ x. Stands d first chip1 k1.frames (h ++ step_done x)) (sym t.result_is)
+      (subst (λ x. Stands d first chip1 k1.frames x) (sym (append-nil h))
+      (subst (λ x. Stands d first x k1.frames h) (sym t.chip_is)
+      (subst (λ x. Stands d first chip x h) (sym t.frames) st)))
+  stands-step first h chip chip1 (u ∷ us) steps k1 r t few st =
+      let k = goes-on chip u us (after_all d.setting (start_moment d.setting first) h) few st.matches in
+      subst (λ x. Stands d first chip1 k1.frames (h ++ step_done x)) (sym t.result_is)
+      (subst (λ x. Stands d first x k1.frames (h ++ step_done (Ok (stepped (move_of u.frame) (value_of chip (move_of u.frame)) (received_of chip (move_of u.frame)) (gave u.frame (value_of chip (move_of u.frame))))))) (sym t.chip_is)
+      (subst (λ x. Stands d first (chip_after chip (move_of u.frame) (received_of chip (move_of u.frame))) x (h ++ step_done (Ok (stepped (move_of u.frame) (value_of chip (move_of u.frame)) (received_of chip (move_of u.frame)) (gave u.frame (value_of chip (move_of u.frame))))))) (sym t.frames)
+      (stands-on first chip (chip_after chip (move_of u.frame) (received_of chip (move_of u.frame))) (u ∷ us) (top_after (moved u (left u.frame (value_of chip (move_of u.frame))) (move_of u.frame)) (gave u.frame (value_of chip (move_of u.frame))).ended us) h (Steps (stepped (move_of u.frame) (value_of chip (move_of u.frame)) (received_of chip (move_of u.frame)) (gave u.frame (value_of chip (move_of u.frame))))) st k.legal k.matches)))
 
   -- and the frames have fewer steps left
-  pub fuel-step : (h : List (Deed Call)) (chip chip1 : Chip) (us : List (Under Frame)) (steps : ℕ) (k1 : Kept Frame) (r : Result Stepped Held) → TakesStep move_of left gave us steps chip k1 chip1 r → (after_all d.setting (start_moment d.setting) h).steps < most_steps → Stands d chip us h → FuelFalls d.fuel us k1.frames r
-  fuel-step h chip chip1 [] steps k1 r t few st = subst (λ x. FuelFalls d.fuel [] k1.frames x) (sym t.result_is) tt
-  fuel-step h chip chip1 (u ∷ us) steps k1 r t few st =
-      let k = goes-on chip u us (after_all d.setting (start_moment d.setting) h) st.covers few st.matches in
+  pub fuel-step : (first : Chip) (h : List (Deed Call)) (chip chip1 : Chip) (us : List (Under Frame)) (steps : ℕ) (k1 : Kept Frame) (r : Result Stepped Held) → TakesStep move_of left gave us steps chip k1 chip1 r → (after_all d.setting (start_moment d.setting first) h).steps < most_steps → Stands d first chip us h → FuelFalls d.fuel us k1.frames r
+  fuel-step first h chip chip1 [] steps k1 r t few st = subst (λ x. FuelFalls d.fuel [] k1.frames x) (sym t.result_is) tt
+  fuel-step first h chip chip1 (u ∷ us) steps k1 r t few st =
+      let k = goes-on chip u us (after_all d.setting (start_moment d.setting first) h) few st.matches in
       subst (λ x. FuelFalls d.fuel (u ∷ us) k1.frames x) (sym t.result_is)
       (subst (λ x. total_fuel d.fuel x < total_fuel d.fuel (u ∷ us)) (sym t.frames) k.fuel)
 
@@ -229,5 +275,5 @@ module _ {State Call Frame : Type 0} (d : Driver State Call Frame) (move_of : Fr
   can-at (u ∷ us) m (o ∷ os) a r = law.there m.chip m.world u.frame o (paired us os) m.state r
 
   -- the top frame's move may be made
-  pub can-step : (h : List (Deed Call)) (chip : Chip) (us : List (Under Frame)) → Stands d chip us h → CanStep move_of us
-  can-step h chip us st = let m = after_all d.setting (start_moment d.setting) h in can-at us m m.opens st.matches.frames st.matches.relates
+  pub can-step : (first : Chip) (h : List (Deed Call)) (chip : Chip) (us : List (Under Frame)) → Stands d first chip us h → CanStep move_of us
+  can-step first h chip us st = let m = after_all d.setting (start_moment d.setting first) h in can-at us m m.opens st.matches.frames st.matches.relates

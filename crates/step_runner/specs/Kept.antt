@@ -1,6 +1,6 @@
 -- What a stack keeps of each frame, and what a beginning and a step leave of it.
 use Rattle.std.specs.Prelude.{◌≡◌, ℕ, ◌+◌, ◌<◌, Bool, false, List, [], ◌∷◌, length, Option, Some, None, Result, Ok, Err}
-use Rattle.chip_model.specs.Chip.{Chip, value_of, chip_after}
+use Rattle.chip_model.specs.Chip.{Chip, value_of, received_of, chip_after}
 use Rattle.irq_control.specs.declared.held.Held.{Held}
 use Rattle.irq_control.specs.declared.held.Held.TheVariants.{Empty}
 use Rattle.mcal_base.specs.declared.moves.Move.{Move}
@@ -8,7 +8,7 @@ use Rattle.mcal_base.specs.declared.routine.Taken.{Taken}
 use Rattle.run_model.specs.declared.class.Tag.{Tag}
 use Rattle.run_model.specs.declared.item.Stepped.{Stepped}
 use Rattle.run_model.specs.Frame.{is_note, top_after}
-use Rattle.chip_model.specs.Reach.{CanApply}
+use Rattle.mcal_base.specs.Reach.{CanApply}
 use Rattle.step_runner.specs.Driver.{stepped}
 use Rattle.step_runner.specs.declared.stack.Under.{Under}
 
@@ -63,8 +63,8 @@ moved u frame made = record { frame = frame; tag = u.tag; noted = is_note made }
 pub record StepsTop {Frame : Type 0} (move_of : Frame → Move) (left : Frame → ℕ → Frame) (gave : Frame → ℕ → Taken) (u : Under Frame) (us : List (Under Frame)) (steps : ℕ) (chip : Chip) (k1 : Kept Frame) (chip1 : Chip) (r : Result Stepped Held) : Type 0 where
   pub frames : k1.frames ≡ top_after (moved u (left u.frame (value_of chip (move_of u.frame))) (move_of u.frame)) (gave u.frame (value_of chip (move_of u.frame))).ended us
   pub steps_are : k1.steps ≡ steps + 1
-  pub chip_is : chip1 ≡ chip_after chip (move_of u.frame)
-  pub result_is : r ≡ Ok (stepped (move_of u.frame) (value_of chip (move_of u.frame)) 0 (gave u.frame (value_of chip (move_of u.frame))))
+  pub chip_is : chip1 ≡ chip_after chip (move_of u.frame) (received_of chip (move_of u.frame))
+  pub result_is : r ≡ Ok (stepped (move_of u.frame) (value_of chip (move_of u.frame)) (received_of chip (move_of u.frame)) (gave u.frame (value_of chip (move_of u.frame))))
 
 -- With no frame nothing happens.
 pub record StepsNothing {Frame : Type 0} (steps : ℕ) (chip : Chip) (k1 : Kept Frame) (chip1 : Chip) (r : Result Stepped Held) : Type 0 where

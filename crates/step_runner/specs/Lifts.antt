@@ -14,14 +14,12 @@ use Rattle.mcal_base.specs.declared.moves.Move.{Move}
 use Rattle.mcal_base.specs.declared.moves.Move.TheVariants.{Read, Write, Load, Store, Mask, Unmask, Note, Report}
 use Rattle.mcal_base.specs.declared.moves.Unit as units
 use Rattle.mcal_base.specs.declared.notice.Notice.{Notice}
-use Rattle.mcal_base.specs.declared.register.Reg.{Reg}
-use Rattle.mcal_base.specs.declared.register.Reg.TheVariants.{SerialData}
 use Rattle.run_model.specs.declared.item.Stepped.{Stepped}
 use Rattle.run_model.specs.World.{World}
 use Rattle.run_model.specs.Machine.{Acts, Serves, Starts, Aborts, Outcome}
-use Rattle.run_model.specs.Frame.{Origin, Called, Entered, Owing, ActedAt, Open, Brought, brought_by, happening_of, happening_at, outcome_of, outcome_at, state_by, acted_by, polled_by, committed_after, served_by, owed_by, acted_at_by, report_as, report_of, report_by, owed_after, report_after, reads_after, is_write, inside_after, window_after, is_note, missed_after, open_after, is_shared, is_reset_service, asks_reset}
+use Rattle.run_model.specs.Frame.{Origin, Called, Entered, Owing, ActedAt, Open, Brought, brought_by, happening_of, happening_at, outcome_of, outcome_at, state_by, begun_by, acted_by, polled_by, committed_after, served_by, owed_by, acted_at_by, report_as, report_of, report_by, owed_after, report_after, reads_after, is_write, inside_after, window_after, is_note, missed_after, open_after, is_shared, is_reset_service, asks_reset}
 use Rattle.run_model.specs.Moment.{Setting}
-use Rattle.run_model.specs.Legal.{has_line, IsNext, IsOwnEvent, BeginsRight, SelectsRight, EventRight, ShowsFirst, ShowsRight, has_met, HalvesRight, halves_of, ErrorsRight, MoveRight, MayEnd, EndRight}
+use Rattle.run_model.specs.Legal.{has_line, IsNext, IsOwnEvent, EventRight, SendsRight, ShowsFirst, ShowsRight, has_met, HalvesRight, halves_of, ErrorsRight, MoveRight, MayEnd, EndRight}
 use Rattle.step_runner.specs.Driver.{Driver, FuelRight, RoomRight, KeepsStep}
 use Rattle.step_runner.specs.Union.{lift_out, lift_origin, lift_open, IsMine, SameOn}
 
@@ -67,6 +65,10 @@ pub same-state : {S U : Type 0} (put : S → U) (s : S) (x : Option (Outcome S))
 same-state put s None = refl
 same-state put s (Some out) = refl
 
+same-begun : {S U : Type 0} (put : S → U) (x : Option (Outcome S)) → begun_by (lift_out put x) ≡ begun_by x
+same-begun put None = refl
+same-begun put (Some out) = refl
+
 some-lifted : {S U : Type 0} (put : S → U) (x : Option (Outcome S)) → IsSome x → IsSome (lift_out put x)
 some-lifted put None h = h
 some-lifted put (Some out) h = refl
@@ -97,8 +99,6 @@ pub record LiesIn {S C U E : Type 0} (g : Setting S C) (b : Setting U E) (put : 
   pub polls : (c : C) → b.machine.polls w (put s) (k c) ≡ g.machine.polls w s c
   pub polled : (c : C) → list_all mine (g.machine.polls w s c) ≡ true
   pub shows : (p : Origin C) (n : Notice) (chip : Chip) → IsMine mine p → g.shows p n chip s → b.shows (lift_origin k p) n chip (put s)
-  pub selects : (p : Origin C) (chip : Chip) (e : Event) (u : ℕ) → IsMine mine p → g.selects p chip w s e u → b.selects (lift_origin k p) chip w (put s) e u
-  pub begins : (l : ℕ) → mine l ≡ true → b.begins_word w (put s) l ≡ g.begins_word w s l
   pub halves : (c : C) → b.halves (k c) ≡ g.halves c
   pub may : (p : Origin C) (made : Move) → IsMine mine p → b.may (lift_origin k p) made ≡ g.may p made
   pub window : (p : Origin C) → IsMine mine p → b.window_of (lift_origin k p) ≡ g.window_of p
@@ -167,7 +167,7 @@ module _ {S C U E : Type 0} (g : Setting S C) (b : Setting U E) (put : S → U) 
 
   pub out-at : (o : Open C) (chip : Chip) (st : Stepped) (e : Option Event) → IsMine mine o.origin → EventRight g (record { chip = chip; world = w; state = s; opens = []; steps = 0 }) o st e → outcome_of b.machine w (put s) (happening_at (lift_origin k o.origin) (brought_by w o.committed st.made st.received) e) ≡ lift_out put (outcome_at g.machine w s o st.made st.received e)
   out-at o chip st None m right = refl
-  out-at o chip st (Some e) m right = out-by o o.origin (brought_by w o.committed st.made st.received) e m right.0 right.3
+  out-at o chip st (Some e) m right = out-by o o.origin (brought_by w o.committed st.made st.received) e m right.0 right.2
 
   own-lifted : (o : Open C) (missed : ℕ → Bool) (e : Event) (p : Origin C) → IsOwnEvent g.machine w s o e p → IsOwnEvent b.machine w (put s) (lift_open k missed o) e (lift_origin k p)
   own-lifted o missed Act (Called c) own = own
@@ -179,40 +179,10 @@ module _ {S C U E : Type 0} (g : Setting S C) (b : Setting U E) (put : S → U) 
   own-lifted o missed (Start u) (Called c) own = own
   own-lifted o missed (Start u) (Entered l) own = own
 
-  begins-write : (chip : Chip) (e : Event) (p : Origin C) (u : ℕ) (r : Reg) (v : ℕ) → IsMine mine p → BeginsRight g p chip w s e (Some u) (Write r v) → BeginsRight b (lift_origin k p) chip w (put s) e (Some u) (Write r v)
-  begins-write chip e p u (SerialData n) v m h = (h.0, lies.selects p chip e u m h.1)
-  begins-write chip e p u _ v m h = absurd h
-
-  begins-lifted : (chip : Chip) (e : Event) (p : Origin C) (u : Option ℕ) (made : Move) → IsMine mine p → BeginsRight g p chip w s e u made → BeginsRight b (lift_origin k p) chip w (put s) e u made
-  begins-lifted chip e p None made m h = tt
-  begins-lifted chip e p (Some u) (Write r v) m h = begins-write chip e p u r v m h
-  begins-lifted chip e p (Some u) _ m h = absurd h
-
-  starts-write : (chip : Chip) (p : Origin C) (u : units.Unit) (r : Reg) (v : ℕ) → IsMine mine p → SelectsRight g p chip w s (Start u) (Write r v) → SelectsRight b (lift_origin k p) chip w (put s) (Start u) (Write r v)
-  starts-write chip p u (SerialData n) v m h = lies.selects p chip (Start u) n m h
-  starts-write chip p u _ v m h = tt
-
-  starts-lifted : (chip : Chip) (p : Origin C) (u : units.Unit) (made : Move) → IsMine mine p → SelectsRight g p chip w s (Start u) made → SelectsRight b (lift_origin k p) chip w (put s) (Start u) made
-  starts-lifted chip p u (Write r v) m h = starts-write chip p u r v m h
-  starts-lifted chip p u _ m h = tt
-
-  -- the line of a serving is one of the member's
-  line-mine : (o : Open C) (l : ℕ) (p : Origin C) → IsMine mine p → IsOwnEvent g.machine w s o (Serve l) p → mine l ≡ true
-  line-mine o l (Called c) m own = all-has mine (g.machine.polls w s c) l (lies.polled c) own.0.0
-  line-mine o l (Entered j) m own = ap mine own.0 ∙ m
-
-  selects-lifted : (o : Open C) (chip : Chip) (e : Event) (p : Origin C) (made : Move) → IsMine mine p → IsOwnEvent g.machine w s o e p → SelectsRight g p chip w s e made → SelectsRight b (lift_origin k p) chip w (put s) e made
-  selects-lifted o chip Act p made m own h = tt
-  selects-lifted o chip (Abort u) p made m own h = tt
-  selects-lifted o chip (Start u) p made m own h = starts-lifted chip p u made m h
-  selects-lifted o chip (Serve l) p made m own h =
-      subst (λ u. BeginsRight b (lift_origin k p) chip w (put s) (Serve l) u made) (sym (lies.begins l (line-mine o l p m own)))
-      (begins-lifted chip (Serve l) p (g.begins_word w s l) made m h)
-
   event-lifted : (o : Open C) (missed : ℕ → Bool) (chip : Chip) (st : Stepped) (e : Option Event) → IsMine mine o.origin → EventRight g (record { chip = chip; world = w; state = s; opens = []; steps = 0 }) o st e → EventRight b (record { chip = chip; world = w; state = put s; opens = []; steps = 0 }) (lift_open k missed o) st e
   event-lifted o missed chip st None m right = tt
   event-lifted o missed chip st (Some e) m right =
-      (own-lifted o missed e o.origin right.0, right.1, selects-lifted o chip e o.origin st.made m right.0 right.2, subst (λ x. IsSome x) (sym (out-by o o.origin (brought_by w o.committed st.made st.received) e m right.0 right.3)) (some-lifted put (outcome_at g.machine w s o st.made st.received (Some e)) right.3))
+      (own-lifted o missed e o.origin right.0, right.1, subst (λ x. IsSome x) (sym (out-by o o.origin (brought_by w o.committed st.made st.received) e m right.0 right.2)) (some-lifted put (outcome_at g.machine w s o st.made st.received (Some e)) right.2))
 
   halves-lifted : (p : Origin C) → halves_of b (lift_origin k p) ≡ halves_of g p
   halves-lifted (Called c) = lies.halves c
@@ -241,7 +211,7 @@ module _ {S C U E : Type 0} (g : Setting S C) (b : Setting U E) (put : S → U) 
 
   end-lifted : (o : Open C) (missed : ℕ → Bool) (ended : Option Answer) → IsMine mine o.origin → list_all mine o.polled ≡ true → SameOn mine missed o.missed → EndRight o ended → EndRight (lift_open k missed o) ended
   end-lifted o missed None m all same h = tt
-  end-lifted o missed (Some a) m all same h = (may-lifted o missed o.origin a m all same h.0, h.1, h.2, h.3)
+  end-lifted o missed (Some a) m all same h = (may-lifted o missed o.origin a m all same h.0, h.1, h.2, h.3, h.4)
 
   missed-lifted : (missed missed1 : ℕ → Bool) → SameOn mine missed missed1 → SameOn mine (missed_after b.machine w (put s) missed) (missed_after g.machine w s missed1)
   missed-lifted missed missed1 same l m = ap (λ x. x || not (b.machine.ready w (put s) l)) (same l m) ∙ ap (λ x. missed1 l || not x) (lies.ready l m)
@@ -311,6 +281,7 @@ lift-keeps d big put k into mine chip w s f later o missed st Kept Big lies fuel
     let state_is : state_by (put s) y ≡ put (state_by s x) = ap (state_by (put s)) is ∙ same-state put s x in
     record {
       event = event-lifted g b put k mine w s lies o missed chip st st.event m h.event;
+      sends = subst (λ a. SendsRight chip a st.made) (sym (ap begun_by is ∙ same-begun put x)) h.sends;
       halves = subst (λ a. HalvesRight (halves_of b (lift_origin k o.origin)) a.reads a.acted_at) (sym o_is) (subst (λ a. HalvesRight a o1.reads o1.acted_at) (sym (halves-lifted g b put k mine w s lies o.origin)) h.halves);
       errors = subst (λ a. ErrorsRight a.wrote a.acted_at) (sym o_is) h.errors;
       shows = shows-lifted g b put k mine w s lies o.owed chip o.origin st.made m h.shows;

@@ -1,13 +1,17 @@
 -- The deeds for which a chip and a stack stand: all that was done since power on.
 use Rattle.std.specs.Prelude.{◌≡◌, ℕ, ◌+◌, ◌<◌, ◌≤◌, Bool, true, false, List, [], ◌∷◌, Result, Ok, Err}
-use Rattle.chip_model.specs.Chip.{Chip, is_masked}
+use Rattle.chip_model.specs.Chip.{Chip, reset_chip, is_masked}
+use Rattle.mcal_base.specs.Bits.{has_bit}
+use Rattle.mcal_base.specs.declared.directive.Reason.TheVariants.{PowerOn}
 use Rattle.run_model.specs.declared.class.Tag.{Tag}
 use Rattle.run_model.specs.Causes.{none_above, tags_of}
 use Rattle.irq_control.specs.declared.held.Held.{Held}
 use Rattle.run_model.specs.declared.item.Stepped.{Stepped}
+use Rattle.run_model.specs.World.{world_start}
 use Rattle.run_model.specs.Frame.{Open}
 use Rattle.run_model.specs.Moment.{Moment, Deed, Steps, start_moment, after_all}
 use Rattle.run_model.specs.Legal.{IsLegal}
+use Rattle.run_model.specs.Outside.{StandsIn}
 use Rattle.step_runner.specs.Driver.{Driver, Covers}
 use Rattle.step_runner.specs.Kept.{total_fuel}
 use Rattle.step_runner.specs.declared.stack.Under.{Under}
@@ -58,13 +62,23 @@ pub record Matches {State Call Frame : Type 0} (d : Driver State Call Frame) (ch
   pub guarded : IsGuarded (is_masked m.chip) m.opens
   pub counted : d.count m.state ≤ m.steps
   pub levels : LevelsRise (tags_of m.opens)
-  pub rate : m.chip.rate ≡ d.setting.machine.rate m.state
+  pub rate : m.chip.clock.rate ≡ d.setting.machine.rate m.state
+  -- it stands in the world, which has no serial device
+  pub outside : StandsIn m.chip m.world
+  pub alone : m.world.devices ≡ 0
+  -- no line is enabled that isn't one of the driver's
+  pub enabled : (line : ℕ) → d.lines line ≡ false → has_bit m.chip.control.enabled line ≡ false
 
--- A chip and the frames of a stack stand for a list of deeds: those are a legal run, and lead to them.
-pub record Stands {State Call Frame : Type 0} (d : Driver State Call Frame) (chip : Chip) (us : List (Under Frame)) (h : List (Deed Call)) : Type 0 where
+-- A chip as at power on: no time went by outside, no serial device is there, and it is as that reset leaves it.
+pub record IsFirst (chip : Chip) : Type 0 where
+  pub outside : StandsIn chip (world_start 0)
+  pub is_reset : reset_chip chip PowerOn ≡ chip
+
+-- A chip and the frames of a stack stand for a list of deeds, from power on with this chip: those are a legal run, and lead to them.
+pub record Stands {State Call Frame : Type 0} (d : Driver State Call Frame) (first : Chip) (chip : Chip) (us : List (Under Frame)) (h : List (Deed Call)) : Type 0 where
   pub covers : Covers d
-  pub legal : IsLegal d.setting (start_moment d.setting) h
-  pub matches : Matches d chip us (after_all d.setting (start_moment d.setting) h)
+  pub legal : IsLegal d.setting (start_moment d.setting first) h
+  pub matches : Matches d chip us (after_all d.setting (start_moment d.setting first) h)
 
 -- the deed, unless it was held
 abbrev pub done : {A Call : Type 0} → Result A Held → Deed Call → List (Deed Call)

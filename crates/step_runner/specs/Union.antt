@@ -2,13 +2,12 @@
 use Rattle.std.specs.Prelude.{◌≡◌, ℕ, ◌+◌, min, Bool, true, false, cond, not, ◌||◌, List, [], ◌∷◌, Option, Some, None, IsSome, is_some, MatchBool}
 use Rattle.std.specs.List.{list_all}
 use Rattle.chip_model.specs.Chip.{Chip, chip_after}
-use Rattle.mcal_base.specs.declared.moves.Event.{Event}
 use Rattle.mcal_base.specs.declared.moves.Move.{Move}
 use Rattle.mcal_base.specs.declared.moves.Unit as units
 use Rattle.mcal_base.specs.declared.notice.Notice.{Notice}
 use Rattle.mcal_base.specs.declared.routine.Taken.{Taken}
 use Rattle.run_model.specs.World.{World}
-use Rattle.run_model.specs.Machine.{Happening, Acts, Serves, Starts, Aborts, Moves, Restarts, Outcome, Machine, outcome, tells_nothing}
+use Rattle.run_model.specs.Machine.{Happening, Acts, Serves, Starts, Aborts, Moves, Restarts, Outcome, Machine, outcome, outcome_with, tells_nothing}
 use Rattle.run_model.specs.Frame.{Origin, Called, Entered, Open}
 use Rattle.run_model.specs.Moment.{Setting}
 use Rattle.step_runner.specs.Driver.{Driver}
@@ -45,7 +44,7 @@ either_handler None None = None
 -- what a member's machine gives, in the state of both
 abbrev pub lift_out : {S U : Type 0} → (S → U) → Option (Outcome S) → Option (Outcome U)
 lift_out put None = None
-lift_out put (Some out) = Some (outcome (put out.state) out.told)
+lift_out put (Some out) = Some (outcome_with (put out.state) out.told out.begins)
 
 -- what both allow
 abbrev pub in_both : {S T : Type 0} → Option (Outcome S) → Option (Outcome T) → Option (Outcome (S × T))
@@ -55,7 +54,7 @@ in_both (Some x) (Some y) = Some (outcome (x.state, y.state) tells_nothing)
 
 -- what the first allows, and else what the second does
 abbrev pub in_first : {S T : Type 0} → S → T → Option (Outcome S) → Option (Outcome T) → Option (Outcome (S × T))
-in_first s t (Some x) y = Some (outcome (x.state, t) x.told)
+in_first s t (Some x) y = Some (outcome_with (x.state, t) x.told x.begins)
 in_first s t None y = lift_out (λ b. (s, b)) y
 
 -- calls and lines go to the member that has them, a unit to the one that allows it, and all else to both; ours tells the lines of the first
@@ -156,12 +155,6 @@ UnionShows ours p q (Entered l) n chip s = MatchBool (ours l) (p (Entered l) n c
 abbrev pub has_handler : {S C F : Type 0} → Driver S C F → ℕ → Bool
 has_handler d l = is_some (d.handler_of l)
 
--- what the member of a frame selects
-abbrev pub UnionSelects : {S T C D : Type 0} → (ℕ → Bool) → (Origin C → Chip → World → S → Event → ℕ → Type 0) → (Origin D → Chip → World → T → Event → ℕ → Type 0) → Origin (Either C D) → Chip → World → S × T → Event → ℕ → Type 0
-UnionSelects ours p q (Called (Left c)) chip w s e u = p (Called c) chip w s.0 e u
-UnionSelects ours p q (Called (Right d)) chip w s e u = q (Called d) chip w s.1 e u
-UnionSelects ours p q (Entered l) chip w s e u = MatchBool (ours l) (p (Entered l) chip w s.0 e u) (q (Entered l) chip w s.1 e u)
-
 -- What two drivers have to be so that they make one: apart in what they may do, in the lines that they poll and in their units, and the second never sets the rate.
 pub record AreApart {S T C D F G : Type 0} (d : Driver S C F) (e : Driver T D G) : Type 0 where
   -- what a frame of the one may do is nothing that the other owns
@@ -174,7 +167,7 @@ pub record AreApart {S T C D F G : Type 0} (d : Driver S C F) (e : Driver T D G)
   pub starts : (w : World) (s : S) (t : T) (u : units.Unit) (r : ℕ) → IsSome (e.setting.machine.happens w t (Starts u r)) → d.setting.machine.happens w s (Starts u r) ≡ None
   pub aborts : (w : World) (s : S) (t : T) (u : units.Unit) → IsSome (e.setting.machine.happens w t (Aborts u)) → d.setting.machine.happens w s (Aborts u) ≡ None
   -- what the second may do leaves the rate
-  pub steady : (chip : Chip) (q : Origin D) (made : Move) → e.setting.may q made ≡ true → (chip_after chip made).rate ≡ chip.rate
+  pub steady : (chip : Chip) (q : Origin D) (made : Move) (received : ℕ) → e.setting.may q made ≡ true → (chip_after chip made received).clock.rate ≡ chip.clock.rate
 
 -- the members' settings as one; ours tells the lines of the first
 abbrev pub union_setting : {S T C D : Type 0} → (ℕ → Bool) → Setting S C → Setting T D → Setting (S × T) (Either C D)
@@ -191,10 +184,8 @@ union_setting ours g h = record {
   halves = either g.halves h.halves;
   fills = λ c. g.fills c || h.fills c;
   fill_busy = λ w s origins c. g.fill_busy w s.0 (first_origins ours origins) c || h.fill_busy w s.1 (second_origins ours origins) c;
-  receives = λ chip w u r. g.receives chip w u r × h.receives chip w u r;
-  begins_word = λ w s l. cond (ours l) (g.begins_word w s.0 l) (h.begins_word w s.1 l);
-  selects = UnionSelects ours g.selects h.selects;
   rest = λ chip w s. g.rest chip w s.0 × h.rest chip w s.1;
+  unmasked = λ chip w s origins. g.unmasked chip w s.0 (first_origins ours origins) × h.unmasked chip w s.1 (second_origins ours origins);
   shows = UnionShows ours g.shows h.shows;
 }
 
@@ -205,6 +196,7 @@ union_of d e = record {
   setting = union_setting (has_handler d) d.setting e.setting;
   frame_of = λ c. either (λ x. Left (d.frame_of x)) (λ y. Right (e.frame_of y)) c;
   handler_of = λ l. either_handler (d.handler_of l) (e.handler_of l);
+  wired = λ chip. d.wired chip × e.wired chip;
   relates = UnionRelates (has_handler d) d.relates e.relates;
   fuel = either d.fuel e.fuel;
   room = either d.room e.room;

@@ -4,15 +4,13 @@ use Rattle.std.proofs.Math.Nat.{min-le_left, min-le_right}
 use Rattle.std.specs.Prelude.{IsSome}
 use Rattle.std.specs.List.{list_all}
 use Rattle.chip_model.specs.Chip.{Chip, value_of, chip_after, happened, reset_chip, is_masked, is_pending}
-use Rattle.chip_model.specs.Reach.{CanApply}
+use Rattle.mcal_base.specs.Bits.{has_bit}
+use Rattle.mcal_base.specs.Reach.{CanApply}
 use Rattle.mcal_base.specs.declared.answer.Answer.{Answer}
 use Rattle.mcal_base.specs.declared.directive.Order.{Order}
 use Rattle.mcal_base.specs.declared.directive.Reason.{Reason}
-use Rattle.mcal_base.specs.declared.moves.Event.{Event}
 use Rattle.mcal_base.specs.declared.moves.Move.{Move}
-use Rattle.mcal_base.specs.declared.register.Reg.{Reg}
-use Rattle.mcal_base.specs.declared.register.Reg.TheVariants.{SerialData}
-use Rattle.run_model.specs.Legal.{ReceivedRight}
+use Rattle.mcal_base.specs.declared.register.Reg.TheVariants.{EnableSet}
 use Rattle.mcal_base.specs.declared.moves.Move.TheVariants.{Read, Write, Load, Store, Mask, Unmask, Note, Report}
 use Rattle.mcal_base.specs.declared.moves.Unit as units
 use Rattle.mcal_base.specs.declared.notice.Notice.{Notice}
@@ -20,10 +18,11 @@ use Rattle.mcal_base.specs.declared.directive.Order.TheVariants as orders
 use Rattle.mcal_base.specs.declared.routine.Taken.{Taken}
 use Rattle.run_model.specs.declared.class.Tag.{Tag}
 use Rattle.run_model.specs.World.{World, world_after}
-use Rattle.run_model.specs.Machine.{Happening, Acts, Serves, Starts, Aborts, Moves, Restarts, Outcome, outcome, tells_nothing}
+use Rattle.run_model.specs.Machine.{Happening, Acts, Serves, Starts, Aborts, Moves, Restarts, Outcome, outcome, tells_nothing, ErrorLeaves}
 use Rattle.run_model.specs.Frame.{Origin, Called, Entered, Open, opened, outcome_at, state_by, state_after, top_after, is_shared}
 use Rattle.run_model.specs.Causes.{may_reenter, blocks, none_above, all_below}
 use Rattle.run_model.specs.Moment.{Setting, call_tag, line_tag}
+use Rattle.run_model.specs.Legal.{ReceivedRight}
 use Rattle.step_runner.specs.Driver.{Driver, most_steps, IsLawful, AllOutside, tags_in, origins_in, TicksFit, IsFree, KeepsStep, stepped}
 use Rattle.step_runner.specs.Lifts.{and-left, and-right, LiesIn, lift-keeps, out-at, same-state}
 use Rattle.step_runner.specs.Union.{sooner, either, EitherFits, either_left, either_gave, either_handler, lift_out, in_both, in_first, by_origin, lift_origin, lift_open, first_origins, second_origins, IsMine, SameOn, others, Splits, Nothing_open, Left_open, Right_open, UnionRelates, has_handler, AreApart, union_setting, union_of}
@@ -51,6 +50,14 @@ foreign shared x false plain apart h = refl
 
 none-of : (a b : Bool) → a ≡ false → b ≡ false → a || b ≡ false
 none-of a b e f = rw (e, f)
+
+none-either : (a b : Bool) → a || b ≡ false → (a ≡ false) × (b ≡ false)
+none-either true b e = cc
+none-either false b e = (refl, e)
+
+one-of : {X : Type 0} (a b : Bool) → a || b ≡ true → (a ≡ true → X) → (b ≡ true → X) → X
+one-of true b e f g = f refl
+one-of false b e f g = g e
 
 -- a fill is free for both
 neither : (m a b : Bool) → m || (a || b) ≡ false → (m || a ≡ false) × (m || b ≡ false)
@@ -127,6 +134,11 @@ lift-each : {S U : Type 0} (put : S → U) (x : Option (Outcome S)) (out : Outco
 lift-each put None out e = cc
 lift-each put (Some p) out e = (p, refl, ap (λ o. o.state) (some-injective e))
 
+-- what leaves a member's state leaves that of both
+leaves-lifted : {S U : Type 0} (put : S → U) (s : S) (x : Option (Outcome S)) (out : Outcome U) → ((p : Outcome S) → x ≡ Some p → ErrorLeaves s p) → lift_out put x ≡ Some out → ErrorLeaves (put s) out
+leaves-lifted put s None out h e = absurd (cc)
+leaves-lifted put s (Some p) out h e = subst (λ o. ErrorLeaves (put s) o) (some-injective e) (λ some. let k = h p refl some in (ap put k.0, k.1))
+
 -- ---- frames
 
 handler-some : {F G : Type 0} (x : Option F) (y : Option G) → is_some (either_handler x y) ≡ is_some x || is_some y
@@ -150,19 +162,19 @@ origin-right ours p q (Entered l) m = let e = not-true (ours l) m in rw e
 mine-same : {C : Type 0} (mine : ℕ → Bool) (p q : Origin C) → q ≡ p → IsMine mine p → IsMine mine q
 mine-same mine p q e m = subst (λ o. IsMine mine o) (sym e) m
 
-shared-rate : (chip : Chip) (made : Move) → is_shared made ≡ true → (chip_after chip made).rate ≡ chip.rate
-shared-rate chip Mask e = refl
-shared-rate chip Unmask e = refl
-shared-rate chip (Note n) e = refl
-shared-rate chip (Report x) e = refl
-shared-rate chip (Read r) e = cc
-shared-rate chip (Write r v) e = cc
-shared-rate chip (Load k) e = cc
-shared-rate chip (Store k v) e = cc
+shared-rate : (chip : Chip) (made : Move) (received : ℕ) → is_shared made ≡ true → (chip_after chip made received).clock.rate ≡ chip.clock.rate
+shared-rate chip Mask received e = refl
+shared-rate chip Unmask received e = refl
+shared-rate chip (Note n) received e = refl
+shared-rate chip (Report x) received e = refl
+shared-rate chip (Read r) received e = cc
+shared-rate chip (Write r v) received e = cc
+shared-rate chip (Load k) received e = cc
+shared-rate chip (Store k v) received e = cc
 
-steady-by : (chip : Chip) (made : Move) (shared x : Bool) → is_shared made ≡ shared → shared || x ≡ true → (x ≡ true → (chip_after chip made).rate ≡ chip.rate) → (chip_after chip made).rate ≡ chip.rate
-steady-by chip made true x is e h = shared-rate chip made is
-steady-by chip made false x is e h = h e
+steady-by : (chip : Chip) (made : Move) (received : ℕ) (shared x : Bool) → is_shared made ≡ shared → shared || x ≡ true → (x ≡ true → (chip_after chip made received).clock.rate ≡ chip.clock.rate) → (chip_after chip made received).clock.rate ≡ chip.clock.rate
+steady-by chip made received true x is e h = shared-rate chip made received is
+steady-by chip made received false x is e h = h e
 
 first-left : {C D : Type 0} (ours : ℕ → Bool) (p : Origin C) (os : List (Origin (Either C D))) → IsMine ours p → first_origins ours (lift_origin Left p ∷ os) ≡ p ∷ first_origins ours os
 first-left ours (Called c) os m = refl
@@ -230,23 +242,6 @@ module _ {S T C D F G : Type 0} (d : Driver S C F) (e : Driver T D G) (move_a : 
   shows-right (Called c) n chip s t m h = h
   shows-right (Entered l) n chip s t m h = let x = not-true (ours l) m in rw x h
 
-  selects-left : (p : Origin C) (chip : Chip) (w : World) (x : Event) (u : ℕ) (s : S) (t : T) → IsMine ours p → d.setting.selects p chip w s x u → g.selects (lift_origin Left p) chip w (s, t) x u
-  selects-left (Called c) chip w x u s t m h = h
-  selects-left (Entered l) chip w x u s t m h = rw m h
-
-  selects-right : (p : Origin D) (chip : Chip) (w : World) (x : Event) (u : ℕ) (s : S) (t : T) → IsMine (others ours) p → e.setting.selects p chip w t x u → g.selects (lift_origin Right p) chip w (s, t) x u
-  selects-right (Called c) chip w x u s t m h = h
-  selects-right (Entered l) chip w x u s t m h = let i = not-true (ours l) m in rw i h
-
-  -- a word that may come in to both may come in to each
-  received-write : (chip : Chip) (w : World) (r : Reg) (v received : ℕ) → ReceivedRight g chip w (Write r v) received → ReceivedRight d.setting chip w (Write r v) received × ReceivedRight e.setting chip w (Write r v) received
-  received-write chip w (SerialData n) v received h = ((h.0, h.1.0), (h.0, h.1.1))
-  received-write chip w _ v received h = (h, h)
-
-  received-split : (chip : Chip) (w : World) (made : Move) (received : ℕ) → ReceivedRight g chip w made received → ReceivedRight d.setting chip w made received × ReceivedRight e.setting chip w made received
-  received-split chip w (Write r v) received h = received-write chip w r v received h
-  received-split chip w _ received h = (h, h)
-
   lies-left : (w : World) (s : S) (t : T) → LiesIn d.setting g (λ a. (a, t)) Left ours w s
   lies-left w s t = record {
     acts = λ c times. refl;
@@ -259,8 +254,6 @@ module _ {S T C D F G : Type 0} (d : Driver S C F) (e : Driver T D G) (move_a : 
     polls = λ c. refl;
     polled = λ c. apart.polls w s c;
     shows = λ p n chip m h. shows-left p n chip s t m h;
-    selects = λ p chip e u m h. selects-left p chip w e u s t m h;
-    begins = λ l m. rw m;
     halves = λ c. refl;
     may = λ p made m. ap (λ f. f made) (origin-left ours d.setting.may e.setting.may p m);
     window = λ p m. origin-left ours d.setting.window_of e.setting.window_of p m;
@@ -278,8 +271,6 @@ module _ {S T C D F G : Type 0} (d : Driver S C F) (e : Driver T D G) (move_a : 
     polls = λ c. refl;
     polled = λ c. apart.polls_other w t c;
     shows = λ p n chip m h. shows-right p n chip s t m h;
-    selects = λ p chip e u m h. selects-right p chip w e u s t m h;
-    begins = λ l m. let x = not-true (ours l) m in rw x;
     halves = λ c. refl;
     may = λ p made m. ap (λ f. f made) (origin-right ours d.setting.may e.setting.may p m);
     window = λ p m. origin-right ours d.setting.window_of e.setting.window_of p m;
@@ -301,54 +292,54 @@ module _ {S T C D F G : Type 0} (d : Driver S C F) (e : Driver T D G) (move_a : 
   not-first q made h p = foreign (is_shared made) (e.setting.may q made) (d.owns p made) (la.owns_plain p made) (apart.may_other p q made) h
 
   abbrev UKeeps : Chip → World → ℕ → Either F G → Open (Either C D) → List (Either F G × Open (Either C D)) → S × T → Type 0
-  UKeeps chip w received u o ps s = let made = either move_a move_b u in let value = value_of chip made in let taken = either_gave gave_a gave_b u value in KeepsStep (union_of d e) (record { chip = chip; world = w; state = s; opens = []; steps = 0 }) u o (either_left left_a left_b u value) (stepped made value received taken) (λ s1 o1. URelates (chip_after chip made) w (top_after (either_left left_a left_b u value, o1) taken.ended ps) s1)
+  UKeeps chip w received u o ps s = let made = either move_a move_b u in let value = value_of chip made in let taken = either_gave gave_a gave_b u value in KeepsStep (union_of d e) (record { chip = chip; world = w; state = s; opens = []; steps = 0 }) u o (either_left left_a left_b u value) (stepped made value received taken) (λ s1 o1. URelates (chip_after chip made received) w (top_after (either_left left_a left_b u value, o1) taken.ended ps) s1)
 
-  step-split : (chip : Chip) (w : World) (u : Either F G) (o : Open (Either C D)) (ps : List (Either F G × Open (Either C D))) (s : S) (t : T) (fs : List (F × Open C)) (gs : List (G × Open D)) → Splits ours ((u, o) ∷ ps) fs gs → is_masked chip ≡ o.inside → AllOutside ps → d.relates chip w fs s → e.relates chip w gs t → (received : ℕ) → ReceivedRight g chip w (either move_a move_b u) received → d.count s < most_steps → e.count t < most_steps → UKeeps chip w received u o ps (s, t)
+  step-split : (chip : Chip) (w : World) (u : Either F G) (o : Open (Either C D)) (ps : List (Either F G × Open (Either C D))) (s : S) (t : T) (fs : List (F × Open C)) (gs : List (G × Open D)) → Splits ours ((u, o) ∷ ps) fs gs → is_masked chip ≡ o.inside → AllOutside ps → d.relates chip w fs s → e.relates chip w gs t → (received : ℕ) → ReceivedRight chip w (either move_a move_b u) received → d.count s < most_steps → e.count t < most_steps → UKeeps chip w received u o ps (s, t)
   step-split chip w u o ps s t fs gs (Left_open f o1 missed qs fs1 gs1 m all same sp) masked out x y received come few_a few_b =
       let made = move_a f in
       let value = value_of chip made in
       let taken = gave_a f value in
-      let k = la.steps chip w f o1 fs1 s received (received-split chip w made received come).0 few_a masked (outside-split ours qs fs1 gs1 sp out).0 x in
+      let k = la.steps chip w f o1 fs1 s received come few_a masked (outside-split ours qs fs1 gs1 sp out).0 x in
       lift-keeps d (union_of d e) (λ a. (a, t)) Left (λ z. Left z) ours chip w s f (left_a f value) o1 missed (stepped made value received taken)
-      (λ s1 o2. d.relates (chip_after chip made) w (top_after (left_a f value, o2) taken.ended fs1) s1)
-      (λ s1 o2. URelates (chip_after chip made) w (top_after (Left (left_a f value), o2) taken.ended qs) s1)
+      (λ s1 o2. d.relates (chip_after chip made received) w (top_after (left_a f value, o2) taken.ended fs1) s1)
+      (λ s1 o2. URelates (chip_after chip made received) w (top_after (Left (left_a f value), o2) taken.ended qs) s1)
       (lies-left w s t) (λ z. refl) (λ z. refl) m all same
-      (λ s1 o2 missed1 is all1 same1 kept. grow-left (chip_after chip made) w (left_a f value) o2 missed1 taken.ended qs fs1 gs1 s1 t (mine-same ours o1.origin o2.origin is m) all1 same1 sp kept (lb.undisturbed chip w gs1 t made (not-second o1.origin made k.own) y))
+      (λ s1 o2 missed1 is all1 same1 kept. grow-left (chip_after chip made received) w (left_a f value) o2 missed1 taken.ended qs fs1 gs1 s1 t (mine-same ours o1.origin o2.origin is m) all1 same1 sp kept (lb.undisturbed chip w gs1 t made received (not-second o1.origin made k.own) y))
       k
   step-split chip w u o ps s t fs gs (Right_open f o1 missed qs fs1 gs1 m all same sp) masked out x y received come few_a few_b =
       let made = move_b f in
       let value = value_of chip made in
       let taken = gave_b f value in
-      let k = lb.steps chip w f o1 gs1 t received (received-split chip w made received come).1 few_b masked (outside-split ours qs fs1 gs1 sp out).1 y in
+      let k = lb.steps chip w f o1 gs1 t received come few_b masked (outside-split ours qs fs1 gs1 sp out).1 y in
       lift-keeps e (union_of d e) (λ b. (s, b)) Right (λ z. Right z) (others ours) chip w t f (left_b f value) o1 missed (stepped made value received taken)
-      (λ s1 o2. e.relates (chip_after chip made) w (top_after (left_b f value, o2) taken.ended gs1) s1)
-      (λ s1 o2. URelates (chip_after chip made) w (top_after (Right (left_b f value), o2) taken.ended qs) s1)
+      (λ s1 o2. e.relates (chip_after chip made received) w (top_after (left_b f value, o2) taken.ended gs1) s1)
+      (λ s1 o2. URelates (chip_after chip made received) w (top_after (Right (left_b f value), o2) taken.ended qs) s1)
       (lies-right w s t) (λ z. refl) (λ z. refl) m all same
-      (λ s1 o2 missed1 is all1 same1 kept. grow-right (chip_after chip made) w (left_b f value) o2 missed1 taken.ended qs fs1 gs1 s s1 (mine-same (others ours) o1.origin o2.origin is m) all1 same1 sp (la.undisturbed chip w fs1 s made (not-first o1.origin made k.own) x) kept)
+      (λ s1 o2 missed1 is all1 same1 kept. grow-right (chip_after chip made received) w (left_b f value) o2 missed1 taken.ended qs fs1 gs1 s s1 (mine-same (others ours) o1.origin o2.origin is m) all1 same1 sp (la.undisturbed chip w fs1 s made received (not-first o1.origin made k.own) x) kept)
       k
 
   there-split : (chip : Chip) (w : World) (u : Either F G) (o : Open (Either C D)) (ps : List (Either F G × Open (Either C D))) (s : S) (t : T) (fs : List (F × Open C)) (gs : List (G × Open D)) → Splits ours ((u, o) ∷ ps) fs gs → d.relates chip w fs s → e.relates chip w gs t → CanApply (either move_a move_b u)
   there-split chip w u o ps s t fs gs (Left_open f o1 missed qs fs1 gs1 m all same sp) x y = la.there chip w f o1 fs1 s x
   there-split chip w u o ps s t fs gs (Right_open f o1 missed qs fs1 gs1 m all same sp) x y = lb.there chip w f o1 gs1 t y
 
-  rate-split : (chip : Chip) (w : World) (u : Either F G) (o : Open (Either C D)) (ps : List (Either F G × Open (Either C D))) (s : S) (t : T) (fs : List (F × Open C)) (gs : List (G × Open D)) → Splits ours ((u, o) ∷ ps) fs gs → is_masked chip ≡ o.inside → AllOutside ps → d.relates chip w fs s → e.relates chip w gs t → (received : ℕ) → ReceivedRight g chip w (either move_a move_b u) received → d.count s < most_steps → e.count t < most_steps → chip.rate ≡ d.setting.machine.rate s → (chip_after chip (either move_a move_b u)).rate ≡ g.machine.rate (state_after g.machine w (s, t) o (either move_a move_b u) received (either_gave gave_a gave_b u (value_of chip (either move_a move_b u))).event)
+  rate-split : (chip : Chip) (w : World) (u : Either F G) (o : Open (Either C D)) (ps : List (Either F G × Open (Either C D))) (s : S) (t : T) (fs : List (F × Open C)) (gs : List (G × Open D)) → Splits ours ((u, o) ∷ ps) fs gs → is_masked chip ≡ o.inside → AllOutside ps → d.relates chip w fs s → e.relates chip w gs t → (received : ℕ) → ReceivedRight chip w (either move_a move_b u) received → d.count s < most_steps → e.count t < most_steps → chip.clock.rate ≡ d.setting.machine.rate s → (chip_after chip (either move_a move_b u) received).clock.rate ≡ g.machine.rate (state_after g.machine w (s, t) o (either move_a move_b u) received (either_gave gave_a gave_b u (value_of chip (either move_a move_b u))).event)
   rate-split chip w u o ps s t fs gs (Left_open f o1 missed qs fs1 gs1 m all same sp) masked out x y received come few_a few_b is =
       let made = move_a f in
       let value = value_of chip made in
       let taken = gave_a f value in
       let st = stepped made value received taken in
       let in1 = (outside-split ours qs fs1 gs1 sp out).0 in
-      let k = la.steps chip w f o1 fs1 s received (received-split chip w made received come).0 few_a masked in1 x in
+      let k = la.steps chip w f o1 fs1 s received come few_a masked in1 x in
       let same_out = out-at d.setting g (λ a. (a, t)) Left ours w s (lies-left w s t) o1 chip st taken.event m k.event in
-      la.rate chip w f o1 fs1 s received (received-split chip w made received come).0 few_a masked in1 x is ∙ sym (ap (λ o. g.machine.rate (state_by (s, t) o)) same_out ∙ ap g.machine.rate (same-state (λ a. (a, t)) s (outcome_at d.setting.machine w s o1 made received taken.event)))
+      la.rate chip w f o1 fs1 s received come few_a masked in1 x is ∙ sym (ap (λ o. g.machine.rate (state_by (s, t) o)) same_out ∙ ap g.machine.rate (same-state (λ a. (a, t)) s (outcome_at d.setting.machine w s o1 made received taken.event)))
   rate-split chip w u o ps s t fs gs (Right_open f o1 missed qs fs1 gs1 m all same sp) masked out x y received come few_a few_b is =
       let made = move_b f in
       let value = value_of chip made in
       let taken = gave_b f value in
       let st = stepped made value received taken in
-      let k = lb.steps chip w f o1 gs1 t received (received-split chip w made received come).1 few_b masked (outside-split ours qs fs1 gs1 sp out).1 y in
+      let k = lb.steps chip w f o1 gs1 t received come few_b masked (outside-split ours qs fs1 gs1 sp out).1 y in
       let same_out = out-at e.setting g (λ b. (s, b)) Right (others ours) w t (lies-right w s t) o1 chip st taken.event m k.event in
-      steady-by chip made (is_shared made) (e.setting.may o1.origin made) refl k.own (apart.steady chip o1.origin made) ∙ (is ∙ sym (ap (λ o. g.machine.rate (state_by (s, t) o)) same_out ∙ ap g.machine.rate (same-state (λ b. (s, b)) t (outcome_at e.setting.machine w t o1 made received taken.event))))
+      steady-by chip made received (is_shared made) (e.setting.may o1.origin made) refl k.own (apart.steady chip o1.origin made received) ∙ (is ∙ sym (ap (λ o. g.machine.rate (state_by (s, t) o)) same_out ∙ ap g.machine.rate (same-state (λ b. (s, b)) t (outcome_at e.setting.machine w t o1 made received taken.event))))
 
   u-begins : (chip : Chip) (w : World) (ps : List (Either F G × Open (Either C D))) (s : S × T) (c : Either C D) (level : ℕ) → EitherFits d.can_call e.can_call c → is_masked chip ≡ false → AllOutside ps → may_reenter (g.class_of c) (tags_in ps) ≡ true → none_above (tags_in ps) level ≡ true → URelates chip w ps s → URelates chip w ((either (λ x. Left (d.frame_of x)) (λ y. Right (e.frame_of y)) c, opened (Called c) (call_tag g c level)) ∷ ps) s
   u-begins chip w ps s (Left c) level can masked out enters above h =
@@ -377,8 +368,8 @@ module _ {S T C D F G : Type 0} (d : Driver S C F) (e : Driver T D G) (move_a : 
   abbrev tag-by : Bool → ℕ → Tag
   tag-by b line = record { level = cond b (d.setting.level_of line) (e.setting.level_of line); owner = cond b (d.setting.owner_of line) (e.setting.owner_of line); class = None }
 
-  u-enters : (chip : Chip) (w : World) (ps : List (Either F G × Open (Either C D))) (s : S × T) (line : ℕ) (u : Either F G) (x : Option F) (y : Option G) → d.handler_of line ≡ x → e.handler_of line ≡ y → either_handler x y ≡ Some u → is_masked chip ≡ false → AllOutside ps → all_below (tags_in ps) (g.level_of line) ≡ true → URelates chip w ps s → URelates chip w ((u, opened (Entered line) (line_tag g line)) ∷ ps) s
-  u-enters chip w ps s line u (Some f) y is_x is_y is masked out under h =
+  u-enters : (chip : Chip) (w : World) (ps : List (Either F G × Open (Either C D))) (s : S × T) (line : ℕ) (u : Either F G) (x : Option F) (y : Option G) → d.handler_of line ≡ x → e.handler_of line ≡ y → either_handler x y ≡ Some u → is_masked chip ≡ false → is_pending chip line ≡ true → AllOutside ps → all_below (tags_in ps) (g.level_of line) ≡ true → URelates chip w ps s → URelates chip w ((u, opened (Entered line) (line_tag g line)) ∷ ps) s
+  u-enters chip w ps s line u (Some f) y is_x is_y is masked pending out under h =
       let m : ours line ≡ true = ap is_some is_x in
       let level_is : g.level_of line ≡ d.setting.level_of line = rw m refl in
       let levels = tags-split ours (λ x. nat_lt x.level (d.setting.level_of line)) ps h.firsts h.seconds h.splits (subst (λ n. all_below (tags_in ps) n ≡ true) level_is under) in
@@ -389,10 +380,10 @@ module _ {S T C D F G : Type 0} (d : Driver S C F) (e : Driver T D G) (move_a : 
         firsts = (f, opened (Entered line) (line_tag d.setting line)) ∷ h.firsts;
         seconds = h.seconds;
         splits = Left_open f (opened (Entered line) (line_tag d.setting line)) (λ l. false) ps h.firsts h.seconds m refl (λ l k. refl) h.splits;
-        first = la.enters chip w h.firsts s.0 line f is_x masked outs.0 levels.0 h.first;
+        first = la.enters chip w h.firsts s.0 line f is_x masked pending outs.0 levels.0 h.first;
         second = h.second;
       }))
-  u-enters chip w ps s line u None (Some f) is_x is_y is masked out under h =
+  u-enters chip w ps s line u None (Some f) is_x is_y is masked pending out under h =
       let m : ours line ≡ false = ap is_some is_x in
       let level_is : g.level_of line ≡ e.setting.level_of line = rw m refl in
       let levels = tags-split ours (λ x. nat_lt x.level (e.setting.level_of line)) ps h.firsts h.seconds h.splits (subst (λ n. all_below (tags_in ps) n ≡ true) level_is under) in
@@ -404,18 +395,18 @@ module _ {S T C D F G : Type 0} (d : Driver S C F) (e : Driver T D G) (move_a : 
         seconds = (f, opened (Entered line) (line_tag e.setting line)) ∷ h.seconds;
         splits = Right_open f (opened (Entered line) (line_tag e.setting line)) (λ l. false) ps h.firsts h.seconds (ap not m) refl (λ l k. refl) h.splits;
         first = h.first;
-        second = lb.enters chip w h.seconds s.1 line f is_y masked outs.1 levels.1 h.second;
+        second = lb.enters chip w h.seconds s.1 line f is_y masked pending outs.1 levels.1 h.second;
       }))
-  u-enters chip w ps s line u None None is_x is_y is masked out under h = cc
+  u-enters chip w ps s line u None None is_x is_y is masked pending out under h = cc
 
   free-split : (masked : Bool) (w : World) (ps : List (Either F G × Open (Either C D))) (s : S) (t : T) (fs : List (F × Open C)) (gs : List (G × Open D)) (order : Order) → Splits ours ps fs gs → IsFree g masked w (s, t) (origins_in ps) order → IsFree d.setting masked w s (origins_in fs) order × IsFree e.setting masked w t (origins_in gs) order
   free-split masked w ps s t fs gs (orders.Fill c ws) sp h =
-      let k = neither masked (d.setting.fill_busy w s (first_origins ours (origins_in ps)) c) (e.setting.fill_busy w t (second_origins ours (origins_in ps)) c) h in
-      (subst (λ x. masked || d.setting.fill_busy w s x c ≡ false) (first-same ours ps fs gs sp) k.0, subst (λ x. masked || e.setting.fill_busy w t x c ≡ false) (second-same ours ps fs gs sp) k.1)
+      let k = neither masked (d.setting.fill_busy w s (first_origins ours (origins_in ps)) c) (e.setting.fill_busy w t (second_origins ours (origins_in ps)) c) h.0 in
+      ((subst (λ x. masked || d.setting.fill_busy w s x c ≡ false) (first-same ours ps fs gs sp) k.0, h.1), (subst (λ x. masked || e.setting.fill_busy w t x c ≡ false) (second-same ours ps fs gs sp) k.1, h.1))
   free-split masked w ps s t fs gs (orders.Tick n) sp h = ticks-split n (d.setting.machine.expires w s) (e.setting.machine.expires w t) h
   free-split masked w ps s t fs gs _ sp h = (tt, tt)
 
-  u-moves : (chip : Chip) (w : World) (ps : List (Either F G × Open (Either C D))) (s : S × T) (order : Order) → IsFree g (is_masked chip) w s (origins_in ps) order → URelates chip w ps s → (out : Outcome (S × T)) × (g.machine.happens w s (Moves order) ≡ Some out) × URelates (happened chip order) (world_after w chip.rate order) ps out.state
+  u-moves : (chip : Chip) (w : World) (ps : List (Either F G × Open (Either C D))) (s : S × T) (order : Order) → IsFree g (is_masked chip) w s (origins_in ps) order → URelates chip w ps s → (out : Outcome (S × T)) × (g.machine.happens w s (Moves order) ≡ Some out) × URelates (happened chip order) (world_after w chip.clock.rate order) ps out.state
   u-moves chip w ps s order free h =
       let frees = free-split (is_masked chip) w ps s.0 s.1 h.firsts h.seconds order h.splits free in
       let x = la.moves chip w h.firsts s.0 order frees.0 h.first in
@@ -450,6 +441,14 @@ module _ {S T C D F G : Type 0} (d : Driver S C F) (e : Driver T D G) (move_a : 
   u-called : (line : ℕ) (made : Move) → (union_of d e).owns (Entered line) made ≡ true → (c : Either C D) × ((union_of d e).owns (Called c) made ≡ true)
   u-called line made h = owned-by (ours line) (d.owns (Entered line)) (e.owns (Entered line)) made h (λ k. let c = la.owns_called line made k in (Left c.0, c.1)) (λ k. let c = lb.owns_called line made k in (Right c.0, c.1))
 
+  -- a line that is neither's no frame enables
+  u-enables : (origin : Origin (Either C D)) (bits line : ℕ) → g.may origin (Write EnableSet bits) ≡ true → (union_of d e).lines line ≡ false → has_bit bits line ≡ false
+  u-enables (Called (Left c)) bits line h out = la.enables (Called c) bits line h (none-either (d.lines line) (e.lines line) out).0
+  u-enables (Called (Right c)) bits line h out = lb.enables (Called c) bits line h (none-either (d.lines line) (e.lines line) out).1
+  u-enables (Entered l) bits line h out =
+      let none = none-either (d.lines line) (e.lines line) out in
+      owned-by (ours l) (d.setting.may (Entered l)) (e.setting.may (Entered l)) (Write EnableSet bits) h (λ k. la.enables (Entered l) bits line k none.0) (λ k. lb.enables (Entered l) bits line k none.1)
+
   u-call-fuel : (c : Either C D) → EitherFits d.can_call e.can_call c → either d.fuel e.fuel (either (λ x. Left (d.frame_of x)) (λ y. Right (e.frame_of y)) c) ≤ g.steps_of (Called c)
   u-call-fuel (Left c) can = la.call_fuel c can
   u-call-fuel (Right c) can = lb.call_fuel c can
@@ -483,6 +482,25 @@ module _ {S T C D F G : Type 0} (d : Driver S C F) (e : Driver T D G) (move_a : 
       due-by (ours line) (d.setting.machine.due w s.0 line) (e.setting.machine.due w s.1 line) (is_pending chip line) due
       (λ k. la.due chip w h.firsts s.0 line masked outs.0 h.first k)
       (λ k. lb.due chip w h.seconds s.1 line masked outs.1 h.second k)
+
+  u-unused : (chip : Chip) (w : World) (ps : List (Either F G × Open (Either C D))) (s : S × T) (line : ℕ) → is_masked chip ≡ false → AllOutside ps → URelates chip w ps s → (union_of d e).lines line ≡ true → g.used line ≡ false → is_pending chip line ≡ false
+  u-unused chip w ps s line masked out h there free =
+      let outs = outside-split ours ps h.firsts h.seconds h.splits out in
+      let none = none-either (d.setting.used line) (e.setting.used line) free in
+      one-of (d.lines line) (e.lines line) there
+      (λ k. la.unused chip w h.firsts s.0 line masked outs.0 h.first k none.0)
+      (λ k. lb.unused chip w h.seconds s.1 line masked outs.1 h.second k none.1)
+
+  u-unmasked : (chip : Chip) (w : World) (ps : List (Either F G × Open (Either C D))) (s : S × T) → is_masked chip ≡ false → AllOutside ps → URelates chip w ps s → g.unmasked chip w s (origins_in ps)
+  u-unmasked chip w ps s masked out h =
+      let outs = outside-split ours ps h.firsts h.seconds h.splits out in (
+        subst (λ os. d.setting.unmasked chip w s.0 os) (sym (first-same ours ps h.firsts h.seconds h.splits)) (la.unmasked chip w h.firsts s.0 masked outs.0 h.first),
+        subst (λ os. e.setting.unmasked chip w s.1 os) (sym (second-same ours ps h.firsts h.seconds h.splits)) (lb.unmasked chip w h.seconds s.1 masked outs.1 h.second),
+      )
+
+  u-error-leaves : (w : World) (s : S × T) (c : Either C D) (times : ℕ → ℕ) (out : Outcome (S × T)) → g.machine.happens w s (Acts c times) ≡ Some out → ErrorLeaves s out
+  u-error-leaves w s (Left c) times out is = leaves-lifted (λ a. (a, s.1)) s.0 (d.setting.machine.happens w s.0 (Acts c times)) out (λ p e. la.error_leaves w s.0 c times p e) is
+  u-error-leaves w s (Right c) times out is = leaves-lifted (λ b. (s.0, b)) s.1 (e.setting.machine.happens w s.1 (Acts c times)) out (λ p e. lb.error_leaves w s.1 c times p e) is
 
   -- numbers that are given out
 
@@ -535,23 +553,27 @@ module _ {S T C D F G : Type 0} (d : Driver S C F) (e : Driver T D G) (move_a : 
   -- two lawful drivers that are apart are a lawful one
   pub union-lawful : IsLawful (union_of d e) (either move_a move_b) (either_left left_a left_b) (either_gave gave_a gave_b)
   union-lawful = record {
-    starts = λ w. record { firsts = []; seconds = []; splits = Nothing_open; first = la.starts w; second = lb.starts w };
+    starts = λ chip w wired outside. record { firsts = []; seconds = []; splits = Nothing_open; first = la.starts chip w wired.0 outside; second = lb.starts chip w wired.1 outside };
     begins = u-begins;
-    enters = λ chip w ps s line f is masked out under h. u-enters chip w ps s line f (d.handler_of line) (e.handler_of line) refl refl is masked out under h;
+    enters = λ chip w ps s line f is masked pending out under h. u-enters chip w ps s line f (d.handler_of line) (e.handler_of line) refl refl is masked pending out under h;
     steps = λ chip w f o ps s received come few masked out h. step-split chip w f o ps s.0 s.1 h.firsts h.seconds h.splits masked out h.first h.second received come (omega (arith, few)) (omega (arith, few));
     there = λ chip w f o ps s h. there-split chip w f o ps s.0 s.1 h.firsts h.seconds h.splits h.first h.second;
     moves = u-moves;
     resets = u-resets;
-    undisturbed = λ chip w ps s made none h. record { firsts = h.firsts; seconds = h.seconds; splits = h.splits; first = la.undisturbed chip w h.firsts s.0 made (none-first made none) h.first; second = lb.undisturbed chip w h.seconds s.1 made (none-second made none) h.second };
+    undisturbed = λ chip w ps s made received none h. record { firsts = h.firsts; seconds = h.seconds; splits = h.splits; first = la.undisturbed chip w h.firsts s.0 made received (none-first made none) h.first; second = lb.undisturbed chip w h.seconds s.1 made received (none-second made none) h.second };
     may_owns = u-may;
     owns_plain = u-plain;
     owns_called = u-called;
+    enables = u-enables;
     used_lines = u-lines;
     due_used = u-due-used;
     due = λ chip w ps s line masked out h due. u-due chip w ps s line masked out h due;
+    unused = u-unused;
     rests = λ chip w s line there h. let k = empty-split ours h.firsts h.seconds h.splits in rests-at chip w s line h.firsts h.seconds k.0 k.1 there h.first h.second;
+    unmasked = λ chip w ps s masked out h. u-unmasked chip w ps s masked out h;
     rest = λ chip w s h. let k = empty-split ours h.firsts h.seconds h.splits in (la.rest chip w s.0 (subst (λ z. d.relates chip w z s.0) k.0 h.first), lb.rest chip w s.1 (subst (λ z. e.relates chip w z s.1) k.1 h.second));
     waits = λ chip w s u h. let k = empty-split ours h.firsts h.seconds h.splits in waits-at chip w s u h.firsts h.seconds k.0 k.1 h.first h.second;
+    error_leaves = u-error-leaves;
     count_first = let one = la.count_first in let two = lb.count_first in omega (arith, one, two);
     count_happens = count-happens;
     count_moves = count-moves;
@@ -559,7 +581,7 @@ module _ {S T C D F G : Type 0} (d : Driver S C F) (e : Driver T D G) (move_a : 
     rate_starts = la.rate_starts;
     rate = λ chip w f o ps s received come few masked out h is. rate-split chip w f o ps s.0 s.1 h.firsts h.seconds h.splits masked out h.first h.second received come (omega (arith, few)) (omega (arith, few)) is;
     rate_moves = λ w s order out is. let k = both-first (d.setting.machine.happens w s.0 (Moves order)) (e.setting.machine.happens w s.1 (Moves order)) out is in subst (λ x. d.setting.machine.rate x ≡ d.setting.machine.rate s.0) k.2 (la.rate_moves w s.0 order k.0 k.1);
-    rate_resets = λ chip w s reason out is. let k = both-first (d.setting.machine.happens w s.0 (Restarts reason)) (e.setting.machine.happens w s.1 (Restarts reason)) out is in subst (λ x. (reset_chip chip reason).rate ≡ d.setting.machine.rate x) k.2 (la.rate_resets chip w s.0 reason k.0 k.1);
+    rate_resets = λ chip w s reason out is. let k = both-first (d.setting.machine.happens w s.0 (Restarts reason)) (e.setting.machine.happens w s.1 (Restarts reason)) out is in subst (λ x. (reset_chip chip reason).clock.rate ≡ d.setting.machine.rate x) k.2 (la.rate_resets chip w s.0 reason k.0 k.1);
     handled = λ line. handler-some (d.handler_of line) (e.handler_of line) ∙ (ap (λ x. x || is_some (e.handler_of line)) (la.handled line) ∙ ap (λ x. d.setting.used line || x) (lb.handled line));
     call_fuel = u-call-fuel;
     line_fuel = λ line f is. fuel-by d.fuel e.fuel (d.handler_of line) (e.handler_of line) f (d.setting.steps_of (Entered line)) (e.setting.steps_of (Entered line)) is (λ x k. la.line_fuel line x k) (λ y k. lb.line_fuel line y k);

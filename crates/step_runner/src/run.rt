@@ -1,5 +1,5 @@
 ghost use Rattle.std.specs.Prelude.{◌≡◌, ◌<◌, ◌&&◌, List, [], ◌∷◌, ◌++◌, length, None, is_some};
-ghost use Rattle.chip_model.specs.Chip.{is_masked, is_pending, happened, CanHappen, reset_chip};
+ghost use Rattle.chip_model.specs.Chip.{Chip, is_masked, is_pending, happened, CanHappen, reset_chip};
 ghost use Rattle.run_model.specs.Causes.{call_cause, line_cause};
 ghost use Rattle.run_model.specs.Legal.{hardware_held};
 ghost use Rattle.run_model.specs.Moment.{Deed, Begins, Enters, Happens, Resets, call_tag, line_tag, start_moment, after_all};
@@ -25,9 +25,9 @@ pub fn begin<M: Module>(
     ensures stack { let frame = (M.spec driver.now).frame_of call in
         let tag = call_tag (M.spec driver.now).setting call level in
         stack.new ≡ put_by result (beginning frame tag) stack.old }
-    ensures stands { (h : List (Deed M.Call)) → (M.spec driver.now).fits → (M.spec driver.now).can_call call →
-        Stands (M.spec driver.now) bus.now stack.old.frames h →
-        Stands (M.spec driver.now) bus.now stack.new.frames (h ++ done result (Begins call level)) }
+    ensures stands { (first : Chip) (h : List (Deed M.Call)) → (M.spec driver.now).fits → (M.spec driver.now).can_call call →
+        Stands (M.spec driver.now) first bus.now stack.old.frames h →
+        Stands (M.spec driver.now) first bus.now stack.new.frames (h ++ done result (Begins call level)) }
 {
     let class = driver.class(&call);
     stack.call_held(bus.masked(), &class, level)?;
@@ -48,9 +48,9 @@ pub fn enter<M: Module>(stack: &mut Stack<M>, driver: &M, bus: &Bus, line: u32) 
         cause_of result ≡ line_cause (is_masked bus.now) (tags_under stack.old.frames) level is_due }
     ensures stack { let tag = line_tag (M.spec driver.now).setting line in
         stack.new ≡ enter_by result ((M.spec driver.now).handler_of line) tag stack.old }
-    ensures stands { (h : List (Deed M.Call)) → (M.spec driver.now).fits →
-        Stands (M.spec driver.now) bus.now stack.old.frames h →
-        Stands (M.spec driver.now) bus.now stack.new.frames (h ++ done result (Enters line)) }
+    ensures stands { (first : Chip) (h : List (Deed M.Call)) → (M.spec driver.now).fits →
+        Stands (M.spec driver.now) first bus.now stack.old.frames h →
+        Stands (M.spec driver.now) first bus.now stack.new.frames (h ++ done result (Enters line)) }
 {
     let level = driver.level(line);
     let handler = driver.handler(line);
@@ -74,15 +74,15 @@ pub fn step<M: Module>(stack: &mut Stack<M>, bus: &mut Bus) -> Result<Stepped, H
     requires there { CanStep M.Frame.move_of stack.old.frames }
     ensures step { TakesStep M.Frame.move_of M.Frame.left M.Frame.gave
         stack.old.frames stack.old.steps bus.old stack.new bus.new result }
-    ensures stands { (driver : M) (h : List (Deed M.Call)) → (M.spec driver).fits →
+    ensures stands { (driver : M) (first : Chip) (h : List (Deed M.Call)) → (M.spec driver).fits →
         let setting = (M.spec driver).setting in
-        (after_all setting (start_moment setting) h).steps < 4294967295 →
-        Stands (M.spec driver) bus.old stack.old.frames h →
-        Stands (M.spec driver) bus.new stack.new.frames (h ++ step_done result) }
-    ensures shortens { (driver : M) (h : List (Deed M.Call)) → (M.spec driver).fits →
+        (after_all setting (start_moment setting first) h).steps < 4294967295 →
+        Stands (M.spec driver) first bus.old stack.old.frames h →
+        Stands (M.spec driver) first bus.new stack.new.frames (h ++ step_done result) }
+    ensures shortens { (driver : M) (first : Chip) (h : List (Deed M.Call)) → (M.spec driver).fits →
         let setting = (M.spec driver).setting in
-        (after_all setting (start_moment setting) h).steps < 4294967295 →
-        Stands (M.spec driver) bus.old stack.old.frames h →
+        (after_all setting (start_moment setting first) h).steps < 4294967295 →
+        Stands (M.spec driver) first bus.old stack.old.frames h →
         FuelFalls (M.spec driver).fuel stack.old.frames stack.new.frames result }
 {
     let mut stepped = Stepped::blank();
@@ -101,15 +101,15 @@ pub fn step_into<M: Module>(
     requires free { stepped.old.ended ≡ None }
     ensures step { TakesStep M.Frame.move_of M.Frame.left M.Frame.gave
         stack.old.frames stack.old.steps bus.old stack.new bus.new (written_by result stepped.new) }
-    ensures stands { (driver : M) (h : List (Deed M.Call)) → (M.spec driver).fits →
+    ensures stands { (driver : M) (first : Chip) (h : List (Deed M.Call)) → (M.spec driver).fits →
         let setting = (M.spec driver).setting in
-        (after_all setting (start_moment setting) h).steps < 4294967295 →
-        Stands (M.spec driver) bus.old stack.old.frames h →
-        Stands (M.spec driver) bus.new stack.new.frames (h ++ step_done (written_by result stepped.new)) }
-    ensures shortens { (driver : M) (h : List (Deed M.Call)) → (M.spec driver).fits →
+        (after_all setting (start_moment setting first) h).steps < 4294967295 →
+        Stands (M.spec driver) first bus.old stack.old.frames h →
+        Stands (M.spec driver) first bus.new stack.new.frames (h ++ step_done (written_by result stepped.new)) }
+    ensures shortens { (driver : M) (first : Chip) (h : List (Deed M.Call)) → (M.spec driver).fits →
         let setting = (M.spec driver).setting in
-        (after_all setting (start_moment setting) h).steps < 4294967295 →
-        Stands (M.spec driver) bus.old stack.old.frames h →
+        (after_all setting (start_moment setting first) h).steps < 4294967295 →
+        Stands (M.spec driver) first bus.old stack.old.frames h →
         FuelFalls (M.spec driver).fuel stack.old.frames stack.new.frames (written_by result stepped.new) }
 {
     stack.step_top(bus, stepped)
@@ -119,11 +119,11 @@ pub fn step_into<M: Module>(
 pub fn hardware<M: Module>(stack: &Stack<M>, bus: &mut Bus, happening: &Directive)
     requires { CanHappen bus.old happening.now.order }
     ensures chip { bus.new ≡ happened bus.old happening.now.order }
-    ensures stands { (driver : M) (h : List (Deed M.Call)) → (M.spec driver).fits →
+    ensures stands { (driver : M) (first : Chip) (h : List (Deed M.Call)) → (M.spec driver).fits →
         let setting = (M.spec driver).setting in
-        hardware_held setting (after_all setting (start_moment setting) h) happening.now.order ≡ None →
-        Stands (M.spec driver) bus.old stack.now.frames h →
-        Stands (M.spec driver) bus.new stack.now.frames (h ++ Happens happening.now.order ∷ []) }
+        hardware_held setting (after_all setting (start_moment setting first) h) happening.now.order ≡ None →
+        Stands (M.spec driver) first bus.old stack.now.frames h →
+        Stands (M.spec driver) first bus.new stack.now.frames (h ++ Happens happening.now.order ∷ []) }
 {
     let _frames = stack;
     bus.hardware(happening);
@@ -134,9 +134,9 @@ pub fn reset<M: Module>(stack: &mut Stack<M>, bus: &mut Bus, reason: Reason) -> 
     ensures dropped { result ≡ length stack.old.frames }
     ensures stack { stack.new ≡ record stack.old { frames = [] } }
     ensures chip { bus.new ≡ reset_chip bus.old reason }
-    ensures stands { (driver : M) (h : List (Deed M.Call)) → (M.spec driver).fits →
-        Stands (M.spec driver) bus.old stack.old.frames h →
-        Stands (M.spec driver) bus.new stack.new.frames (h ++ Resets reason ∷ []) }
+    ensures stands { (driver : M) (first : Chip) (h : List (Deed M.Call)) → (M.spec driver).fits →
+        Stands (M.spec driver) first bus.old stack.old.frames h →
+        Stands (M.spec driver) first bus.new stack.new.frames (h ++ Resets reason ∷ []) }
 {
     bus.reset(reason);
     stack.clear()

@@ -3,10 +3,10 @@ ghost use Rattle.std.specs.List.{list_all};
 ghost use Rattle.std.specs.Bool.{OnFalse};
 ghost use Rattle.mcal_base.specs.Names.{module_number};
 ghost use Rattle.run_model.specs.Causes.{kind_number, same_key, kind_blocks, class_blocks, blocks, may_reenter, call_level_allows, line_level_allows, call_cause, line_cause, is_full};
-ghost use Rattle.chip_model.specs.Chip.{fresh, value_of, chip_after};
-ghost use Rattle.chip_model.specs.Reach.{CanApply};
+ghost use Rattle.chip_model.specs.Chip.{Chip, value_of, received_of, chip_after};
+ghost use Rattle.mcal_base.specs.Reach.{CanApply};
 ghost use Rattle.step_runner.specs.Driver.{stepped as step_of, Covers};
-ghost use Rattle.step_runner.specs.Stands.{Stands};
+ghost use Rattle.step_runner.specs.Stands.{IsFirst, Stands};
 ghost use Rattle.step_runner.specs.Kept.{kept_empty, tags_under, top_is_noted, cause_of, beginning, moved, written_by, CanStep, TakesStep};
 
 use crate::Module;
@@ -116,26 +116,29 @@ fn move_frame<F: Routine + Drop>(top: &mut Under<F>, bus: &mut Bus, stepped: &mu
     requires free { stepped.old.ended ≡ None }
     ensures top { let made = F.move_of top.old.frame in
         top.new ≡ moved top.old (F.left top.old.frame (value_of bus.old made)) made }
-    ensures chip { bus.new ≡ chip_after bus.old (F.move_of top.old.frame) }
+    ensures chip { let made = F.move_of top.old.frame in
+        bus.new ≡ chip_after bus.old made (received_of bus.old made) }
     ensures step { let made = F.move_of top.old.frame in
         let value = value_of bus.old made in
-        stepped.new ≡ step_of made value 0 (F.gave top.old.frame value) }
+        stepped.new ≡ step_of made value (received_of bus.old made) (F.gave top.old.frame value) }
 {
     let made = top.frame.next();
-    let value = bus.apply(&made).value;
+    let applied = bus.apply(&made);
+    let value = applied.value;
     stepped.event = top.frame.took_into(value, &mut stepped.ended);
     top.noted = matches!(made, Move::Note(_));
     stepped.made = made;
     stepped.value = value;
-    stepped.received = 0;
+    stepped.received = applied.received;
 }
 
 impl<M: Module> Stack<M> {
     /// An empty stack. It takes the room of eight frames, and no later call takes memory.
     pub fn new(alloc: Global) -> Result<Stack<M>, NoMemory>
         ensures empty { IfOk result (λ s. s ≡ kept_empty) }
-        ensures stands { (driver : M) → (M.spec driver).fits → Covers (M.spec driver) →
-            IfOk result (λ s. Stands (M.spec driver) (fresh 0 0) s.frames []) }
+        ensures stands { (driver : M) (first : Chip) → (M.spec driver).fits → Covers (M.spec driver) →
+            IsFirst first → (M.spec driver).wired first →
+            IfOk result (λ s. Stands (M.spec driver) first first s.frames []) }
     {
         let frames = Vec::with_capacity(alloc, MOST_FRAMES as usize).map_err(|_| NoMemory)?;
         Ok(Stack { frames, steps: 0 })

@@ -1,7 +1,8 @@
 -- A cell: its machine, what its calls do, and how the chip stands for its state.
-use Rattle.std.specs.Prelude.{◌≡◌, ℕ, ◌<◌, ◌==◌, Bool, true, false, length, List, [], ◌∷◌, Option, Some, None}
+use Rattle.std.specs.Prelude.{◌≡◌, ℕ, ◌<◌, ◌==◌, Bool, true, false, List, [], ◌∷◌, Option, Some, None}
 use Rattle.chip_model.specs.Chip.{Chip, word_of}
-use Rattle.mcal_base.specs.declared.TheConstants.{WORDS}
+use Rattle.chip_model.specs.Histories.{HasAll}
+use Rattle.mcal_base.specs.declared.layout.TheConstants.{SOURCES}
 use Rattle.mcal_base.specs.declared.answer.Answer.{Answer}
 use Rattle.mcal_base.specs.declared.answer.Head.TheVariants.{Numbers}
 use Rattle.mcal_base.specs.declared.module_name.ModuleName.TheVariants.{Gpt}
@@ -80,10 +81,8 @@ cell_setting word = record {
   halves = λ c. None;
   fills = λ c. false;
   fill_busy = λ w s origins c. false;
-  receives = λ chip w number received. Unit {0};
-  begins_word = λ w s l. None;
-  selects = λ origin chip w s e number. Unit {0};
   rest = λ chip w s. word_of chip word ≡ s;
+  unmasked = λ chip w s origins. word_of chip word ≡ s;
   shows = λ origin n chip s. Unit {0};
 }
 
@@ -92,19 +91,21 @@ pub data AllNew (word : ℕ) : List (CellFrame × Open CellCall) → Type 0 wher
   No_frame : AllNew word []
   New_frame : (c : CellCall) (tag : Tag) (ps : List (CellFrame × Open CellCall)) → AllNew word ps → AllNew word ((record { word = word; call = c }, opened (Called c) tag) ∷ ps)
 
--- the word is the state, and the rate is 1
+-- the chip has all its parts, and the word is the state
 pub record CellRelates (word : ℕ) (chip : Chip) (w : World) (ps : List (CellFrame × Open CellCall)) (s : ℕ) : Type 0 where
-  pub words : length chip.words ≡ WORDS
+  pub all : HasAll chip
   pub value : word_of chip word ≡ s
   pub frames : AllNew word ps
 
+-- its word lies below the source arrays, which the hardware may fill
 abbrev pub cell : ℕ → Driver ℕ CellCall CellFrame
 cell word = record {
-  fits = word < WORDS;
+  fits = word < SOURCES;
   can_call = λ c. Unit {0};
   setting = cell_setting word;
   frame_of = λ c. record { word = word; call = c };
   handler_of = λ l. None;
+  wired = λ chip. Unit {0};
   relates = CellRelates word;
   fuel = λ f. 1;
   room = λ f. 0;

@@ -1,29 +1,33 @@
 -- A cell is lawful, and two cells of different words are apart.
-use Rattle.std.proofs.Common.{◌≡◌, ℕ, ◌<◌, ◌≢◌, ◌==◌, true, false, length, List, [], ◌∷◌, Some, refl, sym, ◌∙◌, ap, subst, arith}
+use Rattle.std.proofs.Common.{◌≡◌, ℕ, ◌+◌, ◌<◌, ◌≤◌, ◌≢◌, ◌==◌, Bool, true, false, length, take, drop, List, [], ◌∷◌, ◌++◌, Some, refl, sym, ◌∙◌, ap, subst, arith}
 use Rattle.std.specs.Prelude.{slice_index}
 use Rattle.std.proofs.lemmas.Bool.Decides.{nat_tests}
-use Rattle.std.proofs.lemmas.List.{get_or-set_same, get_or-set_other, length-set}
-use Rattle.chip_model.specs.Chip.{Chip, chip_after, value_of, word_of, happened}
-use Rattle.chip_model.proofs.WordLaws.{length-blank, slice_index-blank}
-use Rattle.mcal_base.specs.declared.TheConstants.{WORDS}
+use Rattle.std.proofs.lemmas.List.{get_or-set_same, get_or_append_left, get_or-take, length-append, length-take-le}
+use Rattle.chip_model.specs.Chip.{Chip, chip_after, value_of, word_of, happened, is_masked, overwritten, source_length}
+use Rattle.chip_model.specs.Histories.{Made, Hardware, WasReset, HasAll, FillsThere, LeavesWord}
+use Rattle.chip_model.proofs.HistoryLaws.{word-left}
+use Rattle.chip_model.proofs.WholeLaws.{all-step}
+use Rattle.chip_model.proofs.WordLaws.{slice_index-blank}
+use Rattle.mcal_base.specs.Layout.{place_of}
+use Rattle.mcal_base.specs.declared.layout.Array.TheVariants.{Source}
+use Rattle.mcal_base.specs.declared.layout.TheConstants.{SOURCES}
 use Rattle.mcal_base.specs.declared.directive.Order.{Order}
-use Rattle.mcal_base.specs.declared.directive.Order.TheVariants.{Tick}
+use Rattle.mcal_base.specs.declared.directive.Order.TheVariants.{Fill}
+use Rattle.mcal_base.specs.declared.directive.Reason.TheVariants.{PowerOn}
 use Rattle.mcal_base.specs.declared.moves.Move.{Move}
-use Rattle.mcal_base.specs.declared.moves.Move.TheVariants.{Read, Write, Load, Store, Mask, Unmask, Note, Report}
-use Rattle.mcal_base.specs.declared.register.Reg.{Reg}
-use Rattle.mcal_base.specs.declared.register.Reg.TheVariants.{EnableSet, EnableClear}
-use Rattle.chip_model.specs.Reach.{CanApply}
+use Rattle.mcal_base.specs.declared.moves.Move.TheVariants.{Load, Store}
+use Rattle.mcal_base.specs.Reach.{CanApply}
 use Rattle.run_model.specs.declared.class.Tag.{Tag}
 use Rattle.run_model.specs.World.{World}
-use Rattle.run_model.specs.Machine.{outcome, tells_nothing}
-use Rattle.run_model.specs.Frame.{Called, Open, opened, is_shared}
-use Rattle.step_runner.specs.Driver.{IsLawful, KeepsStep, stepped}
+use Rattle.run_model.specs.Machine.{ErrorLeaves, outcome, tells_nothing}
+use Rattle.run_model.specs.Frame.{Origin, Called, Open, opened, is_shared}
+use Rattle.step_runner.specs.Driver.{origins_in, IsFree, IsLawful, KeepsStep, stepped}
 use Rattle.step_runner.specs.Union.{AreApart, union_of}
 use Rattle.step_runner.proofs.Apart.{apart-second}
 use Rattle.union_example.specs.declared.cell.CellCall.{CellCall}
 use Rattle.union_example.specs.declared.cell.CellCall.TheVariants.{Get, Put}
 use Rattle.union_example.specs.declared.cell.CellFrame.{CellFrame}
-use Rattle.union_example.specs.Cell.{cell_move, call_move, cell_gave, answer_of, names, AllNew, No_frame, New_frame, CellRelates, cell}
+use Rattle.union_example.specs.Cell.{cell_move, call_move, cell_gave, answer_of, names, cell_setting, AllNew, No_frame, New_frame, CellRelates, cell}
 
 same : (k : ℕ) → (k == k) ≡ true
 same k = grind (arith, nat_tests)
@@ -39,41 +43,40 @@ differs j k e = λ i. absurd (grind (arith, nat_tests))
 
 -- ---- words
 
-happened_words : (chip : Chip) (order : Order) → (happened chip order).words ≡ chip.words
-happened_words chip (Tick n) = refl
-happened_words chip _ = refl
-
-written_words : (chip : Chip) (r : Reg) (v : ℕ) → (chip_after chip (Write r v)).words ≡ chip.words
-written_words chip EnableSet v = refl
-written_words chip EnableClear v = refl
-written_words chip _ v = refl
-
-words_kept : (chip : Chip) (made : Move) → length (chip_after chip made).words ≡ length chip.words
-words_kept chip (Read r) = refl
-words_kept chip (Write r v) = ap length (written_words chip r v)
-words_kept chip (Load k) = refl
-words_kept chip (Store k v) = length-set chip.words k v
-words_kept chip Mask = refl
-words_kept chip Unmask = refl
-words_kept chip (Note n) = refl
-words_kept chip (Report e) = refl
+leaves : (word : ℕ) (made : Move) (received : ℕ) → names word made ≡ false → LeavesWord word (Made made received)
+leaves word (Store k v) received h = λ e. differs k word h (sym e)
+leaves word _ received h = tt
 
 -- a move that doesn't name the word leaves it
-word_left : (chip : Chip) (word : ℕ) (made : Move) → names word made ≡ false → word_of (chip_after chip made) word ≡ word_of chip word
-word_left chip word (Read r) h = refl
-word_left chip word (Write r v) h = ap (λ x. slice_index x word) (written_words chip r v)
-word_left chip word (Load k) h = refl
-word_left chip word (Store k v) h = get_or-set_other chip.words k word v 0 (differs k word h)
-word_left chip word Mask h = refl
-word_left chip word Unmask h = refl
-word_left chip word (Note n) h = refl
-word_left chip word (Report e) h = refl
+word_left : (chip : Chip) (word : ℕ) (made : Move) (received : ℕ) → names word made ≡ false → word_of (chip_after chip made received) word ≡ word_of chip word
+word_left chip word made received h = word-left word chip (Made made received) (leaves word made received h)
+
+-- and so does what is written from a later word on
+below_written : (words xs : List ℕ) (at word : ℕ) → at ≤ length words → word < at → slice_index (overwritten words at xs) word ≡ slice_index words word
+below_written words xs at word there below =
+    let front : length (take at words) ≡ at = length-take-le at words there in
+    let inside : word < length (take at words ++ xs) = omega (arith, length-append (take at words) xs, front, below) in
+    get_or_append_left (take at words ++ xs) (drop (at + length xs) words) 0 word inside
+    ∙ (get_or_append_left (take at words) xs 0 word (omega (arith, front, below)) ∙ get_or-take at words word 0 below)
+
+-- a fill that may come is to a source array that there is
+fills_there : (word : ℕ) (masked : Bool) (w : World) (s : ℕ) (origins : List (Origin CellCall)) (order : Order) → IsFree (cell_setting word) masked w s origins order → FillsThere (Hardware order)
+fills_there word masked w s origins (Fill channel ws) free = free.1
+fills_there word masked w s origins _ free = tt
+
+-- the hardware leaves the words below the source arrays
+word_event : (chip : Chip) (word : ℕ) (order : Order) → word < SOURCES → HasAll chip → FillsThere (Hardware order) → word_of (happened chip order) word ≡ word_of chip word
+word_event chip word (Fill channel ws) fits all there =
+    let start = place_of (Source channel) 0 in
+    let size = all.words in
+    below_written chip.words (take (source_length chip channel) ws) start word (omega (arith, size, there)) (omega (arith, fits))
+word_event chip word order fits all there = word-left word chip (Hardware order) tt
 
 -- what names a word leaves the rate
-rate_left : (chip : Chip) (word : ℕ) (made : Move) → names word made ≡ true → (chip_after chip made).rate ≡ chip.rate
-rate_left chip word (Load k) h = refl
-rate_left chip word (Store k v) h = refl
-rate_left chip word _ h = cc
+rate_left : (chip : Chip) (word : ℕ) (made : Move) (received : ℕ) → names word made ≡ true → (chip_after chip made received).clock.rate ≡ chip.clock.rate
+rate_left chip word (Load k) received h = refl
+rate_left chip word (Store k v) received h = refl
+rate_left chip word _ received h = cc
 
 names_plain : (word : ℕ) (made : Move) → names word made ≡ true → is_shared made ≡ false
 names_plain word (Load k) h = refl
@@ -82,76 +85,85 @@ names_plain word _ h = cc
 
 -- ---- the laws
 
-call_rate : (chip : Chip) (word : ℕ) (c : CellCall) → (chip_after chip (call_move word c)).rate ≡ chip.rate
-call_rate chip word Get = refl
-call_rate chip word (Put v) = refl
+given : {A : Type 0} {x y : A} → Some x ≡ Some y → x ≡ y
+given e = cc
 
-call_there : (word : ℕ) (c : CellCall) → word < WORDS → CanApply (call_move word c)
-call_there word Get h = h
-call_there word (Put v) h = h
+call_rate : (chip : Chip) (word : ℕ) (c : CellCall) (received : ℕ) → (chip_after chip (call_move word c) received).clock.rate ≡ chip.clock.rate
+call_rate chip word Get received = refl
+call_rate chip word (Put v) received = refl
 
-module _ (word : ℕ) (fits : word < WORDS) where
-  step_of : (chip : Chip) (w : World) (c : CellCall) (tag : Tag) (ps : List (CellFrame × Open CellCall)) (s received : ℕ) → length chip.words ≡ WORDS → word_of chip word ≡ s → AllNew word ps → let f : CellFrame = record { word = word; call = c } in let made = cell_move f in let value = value_of chip made in KeepsStep (cell word) (record { chip = chip; world = w; state = s; opens = []; steps = 0 }) f (opened (Called c) tag) f (stepped made value received (cell_gave f value)) (λ s1 o1. CellRelates word (chip_after chip made) w ps s1)
-  step_of chip w Get tag ps s received size is new = record {
-    event = (refl, tt, tt, refl);
+call_there : (word : ℕ) (c : CellCall) → word < SOURCES → CanApply (call_move word c)
+call_there word Get h = omega (arith, h)
+call_there word (Put v) h = omega (arith, h)
+
+module _ (word : ℕ) (fits : word < SOURCES) where
+  step_of : (chip : Chip) (w : World) (c : CellCall) (tag : Tag) (ps : List (CellFrame × Open CellCall)) (s received : ℕ) → HasAll chip → word_of chip word ≡ s → AllNew word ps → let f : CellFrame = record { word = word; call = c } in let made = cell_move f in let value = value_of chip made in KeepsStep (cell word) (record { chip = chip; world = w; state = s; opens = []; steps = 0 }) f (opened (Called c) tag) f (stepped made value received (cell_gave f value)) (λ s1 o1. CellRelates word (chip_after chip made received) w ps s1)
+  step_of chip w Get tag ps s received all is new = record {
+    event = (refl, tt, refl);
+    sends = tt;
     halves = tt;
     errors = tt;
     move = tt;
     shows = tt;
-    ends = ((ap (λ x. Some (answer_of Get x)) (sym is), refl), refl, refl, refl);
+    ends = ((ap (λ x. Some (answer_of Get x)) (sym is), refl), refl, refl, refl, refl);
     own = same word;
     reset = refl;
     stays = λ e. cc;
     fuel = omega arith;
     room = λ e. cc;
-    kept = record { words = size; value = is; frames = new };
+    kept = record { all = all; value = is; frames = new };
   }
-  step_of chip w (Put v) tag ps s received size is new = record {
-    event = (refl, tt, tt, refl);
+  step_of chip w (Put v) tag ps s received all is new = record {
+    event = (refl, tt, refl);
+    sends = tt;
     halves = tt;
     errors = tt;
     move = tt;
     shows = tt;
-    ends = ((refl, refl), refl, refl, refl);
+    ends = ((refl, refl), refl, refl, refl, refl);
     own = same word;
     reset = refl;
     stays = λ e. cc;
     fuel = omega arith;
     room = λ e. cc;
-    kept = record { words = length-set chip.words word v ∙ size; value = get_or-set_same chip.words word v 0 (omega (arith, fits, size)); frames = new };
+    kept = record { all = all-step chip (Made (Store word v) received) tt all; value = let size = all.words in get_or-set_same chip.words word v 0 (omega (arith, fits, size)); frames = new };
   }
 
-  steps_of : (chip : Chip) (w : World) (f : CellFrame) (o : Open CellCall) (ps : List (CellFrame × Open CellCall)) (s received : ℕ) → length chip.words ≡ WORDS → word_of chip word ≡ s → AllNew word ((f, o) ∷ ps) → let made = cell_move f in let value = value_of chip made in KeepsStep (cell word) (record { chip = chip; world = w; state = s; opens = []; steps = 0 }) f o f (stepped made value received (cell_gave f value)) (λ s1 o1. CellRelates word (chip_after chip made) w ps s1)
-  steps_of chip w f o ps s received size is (New_frame c tag qs new) = step_of chip w c tag qs s received size is new
+  steps_of : (chip : Chip) (w : World) (f : CellFrame) (o : Open CellCall) (ps : List (CellFrame × Open CellCall)) (s received : ℕ) → HasAll chip → word_of chip word ≡ s → AllNew word ((f, o) ∷ ps) → let made = cell_move f in let value = value_of chip made in KeepsStep (cell word) (record { chip = chip; world = w; state = s; opens = []; steps = 0 }) f o f (stepped made value received (cell_gave f value)) (λ s1 o1. CellRelates word (chip_after chip made received) w ps s1)
+  steps_of chip w f o ps s received all is (New_frame c tag qs new) = step_of chip w c tag qs s received all is new
 
   there_of : (f : CellFrame) (o : Open CellCall) (ps : List (CellFrame × Open CellCall)) → AllNew word ((f, o) ∷ ps) → CanApply (cell_move f)
   there_of f o ps (New_frame c tag qs new) = call_there word c fits
 
   pub cell_lawful : IsLawful (cell word) cell_move (λ f value. f) cell_gave
   cell_lawful = record {
-    starts = λ w. record { words = length-blank; value = slice_index-blank word; frames = No_frame };
-    begins = λ chip w ps s c level can shut out may above h. record { words = h.words; value = h.value; frames = New_frame c _ ps h.frames };
-    enters = λ chip w ps s line f there shut out under h. cc;
-    steps = λ chip w f o ps s received come few masked out h. steps_of chip w f o ps s received h.words h.value h.frames;
+    starts = λ chip w wired outside. record { all = all-step chip (WasReset PowerOn) tt outside.all; value = slice_index-blank word; frames = No_frame };
+    begins = λ chip w ps s c level can shut out may above h. record { all = h.all; value = h.value; frames = New_frame c _ ps h.frames };
+    enters = λ chip w ps s line f there shut pending out under h. cc;
+    steps = λ chip w f o ps s received come few masked out h. steps_of chip w f o ps s received h.all h.value h.frames;
     there = λ chip w f o ps s h. there_of f o ps h.frames;
-    moves = λ chip w ps s order free h. (outcome s tells_nothing, refl, record { words = ap length (happened_words chip order) ∙ h.words; value = ap (λ x. slice_index x word) (happened_words chip order) ∙ h.value; frames = h.frames });
-    resets = λ chip w ps s reason h. (outcome 0 tells_nothing, refl, record { words = length-blank; value = slice_index-blank word; frames = No_frame });
-    undisturbed = λ chip w ps s made none h. record { words = words_kept chip made ∙ h.words; value = word_left chip word made (none (Called Get)) ∙ h.value; frames = h.frames };
+    moves = λ chip w ps s order free h. let there = fills_there word (is_masked chip) w s (origins_in ps) order free in (outcome s tells_nothing, refl, record { all = all-step chip (Hardware order) there h.all; value = word_event chip word order fits h.all there ∙ h.value; frames = h.frames });
+    resets = λ chip w ps s reason h. (outcome 0 tells_nothing, refl, record { all = all-step chip (WasReset reason) tt h.all; value = slice_index-blank word; frames = No_frame });
+    undisturbed = λ chip w ps s made received none h. record { all = all-step chip (Made made received) tt h.all; value = word_left chip word made received (none (Called Get)) ∙ h.value; frames = h.frames };
     may_owns = λ origin made h. h;
     owns_plain = λ origin made h. names_plain word made h;
     owns_called = λ line made h. (Get, h);
+    enables = λ origin bits line h apart. cc;
     used_lines = λ line h. cc;
     due_used = λ chip w ps s line out h due. cc;
     due = λ chip w ps s line shut out h due. cc;
+    unused = λ chip w ps s line shut out h mine free. cc;
     rests = λ chip w s line mine h. cc;
+    unmasked = λ chip w ps s shut out h. h.value;
     rest = λ chip w s h. h.value;
     waits = λ chip w s u h. refl;
+    error_leaves = λ w s c times out e. subst (λ o. ErrorLeaves s o) (given e) (λ some. absurd (cc));
     count_first = refl;
     count_happens = λ w s h out e. omega arith;
     count_moves = λ w s order out e. omega arith;
     count_resets = λ w s reason out e. omega arith;
     rate_starts = refl;
-    rate = λ chip w f o ps s received come few masked out h is. call_rate chip f.word f.call ∙ is;
+    rate = λ chip w f o ps s received come few masked out h is. call_rate chip f.word f.call received ∙ is;
     rate_moves = λ w s order out e. refl;
     rate_resets = λ chip w s reason out e. refl;
     handled = λ line. refl;
@@ -174,8 +186,8 @@ cells_apart j k apart = record {
   polls_other = λ w t c. refl;
   starts = λ w s t u r some. refl;
   aborts = λ w s t u some. refl;
-  steady = λ chip q made h. rate_left chip k made h;
+  steady = λ chip q made received h. rate_left chip k made received h;
 }
 
-pub three_fit : (0 < WORDS) → (1 < WORDS) → (2 < WORDS) → (union_of (cell 0) (union_of (cell 1) (cell 2))).fits
+pub three_fit : (0 < SOURCES) → (1 < SOURCES) → (2 < SOURCES) → (union_of (cell 0) (union_of (cell 1) (cell 2))).fits
 three_fit a b c = (a, (b, c, cells_apart 1 2 (λ e. cc)), apart-second (cell 0) (cell 1) (cell 2) (cells_apart 0 1 (λ e. cc)) (cells_apart 0 2 (λ e. cc)))

@@ -4,9 +4,8 @@ use crate::{CellCall, Three, three};
 use chip_model::Bus;
 use irq_control::Held;
 use mcal_base::{
-    AdcConfig, AdcPriorityImplementation, Answer, Config, Event, GptConfig, Head, IcuConfig,
-    McuConfig, ModuleName, Move, Notice, NoticeKind, PortConfig, PwmConfig, Reason, Routine, Short,
-    SpiConfig, Taken,
+    Answer, Config, Event, Head, ModuleName, Move, Notice, NoticeKind, Reason, Routine, Short,
+    Taken,
 };
 use run_model::{Class, Kind};
 use step_runner::{Either, Module, Stack, Union, begin, enter, reset, step};
@@ -96,14 +95,13 @@ impl Module for Bells {
         halves = λ c. None;
         fills = λ c. false;
         fill_busy = λ w s origins c. false;
-        receives = λ chip w number received. Unit {0};
-        begins_word = λ w s l. None;
-        selects = λ origin chip w s e number. Unit {0};
         rest = λ chip w s. Unit {0};
+        unmasked = λ chip w s origins. Unit {0};
         shows = λ origin n chip s. Unit {0};
       };
       frame_of = λ c. record { place = 0 };
       handler_of = λ l. cond (l == 3) (Some (record { place = 0 })) None;
+      wired = λ chip. Unit {0};
       relates = λ chip w ps s. ⊥;
       fuel = λ f. 0;
       room = λ f. 0;
@@ -143,51 +141,6 @@ impl Module for Bells {
     ghost laws = { λ m fits. absurd fits };
 }
 
-fn nothing() -> Config {
-    Config {
-        mcu: McuConfig {
-            dev_error_detect: true,
-            clock_settings: Short::new(),
-            modes: Short::new(),
-            ram_sections: Short::new(),
-        },
-        port: PortConfig {
-            dev_error_detect: true,
-            pins: Short::new(),
-        },
-        gpt: GptConfig {
-            dev_error_detect: true,
-            classification: 1,
-            channels: Short::new(),
-        },
-        pwm: PwmConfig {
-            dev_error_detect: true,
-            channels: Short::new(),
-        },
-        icu: IcuConfig {
-            dev_error_detect: true,
-            classification: 1,
-            channels: Short::new(),
-        },
-        adc: AdcConfig {
-            dev_error_detect: true,
-            classification: 1,
-            priority_implementation: AdcPriorityImplementation::None,
-            enable_queuing: false,
-            units: Short::new(),
-            groups: Short::new(),
-        },
-        spi: SpiConfig {
-            dev_error_detect: true,
-            classification: 1,
-            levels: Short::new(),
-            channels: Short::new(),
-            jobs: Short::new(),
-            sequences: Short::new(),
-        },
-    }
-}
-
 /// Begins the call at a level.
 fn call(stack: &mut Stack<Bells>, bus: &Bus, level: u32) -> Result<(), Held>
     ensures { stack.new.steps ≡ stack.old.steps }
@@ -216,7 +169,7 @@ fn go(stack: &mut Stack<Bells>, bus: &mut Bus) -> Result<Move, Held>
 #[test]
 fn beginnings_and_steps(rt: HostRuntime) {
     let (Ok(mut bus), Ok(mut stack)) = (
-        Bus::new(rt.alloc(), &nothing(), 0),
+        Bus::new(rt.alloc(), &Config::default(), 0),
         Stack::<Bells>::new(rt.alloc()),
     ) else {
         panic!(rt; "no memory");
@@ -246,7 +199,7 @@ fn beginnings_and_steps(rt: HostRuntime) {
 #[test]
 fn two_modules_as_one(rt: HostRuntime) {
     let (Ok(bus), Ok(mut stack)) = (
-        Bus::new(rt.alloc(), &nothing(), 0),
+        Bus::new(rt.alloc(), &Config::default(), 0),
         Stack::<Union<Bells, Bells>>::new(rt.alloc()),
     ) else {
         panic!(rt; "no memory");
@@ -289,7 +242,7 @@ fn answer(
 #[test]
 fn each_cell_has_its_word(rt: HostRuntime) {
     let (Ok(mut bus), Ok(mut stack)) = (
-        Bus::new(rt.alloc(), &nothing(), 0),
+        Bus::new(rt.alloc(), &Config::default(), 0),
         Stack::<Three>::new(rt.alloc()),
     ) else {
         panic!(rt; "no memory");

@@ -1,9 +1,10 @@
 -- What all laws speak of, passed on, and what a family of bodies owes.
-use Rattle.std.proofs.Common.{◌≡◌, ℕ, zero, suc, ◌+◌, ◌*◌, ◌-◌, ◌/◌, ◌%◌, ◌<◌, ◌≤◌, ◌≢◌, ◌^◌, Bool, true, false, ◌&&◌, ◌||◌, ◌==◌, not, nat_lt, length, List, [], ◌∷◌, Option, Some, None, refl, sym, ◌∙◌, ap, subst, arith, cond}
-use Rattle.std.specs.Prelude.{if◌then◌else◌, is_some, bit_or, slice_index_or}
+use Rattle.std.proofs.Common.{◌≡◌, ℕ, ◌<◌, ◌≤◌, Bool, true, false, Option, Some, None, refl, sym, subst, arith}
+use Rattle.std.specs.Prelude.{if◌then◌else◌}
 pub use Rattle.std.proofs.lemmas.Bool.Decides.{nat_tests}
-pub use Rattle.chip_model.specs.Chip.{Chip, IsWhole, chip_after, happened, word_of}
-pub use Rattle.chip_model.proofs.ChipLaws.{IsWhole-chip_after, time-chip_after, rate-chip_after, word-left, word-stored}
+pub use Rattle.chip_model.specs.Chip.{Chip, chip_after, happened, word_of}
+pub use Rattle.chip_model.specs.Histories.{HasAll}
+pub use Rattle.chip_model.proofs.HistoryLaws.{level_leaves, rate-left, word-left, word-stored}
 pub use Rattle.chip_timers.specs.Timers.{Timers, timer_at, with_timer, acted, acting, counter, counts_on, is_running, is_flagged, expired_between, gate_set, flag_clear, zero_count, running_of, flags_of}
 pub use Rattle.chip_timers.specs.declared.timer.Count.TheVariants.{Still, Since}
 pub use Rattle.chip_timers.specs.declared.timer.Timer.{Timer}
@@ -11,7 +12,7 @@ pub use Rattle.chip_timers.proofs.TimerLaws.{timer_at-acted_on, timer_at-acted_o
 pub use Rattle.mcal_base.specs.Bits.{has_bit, bits_of}
 pub use Rattle.mcal_base.proofs.BitLaws.{has_bit-bits_of, has_bit-or, has_bit-zero}
 pub use Rattle.mcal_base.specs.declared.directive.Order.{Order}
-pub use Rattle.mcal_base.specs.declared.directive.Order.TheVariants.{Tick}
+pub use Rattle.mcal_base.specs.declared.directive.Order.TheVariants.{Tick, Level, Fill}
 pub use Rattle.mcal_base.specs.declared.error_name.ErrorName.{ErrorName}
 pub use Rattle.mcal_base.specs.declared.error_name.ErrorName.TheVariants.{GptBusy}
 pub use Rattle.mcal_base.specs.declared.moves.DevError.{DevError}
@@ -22,6 +23,8 @@ pub use Rattle.mcal_base.specs.declared.register.Reg.TheVariants.{EnableSet, Ena
 pub use Rattle.run_model.specs.World.{World, world_after}
 pub use Rattle.run_model.specs.Machine.{Told, no_answer, tells_nothing, outcome}
 pub use Rattle.run_model.specs.Frame.{Origin, Called, Entered, missed_after}
+pub use Rattle.run_model.specs.Outside.{StandsIn}
+pub use Rattle.run_model.proofs.OutsideLaws.{stands-move, stands-event, stands-reset}
 pub use Rattle.service_outline.specs.declared.done.Owed.{Owed}
 pub use Rattle.service_outline.specs.declared.done.Owed.TheVariants.{Nothing, One}
 pub use Rattle.service_outline.specs.declared.done.BodyTaken.{BodyTaken}
@@ -81,6 +84,15 @@ pub cleans_if : {Body : Type 0} (clean : Body → Bool) (made : Move) (k : Body)
 cleans_if clean made k true a b h i = h
 cleans_if clean made k false a b h i = i
 
+-- what happens leaves the timer block but for its time, and time goes on
+foot_later : (d : GptDriver) (chip : Chip) (order : Order) → (gpt_ground d).foot (happened chip order) ≡ (gpt_ground d).foot chip
+foot_later d chip (Level p v) = level_leaves (λ c. (gpt_ground d).foot c) chip p v refl
+foot_later d chip _ = refl
+
+now_later : (w : World) (rate : ℕ) (order : Order) → w.now ≤ (world_after w rate order).now
+now_later w rate (Tick n) = omega arith
+now_later w rate _ = omega arith
+
 module _ (d : GptDriver) where
   -- bodies at whose places only what holds of timers and state counts, and bodies with something more that holds at every time from now on
   abbrev pub steady : {Body : Type 0} → (Body → Move) → (Body → ℕ → Body × BodyTaken) → (Body → ℕ) → (Body → Gap) → (Timers → GptState → Body → Origin Call → Option Told → Type 0) → Bodies (gpt_ground d) Body
@@ -98,8 +110,7 @@ module _ (d : GptDriver) where
 
   module _ {Body : Type 0} (work : Body → Move) (takes : Body → ℕ → Body × BodyTaken) (fuel : Body → ℕ) (gap : Body → Gap) (holds : Timers → GptState → Body → Origin Call → Option Told → Type 0) (shortens : (k : Body) (x : ℕ) → Shortens fuel k (takes k x)) where
     steady_later : (chip : Chip) (w : World) (s : GptState) (order : Order) (k : Body) (o : Origin Call) (t : Option Told) → holds ((gpt_ground d).foot chip) s k o t → holds ((gpt_ground d).foot (happened chip order)) s k o t
-    steady_later chip w s (Tick n) k o t h = h
-    steady_later chip w s _ k o t h = h
+    steady_later chip w s order k o t h = subst (λ f. holds f s k o t) (sym (foot_later d chip order)) h
 
     pub steady_right : AllGood (steady work takes fuel gap holds) → AreRight (gpt_ground d) (steady work takes fuel gap holds)
     steady_right steps = record {
@@ -111,9 +122,10 @@ module _ (d : GptDriver) where
     }
 
     module _ (clean : Body → Bool) (cleans : (k : Body) (x : ℕ) → Cleans clean (work k) k (takes k x)) (stays : Timers → GptState → Body → ℕ → Type 0) where
-      timed_later : (chip : Chip) (w : World) (s : GptState) (order : Order) (k : Body) (o : Origin Call) (t : Option Told) → (timed work takes fuel gap clean holds stays).place ((gpt_ground d).foot chip) w s k o t → (timed work takes fuel gap clean holds stays).place ((gpt_ground d).foot (happened chip order)) (world_after w chip.rate order) s k o t
-      timed_later chip w s (Tick n) k o t h = (h.0, λ time le. h.1 time (omega (arith, le)))
-      timed_later chip w s _ k o t h = h
+      timed_later : (chip : Chip) (w : World) (s : GptState) (order : Order) (k : Body) (o : Origin Call) (t : Option Told) → (timed work takes fuel gap clean holds stays).place ((gpt_ground d).foot chip) w s k o t → (timed work takes fuel gap clean holds stays).place ((gpt_ground d).foot (happened chip order)) (world_after w chip.clock.rate order) s k o t
+      timed_later chip w s order k o t h =
+          let passed = now_later w chip.clock.rate order in
+          subst (λ f. holds f s k o t × ((time : ℕ) → (world_after w chip.clock.rate order).now ≤ time → stays f s k time)) (sym (foot_later d chip order)) (h.0, λ time le. h.1 time (omega (arith, le, passed)))
 
       pub timed_right : AllGood (timed work takes fuel gap clean holds stays) → AreRight (gpt_ground d) (timed work takes fuel gap clean holds stays)
       timed_right steps = record {

@@ -1,6 +1,6 @@
 -- Gpt_GetTimeElapsed and Gpt_GetTimeRemaining: their steps, what holds at each, and that they are right.
 use Rattle.std.proofs.Common.{◌≡◌, ℕ, ◌+◌, ◌*◌, ◌-◌, ◌/◌, ◌%◌, ◌<◌, ◌^◌, Option, Some, None, refl, sym, ◌∙◌, ap, subst, arith}
-use Rattle.gpt_driver.specs.laws.Base.{Chip, Timers, timer_at, counter, Move, World, Told, outcome, Origin, BodyTaken, goes, acts_on, ends, Nothing, Bodies, AreRight, Before, Is_before, After, Is_after, Gap, settled, TargetOf, GptAgrees, gpt_ground, GptState, channel_at, runs_at, elapsed, remaining, target_of, acts_by, answers_number, channel_of, target_word, GetTimeElapsed, GetTimeRemaining, Call, GptDriver, MayRun, AllGood, steady, steady_right, Shortens}
+use Rattle.gpt_driver.specs.laws.Base.{Chip, chip_after, stands-move, Timers, timer_at, counter, Move, World, Told, outcome, Origin, BodyTaken, goes, acts_on, ends, Nothing, Bodies, AreRight, Before, Is_before, After, Is_after, Gap, settled, TargetOf, GptAgrees, gpt_ground, GptState, channel_at, runs_at, elapsed, remaining, target_of, acts_by, answers_number, channel_of, target_word, GetTimeElapsed, GetTimeRemaining, Call, GptDriver, MayRun, AllGood, steady, steady_right, Shortens}
 use Rattle.mcal_base.specs.declared.moves.Move.TheVariants.{Read, Load}
 use Rattle.mcal_base.specs.declared.register.Reg.TheVariants.{TimerLow, TimerHigh}
 use Rattle.service_outline.specs.Done.{number}
@@ -78,8 +78,8 @@ module _ (d : GptDriver) where
       let small : n < 2 ^ 32 = subst (λ x. x < 2 ^ 32) (sym e) (elapsed_small (channel_of d c) _ (channel_at s c).course w.now (h.block c lt refl).set) in
       halves n small ∙ e
 
-  latched : (chip : Chip) (w : World) (s : GptState) (latch : ℕ) → GptAgrees d settled chip w s → GptAgrees d settled (record chip { timers = record chip.timers { latch = latch } }) w s
-  latched chip w s latch h = record { whole = record { words = h.whole.words; timers = h.whole.timers }; time = h.time; block = h.block; words = h.words; lines = h.lines; clean = h.clean }
+  latched : (chip : Chip) (w : World) (s : GptState) (c : ℕ) → GptAgrees d settled chip w s → GptAgrees d settled (chip_after chip (Read (TimerLow c)) 0) w s
+  latched chip w s c h = record { outside = stands-move chip w (Read (TimerLow c)) 0 h.outside; block = h.block; words = h.words; lines = h.lines; clean = h.clean }
 
   steps : AllGood d (count_bodies d)
   steps chip w s (ElapsedLow c) o t m (h, (Is_before, i)) =
@@ -91,7 +91,7 @@ module _ (d : GptDriver) where
           told = answers_number (joined (n % 65536) (n / 65536));
           is = λ times. ap (λ e. Some (acts_by d w s (elapsed_call c) e)) (i.pass (runs_at d w s c)) ∙ ap (λ x. Some (outcome s (answers_number x))) (sym (read_is chip w s c i.lt h));
           acts = refl;
-          next = (latched chip w s (n / 65536) h, (Is_after, i.lt));
+          next = (latched chip w s c h, (Is_after, i.lt));
         },
       )
   steps chip w s (ElapsedHigh c low) o t m (h, (Is_after, lt)) = (below_test c lt, (h, (refl, refl, refl)))
@@ -107,7 +107,7 @@ module _ (d : GptDriver) where
           told = answers_number (v - x);
           is = λ times. ap (λ e. Some (acts_by d w s (remaining_call c) e)) (i.pass (runs_at d w s c)) ∙ ap (λ x. Some (outcome s (answers_number x))) (sym left);
           acts = refl;
-          next = (latched chip w s (n / 65536) h, (Is_after, i.lt));
+          next = (latched chip w s c h, (Is_after, i.lt));
         },
       )
   steps chip w s (RemainingHigh c v low) o t m (h, (Is_after, lt)) = (below_test c lt, (h, (refl, refl, refl)))

@@ -175,14 +175,14 @@ module _ (d : GptDriver) where
       }
 
   -- the state word says that the module is off
-  switched_off : (chip : Chip) (w : World) (s : GptState) → is_off s.mode ≡ false → GptAgrees d settled chip w s → GptAgrees d (deinit_gap places.Zero) (chip_after chip (Stores STATE 0)) w first_state
-  switched_off chip w s on h = moved d (Stores STATE 0) chip w s first_state settled (deinit_gap places.Zero) h (λ c lt closed. absurd (cc)) (words_stored d chip first_state (λ k. true) (from TARGETS) STATE 0 (omega arith) h.whole.words (λ x there closed. absurd (cc)) (λ x there e. first_value x) not_behind) (λ c lt. h.lines c lt ∙ ap (λ q. not q) on) (λ off c. refl)
+  switched_off : (chip : Chip) (w : World) (s : GptState) → is_off s.mode ≡ false → GptAgrees d settled chip w s → GptAgrees d (deinit_gap places.Zero) (chip_after chip (Stores STATE 0) 0) w first_state
+  switched_off chip w s on h = moved d (Stores STATE 0) chip w s first_state settled (deinit_gap places.Zero) h (λ c lt closed. absurd (cc)) (words_stored d chip first_state (λ k. true) (from TARGETS) STATE 0 (omega arith) h.outside.all (λ x there closed. absurd (cc)) (λ x there e. first_value x) not_behind) (λ c lt. h.lines c lt ∙ ap (λ q. not q) on) (λ off c. refl)
 
-  forgotten : (chip : Chip) (w : World) (j : ℕ) → TARGETS ≤ j → j ≤ LAST_WORD → GptAgrees d (deinit_gap (places.Forget j)) chip w first_state → GptAgrees d (deinit_gap (places.Forget (j + 1))) (chip_after chip (Stores j 0)) w first_state
-  forgotten chip w j a b h = moved d (Stores j 0) chip w first_state first_state (deinit_gap (places.Forget j)) (deinit_gap (places.Forget (j + 1))) h h.block (words_stored d chip first_state (from j) (from (j + 1)) j 0 (omega (arith, b)) h.whole.words h.words (λ x there e. first_value x) (λ x there ne g. not_from j (number_of x) ne g)) h.lines h.clean
+  forgotten : (chip : Chip) (w : World) (j : ℕ) → TARGETS ≤ j → j ≤ LAST_WORD → GptAgrees d (deinit_gap (places.Forget j)) chip w first_state → GptAgrees d (deinit_gap (places.Forget (j + 1))) (chip_after chip (Stores j 0) 0) w first_state
+  forgotten chip w j a b h = moved d (Stores j 0) chip w first_state first_state (deinit_gap (places.Forget j)) (deinit_gap (places.Forget (j + 1))) h h.block (words_stored d chip first_state (from j) (from (j + 1)) j 0 (omega (arith, b)) h.outside.all h.words (λ x there e. first_value x) (λ x there ne g. not_from j (number_of x) ne g)) h.lines h.clean
 
   all_forgotten : (chip : Chip) (w : World) (j : ℕ) → j ≡ LAST_WORD + 1 → GptAgrees d (deinit_gap (places.Forget j)) chip w first_state → GptAgrees d settled chip w first_state
-  all_forgotten chip w j e h = record { whole = h.whole; time = h.time; block = h.block; words = λ x there g. h.words x there (ap (λ i. from i (number_of x)) e ∙ past x there); lines = h.lines; clean = h.clean }
+  all_forgotten chip w j e h = record { outside = h.outside; block = h.block; words = λ x there g. h.words x there (ap (λ i. from i (number_of x)) e ∙ past x there); lines = h.lines; clean = h.clean }
 
   forget_by : (chip : Chip) (w : World) (m : ℕ → Bool) (j : ℕ) → TARGETS ≤ j → j ≤ LAST_WORD → GptAgrees d (deinit_gap (places.Forget (j + 1))) chip w first_state → (q : Bool) → nat_lt j LAST_WORD ≡ q → StepsTo (gpt_ground d) (deinit_bodies d) chip w first_state (Called DeInit) (Stores j 0) false (Some tells_nothing) m (if q then (places.Forget (j + 1), goes) else (places.Forget j, ends None no_answer Nothing))
   forget_by chip w m j a b h true i = let more : j + 1 ≤ LAST_WORD = grind (arith, nat_tests) in (h, ((Is_after, Is_first, omega (arith, a), more), λ time le. tt))
@@ -201,10 +201,10 @@ module _ (d : GptDriver) where
       next = (switched_off chip w s on h, ((Is_after, Is_first), λ time le c lt. running_is (channel_of d c) _ _ _ (h.block c lt refl) time ∙ stays time le c lt));
     },
   )
-  steps chip w s places.Zero o t m (h, ((Is_after, Is_first), stays)) = (refl, (moved d (Write TimerZero LINES) chip w s s (deinit_gap places.Zero) (deinit_gap places.Zero) h (λ c lt closed. absurd (cc)) h.words h.lines h.clean, ((Is_after, Is_first, λ c lt. ap (λ y. y.count) (timer_at-acted_on turns.Zero chip.timers LINES c (record { all = h.whole.timers; within = lt }) (all_lines c lt)) ∙ zero_still (timer_at chip.timers c).count chip.timers.time (ap (λ n. is_running (timer_at chip.timers c) n) h.time ∙ stays w.now (omega arith) c lt)), λ time le. tt)))
-  steps chip w s places.Flags o t m (h, ((Is_after, Is_first, zeros), stays)) = (refl, (moved d (Write TimerFlags LINES) chip w s s (deinit_gap places.Flags) (deinit_gap places.Disable) h (block_acted d turns.Clear chip.timers LINES none first_state h.whole.timers (λ c lt closed one. cleared (channel_of d c) _ (timer_at chip.timers c) chip.timers.time (zeros c lt)) (λ c lt closed no. absurd (let e = all_lines c lt in cc))) h.words h.lines h.clean, ((Is_after, Is_first), λ time le. tt)))
+  steps chip w s places.Zero o t m (h, ((Is_after, Is_first), stays)) = (refl, (moved d (Write TimerZero LINES) chip w s s (deinit_gap places.Zero) (deinit_gap places.Zero) h (λ c lt closed. absurd (cc)) h.words h.lines h.clean, ((Is_after, Is_first, λ c lt. ap (λ y. y.count) (timer_at-acted_on turns.Zero chip.timers LINES c (record { all = h.outside.all.timers; within = lt }) (all_lines c lt)) ∙ zero_still (timer_at chip.timers c).count chip.timers.time (ap (λ n. is_running (timer_at chip.timers c) n) h.outside.now ∙ stays w.now (omega arith) c lt)), λ time le. tt)))
+  steps chip w s places.Flags o t m (h, ((Is_after, Is_first, zeros), stays)) = (refl, (moved d (Write TimerFlags LINES) chip w s s (deinit_gap places.Flags) (deinit_gap places.Disable) h (block_acted d turns.Clear chip.timers LINES none first_state h.outside.all.timers (λ c lt closed one. cleared (channel_of d c) _ (timer_at chip.timers c) chip.timers.time (zeros c lt)) (λ c lt closed no. absurd (let e = all_lines c lt in cc))) h.words h.lines h.clean, ((Is_after, Is_first), λ time le. tt)))
   steps chip w s places.Disable o t m (h, ((Is_after, Is_first), stays)) = (refl, (moved d (Write EnableClear LINES) chip w s s (deinit_gap places.Disable) (deinit_gap (places.Forget TARGETS)) h h.block h.words (λ c lt. let few : c < 32 = omega (arith, lt) in has_bit-without chip.control.enabled LINES c (omega arith) few ∙ off_by _ _ (all_lines c lt)) h.clean, ((Is_after, Is_first, omega arith, omega arith), λ time le. tt)))
-  steps chip w s (places.Forget j) o t m (h, ((Is_after, Is_first, a, b), stays)) = (may_word j (omega (arith, a)) (omega (arith, b)), forget_by (chip_after chip (Stores j 0)) w (missed_after (gpt_machine d) w s m) j a b (forgotten chip w j a b h) (nat_lt j LAST_WORD) refl)
+  steps chip w s (places.Forget j) o t m (h, ((Is_after, Is_first, a, b), stays)) = (may_word j (omega (arith, a)) (omega (arith, b)), forget_by (chip_after chip (Stores j 0) 0) w (missed_after (gpt_machine d) w s m) j a b (forgotten chip w j a b h) (nat_lt j LAST_WORD) refl)
 
   pub deinit_right : AreRight (gpt_ground d) (deinit_bodies d)
   deinit_right = timed_right d deinit_work deinit_takes deinit_left deinit_gap (deinit_holds d) deinit_shortens deinit_clean deinit_cleans (deinit_stays d) steps

@@ -48,8 +48,7 @@ or_second false b e = e
 module _ (d : GptDriver) where
   turned_on : (chip : Chip) (w : World) (s : GptState) → is_off s.mode ≡ true → GptAgrees d armed chip w s → GptAgrees d (behind STATE) chip w (fresh_state Normal)
   turned_on chip w s off h = record {
-    whole = h.whole;
-    time = h.time;
+    outside = h.outside;
     block = λ c lt closed. subst (λ x. TimerAgrees (channel_of d c) (has_bit chip.timers.one_shot c) (timer_at chip.timers c) x) (h.clean off c) (h.block c lt refl);
     words = words;
     lines = h.lines;

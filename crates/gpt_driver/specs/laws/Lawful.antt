@@ -165,9 +165,9 @@ module _ (d : GptDriver) (fits : FitsGpt d) where
     line_steps = λ line k is. steps_by line k (entered_by line k (channel_of d line) refl is);
   }
 
--- it leaves the peripheral rate alone, and has the lines that the chip has
+-- it leaves the peripheral rate alone, and has no watchdog
 pub slow_timers : (d : GptDriver) (chip : Chip) (w : World) (ps : List (Short Asked GptBody × Open Call)) (s : GptState) → FitsGpt d → (driver_of (gpt d)).relates chip w ps s → (driver_of (gpt d)).setting.machine.rate s ≤ 16
 slow_timers d chip w ps s fits h = omega arith
 
 pub covers_timers : (d : GptDriver) → Covers (driver_of (gpt d))
-covers_timers d = record { lines = λ line e. e; incoming = λ chip w number. tt; unwatched = λ w s. refl }
+covers_timers d = record { unwatched = λ w s. refl }

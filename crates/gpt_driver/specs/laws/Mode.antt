@@ -3,7 +3,6 @@ use Rattle.std.proofs.Common.{◌≡◌, ℕ, ◌+◌, ◌-◌, ◌<◌, ◌≤�
 use Rattle.std.specs.Prelude.{if◌then◌else◌, bit_or}
 use Rattle.gpt_driver.specs.laws.Base.{nat_tests, Chip, word_of, Timers, timer_at, timer_at-acted_on, acted, flag_clear, has_bit, has_bit-or, Move, Act, World, Told, no_answer, tells_nothing, Origin, Called, missed_after, BodyTaken, goes, acts_on, ends, Nothing, Bodies, AreRight, StepsTo, Before, Is_before, After, Is_after, Gap, settled, behind, TimerAgrees, Word, TheState, TargetOf, SwitchesOf, number_of, IsWord, value_in, GptAgrees, gpt_ground, gpt_machine, GptState, channel_at, Normal, Sleep, is_off, runs, slept, slept_all, stopped, unmarked, target_of, acts_by, channel_of, bit, switches_word, switches_of, packed, state_word, Call, SetMode, GptDriver, STATE, Passed, AllGood, never_clean, timed, timed_right, Shortens}
 use Rattle.chip_timers.specs.declared.timer.Act.TheVariants as turns
-use Rattle.chip_timers.proofs.TimerLaws.{length-acted}
 use Rattle.mcal_base.specs.declared.moves.Move.TheVariants.{Write, Load, Store}
 use Rattle.mcal_base.specs.declared.register.Reg.TheVariants.{TimerGateClear, TimerFlags}
 use Rattle.gpt_driver.specs.declared.call.GptMode.TheVariants as modes
@@ -11,7 +10,7 @@ use Rattle.gpt_driver.specs.declared.service.mode.ModeBody.{ModeBody}
 use Rattle.gpt_driver.specs.declared.service.mode.ModeBody.TheVariants as places
 use Rattle.gpt_driver.specs.laws.Courses.{expired_is, quiet}
 use Rattle.gpt_driver.specs.laws.Ground.{below_test, may_words}
-use Rattle.gpt_driver.specs.laws.Parts.{block_acted, caught_up, never_off, table_at, has_one, has_other, equal_by, differ_by, runs_here, elapsed_here, unpacked}
+use Rattle.gpt_driver.specs.laws.Parts.{stands_acted, block_acted, caught_up, never_off, table_at, has_one, has_other, equal_by, differ_by, runs_here, elapsed_here, unpacked}
 use Rattle.gpt_driver.specs.laws.Stop.{halted, ended_target, ended_switches, stop_cleared}
 
 -- the bits, with that of the channel where its switches say that it may not wake
@@ -124,7 +123,7 @@ not_all false e = refl
 
 module _ (d : GptDriver) where
   woke : (chip : Chip) (w : World) (s : GptState) → is_off s.mode ≡ false → GptAgrees d settled chip w s → GptAgrees d (behind STATE) chip w (record s { mode = Normal })
-  woke chip w s on h = record { whole = h.whole; time = h.time; block = h.block; words = words; lines = λ c lt. h.lines c lt ∙ ap (λ q. not q) on; clean = never_off Normal refl }
+  woke chip w s on h = record { outside = h.outside; block = h.block; words = words; lines = λ c lt. h.lines c lt ∙ ap (λ q. not q) on; clean = never_off Normal refl }
     where
       words : (x : Word) → IsWord x → (behind STATE).words (number_of x) ≡ false → word_of chip (number_of x) ≡ value_in (record s { mode = Normal }) x
       words TheState there closed = absurd (cc)
@@ -163,15 +162,14 @@ module _ (d : GptDriver) where
       let y = timer_at chip.timers k in
       let q = runs c w.now x.course in
       let a = h.block k lt refl in
-      let shut = timer_at-acted_on turns.Stop chip.timers bits k (record { all = h.whole.timers; within = lt }) one ∙ ap (λ r. halted y chip.timers.time r) (runs_here d chip w s settled h k lt refl) in
+      let shut = timer_at-acted_on turns.Stop chip.timers bits k (record { all = h.outside.all.timers; within = lt }) one ∙ ap (λ r. halted y chip.timers.time r) (runs_here d chip w s settled h k lt refl) in
       let gone = stop_cleared c shot y x chip.timers.time w.now time w.now q a (elapsed_here d chip w s settled h k lt refl) (λ r n. expired_is c shot y x a time n ∙ (quiet c shot x.course w.now time n a.set le r ∙ sym (expired_is c shot y x a w.now n ∙ quiet c shot x.course w.now w.now n a.set (omega arith) r))) refl in
       subst (λ z. TimerAgrees c shot (flag_clear time z) (slept c w.now x)) (sym shut) (subst (λ b. TimerAgrees c shot (flag_clear time (halted y chip.timers.time q)) (if b then x else unmarked w.now (stopped c w.now x))) (sym off) gone)
 
   gated : (chip : Chip) (w : World) (s : GptState) (bits : ℕ) → is_off s.mode ≡ false → ((k : ℕ) → k < 8 → has_bit bits k ≡ sleeps s k) → GptAgrees d settled chip w s → GptAgrees d (mode_gap (places.Flags bits)) (record chip { timers = acted turns.Stop chip.timers bits }) w (slept_all d w s)
   gated chip w s bits on are h = record {
-    whole = record { words = h.whole.words; timers = length-acted turns.Stop chip.timers bits ∙ h.whole.timers };
-    time = h.time;
-    block = block_acted d turns.Stop chip.timers bits (has_bit bits) (slept_all d w s) h.whole.timers (λ k lt closed one. absurd (not_both (has_bit bits k) closed one)) (λ k lt closed none. subst (λ x. TimerAgrees (channel_of d k) (has_bit chip.timers.one_shot k) (timer_at chip.timers k) x) (sym (table_at (λ c. slept (channel_of d c) w.now (channel_at s c)) k lt ∙ ap (λ b. if b then channel_at s k else unmarked w.now (stopped (channel_of d k) w.now (channel_at s k))) (not_none _ (sym (are k lt) ∙ none)))) (h.block k lt refl));
+    outside = stands_acted d turns.Stop chip w bits h.outside;
+    block = block_acted d turns.Stop chip.timers bits (has_bit bits) (slept_all d w s) h.outside.all.timers (λ k lt closed one. absurd (not_both (has_bit bits k) closed one)) (λ k lt closed none. subst (λ x. TimerAgrees (channel_of d k) (has_bit chip.timers.one_shot k) (timer_at chip.timers k) x) (sym (table_at (λ c. slept (channel_of d c) w.now (channel_at s c)) k lt ∙ ap (λ b. if b then channel_at s k else unmarked w.now (stopped (channel_of d k) w.now (channel_at s k))) (not_none _ (sym (are k lt) ∙ none)))) (h.block k lt refl));
     words = slept_words chip w s bits h;
     lines = λ c lt. h.lines c lt ∙ ap (λ q. not q) on;
     clean = never_off Sleep refl;
@@ -179,9 +177,8 @@ module _ (d : GptDriver) where
 
   unflagged : (chip : Chip) (w : World) (s : GptState) (bits : ℕ) → ((k : ℕ) → k < 8 → has_bit bits k ≡ true → TimerAgrees (channel_of d k) (has_bit chip.timers.one_shot k) (flag_clear w.now (timer_at chip.timers k)) (channel_at s k)) → GptAgrees d (mode_gap (places.Flags bits)) chip w s → GptAgrees d (behind STATE) (record chip { timers = acted turns.Clear chip.timers bits }) w s
   unflagged chip w s bits a h = record {
-    whole = record { words = h.whole.words; timers = length-acted turns.Clear chip.timers bits ∙ h.whole.timers };
-    time = h.time;
-    block = block_acted d turns.Clear chip.timers bits (λ k. false) s h.whole.timers (λ k lt closed one. subst (λ n. TimerAgrees (channel_of d k) (has_bit chip.timers.one_shot k) (flag_clear n (timer_at chip.timers k)) (channel_at s k)) (sym h.time) (a k lt one)) (λ k lt closed none. h.block k lt none);
+    outside = stands_acted d turns.Clear chip w bits h.outside;
+    block = block_acted d turns.Clear chip.timers bits (λ k. false) s h.outside.all.timers (λ k lt closed one. subst (λ n. TimerAgrees (channel_of d k) (has_bit chip.timers.one_shot k) (flag_clear n (timer_at chip.timers k)) (channel_at s k)) (sym h.outside.now) (a k lt one)) (λ k lt closed none. h.block k lt none);
     words = h.words;
     lines = h.lines;
     clean = h.clean;

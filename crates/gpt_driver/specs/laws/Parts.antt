@@ -1,15 +1,16 @@
 -- The agreement by its parts: what a move leaves of the block, the words and the lines.
-use Rattle.std.proofs.Common.{◌≡◌, ℕ, zero, suc, ◌*◌, ◌%◌, ◌<◌, ◌≢◌, ◌^◌, Bool, true, false, ◌==◌, nat_lt, length, refl, sym, ◌∙◌, ap, subst, arith}
+use Rattle.std.proofs.Common.{◌≡◌, ℕ, zero, suc, ◌*◌, ◌%◌, ◌<◌, ◌≢◌, ◌^◌, Bool, true, false, ◌==◌, nat_lt, [], length, refl, sym, ◌∙◌, ap, subst, arith}
 use Rattle.std.specs.Prelude.{if◌then◌else◌, slice_index_or}
-use Rattle.gpt_driver.specs.laws.Base.{each_but, nat_tests, Chip, IsWhole, chip_after, word_of, IsWhole-chip_after, time-chip_after, word-left, word-stored, Timers, timer_at, with_timer, acted, acting, is_running, is_flagged, Timer, timer_at-acted_on, timer_at-acted_off, timer_at-with_timer_same, timer_at-with_timer_other, has_bit, World, Gap, settled, none, only, behind, TimerAgrees, BlockAgrees, Word, TheState, TargetOf, SwitchesOf, number_of, IsWord, value_in, WordsAgree, LinesAgree, GptAgrees, GptState, channel_at, table, Timing, Mode, is_off, untouched, target_of, runs, is_marked, elapsed, with_channel, channel_of, bit, packed, target_word, switches_word, switches_of, GptDriver, Switches}
-use Rattle.chip_model.specs.Chip.{Made}
+use Rattle.gpt_driver.specs.laws.Base.{each_but, nat_tests, Chip, chip_after, word_of, HasAll, word-left, word-stored, StandsIn, stands-move, Timers, timer_at, with_timer, acted, acting, is_running, is_flagged, Timer, timer_at-acted_on, timer_at-acted_off, timer_at-with_timer_same, timer_at-with_timer_other, has_bit, World, Gap, settled, none, only, behind, TimerAgrees, BlockAgrees, Word, TheState, TargetOf, SwitchesOf, number_of, IsWord, value_in, WordsAgree, LinesAgree, GptAgrees, GptState, channel_at, table, Timing, Mode, is_off, untouched, target_of, runs, is_marked, elapsed, with_channel, channel_of, bit, packed, target_word, switches_word, switches_of, GptDriver, Switches}
+use Rattle.chip_model.specs.Histories.{Made}
 use Rattle.chip_timers.specs.Timers.{counter}
 use Rattle.chip_timers.specs.declared.timer.Act.{Act}
-use Rattle.chip_timers.proofs.TimerLaws.{length-acted}
+use Rattle.chip_timers.specs.declared.timer.Act.TheVariants as turns
 use Rattle.mcal_base.proofs.BitLaws.{has_bit-pow_same, has_bit-pow_other, one_shifted}
 use Rattle.mcal_base.specs.declared.TheConstants.{WORDS}
 use Rattle.mcal_base.specs.declared.moves.Move.{Move}
-use Rattle.mcal_base.specs.declared.moves.Move.TheVariants.{Store}
+use Rattle.mcal_base.specs.declared.moves.Move.TheVariants.{Write, Store}
+use Rattle.mcal_base.specs.declared.register.Reg.TheVariants.{TimerGateSet, TimerGateClear, TimerFlags, TimerZero}
 use Rattle.gpt_driver.specs.laws.Courses.{running_is, counter_is, flagged_is}
 
 -- ---- numbers
@@ -106,13 +107,13 @@ module _ (d : GptDriver) where
 
   module _ (chip : Chip) (w : World) (s : GptState) (gap : Gap) (h : GptAgrees d gap chip w s) (c : ℕ) (lt : c < 8) (closed : gap.block c ≡ false) where
     pub runs_here : is_running (timer_at chip.timers c) chip.timers.time ≡ runs (channel_of d c) w.now (channel_at s c).course
-    runs_here = running_is (channel_of d c) _ _ _ (h.block c lt closed) chip.timers.time ∙ ap (λ n. runs (channel_of d c) n (channel_at s c).course) h.time
+    runs_here = running_is (channel_of d c) _ _ _ (h.block c lt closed) chip.timers.time ∙ ap (λ n. runs (channel_of d c) n (channel_at s c).course) h.outside.now
 
     pub elapsed_here : counter (timer_at chip.timers c) chip.timers.time ≡ elapsed (channel_of d c) w.now (channel_at s c).course
-    elapsed_here = counter_is (channel_of d c) _ _ _ (h.block c lt closed) chip.timers.time ∙ ap (λ n. elapsed (channel_of d c) n (channel_at s c).course) h.time
+    elapsed_here = counter_is (channel_of d c) _ _ _ (h.block c lt closed) chip.timers.time ∙ ap (λ n. elapsed (channel_of d c) n (channel_at s c).course) h.outside.now
 
     pub marked_here : is_flagged (timer_at chip.timers c) chip.timers.time ≡ is_marked (channel_of d c) w.now (channel_at s c)
-    marked_here = flagged_is (channel_of d c) _ _ _ (h.block c lt closed) chip.timers.time ∙ ap (λ n. is_marked (channel_of d c) n (channel_at s c)) h.time
+    marked_here = flagged_is (channel_of d c) _ _ _ (h.block c lt closed) chip.timers.time ∙ ap (λ n. is_marked (channel_of d c) n (channel_at s c)) h.outside.now
 
   -- ---- what an act on some channels leaves of the block
 
@@ -125,7 +126,7 @@ module _ (d : GptDriver) where
 
   -- an act on one channel, which the others don't feel
   pub one_acted : (act : Act) (chip : Chip) (w : World) (s s1 : GptState) (gap : Gap) (open1 : ℕ → Bool) (c : ℕ) → c < 8 → GptAgrees d gap chip w s → (open1 c ≡ false → TimerAgrees (channel_of d c) (has_bit chip.timers.one_shot c) (acting act (has_bit chip.timers.one_shot c) chip.timers.time (timer_at chip.timers c)) (channel_at s1 c)) → ((k : ℕ) → k < 8 → k ≢ c → open1 k ≡ false → (gap.block k ≡ false) × (channel_at s1 k ≡ channel_at s k)) → BlockAgrees d open1 (acted act chip.timers (bit c)) s1
-  one_acted act chip w s s1 gap open1 c lt h new same = block_acted act chip.timers (bit c) open1 s1 h.whole.timers (λ k below closed e. subst (λ i. TimerAgrees (channel_of d i) (has_bit chip.timers.one_shot i) (acting act (has_bit chip.timers.one_shot i) chip.timers.time (timer_at chip.timers i)) (channel_at s1 i)) (sym (hits k e)) (new (subst (λ i. open1 i ≡ false) (hits k e) closed))) (λ k below closed e. let o = same k below (misses k e) closed in subst (λ x. TimerAgrees (channel_of d k) (has_bit chip.timers.one_shot k) (timer_at chip.timers k) x) (sym o.1) (h.block k below o.0))
+  one_acted act chip w s s1 gap open1 c lt h new same = block_acted act chip.timers (bit c) open1 s1 h.outside.all.timers (λ k below closed e. subst (λ i. TimerAgrees (channel_of d i) (has_bit chip.timers.one_shot i) (acting act (has_bit chip.timers.one_shot i) chip.timers.time (timer_at chip.timers i)) (channel_at s1 i)) (sym (hits k e)) (new (subst (λ i. open1 i ≡ false) (hits k e) closed))) (λ k below closed e. let o = same k below (misses k e) closed in subst (λ x. TimerAgrees (channel_of d k) (has_bit chip.timers.one_shot k) (timer_at chip.timers k) x) (sym o.1) (h.block k below o.0))
     where
       hits : (k : ℕ) → has_bit (bit c) k ≡ true → k ≡ c
       hits k = each_but (λ i. has_bit (bit c) i ≡ true → i ≡ c) c (λ e. refl) k (λ ne e. absurd (let f = has_other c k lt ne in cc))
@@ -137,25 +138,24 @@ module _ (d : GptDriver) where
   pub block_set : (chip : Chip) (w : World) (s : GptState) (c : ℕ) (t : Timer) → c < 8 → GptAgrees d settled chip w s → (TimerAgrees (channel_of d c) (has_bit chip.timers.one_shot c) (timer_at chip.timers c) (channel_at s c) → TimerAgrees (channel_of d c) (has_bit chip.timers.one_shot c) t (channel_at s c)) → BlockAgrees d none (with_timer chip.timers c t) s
   block_set chip w s c t lt h new k below closed =
       each_but (λ i. TimerAgrees (channel_of d i) (has_bit chip.timers.one_shot i) (timer_at (with_timer chip.timers c t) i) (channel_at s i)) c
-      (subst (λ x. TimerAgrees (channel_of d c) (has_bit chip.timers.one_shot c) x (channel_at s c)) (sym (timer_at-with_timer_same chip.timers c t (record { all = h.whole.timers; within = lt }))) (new (h.block c lt refl))) k
+      (subst (λ x. TimerAgrees (channel_of d c) (has_bit chip.timers.one_shot c) x (channel_at s c)) (sym (timer_at-with_timer_same chip.timers c t (record { all = h.outside.all.timers; within = lt }))) (new (h.block c lt refl))) k
       (λ ne. subst (λ x. TimerAgrees (channel_of d k) (has_bit chip.timers.one_shot k) x (channel_at s k)) (sym (timer_at-with_timer_other chip.timers c k t ne)) (h.block k below closed))
 
   -- ---- a word that is stored
 
-  pub words_stored : (chip : Chip) (s : GptState) (before after : ℕ → Bool) (j v : ℕ) → j < WORDS → length chip.words ≡ WORDS → WordsAgree before chip s → ((x : Word) → IsWord x → number_of x ≡ j → v ≡ value_in s x) → ((x : Word) → IsWord x → number_of x ≢ j → after (number_of x) ≡ false → before (number_of x) ≡ false) → WordsAgree after (chip_after chip (Store j v)) s
-  words_stored chip s before after j v lt size h hit miss x there closed = by_test (number_of x == j) refl
+  pub words_stored : (chip : Chip) (s : GptState) (before after : ℕ → Bool) (j v : ℕ) → j < WORDS → HasAll chip → WordsAgree before chip s → ((x : Word) → IsWord x → number_of x ≡ j → v ≡ value_in s x) → ((x : Word) → IsWord x → number_of x ≢ j → after (number_of x) ≡ false → before (number_of x) ≡ false) → WordsAgree after (chip_after chip (Store j v) 0) s
+  words_stored chip s before after j v lt all h hit miss x there closed = by_test (number_of x == j) refl
     where
-      by_test : (q : Bool) → (number_of x == j) ≡ q → word_of (chip_after chip (Store j v)) (number_of x) ≡ value_in s x
-      by_test true e = let i = equal_by (number_of x) j e in ap (λ k. word_of (chip_after chip (Store j v)) k) i ∙ (word-stored chip j v size lt ∙ hit x there i)
-      by_test false e = let ne = differ_by (number_of x) j e in word-left chip (Made (Store j v)) (number_of x) (λ i. ne (sym i)) ∙ h x there (miss x there ne closed)
+      by_test : (q : Bool) → (number_of x == j) ≡ q → word_of (chip_after chip (Store j v) 0) (number_of x) ≡ value_in s x
+      by_test true e = let i = equal_by (number_of x) j e in ap (λ k. word_of (chip_after chip (Store j v) 0) k) i ∙ (word-stored chip j v 0 [] all lt tt ∙ hit x there i)
+      by_test false e = let ne = differ_by (number_of x) j e in word-left (number_of x) chip (Made (Store j v) 0) (λ i. ne (sym i)) ∙ h x there (miss x there ne closed)
 
   -- the one word that is behind is stored
-  pub caught_up : (chip : Chip) (w : World) (s : GptState) (x : Word) (v : ℕ) → IsWord x → v ≡ value_in s x → GptAgrees d (behind (number_of x)) chip w s → GptAgrees d settled (chip_after chip (Store (number_of x) v)) w s
+  pub caught_up : (chip : Chip) (w : World) (s : GptState) (x : Word) (v : ℕ) → IsWord x → v ≡ value_in s x → GptAgrees d (behind (number_of x)) chip w s → GptAgrees d settled (chip_after chip (Store (number_of x) v) 0) w s
   caught_up chip w s x v there is h = record {
-    whole = IsWhole-chip_after chip (Store (number_of x) v) h.whole;
-    time = h.time;
+    outside = stands-move chip w (Store (number_of x) v) 0 h.outside;
     block = h.block;
-    words = words_stored chip s (only (number_of x)) none (number_of x) v (word_below x there) h.whole.words h.words (λ y i e. is ∙ same_word s x y there i e) (λ y i ne closed. other_no (number_of y) (number_of x) ne);
+    words = words_stored chip s (only (number_of x)) none (number_of x) v (word_below x there) h.outside.all h.words (λ y i e. is ∙ same_word s x y there i e) (λ y i ne closed. other_no (number_of y) (number_of x) ne);
     lines = h.lines;
     clean = h.clean;
   }
@@ -175,13 +175,15 @@ module _ (d : GptDriver) where
 
   -- ---- an act on one channel, in the whole agreement: the machine changes the channel too, or it doesn't
 
-  acted_whole : (act : Act) (chip : Chip) (bits : ℕ) → IsWhole chip → IsWhole (record chip { timers = acted act chip.timers bits })
-  acted_whole act chip bits h = record { words = h.words; timers = length-acted act chip.timers bits ∙ h.timers }
+  pub stands_acted : (act : Act) (chip : Chip) (w : World) (bits : ℕ) → StandsIn chip w → StandsIn (record chip { timers = acted act chip.timers bits }) w
+  stands_acted turns.Start chip w bits h = stands-move chip w (Write TimerGateSet bits) 0 h
+  stands_acted turns.Stop chip w bits h = stands-move chip w (Write TimerGateClear bits) 0 h
+  stands_acted turns.Zero chip w bits h = stands-move chip w (Write TimerZero bits) 0 h
+  stands_acted turns.Clear chip w bits h = stands-move chip w (Write TimerFlags bits) 0 h
 
   pub acted_with : (act : Act) (chip : Chip) (w : World) (s : GptState) (c : ℕ) (x : Timing) (before open1 after : ℕ → Bool) → c < 8 → is_off s.mode ≡ false → GptAgrees d (record settled { block = before }) chip w s → (open1 c ≡ false → TimerAgrees (channel_of d c) (has_bit chip.timers.one_shot c) (acting act (has_bit chip.timers.one_shot c) chip.timers.time (timer_at chip.timers c)) x) → ((k : ℕ) → k ≢ c → open1 k ≡ false → before k ≡ false) → (after (target_word c) ≡ false → target_of x.course ≡ target_of (channel_at s c).course) → (after (switches_word c) ≡ false → x.switches ≡ (channel_at s c).switches) → GptAgrees d (record settled { block = open1; words = after }) (record chip { timers = acted act chip.timers (bit c) }) w (with_channel s c x)
   acted_with act chip w s c x before open1 after lt on h new rest target switches = record {
-    whole = acted_whole act chip (bit c) h.whole;
-    time = h.time;
+    outside = stands_acted act chip w (bit c) h.outside;
     block = one_acted act chip w s (with_channel s c x) (record settled { block = before }) open1 c lt h (λ g. subst (λ y. TimerAgrees (channel_of d c) (has_bit chip.timers.one_shot c) (acting act (has_bit chip.timers.one_shot c) chip.timers.time (timer_at chip.timers c)) y) (sym (channel_same s c x lt)) (new g)) (λ k below ne g. (rest k ne g, channel_other s c k x below ne));
     words = words_with chip s after c x lt h.words target switches;
     lines = h.lines;
@@ -190,8 +192,7 @@ module _ (d : GptDriver) where
 
   pub acted_here : (act : Act) (chip : Chip) (w : World) (s : GptState) (c : ℕ) (before open1 : ℕ → Bool) → c < 8 → GptAgrees d (record settled { block = before }) chip w s → (open1 c ≡ false → TimerAgrees (channel_of d c) (has_bit chip.timers.one_shot c) (acting act (has_bit chip.timers.one_shot c) chip.timers.time (timer_at chip.timers c)) (channel_at s c)) → ((k : ℕ) → k ≢ c → open1 k ≡ false → before k ≡ false) → GptAgrees d (record settled { block = open1 }) (record chip { timers = acted act chip.timers (bit c) }) w s
   acted_here act chip w s c before open1 lt h new rest = record {
-    whole = acted_whole act chip (bit c) h.whole;
-    time = h.time;
+    outside = stands_acted act chip w (bit c) h.outside;
     block = one_acted act chip w s s (record settled { block = before }) open1 c lt h new (λ k below ne g. (rest k ne g, refl));
     words = h.words;
     lines = h.lines;
@@ -199,5 +200,5 @@ module _ (d : GptDriver) where
   }
 
   -- after a move, by its parts
-  pub moved : (made : Move) (chip : Chip) (w : World) (s s1 : GptState) (gap gap1 : Gap) → GptAgrees d gap chip w s → BlockAgrees d gap1.block (chip_after chip made).timers s1 → WordsAgree gap1.words (chip_after chip made) s1 → LinesAgree gap1.lines s1.mode (chip_after chip made).control.enabled → (is_off s1.mode ≡ true → (c : ℕ) → channel_at s1 c ≡ untouched) → GptAgrees d gap1 (chip_after chip made) w s1
-  moved made chip w s s1 gap gap1 h block words lines clean = record { whole = IsWhole-chip_after chip made h.whole; time = time-chip_after chip made ∙ h.time; block = block; words = words; lines = lines; clean = clean }
+  pub moved : (made : Move) (chip : Chip) (w : World) (s s1 : GptState) (gap gap1 : Gap) → GptAgrees d gap chip w s → BlockAgrees d gap1.block (chip_after chip made 0).timers s1 → WordsAgree gap1.words (chip_after chip made 0) s1 → LinesAgree gap1.lines s1.mode (chip_after chip made 0).control.enabled → (is_off s1.mode ≡ true → (c : ℕ) → channel_at s1 c ≡ untouched) → GptAgrees d gap1 (chip_after chip made 0) w s1
+  moved made chip w s s1 gap gap1 h block words lines clean = record { outside = stands-move chip w made 0 h.outside; block = block; words = words; lines = lines; clean = clean }

@@ -108,7 +108,7 @@ module _ (d : GptDriver) where
   unflagged : (chip : Chip) (w : World) (s : GptState) (c : ℕ) (x : Switches) (after : ℕ → Bool) → c < 8 → is_off s.mode ≡ false → (after (switches_word c) ≡ false → x ≡ (channel_at s c).switches) → GptAgrees d settled chip w s → GptAgrees d (record settled { words = after }) (record chip { timers = acted turns.Clear chip.timers (bit c) }) w (with_channel s c (record (channel_at s c) { dropped = w.now; switches = x }))
   unflagged chip w s c x after lt on same h =
       let a = h.block c lt refl in
-      acted_with d turns.Clear chip w s c (record (channel_at s c) { dropped = w.now; switches = x }) none none after lt on h (λ g. record { count = a.count; kept = refl; flag = λ n. ap (λ m. expired_between (timer_at chip.timers c).count m n) h.time; set = a.set }) (λ k ne g. refl) (λ g. refl) same
+      acted_with d turns.Clear chip w s c (record (channel_at s c) { dropped = w.now; switches = x }) none none after lt on h (λ g. record { count = a.count; kept = refl; flag = λ n. ap (λ m. expired_between (timer_at chip.timers c).count m n) h.outside.now; set = a.set }) (λ k ne g. refl) (λ g. refl) same
 
   abbrev Clears : Chip → World → GptState → (ℕ → Bool) → ℕ → ServeBody × BodyTaken → Type 0
   Clears chip w s m c p = StepsTo (gpt_ground d) (serve_bodies d) (record chip { timers = acted turns.Clear chip.timers (bit c) }) w s (Entered c) (Write TimerFlags (bit c)) false None m p

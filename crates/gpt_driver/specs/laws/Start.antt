@@ -135,18 +135,18 @@ module _ (d : GptDriver) where
   steps chip w s (Target r) o t m (h, ((Is_before, i), stays)) =
       let c = r.channel in
       let x = record (timer_at chip.timers c) { target = r.value } in
-      (below_test c i.lt, (moved d (start_work (Target r)) chip w s s settled settled h (block_set d chip w s c x i.lt h (λ a. record { count = a.count; kept = a.kept; flag = a.flag; set = a.set })) h.words h.lines h.clean, ((Is_before, i, ap (λ y. y.target) (timer_at-with_timer_same chip.timers c x (record { all = h.whole.timers; within = i.lt }))), stays)))
+      (below_test c i.lt, (moved d (start_work (Target r)) chip w s s settled settled h (block_set d chip w s c x i.lt h (λ a. record { count = a.count; kept = a.kept; flag = a.flag; set = a.set })) h.words h.lines h.clean, ((Is_before, i, ap (λ y. y.target) (timer_at-with_timer_same chip.timers c x (record { all = h.outside.all.timers; within = i.lt }))), stays)))
   steps chip w s (Prescaler r) o t m (h, ((Is_before, i, ev), stays)) =
       let c = r.channel in
       let x = record (timer_at chip.timers c) { prescaler = r.prescaler } in
-      let e = timer_at-with_timer_same chip.timers c x (record { all = h.whole.timers; within = i.lt }) in
+      let e = timer_at-with_timer_same chip.timers c x (record { all = h.outside.all.timers; within = i.lt }) in
       (below_test c i.lt, (moved d (start_work (Prescaler r)) chip w s s settled settled h (block_set d chip w s c x i.lt h (λ a. record { count = a.count; kept = a.kept; flag = a.flag; set = a.set })) h.words h.lines h.clean, ((Is_before, i, ap (λ y. y.target) e ∙ ev, ap (λ y. y.prescaler) e), stays)))
   steps chip w s (OneShot r) o t m (h, ((Is_before, i, ev, ep), stays)) = (refl, (moved d (start_work (OneShot r)) chip w s s settled settled h (λ c lt closed. let a = h.block c lt closed in record { count = a.count; kept = a.kept; flag = a.flag; set = rebit (channel_of d c) _ _ (channel_at s c).course (ap (λ x. has_bit x c) i.bits ∙ has_bit-bits_of (is_one_shot d) 8 c lt) a.set }) h.words h.lines h.clean, ((Is_before, i, ev, ep, refl), stays)))
   steps chip w s (Clear r) o t m (h, ((Is_before, i, ev, ep, eb), stays)) =
       let c = r.channel in
-      let e = timer_at-acted_on turns.Clear chip.timers (bit c) c (record { all = h.whole.timers; within = i.lt }) (has_one c i.lt) in
+      let e = timer_at-acted_on turns.Clear chip.timers (bit c) c (record { all = h.outside.all.timers; within = i.lt }) (has_one c i.lt) in
       let a = h.block c i.lt refl in
-      (refl, (acted_here d turns.Clear chip w s c none (only c) i.lt h (λ g. let f = same_yes c in absurd (cc)) (λ k ne g. refl), ((Is_before, i, ap (λ y. y.target) e ∙ ev, ap (λ y. y.prescaler) e ∙ ep, eb), λ time le. (stays time le, ap (λ y. is_flagged y time) e ∙ (expired_is (channel_of d c) _ _ (channel_at s c) a chip.timers.time time ∙ quiet (channel_of d c) _ (channel_at s c).course w.now chip.timers.time time a.set (same_time chip w h.time) (stays w.now (omega arith)))))))
+      (refl, (acted_here d turns.Clear chip w s c none (only c) i.lt h (λ g. let f = same_yes c in absurd (cc)) (λ k ne g. refl), ((Is_before, i, ap (λ y. y.target) e ∙ ev, ap (λ y. y.prescaler) e ∙ ep, eb), λ time le. (stays time le, ap (λ y. is_flagged y time) e ∙ (expired_is (channel_of d c) _ _ (channel_at s c) a chip.timers.time time ∙ quiet (channel_of d c) _ (channel_at s c).course w.now chip.timers.time time a.set (same_time chip w h.outside.now) (stays w.now (omega arith)))))))
     where
       same_time : (chip : Chip) (w : World) → chip.timers.time ≡ w.now → w.now ≤ chip.timers.time
       same_time chip w e = omega (arith, e)
@@ -163,7 +163,7 @@ module _ (d : GptDriver) where
           told = tells_nothing;
           is = λ times. ap (λ b. Some (acts_by d w s call (error_by d call (is_off s.mode) (is_asleep s.mode) b))) still.0 ∙ ap (λ y. Some (acts_by d w s call y)) (i.checks false);
           acts = tt;
-          next = (acted_with d turns.Start chip w s c x (only c) none (only (target_word c)) i.lt i.on h (λ g. gate_opens (channel_of d c) _ chip.timers.time w.now r.value (timer_at chip.timers c) (channel_at s c) h.time one ev (ep ∙ i.prescaler) i.positive i.small (subst (λ n. 0 < n) i.prescaler i.divides) (ap (λ n. is_flagged (timer_at chip.timers c) n) h.time ∙ still.1)) (λ k ne g. other_no k c ne) (λ g. let f = same_yes (target_word c) in absurd (cc)) (λ g. refl), ((Is_after, i.lt, sym (ap (λ y. target_of y.course) (channel_same s c x i.lt))), λ time le. tt));
+          next = (acted_with d turns.Start chip w s c x (only c) none (only (target_word c)) i.lt i.on h (λ g. gate_opens (channel_of d c) _ chip.timers.time w.now r.value (timer_at chip.timers c) (channel_at s c) h.outside.now one ev (ep ∙ i.prescaler) i.positive i.small (subst (λ n. 0 < n) i.prescaler i.divides) (ap (λ n. is_flagged (timer_at chip.timers c) n) h.outside.now ∙ still.1)) (λ k ne g. other_no k c ne) (λ g. let f = same_yes (target_word c) in absurd (cc)) (λ g. refl), ((Is_after, i.lt, sym (ap (λ y. target_of y.course) (channel_same s c x i.lt))), λ time le. tt));
         },
       )
   steps chip w s (Keep r) o t m (h, ((Is_after, lt, is), stays)) = (may_words (TargetOf r.channel) lt, (caught_up d chip w s (TargetOf r.channel) r.value lt is h, (refl, refl, refl)))

@@ -88,7 +88,7 @@ module _ (d : GptDriver) where
       let x = channel_at s c in
       let y = timer_at chip.timers c in
       let q = runs k w.now x.course in
-      let shut = timer_at-acted_on turns.Stop chip.timers (bit c) c (record { all = h.whole.timers; within = lt }) (has_one c lt) ∙ ap (λ r. halted y chip.timers.time r) (runs_here d chip w s settled h c lt refl) in
+      let shut = timer_at-acted_on turns.Stop chip.timers (bit c) c (record { all = h.outside.all.timers; within = lt }) (has_one c lt) ∙ ap (λ r. halted y chip.timers.time r) (runs_here d chip w s settled h c lt refl) in
       let none_came = λ (r : runs k w.now x.course ≡ false) (after n : ℕ). expired_is k one y x (h.block c lt refl) after n ∙ no_expiries k x.course w.now after n os r in
       let a = stop_cleared k one y x chip.timers.time w.now time (ended k x w.now q).dropped q (h.block c lt refl) (elapsed_here d chip w s settled h c lt refl) (λ r n. none_came r time n ∙ sym (none_came r (ended k x w.now q).dropped n)) refl in
       subst (λ z. TimerAgrees k one (flag_clear time z) (channel_at (with_channel s c (ended k x w.now q)) c)) (sym shut) (subst (λ z. TimerAgrees k one (flag_clear time (halted y chip.timers.time q)) z) (sym (channel_same s c (ended k x w.now q) lt)) a)

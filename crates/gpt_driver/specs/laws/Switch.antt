@@ -1,7 +1,7 @@
 -- The services that change a channel's switches: their steps, what holds at each, and that they are right.
 use Rattle.std.proofs.Common.{◌≡◌, ℕ, ◌<◌, Bool, true, false, List, [], ◌∷◌, Option, Some, None, refl, sym, ◌∙◌, ap, subst, arith}
 use Rattle.std.specs.Prelude.{if◌then◌else◌}
-use Rattle.gpt_driver.specs.laws.Base.{each_but, Chip, Timers, timer_at, has_bit, Move, Act, Notice, DevError, World, Told, no_answer, Origin, BodyTaken, goes, ends, Owed, Nothing, One, error_in, notices_in, Bodies, AreRight, Before, Is_before, Gap, settled, behind, only, TimerAgrees, SwitchesOf, GptAgrees, gpt_ground, GptState, channel_at, runs_at, is_off, changed, notes, with_switches, acts_by, channel_of, switches_word, switches_of, packed, Call, Channel, GptDriver, Switches, MayRun, AllGood, steady, steady_right, Shortens}
+use Rattle.gpt_driver.specs.laws.Base.{each_but, Chip, Timers, timer_at, has_bit, Move, Act, Notice, DevError, World, Told, no_answer, Origin, BodyTaken, goes, ends, Owed, Nothing, One, error_in, notices_in, Bodies, AreRight, Before, Is_before, Gap, settled, behind, only, TimerAgrees, SwitchesOf, GptAgrees, gpt_ground, GptState, channel_at, runs_at, is_off, changed, notes, with_switches, acts_by, channel_of, switches_word, switches_of, packed, Call, GptDriver, Switches, MayRun, AllGood, steady, steady_right, Shortens}
 use Rattle.mcal_base.specs.declared.moves.Move.TheVariants.{Load as Loads, Store as Stores}
 use Rattle.mcal_base.specs.declared.notice.NoticeKind.TheVariants.{EcuMSetWakeupEvent}
 use Rattle.gpt_driver.specs.Machine.{tells_event, switches}
@@ -58,8 +58,7 @@ module _ (d : GptDriver) where
   -- a channel's switches changed in the machine, before its word is stored
   reswitched : (chip : Chip) (w : World) (s : GptState) (c : ℕ) (x : Switches) → c < 8 → is_off s.mode ≡ false → GptAgrees d settled chip w s → GptAgrees d (behind (switches_word c)) chip w (with_switches s c x)
   reswitched chip w s c x lt on h = record {
-    whole = h.whole;
-    time = h.time;
+    outside = h.outside;
     block = λ k below closed.
         each_but (λ i. TimerAgrees (channel_of d i) (has_bit chip.timers.one_shot i) (timer_at chip.timers i) (channel_at (with_switches s c x) i)) c
         (subst (λ z. TimerAgrees (channel_of d c) (has_bit chip.timers.one_shot c) (timer_at chip.timers c) z) (sym (channel_same s c (record (channel_at s c) { switches = x }) lt)) (let a = h.block c lt refl in record { count = a.count; kept = a.kept; flag = a.flag; set = a.set })) k

@@ -101,7 +101,7 @@ pub struct AdcGroup {
 }
 
 /// The table `Adc`.
-#[derive(Debug, Drop)]
+#[derive(Debug, Default, Drop)]
 pub struct AdcConfig {
     /// `AdcDevErrorDetect`.
     pub dev_error_detect: bool,

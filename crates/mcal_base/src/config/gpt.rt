@@ -30,7 +30,7 @@ pub struct GptChannel {
 }
 
 /// The table `Gpt`.
-#[derive(Debug, Drop)]
+#[derive(Debug, Default, Drop)]
 pub struct GptConfig {
     /// `GptDevErrorDetect`.
     pub dev_error_detect: bool,

@@ -74,7 +74,7 @@ pub struct IcuChannel {
 }
 
 /// The table `Icu`.
-#[derive(Debug, Drop)]
+#[derive(Debug, Default, Drop)]
 pub struct IcuConfig {
     /// `IcuDevErrorDetect`.
     pub dev_error_detect: bool,

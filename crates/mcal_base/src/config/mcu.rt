@@ -28,7 +28,7 @@ pub struct McuRamSection {
 }
 
 /// The table `Mcu`.
-#[derive(Debug, Drop)]
+#[derive(Debug, Default, Drop)]
 pub struct McuConfig {
     /// `McuDevErrorDetect`.
     pub dev_error_detect: bool,

@@ -46,7 +46,7 @@ pub struct PortPin {
 }
 
 /// The table `Port`.
-#[derive(Debug, Drop)]
+#[derive(Debug, Default, Drop)]
 pub struct PortConfig {
     /// `PortDevErrorDetect`.
     pub dev_error_detect: bool,

@@ -46,7 +46,7 @@ pub struct PwmChannel {
 }
 
 /// The table `Pwm`.
-#[derive(Debug, Drop)]
+#[derive(Debug, Default, Drop)]
 pub struct PwmConfig {
     /// `PwmDevErrorDetect`.
     pub dev_error_detect: bool,

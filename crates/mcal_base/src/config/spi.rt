@@ -59,7 +59,7 @@ pub struct SpiSequence {
 }
 
 /// The table `Spi`.
-#[derive(Debug, Drop)]
+#[derive(Debug, Default, Drop)]
 pub struct SpiConfig {
     /// `SpiDevErrorDetect`.
     pub dev_error_detect: bool,

@@ -6,8 +6,8 @@ use crate::config::port::PortConfig;
 use crate::config::pwm::PwmConfig;
 use crate::config::spi::SpiConfig;
 
-/// A configuration: a record a module, in the order of the walk.
-#[derive(Debug, Drop)]
+/// A configuration: a record a module, in the order of the walk. The default has no objects.
+#[derive(Debug, Default, Drop)]
 pub struct Config {
     /// The clock, modes and RAM sections.
     pub mcu: McuConfig,

@@ -1,5 +1,5 @@
 -- What is legal of where a frame acted, and of what it read and wrote, from what its body owes.
-use Rattle.std.proofs.Common.{◌≡◌, ℕ, ◌<◌, Bool, true, false, ◌&&◌, ◌||◌, length, List, [], ◌∷◌, Option, Some, None, refl, sym, ◌∙◌, ap, subst, arith}
+use Rattle.std.proofs.Common.{◌≡◌, ℕ, ◌<◌, Bool, true, false, ◌&&◌, ◌||◌, List, [], ◌∷◌, Option, Some, None, refl, sym, ◌∙◌, subst, arith}
 use Rattle.std.specs.List.{Contains}
 use Rattle.mcal_base.specs.declared.error_name.ErrorName.{ErrorName}
 use Rattle.mcal_base.specs.declared.moves.Event.{Event}
@@ -11,7 +11,7 @@ use Rattle.run_model.specs.Machine.{Told}
 use Rattle.run_model.specs.Frame.{Origin, Called, Entered, ActedAt, Open, is_write, reads_after}
 use Rattle.run_model.specs.Moment.{Setting, Halves}
 use Rattle.run_model.specs.Legal.{ActsLow, HalvesRight, halves_of, ErrorsRight, WritesNothing}
-use Rattle.service_outline.specs.Acts.{is_quiet, KeepsClean, Cleans, StandsLow, StandsClean, ActsRight, IsFresh, LowSound, IsSound, Behaves, LeavesRight}
+use Rattle.service_outline.specs.Acts.{is_quiet, KeepsClean, Cleans, StandsClean, ActsRight, IsFresh, LowSound, IsSound, Behaves, LeavesRight}
 use Rattle.service_outline.specs.declared.done.Done.{Done}
 use Rattle.service_outline.specs.declared.done.BodyTaken.{BodyTaken}
 use Rattle.service_outline.specs.laws.StepKinds.{acted_then}

@@ -1,13 +1,12 @@
 -- Long bodies of either of two kinds owe no more.
 use Rattle.std.specs.Prelude.{◌≡◌, ℕ, ◌<◌, Bool, true, false, ◌||◌, List, Option, Some, None}
 use Rattle.chip_model.specs.Chip.{Chip, value_of, chip_after, happened}
-use Rattle.chip_model.specs.Reach.{CanApply}
 use Rattle.mcal_base.specs.declared.directive.Order.{Order}
 use Rattle.mcal_base.specs.declared.moves.Event.{Event}
 use Rattle.mcal_base.specs.declared.moves.Move.{Move}
 use Rattle.mcal_base.specs.declared.moves.Move.TheVariants.{Read, Write, Load, Store, Mask, Unmask, Note, Report}
 use Rattle.run_model.specs.World.{World, world_after}
-use Rattle.run_model.specs.Frame.{Origin, missed_after, is_shared, resets_chip}
+use Rattle.run_model.specs.Frame.{Origin, missed_after, is_shared, resets_chip, begins_word}
 use Rattle.run_model.specs.Legal.{ReceivedRight}
 use Rattle.step_runner.specs.Driver.{most_steps}
 use Rattle.service_outline.specs.declared.done.Done.{Done}
@@ -17,7 +16,7 @@ use Rattle.service_outline.specs.Both.{both}
 use Rattle.service_outline.specs.Acts.{Cleans}
 use Rattle.service_outline.specs.Fuel.{Shortens}
 use Rattle.service_outline.specs.Past.{Past, past_wrote, past_after}
-use Rattle.service_outline.specs.Services.{Held, Basis, Spot, place_at, LongBodies, Stand, AreLong, Continues, Works, Makes, Right, TurnsTo, MayCome, with_holds, holds_at}
+use Rattle.service_outline.specs.Services.{Held, Basis, place_at, LongBodies, Stand, AreLong, Continues, Works, Makes, Right, TurnsTo, MayCome, with_holds, holds_at}
 
 module _ {State Call A B : Type 0} (g : Basis State Call) (v : LongBodies g A) (u : LongBodies g B) (lift : A → B) (below : List (Held Call g.Hold))
     (at : (chip : Chip) (w : World) (s : State) (k : A) (o : Origin Call) (t : Past) → Stand g v below chip w s k o t → Stand g u below chip w s (lift k) o t) where
@@ -27,7 +26,7 @@ module _ {State Call A B : Type 0} (g : Basis State Call) (v : LongBodies g A) (
 
   works_lift : (before chip : Chip) (w : World) (s : State) (o : Origin Call) (made : Move) (p : Bool) (x y : ℕ) (t : Past) (m : ℕ → Bool) (k : A) (e : Option Event) (n : Option Done) → Works g v below before chip w s o made p x y t m k e n → Works g u below before chip w s o made p x y t m (lift k) e n
   works_lift before chip w s o made p x y t m k None n h = goes_lift chip w s o (past_wrote w made t) m k n h
-  works_lift before chip w s o made p x y t m k (Some e) n h = record { may = h.may; stands = h.stands; selects = h.selects; state = h.state; told = h.told; is = h.is; acts = h.acts; reset = h.reset; next = goes_lift chip w h.state o (past_after g.setting.machine w s o e h.told (past_wrote w made t)) m k n h.next }
+  works_lift before chip w s o made p x y t m k (Some e) n h = record { may = h.may; stands = h.stands; state = h.state; told = h.told; begins = h.begins; is = h.is; sends = h.sends; acts = h.acts; reset = h.reset; next = goes_lift chip w h.state o (past_after g.setting.machine w s o e h.told (past_wrote w made t)) m k n h.next }
 
   pub makes_lift : (before chip : Chip) (w : World) (s : State) (o : Origin Call) (made : Move) (p : Bool) (x y : ℕ) (t : Past) (m : ℕ → Bool) (k : A) (e : Option Event) (n : Option Done) → Makes g v below before chip w s o made p x y t m k e n → Makes g u below before chip w s o made p x y t m (lift k) e n
   makes_lift before chip w s o Mask p x y t m k e n h = at chip w s k o t h
@@ -48,21 +47,21 @@ module _ {State Call A B : Type 0} (g : Basis State Call) (v : LongBodies g A) (
   turns below chip w s (First k) o t h = p.turns below chip w s k o t h
   turns below chip w s (Second k) o t h = q.turns below chip w s k o t h
 
-  steps : (below : List (Held Call g.Hold)) (chip : Chip) (w : World) (s : State) (k : Or A B) (o : Origin Call) (received : ℕ) (t : Past) (m : ℕ → Bool) → ReceivedRight g.setting chip w ((both v u).work_of k) received → g.count s < most_steps → Stand g (both v u) below chip w s k o t → Right g (both v u) below chip w s k o received t m
+  steps : (below : List (Held Call g.Hold)) (chip : Chip) (w : World) (s : State) (k : Or A B) (o : Origin Call) (received : ℕ) (t : Past) (m : ℕ → Bool) → ReceivedRight chip w ((both v u).work_of k) received → g.count s < most_steps → Stand g (both v u) below chip w s k o t → Right g (both v u) below chip w s k o received t m
   steps below chip w s (First k) o received t m come few h =
       let y = value_of chip (v.work_of k) in
       let x = v.takes k y in
-      makes_lift g v (both v u) (λ i. First i) below (λ chip w s k o t h. h) chip (chip_after chip (v.work_of k)) w s o (v.work_of k) (v.clean k) y received t (missed_after g.setting.machine w s m) x.0 x.1.event x.1.done (p.steps below chip w s k o received t m come few h)
+      makes_lift g v (both v u) (λ i. First i) below (λ chip w s k o t h. h) chip (chip_after chip (v.work_of k) received) w s o (v.work_of k) (v.clean k) y received t (missed_after g.setting.machine w s m) x.0 x.1.event x.1.done (p.steps below chip w s k o received t m come few h)
   steps below chip w s (Second k) o received t m come few h =
       let y = value_of chip (u.work_of k) in
       let x = u.takes k y in
-      makes_lift g u (both v u) (λ i. Second i) below (λ chip w s k o t h. h) chip (chip_after chip (u.work_of k)) w s o (u.work_of k) (u.clean k) y received t (missed_after g.setting.machine w s m) x.0 x.1.event x.1.done (q.steps below chip w s k o received t m come few h)
+      makes_lift g u (both v u) (λ i. Second i) below (λ chip w s k o t h. h) chip (chip_after chip (u.work_of k) received) w s o (u.work_of k) (u.clean k) y received t (missed_after g.setting.machine w s m) x.0 x.1.event x.1.done (q.steps below chip w s k o received t m come few h)
 
-  later : (below : List (Held Call g.Hold)) (chip : Chip) (w : World) (s : State) (order : Order) (k : Or A B) (o : Origin Call) (t : Past) → MayCome g.setting (with_holds o t.acted (holds_at ((both v u).spot k)) below) chip w s order → Stand g (both v u) below chip w s k o t → place_at ((both v u).spot k) below (g.foot (happened chip order)) (world_after w chip.rate order) (g.later w s order) o t
+  later : (below : List (Held Call g.Hold)) (chip : Chip) (w : World) (s : State) (order : Order) (k : Or A B) (o : Origin Call) (t : Past) → MayCome g.setting (with_holds o t.acted (holds_at ((both v u).spot k)) below) chip w s order → Stand g (both v u) below chip w s k o t → place_at ((both v u).spot k) below (g.foot (happened chip order)) (world_after w chip.clock.rate order) (g.later w s order) o t
   later below chip w s order (First k) o t free h = p.later below chip w s order k o t free h
   later below chip w s order (Second k) o t free h = q.later below chip w s order k o t free h
 
-  calm : (below : List (Held Call g.Hold)) (chip : Chip) (w : World) (s : State) (k : Or A B) (o : Origin Call) (t : Past) → Stand g (both v u) below chip w s k o t → ((both v u).takes k (value_of chip ((both v u).work_of k))).1.event ≡ None → resets_chip ((both v u).work_of k) ≡ false
+  calm : (below : List (Held Call g.Hold)) (chip : Chip) (w : World) (s : State) (k : Or A B) (o : Origin Call) (t : Past) → Stand g (both v u) below chip w s k o t → ((both v u).takes k (value_of chip ((both v u).work_of k))).1.event ≡ None → (resets_chip ((both v u).work_of k) ≡ false) × (begins_word ((both v u).work_of k) ≡ false)
   calm below chip w s (First k) o t h e = p.calm below chip w s k o t h e
   calm below chip w s (Second k) o t h e = q.calm below chip w s k o t h e
 

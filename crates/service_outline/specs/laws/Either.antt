@@ -1,13 +1,12 @@
 -- Short bodies of either of two kinds owe no more.
 use Rattle.std.specs.Prelude.{◌≡◌, ℕ, Bool, true, Option, Some, None}
 use Rattle.chip_model.specs.Chip.{Chip, value_of, chip_after, happened}
-use Rattle.chip_model.specs.Reach.{CanApply}
 use Rattle.mcal_base.specs.declared.directive.Order.{Order}
 use Rattle.mcal_base.specs.declared.moves.Event.{Event}
 use Rattle.mcal_base.specs.declared.moves.Move.{Move}
 use Rattle.run_model.specs.World.{World, world_after}
 use Rattle.run_model.specs.Machine.{Told}
-use Rattle.run_model.specs.Frame.{Origin, Called, Entered, Brought, missed_after}
+use Rattle.run_model.specs.Frame.{Origin, Called, Entered, missed_after}
 use Rattle.service_outline.specs.declared.done.Done.{Done}
 use Rattle.service_outline.specs.declared.body.Or.{Or}
 use Rattle.service_outline.specs.declared.body.Or.TheVariants.{First, Second}
@@ -37,12 +36,12 @@ module _ {State Call A B : Type 0} (g : Ground State Call) (v : Bodies g A) (u :
   steps : (chip : Chip) (w : World) (s : State) (k : Or A B) (o : Origin Call) (t : Option Told) (m : ℕ → Bool) → At g (either v u) chip w s k o t → RightAt g (either v u) chip w s k o t m
   steps chip w s (First k) o t m h =
       let x = v.takes k (value_of chip (v.work_of k)) in
-      steps_lift g v (either v u) (λ i. First i) (λ chip w s k o t h. h) (chip_after chip (v.work_of k)) w s o (v.work_of k) (v.clean k) t (missed_after g.setting.machine w s m) x.0 x.1.event x.1.done (p.steps chip w s k o t m h)
+      steps_lift g v (either v u) (λ i. First i) (λ chip w s k o t h. h) (chip_after chip (v.work_of k) 0) w s o (v.work_of k) (v.clean k) t (missed_after g.setting.machine w s m) x.0 x.1.event x.1.done (p.steps chip w s k o t m h)
   steps chip w s (Second k) o t m h =
       let x = u.takes k (value_of chip (u.work_of k)) in
-      steps_lift g u (either v u) (λ i. Second i) (λ chip w s k o t h. h) (chip_after chip (u.work_of k)) w s o (u.work_of k) (u.clean k) t (missed_after g.setting.machine w s m) x.0 x.1.event x.1.done (q.steps chip w s k o t m h)
+      steps_lift g u (either v u) (λ i. Second i) (λ chip w s k o t h. h) (chip_after chip (u.work_of k) 0) w s o (u.work_of k) (u.clean k) t (missed_after g.setting.machine w s m) x.0 x.1.event x.1.done (q.steps chip w s k o t m h)
 
-  later : (chip : Chip) (w : World) (s : State) (order : Order) (k : Or A B) (o : Origin Call) (t : Option Told) → Comes g.setting chip w s order → At g (either v u) chip w s k o t → (either v u).place (g.foot (happened chip order)) (world_after w chip.rate order) (g.later w s order) k o t
+  later : (chip : Chip) (w : World) (s : State) (order : Order) (k : Or A B) (o : Origin Call) (t : Option Told) → Comes g.setting chip w s order → At g (either v u) chip w s k o t → (either v u).place (g.foot (happened chip order)) (world_after w chip.clock.rate order) (g.later w s order) k o t
   later chip w s order (First k) o t free h = p.later chip w s order k o t free h
   later chip w s order (Second k) o t free h = q.later chip w s order k o t free h
 

@@ -2,12 +2,10 @@
 use Rattle.std.proofs.Common.{◌≡◌, ℕ, ◌≤◌, nat_lt, Bool, ◌&&◌, ◌||◌, not, true, false, List, [], ◌∷◌, Option, Some, None, refl, sym, ◌∙◌, ap, subst}
 use Rattle.std.specs.Prelude.{is_some}
 use Rattle.chip_model.specs.Chip.{Chip, value_of, chip_after, happened, reset_chip, is_masked, is_pending}
-use Rattle.chip_model.specs.Reach.{CanApply}
+use Rattle.mcal_base.specs.Reach.{CanApply}
 use Rattle.mcal_base.specs.declared.answer.Answer.{Answer}
 use Rattle.mcal_base.specs.declared.directive.Order.{Order}
 use Rattle.mcal_base.specs.declared.directive.Reason.{Reason}
-use Rattle.mcal_base.specs.declared.moves.Event.{Event}
-use Rattle.mcal_base.specs.declared.moves.Event.TheVariants.{Act}
 use Rattle.mcal_base.specs.declared.moves.Move.{Move}
 use Rattle.mcal_base.specs.declared.moves.Move.TheVariants.{Read, Write, Load, Store, Mask, Unmask, Note, Report}
 use Rattle.run_model.specs.World.{World, world_after}
@@ -16,19 +14,16 @@ use Rattle.run_model.specs.Frame.{Origin, Called, Entered, Open, opened, is_shar
 use Rattle.run_model.specs.declared.class.Class.{Class}
 use Rattle.run_model.specs.declared.class.Tag.{Tag}
 use Rattle.run_model.specs.Causes.{blocks, may_reenter, all_below}
-use Rattle.run_model.specs.Legal.{ReceivedRight}
 use Rattle.run_model.specs.Moment.{Setting, call_tag, line_tag}
 use Rattle.std.specs.List.{list_any}
 use Rattle.step_runner.specs.Driver.{IsLawful, IsFree, AllOutside, tags_in, origins_in}
 use Rattle.step_runner.specs.Lifts.{and-left, and-right}
 use Rattle.service_outline.specs.declared.done.Owed.{Owed}
 use Rattle.service_outline.specs.declared.done.Owed.TheVariants.{Nothing, Error, One, Two}
-use Rattle.service_outline.specs.declared.body.Looked.{Looked}
-use Rattle.service_outline.specs.declared.body.Looked.TheVariants.{Refused, Goes}
 use Rattle.service_outline.specs.declared.short.Short.{Short}
 use Rattle.service_outline.specs.declared.short.Short.TheVariants.{Calling, Loading, Entering, Inside, Opening, Telling, Returning}
-use Rattle.service_outline.specs.Short.{short_move, short_left, short_gave, tells, gave_look, gave_open, gave_told}
-use Rattle.service_outline.specs.Services.{Held, MayCome, Rates, Steady, Agreed, owners, IsLower, AllLower, IsLeveled, is_closed, holds_at, gap_at, place_at, Elsewhere, Beside, AllLet, mark_of, Services, AreServices, IsOver, Waits, AllWait, IsTop, Relates, Decides, with_holds, holds_by, holds_in, services_driver, entering}
+use Rattle.service_outline.specs.Short.{short_move, short_left, short_gave, tells}
+use Rattle.service_outline.specs.Services.{Held, MayCome, Rates, Steady, Agreed, owners, IsLower, AllLower, IsLeveled, is_closed, holds_at, gap_at, place_at, Elsewhere, AllLet, mark_of, Services, AreServices, Waits, AllWait, IsTop, Relates, with_holds, holds_by, holds_in, services_driver, entering}
 use Rattle.service_outline.specs.laws.Steps.{KeepsAt, short_steps, settled_at, stays_at}
 
 entering_same : (Asked : Type 0) {Body : Type 0} (q : Option Body) → is_some (entering {Asked = Asked} q) ≡ is_some q
@@ -145,7 +140,7 @@ module _ {State Call Asked Body : Type 0} (d : Services State Call Asked Body) (
   comes : (chip : Chip) (w : World) (s : State) (order : Order) (f : Short Asked Body) (o : Open Call) (ps : List (Short Asked Body × Open Call)) (held : List (Held Call d.basis.Hold)) → IsFree d.basis.setting (is_masked chip) w s (origins_in ((f, o) ∷ ps)) order → holds_by d f o (holds_in d ps) ≡ held → MayCome d.basis.setting held chip w s order
   comes chip w s order f o ps held free is = record { frames = origins_in ((f, o) ∷ ps); free = free; among = λ p h. subst (λ x. list_any p (owners x) ≡ false) is (none_in p ((f, o) ∷ ps) h) }
 
-  top_later : (ps : List (Short Asked Body × Open Call)) (chip : Chip) (w : World) (s : State) (order : Order) (f : Short Asked Body) (o : Open Call) → IsFree d.basis.setting (is_masked chip) w s (origins_in ((f, o) ∷ ps)) order → IsTop d (holds_in d ps) chip w s f o → IsTop d (holds_in d ps) (happened chip order) (world_after w chip.rate order) (d.basis.later w s order) f o
+  top_later : (ps : List (Short Asked Body × Open Call)) (chip : Chip) (w : World) (s : State) (order : Order) (f : Short Asked Body) (o : Open Call) → IsFree d.basis.setting (is_masked chip) w s (origins_in ((f, o) ∷ ps)) order → IsTop d (holds_in d ps) chip w s f o → IsTop d (holds_in d ps) (happened chip order) (world_after w chip.clock.rate order) (d.basis.later w s order) f o
   top_later ps chip w s order (Inside k) o free h =
       let held = holds_in d ps in
       let come = comes chip w s order (Inside k) o ps (with_holds o.origin h.past.acted (holds_at (d.bodies.spot k)) held) free (ap (λ x. with_holds o.origin x.acted (holds_at (d.bodies.spot k)) held) h.form) in
@@ -165,7 +160,7 @@ module _ {State Call Asked Body : Type 0} (d : Services State Call Asked Body) (
   rests_free : (chip : Chip) (w : World) (s : State) (order : Order) → IsFree d.basis.setting (is_masked chip) w s [] order → MayCome {Hold = d.basis.Hold} d.basis.setting [] chip w s order
   rests_free chip w s order free = record { frames = []; free = free; among = λ p h. nothing_among p }
 
-  all_later : (chip : Chip) (w : World) (ps : List (Short Asked Body × Open Call)) (s : State) (order : Order) → IsFree d.basis.setting (is_masked chip) w s (origins_in ps) order → Relates d chip w ps s → Relates d (happened chip order) (world_after w chip.rate order) ps (d.basis.later w s order)
+  all_later : (chip : Chip) (w : World) (ps : List (Short Asked Body × Open Call)) (s : State) (order : Order) → IsFree d.basis.setting (is_masked chip) w s (origins_in ps) order → Relates d chip w ps s → Relates d (happened chip order) (world_after w chip.clock.rate order) ps (d.basis.later w s order)
   all_later chip w [] s order free h = law.basis.agrees_later [] d.basis.settled chip w s order (rests_free chip w s order free) h
   all_later chip w (p ∷ ps) s order free h = (top_later ps chip w s order p.0 p.1 free h.0, h.1, h.2)
 
@@ -173,7 +168,7 @@ module _ {State Call Asked Body : Type 0} (d : Services State Call Asked Body) (
   moved chip w [] s order free = law.basis.moves [] chip w s order (rests_free chip w s order free)
   moved chip w (p ∷ ps) s order free = law.basis.moves (holds_in d (p ∷ ps)) chip w s order (comes chip w s order p.0 p.1 ps _ free refl)
 
-  moves : (chip : Chip) (w : World) (ps : List (Short Asked Body × Open Call)) (s : State) (order : Order) → IsFree d.basis.setting (is_masked chip) w s (origins_in ps) order → Relates d chip w ps s → (out : Outcome State) × (d.basis.setting.machine.happens w s (Moves order) ≡ Some out) × Relates d (happened chip order) (world_after w chip.rate order) ps out.state
+  moves : (chip : Chip) (w : World) (ps : List (Short Asked Body × Open Call)) (s : State) (order : Order) → IsFree d.basis.setting (is_masked chip) w s (origins_in ps) order → Relates d chip w ps s → (out : Outcome State) × (d.basis.setting.machine.happens w s (Moves order) ≡ Some out) × Relates d (happened chip order) (world_after w chip.clock.rate order) ps out.state
   moves chip w ps s order free h = (outcome (d.basis.later w s order) tells_nothing, moved chip w ps s order free, all_later chip w ps s order free h)
 
   -- a reset
@@ -191,18 +186,18 @@ module _ {State Call Asked Body : Type 0} (d : Services State Call Asked Body) (
   resets chip w (p ∷ ps) s reason h = resets_top (holds_in d ps) chip w s reason p.0 p.1 h.0
 
   -- a move elsewhere
-  top_apart : (held : List (Held Call d.basis.Hold)) (chip : Chip) (w : World) (s : State) (made : Move) → Elsewhere d.basis made → (f : Short Asked Body) (o : Open Call) → IsTop d held chip w s f o → IsTop d held (chip_after chip made) w s f o
-  top_apart held chip w s made e (Calling c) o h = (law.basis.agrees_apart held d.basis.settled chip w s made e h.0, h.1)
-  top_apart held chip w s made e (Loading c) o h = (law.basis.agrees_apart held d.basis.settled chip w s made e h.0, h.1)
-  top_apart held chip w s made e (Entering k) o h = (law.basis.agrees_apart held d.basis.settled chip w s made e h.0, h.1)
-  top_apart held chip w s made e (Inside k) o h = record { past = h.past; form = h.form; behaves = h.behaves; at = (law.basis.agrees_apart (with_holds o.origin h.past.acted (holds_at (d.bodies.spot k)) held) (gap_at (d.bodies.spot k)) chip w s made e h.at.0, subst (λ x. place_at (d.bodies.spot k) held x w s o.origin h.past) (sym (law.basis.foot_apart chip made e)) h.at.1) }
-  top_apart held chip w s made e (Opening n) o h = (law.basis.agrees_apart held d.basis.settled chip w s made e h.0, h.1)
-  top_apart held chip w s made e (Telling n) o h = (law.basis.agrees_apart held d.basis.settled chip w s made e h.0, h.1)
-  top_apart held chip w s made e (Returning a) o h = (law.basis.agrees_apart held d.basis.settled chip w s made e h.0, h.1)
+  top_apart : (held : List (Held Call d.basis.Hold)) (chip : Chip) (w : World) (s : State) (made : Move) (received : ℕ) → Elsewhere d.basis made → (f : Short Asked Body) (o : Open Call) → IsTop d held chip w s f o → IsTop d held (chip_after chip made received) w s f o
+  top_apart held chip w s made received e (Calling c) o h = (law.basis.agrees_apart held d.basis.settled chip w s made received e h.0, h.1)
+  top_apart held chip w s made received e (Loading c) o h = (law.basis.agrees_apart held d.basis.settled chip w s made received e h.0, h.1)
+  top_apart held chip w s made received e (Entering k) o h = (law.basis.agrees_apart held d.basis.settled chip w s made received e h.0, h.1)
+  top_apart held chip w s made received e (Inside k) o h = record { past = h.past; form = h.form; behaves = h.behaves; at = (law.basis.agrees_apart (with_holds o.origin h.past.acted (holds_at (d.bodies.spot k)) held) (gap_at (d.bodies.spot k)) chip w s made received e h.at.0, subst (λ x. place_at (d.bodies.spot k) held x w s o.origin h.past) (sym (law.basis.foot_apart chip made received e)) h.at.1) }
+  top_apart held chip w s made received e (Opening n) o h = (law.basis.agrees_apart held d.basis.settled chip w s made received e h.0, h.1)
+  top_apart held chip w s made received e (Telling n) o h = (law.basis.agrees_apart held d.basis.settled chip w s made received e h.0, h.1)
+  top_apart held chip w s made received e (Returning a) o h = (law.basis.agrees_apart held d.basis.settled chip w s made received e h.0, h.1)
 
-  undisturbed : (chip : Chip) (w : World) (ps : List (Short Asked Body × Open Call)) (s : State) (made : Move) → Elsewhere d.basis made → Relates d chip w ps s → Relates d (chip_after chip made) w ps s
-  undisturbed chip w [] s made e h = law.basis.agrees_apart [] d.basis.settled chip w s made e h
-  undisturbed chip w (p ∷ ps) s made e h = (top_apart (holds_in d ps) chip w s made e p.0 p.1 h.0, h.1, h.2)
+  undisturbed : (chip : Chip) (w : World) (ps : List (Short Asked Body × Open Call)) (s : State) (made : Move) (received : ℕ) → Elsewhere d.basis made → Relates d chip w ps s → Relates d (chip_after chip made received) w ps s
+  undisturbed chip w [] s made received e h = law.basis.agrees_apart [] d.basis.settled chip w s made received e h
+  undisturbed chip w (p ∷ ps) s made received e h = (top_apart (holds_in d ps) chip w s made received e p.0 p.1 h.0, h.1, h.2)
 
   -- the moves are there
   can_apply : (origin : Origin Call) (made : Move) → is_shared made || d.basis.setting.may origin made ≡ true → CanApply made
@@ -229,17 +224,17 @@ module _ {State Call Asked Body : Type 0} (d : Services State Call Asked Body) (
 
   -- the rate, where the frames and what happens leave it
   abbrev Steadies : Type 0
-  Steadies = (chip : Chip) (origin : Origin Call) (made : Move) → d.basis.setting.may origin made ≡ true → (chip_after chip made).rate ≡ chip.rate
+  Steadies = (chip : Chip) (origin : Origin Call) (made : Move) (received : ℕ) → d.basis.setting.may origin made ≡ true → (chip_after chip made received).clock.rate ≡ chip.clock.rate
 
-  steady_move : Steadies → (chip : Chip) (origin : Origin Call) (made : Move) → is_shared made || d.basis.setting.may origin made ≡ true → (chip_after chip made).rate ≡ chip.rate
-  steady_move p chip origin (Read r) h = p chip origin (Read r) h
-  steady_move p chip origin (Write r v) h = p chip origin (Write r v) h
-  steady_move p chip origin (Load k) h = p chip origin (Load k) h
-  steady_move p chip origin (Store k v) h = p chip origin (Store k v) h
-  steady_move p chip origin Mask h = refl
-  steady_move p chip origin Unmask h = refl
-  steady_move p chip origin (Note n) h = refl
-  steady_move p chip origin (Report e) h = refl
+  steady_move : Steadies → (chip : Chip) (origin : Origin Call) (made : Move) (received : ℕ) → is_shared made || d.basis.setting.may origin made ≡ true → (chip_after chip made received).clock.rate ≡ chip.clock.rate
+  steady_move p chip origin (Read r) received h = p chip origin (Read r) received h
+  steady_move p chip origin (Write r v) received h = p chip origin (Write r v) received h
+  steady_move p chip origin (Load k) received h = p chip origin (Load k) received h
+  steady_move p chip origin (Store k v) received h = p chip origin (Store k v) received h
+  steady_move p chip origin Mask received h = refl
+  steady_move p chip origin Unmask received h = refl
+  steady_move p chip origin (Note n) received h = refl
+  steady_move p chip origin (Report e) received h = refl
 
   abbrev Constants : Type 0
   Constants = (w : World) (s : State) (h : Happening Call) (out : Outcome State) → d.basis.setting.machine.happens w s h ≡ Some out → d.basis.setting.machine.rate out.state ≡ d.basis.setting.machine.rate s
@@ -254,9 +249,9 @@ module _ {State Call Asked Body : Type 0} (d : Services State Call Asked Body) (
 
   -- the rate, where chip and machine agree on it
   abbrev Agreeing : Type 0
-  Agreeing = (held : List (Held Call d.basis.Hold)) (gap : d.basis.Gap) (chip : Chip) (w : World) (s : State) → d.basis.agrees held gap chip w s → chip.rate ≡ d.basis.setting.machine.rate s
+  Agreeing = (held : List (Held Call d.basis.Hold)) (gap : d.basis.Gap) (chip : Chip) (w : World) (s : State) → d.basis.agrees held gap chip w s → chip.clock.rate ≡ d.basis.setting.machine.rate s
 
-  agreed_top : Agreeing → (held : List (Held Call d.basis.Hold)) (chip : Chip) (w : World) (s : State) (f : Short Asked Body) (o : Open Call) → IsTop d held chip w s f o → chip.rate ≡ d.basis.setting.machine.rate s
+  agreed_top : Agreeing → (held : List (Held Call d.basis.Hold)) (chip : Chip) (w : World) (s : State) (f : Short Asked Body) (o : Open Call) → IsTop d held chip w s f o → chip.clock.rate ≡ d.basis.setting.machine.rate s
   agreed_top p held chip w s (Calling c) o h = p held d.basis.settled chip w s h.0
   agreed_top p held chip w s (Loading c) o h = p held d.basis.settled chip w s h.0
   agreed_top p held chip w s (Entering k) o h = p held d.basis.settled chip w s h.0
@@ -265,12 +260,12 @@ module _ {State Call Asked Body : Type 0} (d : Services State Call Asked Body) (
   agreed_top p held chip w s (Telling n) o h = p held d.basis.settled chip w s h.0
   agreed_top p held chip w s (Returning a) o h = p held d.basis.settled chip w s h.0
 
-  agreed_all : Agreeing → (chip : Chip) (w : World) (ps : List (Short Asked Body × Open Call)) (s : State) → Relates d chip w ps s → chip.rate ≡ d.basis.setting.machine.rate s
+  agreed_all : Agreeing → (chip : Chip) (w : World) (ps : List (Short Asked Body × Open Call)) (s : State) → Relates d chip w ps s → chip.clock.rate ≡ d.basis.setting.machine.rate s
   agreed_all p chip w [] s h = p [] d.basis.settled chip w s h
   agreed_all p chip w (q ∷ ps) s h = agreed_top p (holds_in d ps) chip w s q.0 q.1 h.0
 
-  rate_by : Rates d.basis → (chip : Chip) (w : World) (received : ℕ) (f : Short Asked Body) (o : Open Call) (ps : List (Short Asked Body × Open Call)) (s : State) → KeepsAt d chip w received f o ps s → chip.rate ≡ d.basis.setting.machine.rate s → let made = short_move d.word d.bodies.work_of f in (chip_after chip made).rate ≡ d.basis.setting.machine.rate (state_after d.basis.setting.machine w s o made received (short_gave d.looked d.bodies.takes f (value_of chip made)).event)
-  rate_by (Steady p q) chip w received f o ps s h e = let made = short_move d.word d.bodies.work_of f in steady_move p chip o.origin made h.own ∙ (e ∙ sym (steady_state q w s (happening_at o.origin (brought_by w o.committed made received) (short_gave d.looked d.bodies.takes f (value_of chip made)).event)))
+  rate_by : Rates d.basis → (chip : Chip) (w : World) (received : ℕ) (f : Short Asked Body) (o : Open Call) (ps : List (Short Asked Body × Open Call)) (s : State) → KeepsAt d chip w received f o ps s → chip.clock.rate ≡ d.basis.setting.machine.rate s → let made = short_move d.word d.bodies.work_of f in (chip_after chip made received).clock.rate ≡ d.basis.setting.machine.rate (state_after d.basis.setting.machine w s o made received (short_gave d.looked d.bodies.takes f (value_of chip made)).event)
+  rate_by (Steady p q) chip w received f o ps s h e = let made = short_move d.word d.bodies.work_of f in steady_move p chip o.origin made received h.own ∙ (e ∙ sym (steady_state q w s (happening_at o.origin (brought_by w o.committed made received) (short_gave d.looked d.bodies.takes f (value_of chip made)).event)))
   rate_by (Agreed p) chip w received f o ps s h e = agreed_all p _ w _ _ h.kept
 
   -- the bounds of steps
@@ -287,7 +282,7 @@ module _ {State Call Asked Body : Type 0} (d : Services State Call Asked Body) (
   services_lawful = record {
     starts = law.basis.starts;
     begins = λ chip w ps s c level can unmasked out enter above h. begins chip w ps s c level can out enter h;
-    enters = λ chip w ps s line f is unmasked out under h. enters_by chip w ps s line f (d.body_of line) refl is out under h;
+    enters = λ chip w ps s line f is unmasked pending out under h. enters_by chip w ps s line f (d.body_of line) refl is out under h;
     steps = λ chip w f o ps s received come few masked out h. short_steps d law chip w received f o ps s come few h;
     there = λ chip w f o ps s h. there (holds_in d ps) chip w f o s h.0;
     moves = moves;
@@ -296,12 +291,16 @@ module _ {State Call Asked Body : Type 0} (d : Services State Call Asked Body) (
     may_owns = law.basis.may_owns;
     owns_plain = law.basis.owns_plain;
     owns_called = law.basis.owns_called;
+    enables = law.basis.enables;
     used_lines = law.basis.used_lines;
     due_used = λ chip w ps s line out h e. law.basis.due_used (holds_in d ps) chip w s line (all_wait chip w ps s out h).0 e;
     due = λ chip w ps s line unmasked out h e. settled_due chip w ps s line out h e;
+    unused = λ chip w ps s line unmasked out h there free. law.basis.unused (holds_in d ps) chip w s line there (all_wait chip w ps s out h).0 free;
     rests = λ chip w s line there h. law.basis.rests chip w s line there h;
+    unmasked = λ chip w ps s unmasked out h. law.basis.unmasked (holds_in d ps) chip w s (origins_in ps) (λ p e. none_in p ps e) (all_wait chip w ps s out h).0;
     rest = λ chip w s h. law.basis.rest chip w s h;
     waits = λ chip w s u h. law.basis.waits chip w s u h;
+    error_leaves = law.basis.error_leaves;
     count_first = law.basis.count_first;
     count_happens = law.basis.count_happens;
     count_moves = law.basis.count_moves;

@@ -8,24 +8,21 @@ use Rattle.mcal_base.specs.declared.notice.Notice.{Notice}
 use Rattle.mcal_base.specs.declared.moves.Move.TheVariants.{Read, Write, Load, Store, Mask, Unmask, Note, Report}
 use Rattle.run_model.specs.World.{World}
 use Rattle.run_model.specs.Machine.{Moves, Told, Outcome, outcome}
-use Rattle.run_model.specs.Frame.{Origin, Called, Entered, owing, committed_after, brought_by, is_shared, missed_after, resets_chip, is_reset_service, report_of, asks_reset}
-use Rattle.mcal_base.specs.declared.register.Reg.{Reg}
-use Rattle.mcal_base.specs.declared.register.Reg.TheVariants.{SerialData}
-use Rattle.run_model.specs.Legal.{BeginsRight, ReceivedRight}
+use Rattle.run_model.specs.Frame.{Origin, Called, Entered, owing, committed_after, brought_by, is_shared, missed_after, resets_chip, begins_word, is_reset_service, report_of, asks_reset}
+use Rattle.run_model.specs.Legal.{ReceivedRight}
 use Rattle.run_model.specs.Moment.{Setting}
-use Rattle.step_runner.specs.Driver.{Driver, most_steps, IsLawful}
+use Rattle.step_runner.specs.Driver.{most_steps, IsLawful}
 use Rattle.service_outline.specs.declared.body.Looked.{Looked}
 use Rattle.service_outline.specs.declared.body.Looked.TheVariants.{Refused, Goes}
 use Rattle.service_outline.specs.declared.done.Done.{Done}
-use Rattle.service_outline.specs.declared.short.Short.{Short}
 use Rattle.service_outline.specs.Fuel.{ShortensTo}
-use Rattle.service_outline.specs.ShortServices.{Places, above, ShortAt, short, AsksNone, IsCalm, unheld, services_of, driver_of}
+use Rattle.service_outline.specs.ShortServices.{Places, above, short, AsksNone, IsCalm, unheld, services_of, driver_of}
 use Rattle.service_outline.specs.laws.Lawful.{services_lawful}
-use Rattle.service_outline.specs.Outline.{Ground, Bodies, At, AreRight, GoesOn, StepsRight, TellsAs, notices_in, error_in, IsGround, Outlined, IsOutlined, LooksRight}
-use Rattle.service_outline.specs.Past.{Past, past_of, past_wrote}
-use Rattle.service_outline.specs.Services.{Held, Basis, Shown, AreShown, MayStop, Within, over, IsBasis, Steady, LongBodies, Stand, AreLong, Continues, Works, Makes, Right, KeepsMask, TurnsMask, TurnsTo, Services, AreServices, Decides, CanBegin, services_driver}
+use Rattle.service_outline.specs.Outline.{Ground, Bodies, At, AreRight, GoesOn, StepsRight, StepsTo, TellsAs, notices_in, error_in, IsGround, Outlined, IsOutlined, LooksRight}
+use Rattle.service_outline.specs.Past.{Past, past_of}
+use Rattle.service_outline.specs.Services.{Held, Basis, Shown, AreShown, MayStop, over, IsBasis, Steady, LongBodies, Stand, AreLong, Continues, Works, Makes, Right, KeepsMask, TurnsMask, TurnsTo, AreServices, Decides, CanBegin}
 use Rattle.service_outline.specs.Short.{short_move, short_left, short_gave}
-use Rattle.service_outline.specs.laws.StepKinds.{or_true, same_line, asks_no}
+use Rattle.service_outline.specs.laws.StepKinds.{or_true, same_line, asks_no, silent_sends, silent_received}
 
 shown_all : {State Call : Type 0} (g : Basis State Call) (l : ℕ) (ns : List Notice) → ((n : Notice) → Shown g (Entered l) n) → AreShown g (Entered l) ns
 shown_all g l [] h = tt
@@ -38,25 +35,21 @@ ShowsAll g (Entered l) = (n : Notice) → Shown g (Entered l) n
 
 shows_calm : {State Call : Type 0} (g : Basis State Call) (origin : Origin Call) → AsksNone g origin → ShowsAll g origin
 shows_calm g (Called c) h = tt
-shows_calm g (Entered l) h = h.0
+shows_calm g (Entered l) h = h
 
 asks_nothing : {State Call : Type 0} (g : Setting State Call) (c : Call) (e : Event) (out : Option (Outcome State)) → is_reset_service (g.machine.service_of c) ≡ false → false ≡ asks_reset g.machine (Called c) (Some e) out
 asks_nothing g c e out h = sym (asks_no g.machine c (Some e) out h)
 
-begins_by : {State Call : Type 0} (g : Setting State Call) (origin : Origin Call) (chip : Chip) (w : World) (s : State) (e : Event) (unit : Option ℕ) (made : Move) → unit ≡ None → BeginsRight g origin chip w s e unit made
-begins_by g origin chip w s e None made h = tt
-begins_by g origin chip w s e (Some u) made h = absurd (cc)
-
--- where no frame may reset the chip, no move does
-pub calm_by : {State Call : Type 0} (g : Setting State Call) → ((origin : Origin Call) (made : Move) → g.may origin made ≡ true → resets_chip made ≡ false) → (origin : Origin Call) (made : Move) → is_shared made || g.may origin made ≡ true → resets_chip made ≡ false
+-- where no frame may reset the chip or begin a serial word, no move does
+pub calm_by : {State Call : Type 0} (g : Setting State Call) → ((origin : Origin Call) (made : Move) → g.may origin made ≡ true → (resets_chip made ≡ false) × (begins_word made ≡ false)) → (origin : Origin Call) (made : Move) → is_shared made || g.may origin made ≡ true → (resets_chip made ≡ false) × (begins_word made ≡ false)
 calm_by g none origin (Read r) h = none origin (Read r) h
 calm_by g none origin (Write r v) h = none origin (Write r v) h
 calm_by g none origin (Load k) h = none origin (Load k) h
 calm_by g none origin (Store k v) h = none origin (Store k v) h
-calm_by g none origin Mask h = refl
-calm_by g none origin Unmask h = refl
-calm_by g none origin (Note n) h = refl
-calm_by g none origin (Report n) h = refl
+calm_by g none origin Mask h = (refl, refl)
+calm_by g none origin Unmask h = (refl, refl)
+calm_by g none origin (Note n) h = (refl, refl)
+calm_by g none origin (Report n) h = (refl, refl)
 
 pub plain_turns : (bound : ℕ) (was is : Bool) (room later : ℕ) (made : Move) (e : Option Event) (left : Option Done) → is_shared made ≡ false → KeepsMask was is room later e left → TurnsMask bound was is room later made e left
 plain_turns bound was is room later (Read r) e left p h = h
@@ -99,10 +92,11 @@ module _ {State Call Body : Type 0} (g : Basis State Call) (b : Bodies (over g [
   works_same s (Called c) made clean x y None times missed k (Some Act) left calm h = record {
     may = refl;
     stands = tt;
-    selects = tt;
     state = h.state;
     told = h.told;
+    begins = None;
     is = h.is (brought_by w times made y);
+    sends = silent_sends before made calm.silent;
     acts = h.acts;
     reset = calm.still ∙ asks_nothing g.setting c Act (Some (outcome h.state h.told)) calm.call.0;
     next = subst (λ q. Continues g (short g b place) below chip w h.state (Called c) (record { acted = Some h.told.answer; polled = q; served = []; committed = committed_after w times made; owed = owing false h.told.notices; report = report_of g.setting.machine c h.told.error }) missed k left) (sym (calm.call.1 w s)) (goes_same h.state (Called c) (Some h.told) (committed_after w times made) missed k left tt h.next);
@@ -112,13 +106,14 @@ module _ {State Call Body : Type 0} (g : Basis State Call) (b : Bodies (over g [
   works_same s (Entered l) made clean x y None times missed k (Some (Serve j)) left calm h = record {
     may = (h.own, refl);
     stands = tt;
-    selects = begins_by g.setting (Entered l) before w s (Serve j) (g.setting.begins_word w s j) made (subst (λ i. g.setting.begins_word w s i ≡ None) (sym h.own) (calm.call.1 w s));
     state = h.state;
     told = h.told;
+    begins = None;
     is = h.is (brought_by w times made y);
+    sends = silent_sends before made calm.silent;
     acts = tt;
     reset = calm.still;
-    next = subst (λ q. Continues g (short g b place) below chip w h.state (Entered l) (record { acted = None; polled = []; served = q ∷ []; committed = committed_after w times made; owed = owing true h.told.notices; report = None }) missed k left) (sym h.own) (goes_same h.state (Entered l) (Some h.told) (committed_after w times made) missed k left calm.call.0 h.next);
+    next = subst (λ q. Continues g (short g b place) below chip w h.state (Entered l) (record { acted = None; polled = []; served = q ∷ []; committed = committed_after w times made; owed = owing true h.told.notices; report = None }) missed k left) (sym h.own) (goes_same h.state (Entered l) (Some h.told) (committed_after w times made) missed k left calm.call h.next);
   }
   works_same s (Called c) made clean x y None times missed k (Some (Abort u)) left calm h = absurd h.own
   works_same s (Called c) made clean x y None times missed k (Some (Start u)) left calm h = absurd h.own
@@ -136,7 +131,7 @@ module _ {State Call Body : Type 0} (g : Basis State Call) (law : IsBasis g) (b 
       let x = b.takes k (value_of chip (b.work_of k)) in
       plain_turns (g.setting.window_of o) true true (b.fuel k) (b.fuel x.0) (b.work_of k) x.1.event x.1.done (plain below chip w s k o t h) (stays_closed (b.fuel k) (b.fuel x.0) x.1.event x.1.done ((p below).shortens k (value_of chip (b.work_of k))))
 
-  steps : (below : List (Held Call g.Hold)) (chip : Chip) (w : World) (s : State) (k : Body) (o : Origin Call) (received : ℕ) (t : Past) (m : ℕ → Bool) → ReceivedRight g.setting chip w (b.work_of k) received → g.count s < most_steps → Stand g (short g b place) below chip w s k o t → Right g (short g b place) below chip w s k o received t m
+  steps : (below : List (Held Call g.Hold)) (chip : Chip) (w : World) (s : State) (k : Body) (o : Origin Call) (received : ℕ) (t : Past) (m : ℕ → Bool) → ReceivedRight chip w (b.work_of k) received → g.count s < most_steps → Stand g (short g b place) below chip w s k o t → Right g (short g b place) below chip w s k o received t m
   steps below chip w s k o received t m come few h =
       let made = b.work_of k in
       let v = value_of chip made in
@@ -144,7 +139,10 @@ module _ {State Call Body : Type 0} (g : Basis State Call) (law : IsBasis g) (b 
       let i = h.1 in
       let past = past_of g.setting.machine i.told o t.committed in
       let missed = missed_after g.setting.machine w s m in
-      subst (λ y. Right g (short g b place) below chip w s k o received y m) (sym i.is) (plain_makes g (short g b place) below chip (chip_after chip made) w s o (b.clean k) v received past missed x.0 x.1.event x.1.done made (plain below chip w s k o t h) (works_same g b place below chip (chip_after chip made) w s o made (b.clean k) v received i.told t.committed missed x.0 x.1.event x.1.done (calm below chip w s k o i.told (h.0, i.at)) ((p below).steps chip w s k o i.told m (h.0, i.at))))
+      let quiet = calm below chip w s k o i.told (h.0, i.at) in
+      let none = silent_received chip w made received quiet.silent come in
+      let right = subst (λ n. StepsTo (over g below) (above g b place below) (chip_after chip made n) w s o made (b.clean k) i.told missed x) (sym none) ((p below).steps chip w s k o i.told m (h.0, i.at)) in
+      subst (λ y. Right g (short g b place) below chip w s k o received y m) (sym i.is) (plain_makes g (short g b place) below chip (chip_after chip made received) w s o (b.clean k) v received past missed x.0 x.1.event x.1.done made (plain below chip w s k o t h) (works_same g b place below chip (chip_after chip made received) w s o made (b.clean k) v received i.told t.committed missed x.0 x.1.event x.1.done quiet right))
 
   pub short_right : AreLong g (short g b place)
   short_right = record {
@@ -152,31 +150,40 @@ module _ {State Call Body : Type 0} (g : Basis State Call) (law : IsBasis g) (b 
     turns = turns;
     steps = steps;
     later = λ below chip w s order k o t come h. record { told = h.1.told; is = h.1.is; at = (p below).later chip w s order k o h.1.told (record { frames = come.frames; free = come.free }) (h.0, h.1.at) };
-    calm = λ below chip w s k o t h e. (calm below chip w s k o h.1.told (h.0, h.1.at)).still;
+    calm = λ below chip w s k o t h e. let quiet = calm below chip w s k o h.1.told (h.0, h.1.at) in (quiet.still, quiet.silent);
     shortens = λ k x. (p []).shortens k x;
     cleans = λ k x. (p []).cleans k x;
   }
 
 -- ---- drivers of short services alone
 
+-- what isn't used isn't due
+not_used : (due used : Bool) → (due ≡ true → used ≡ true) → used ≡ false → due ≡ false
+not_used true used h e = let k = h refl in absurd (cc)
+not_used false used h e = refl
+
 pub unheld_right : {State Call : Type 0} (g : Ground State Call) → IsGround g → IsBasis (unheld g)
 unheld_right g law = record {
   starts = law.starts;
   moves = λ held chip w s order come. law.moves w s order;
   resets = λ held. law.resets;
-  agrees_later = λ held gap chip w s order come. law.agrees_later gap chip w s order;
+  agrees_later = λ held gap chip w s order come. law.agrees_later gap chip w s order (record { frames = come.frames; free = come.free });
   agrees_apart = λ held. law.agrees_apart;
   foot_apart = law.foot_apart;
   may_owns = law.may_owns;
   owns_plain = law.owns_plain;
   may_there = law.may_there;
+  enables = law.enables;
   owns_called = law.owns_called;
   used_lines = law.used_lines;
   due_used = λ held. law.due_used;
   pends = λ held chip w s line there h e. law.pends chip w s line there h ∙ e;
+  unused = λ held chip w s line there h free. law.pends chip w s line there h ∙ not_used (g.setting.machine.due w s line) (g.setting.used line) (law.due_used chip w s line h) free;
   rests = law.pends;
+  unmasked = λ held chip w s origins among. law.unmasked chip w s origins;
   rest = law.rest;
   waits = law.waits;
+  error_leaves = law.error_leaves;
   count_first = law.count_first;
   count_happens = law.count_happens;
   count_moves = law.count_moves;
@@ -197,10 +204,12 @@ module _ {State Call Asked Body : Type 0} (d : Outlined State Call Asked Body) (
 
   asks_at : (o : Origin Call) → AsksNone (unheld d.basis) o
   asks_at (Called c) = (law.basis.asks_none c, λ w s. law.basis.polls_none w s c)
-  asks_at (Entered l) = (λ n held chip w s h. law.basis.shows chip w s (Entered l) n h, λ w s. law.basis.begins_none w s l)
+  asks_at (Entered l) = λ n held chip w s h. law.basis.shows chip w s (Entered l) n h
 
   calm : (chip : Chip) (w : World) (s : State) (k : Body) (o : Origin Call) (t : Option Told) → At d.basis d.bodies chip w s k o t → IsCalm (unheld d.basis) o (d.bodies.work_of k)
-  calm chip w s k o t h = record { still = law.basis.resets_none o (d.bodies.work_of k) (law.bodies.own chip w s k o t h); call = asks_at o }
+  calm chip w s k o t h =
+      let may = law.bodies.own chip w s k o t h in
+      record { still = law.basis.resets_none o (d.bodies.work_of k) may; silent = law.basis.words_none o (d.bodies.work_of k) may; call = asks_at o }
 
   pub short_services : AreServices (services_of d)
   short_services = record {

@@ -11,12 +11,13 @@ use Rattle.mcal_base.specs.declared.moves.Event.TheVariants.{Act, Serve, Abort, 
 use Rattle.mcal_base.specs.declared.moves.Move.{Move}
 use Rattle.mcal_base.specs.declared.moves.Move.TheVariants.{Read, Write, Load, Store, Mask, Unmask, Note, Report}
 use Rattle.mcal_base.specs.declared.notice.Notice.{Notice}
+use Rattle.mcal_base.specs.declared.register.Reg.TheVariants.{SerialData}
 use Rattle.mcal_base.specs.declared.routine.Taken.{Taken}
 use Rattle.run_model.specs.World.{World}
-use Rattle.run_model.specs.Machine.{Told, Outcome, Machine, no_answer, outcome}
-use Rattle.run_model.specs.Frame.{Origin, Called, Entered, Owing, Open, brought_by, happening_of, outcome_of, state_by, acted_by, polled_by, committed_after, served_by, owed_by, owed_after, ActedAt, acted_at_by, reads_after, is_write, report_by, report_after, inside_after, window_after, is_note, missed_after, is_shared, resets_chip, is_reset_service, asks_reset}
+use Rattle.run_model.specs.Machine.{Told, Begun, Outcome, Machine, no_answer, outcome_with}
+use Rattle.run_model.specs.Frame.{Origin, Called, Entered, Owing, Open, brought_by, happening_of, outcome_of, state_by, begun_by, acted_by, polled_by, committed_after, served_by, owed_by, owed_after, ActedAt, acted_at_by, reads_after, is_write, report_by, report_after, inside_after, window_after, is_note, missed_after, is_shared, resets_chip, begins_word, is_reset_service, asks_reset}
 use Rattle.run_model.specs.Moment.{Setting}
-use Rattle.run_model.specs.Legal.{has_line, MayEnd, MoveRight, ShowsRight, StandsAt, SelectsRight, IsOwnEvent, HalvesRight, halves_of, ErrorsRight}
+use Rattle.run_model.specs.Legal.{has_line, MayEnd, ReceivedRight, MoveRight, ShowsRight, StandsAt, SendsRight, IsOwnEvent, HalvesRight, halves_of, ErrorsRight}
 use Rattle.step_runner.specs.Driver.{Driver, KeepsStep, RoomRight, stepped}
 use Rattle.step_runner.specs.Lifts.{and-left, and-right}
 use Rattle.service_outline.specs.Short.{goes, does, ends}
@@ -78,15 +79,15 @@ acted_then (Called c) made (Abort u) t a = a
 acted_then (Called c) made (Start u) t a = a
 acted_then (Entered l) made e t a = a
 
-acted_same : {State Call : Type 0} (origin : Origin Call) (made : Move) (e : Event) (s : State) (t : Told) (a : Option ActedAt) → acted_at_by origin true made a (Some e) (Some (outcome s t)) ≡ acted_then origin made e t a
-acted_same (Called c) made Act s t a = refl
-acted_same (Called c) made (Serve k) s t a = refl
-acted_same (Called c) made (Abort u) s t a = refl
-acted_same (Called c) made (Start u) s t a = refl
-acted_same (Entered l) made Act s t a = refl
-acted_same (Entered l) made (Serve k) s t a = refl
-acted_same (Entered l) made (Abort u) s t a = refl
-acted_same (Entered l) made (Start u) s t a = refl
+acted_same : {State Call : Type 0} (origin : Origin Call) (made : Move) (e : Event) (s : State) (t : Told) (b : Option Begun) (a : Option ActedAt) → acted_at_by origin true made a (Some e) (Some (outcome_with s t b)) ≡ acted_then origin made e t a
+acted_same (Called c) made Act s t b a = refl
+acted_same (Called c) made (Serve k) s t b a = refl
+acted_same (Called c) made (Abort u) s t b a = refl
+acted_same (Called c) made (Start u) s t b a = refl
+acted_same (Entered l) made Act s t b a = refl
+acted_same (Entered l) made (Serve k) s t b a = refl
+acted_same (Entered l) made (Abort u) s t b a = refl
+acted_same (Entered l) made (Start u) s t b a = refl
 
 -- the same after an event
 abbrev pub rest_acted : {State Call : Type 0} → Machine State Call → World → State → Open Call → Move → Origin Call → Event → Told → Open Call
@@ -111,6 +112,16 @@ move_plain inside owed report Mask p = absurd (cc)
 move_plain inside owed report Unmask p = absurd (cc)
 move_plain inside owed report (Note j) p = absurd (cc)
 move_plain inside owed report (Report j) p = absurd (cc)
+
+-- a move that begins no serial word sends none
+pub silent_sends : (chip : Chip) (made : Move) → begins_word made ≡ false → SendsRight chip None made
+silent_sends chip (Write (SerialData u) v) e = absurd (cc)
+silent_sends chip _ e = tt
+
+-- and no word comes in at it
+pub silent_received : (chip : Chip) (w : World) (made : Move) (received : ℕ) → begins_word made ≡ false → ReceivedRight chip w made received → received ≡ 0
+silent_received chip w (Write (SerialData u) v) received e h = absurd (cc)
+silent_received chip w _ received e h = h
 
 pub shows_plain : {State Call : Type 0} (g : Setting State Call) (chip : Chip) (s : State) (origin : Origin Call) (owed : List Owing) (made : Move) → is_shared made ≡ false → ShowsRight g chip s origin owed made
 shows_plain g chip s origin owed (Read r) p = tt
@@ -186,9 +197,10 @@ module _ {State Call Frame : Type 0} (d : Driver State Call Frame) (chip : Chip)
   Keeps o made value taken = KeepsStep d (record { chip = chip; world = w; state = s; opens = []; steps = 0 }) f o later (stepped made value received taken) Kept
 
   -- a plain move with no event
-  pub plain_step : (r : Open Call) (origin : Origin Call) (acted : Option Answer) (served : List ℕ) (owed : List Owing) (report : Option DevError) (inside : Bool) (made : Move) (value : ℕ) → is_shared made ≡ false → resets_chip made ≡ false → d.setting.may origin made ≡ true → d.fuel later < d.fuel f → (inside ≡ true → d.room later < d.room f) → LeavesRight d.setting origin (reads_after r.reads made) (r.wrote || is_write made) r.acted_at → Kept s (form (rest_after d.setting.machine w s (form r origin acted served owed report inside) made) origin acted served owed report inside) → Keeps (form r origin acted served owed report inside) made value goes
-  plain_step r (Called c) acted served owed report inside made value p still own fuel room leaves k = record {
+  pub plain_step : (r : Open Call) (origin : Origin Call) (acted : Option Answer) (served : List ℕ) (owed : List Owing) (report : Option DevError) (inside : Bool) (made : Move) (value : ℕ) → is_shared made ≡ false → resets_chip made ≡ false → begins_word made ≡ false → d.setting.may origin made ≡ true → d.fuel later < d.fuel f → (inside ≡ true → d.room later < d.room f) → LeavesRight d.setting origin (reads_after r.reads made) (r.wrote || is_write made) r.acted_at → Kept s (form (rest_after d.setting.machine w s (form r origin acted served owed report inside) made) origin acted served owed report inside) → Keeps (form r origin acted served owed report inside) made value goes
+  plain_step r (Called c) acted served owed report inside made value p still silent own fuel room leaves k = record {
     event = tt;
+    sends = silent_sends chip made silent;
     halves = leaves.0;
     errors = leaves.1;
     shows = shows_plain d.setting chip s _ owed made p;
@@ -201,8 +213,9 @@ module _ {State Call Frame : Type 0} (d : Driver State Call Frame) (chip : Chip)
     room = room_plain (d.setting.window_of (Called c)) inside (d.room f) (d.room later) made p room;
     kept = subst (λ x. Kept s x) (sym (plainly d.setting.machine w s (form r (Called c) acted served owed report inside) made None None p)) k;
   }
-  plain_step r (Entered l) acted served owed report inside made value p still own fuel room leaves k = record {
+  plain_step r (Entered l) acted served owed report inside made value p still silent own fuel room leaves k = record {
     event = tt;
+    sends = silent_sends chip made silent;
     halves = leaves.0;
     errors = leaves.1;
     shows = shows_plain d.setting chip s _ owed made p;
@@ -220,12 +233,13 @@ module _ {State Call Frame : Type 0} (d : Driver State Call Frame) (chip : Chip)
   pub last_step : (r : Open Call) (origin : Origin Call) (acted : Option Answer) (served : List ℕ) (word value : ℕ) (a : Answer) → d.setting.may origin (Load word) ≡ true → MayEnd origin (form r origin acted served [] None false) a → 1 ≤ d.fuel f → LeavesRight d.setting origin (reads_after r.reads (Load word)) (r.wrote || is_write (Load word)) r.acted_at → Kept s (form (rest_after d.setting.machine w s (form r origin acted served [] None false) (Load word)) origin acted served [] None false) → Keeps (form r origin acted served [] None false) (Load word) value (ends a)
   last_step r (Called c) acted served word value a own m fuel leaves k = record {
     event = tt;
+    sends = tt;
     halves = leaves.0;
     errors = leaves.1;
     shows = tt;
     stays = λ e. absurd (cc);
     move = tt;
-    ends = (may_more d.setting.machine w s (form r (Called c) acted served [] None false) (Load word) (Called c) a m, refl, refl, refl);
+    ends = (may_more d.setting.machine w s (form r (Called c) acted served [] None false) (Load word) (Called c) a m, refl, refl, refl, refl);
     own = own;
     reset = refl;
     fuel = fuel;
@@ -234,12 +248,13 @@ module _ {State Call Frame : Type 0} (d : Driver State Call Frame) (chip : Chip)
   }
   last_step r (Entered l) acted served word value a own m fuel leaves k = record {
     event = tt;
+    sends = tt;
     halves = leaves.0;
     errors = leaves.1;
     shows = tt;
     stays = λ e. absurd (cc);
     move = tt;
-    ends = (may_more d.setting.machine w s (form r (Entered l) acted served [] None false) (Load word) (Entered l) a m, refl, refl, refl);
+    ends = (may_more d.setting.machine w s (form r (Entered l) acted served [] None false) (Load word) (Entered l) a m, refl, refl, refl, refl);
     own = own;
     reset = refl;
     fuel = fuel;
@@ -249,28 +264,28 @@ module _ {State Call Frame : Type 0} (d : Driver State Call Frame) (chip : Chip)
 
   -- the mask is closed
   pub mask_step : (r : Open Call) (origin : Origin Call) (acted : Option Answer) (served : List ℕ) (owed : List Owing) (report : Option DevError) (value : ℕ) → d.fuel later < d.fuel f → 1 + d.room later ≤ d.setting.window_of origin → LeavesRight d.setting origin (reads_after r.reads Mask) (r.wrote || is_write Mask) r.acted_at → Kept s (form (rest_after d.setting.machine w s (form r origin acted served owed report false) Mask) origin acted served owed report true) → Keeps (form r origin acted served owed report false) Mask value goes
-  mask_step r (Called c) acted served owed report value fuel room leaves k = record { event = tt; halves = leaves.0; errors = leaves.1; shows = tt; stays = λ e. refl; move = refl; ends = tt; own = refl; reset = refl; fuel = fuel; room = room; kept = k }
-  mask_step r (Entered l) acted served owed report value fuel room leaves k = record { event = tt; halves = leaves.0; errors = leaves.1; shows = tt; stays = λ e. refl; move = refl; ends = tt; own = refl; reset = refl; fuel = fuel; room = room; kept = k }
+  mask_step r (Called c) acted served owed report value fuel room leaves k = record { event = tt; sends = tt; halves = leaves.0; errors = leaves.1; shows = tt; stays = λ e. refl; move = refl; ends = tt; own = refl; reset = refl; fuel = fuel; room = room; kept = k }
+  mask_step r (Entered l) acted served owed report value fuel room leaves k = record { event = tt; sends = tt; halves = leaves.0; errors = leaves.1; shows = tt; stays = λ e. refl; move = refl; ends = tt; own = refl; reset = refl; fuel = fuel; room = room; kept = k }
 
   -- the mask is opened, and the frame goes on
   pub unmask_step : (r : Open Call) (origin : Origin Call) (acted : Option Answer) (served : List ℕ) (owed : List Owing) (report : Option DevError) (value : ℕ) → d.fuel later < d.fuel f → 1 ≤ d.room f → LeavesRight d.setting origin (reads_after r.reads Unmask) (r.wrote || is_write Unmask) r.acted_at → Kept s (form (rest_after d.setting.machine w s (form r origin acted served owed report true) Unmask) origin acted served owed report false) → Keeps (form r origin acted served owed report true) Unmask value goes
-  unmask_step r (Called c) acted served owed report value fuel room leaves k = record { event = tt; halves = leaves.0; errors = leaves.1; shows = tt; stays = λ e. refl; move = refl; ends = tt; own = refl; reset = refl; fuel = fuel; room = room; kept = k }
-  unmask_step r (Entered l) acted served owed report value fuel room leaves k = record { event = tt; halves = leaves.0; errors = leaves.1; shows = tt; stays = λ e. refl; move = refl; ends = tt; own = refl; reset = refl; fuel = fuel; room = room; kept = k }
+  unmask_step r (Called c) acted served owed report value fuel room leaves k = record { event = tt; sends = tt; halves = leaves.0; errors = leaves.1; shows = tt; stays = λ e. refl; move = refl; ends = tt; own = refl; reset = refl; fuel = fuel; room = room; kept = k }
+  unmask_step r (Entered l) acted served owed report value fuel room leaves k = record { event = tt; sends = tt; halves = leaves.0; errors = leaves.1; shows = tt; stays = λ e. refl; move = refl; ends = tt; own = refl; reset = refl; fuel = fuel; room = room; kept = k }
 
   -- the mask is opened, and the frame ends
   pub leave_step : (r : Open Call) (origin : Origin Call) (acted : Option Answer) (served : List ℕ) (value : ℕ) (a : Answer) → MayEnd origin (form r origin acted served [] None true) a → 1 ≤ d.fuel f → 1 ≤ d.room f → LeavesRight d.setting origin (reads_after r.reads Unmask) (r.wrote || is_write Unmask) r.acted_at → Kept s (form (rest_after d.setting.machine w s (form r origin acted served [] None true) Unmask) origin acted served [] None false) → Keeps (form r origin acted served [] None true) Unmask value (ends a)
-  leave_step r (Called c) acted served value a m fuel room leaves k = record { event = tt; halves = leaves.0; errors = leaves.1; shows = tt; stays = λ e. absurd (cc); move = refl; ends = (may_more d.setting.machine w s (form r (Called c) acted served [] None true) Unmask (Called c) a m, refl, refl, refl); own = refl; reset = refl; fuel = fuel; room = room; kept = k }
-  leave_step r (Entered l) acted served value a m fuel room leaves k = record { event = tt; halves = leaves.0; errors = leaves.1; shows = tt; stays = λ e. absurd (cc); move = refl; ends = (may_more d.setting.machine w s (form r (Entered l) acted served [] None true) Unmask (Entered l) a m, refl, refl, refl); own = refl; reset = refl; fuel = fuel; room = room; kept = k }
+  leave_step r (Called c) acted served value a m fuel room leaves k = record { event = tt; sends = tt; halves = leaves.0; errors = leaves.1; shows = tt; stays = λ e. absurd (cc); move = refl; ends = (may_more d.setting.machine w s (form r (Called c) acted served [] None true) Unmask (Called c) a m, refl, refl, refl, refl); own = refl; reset = refl; fuel = fuel; room = room; kept = k }
+  leave_step r (Entered l) acted served value a m fuel room leaves k = record { event = tt; sends = tt; halves = leaves.0; errors = leaves.1; shows = tt; stays = λ e. absurd (cc); move = refl; ends = (may_more d.setting.machine w s (form r (Entered l) acted served [] None true) Unmask (Entered l) a m, refl, refl, refl, refl); own = refl; reset = refl; fuel = fuel; room = room; kept = k }
 
   -- a report, the last step of its frame
   pub report_step : (r : Open Call) (origin : Origin Call) (acted : Option Answer) (served : List ℕ) (value : ℕ) (a : Answer) (e : DevError) → MayEnd origin (form r origin acted served [] (Some e) false) a → 1 ≤ d.fuel f → LeavesRight d.setting origin (reads_after r.reads (Report e)) (r.wrote || is_write (Report e)) r.acted_at → Kept s (form (rest_after d.setting.machine w s (form r origin acted served [] (Some e) false) (Report e)) origin acted served [] None false) → Keeps (form r origin acted served [] (Some e) false) (Report e) value (ends a)
-  report_step r (Called c) acted served value a x m fuel leaves k = record { event = tt; halves = leaves.0; errors = leaves.1; shows = tt; stays = λ e. absurd (cc); move = refl; ends = (may_more d.setting.machine w s (form r (Called c) acted served [] (Some x) false) (Report x) (Called c) a m, refl, refl, refl); own = refl; reset = refl; fuel = fuel; room = λ e. absurd (cc); kept = k }
-  report_step r (Entered l) acted served value a x m fuel leaves k = record { event = tt; halves = leaves.0; errors = leaves.1; shows = tt; stays = λ e. absurd (cc); move = refl; ends = (may_more d.setting.machine w s (form r (Entered l) acted served [] (Some x) false) (Report x) (Entered l) a m, refl, refl, refl); own = refl; reset = refl; fuel = fuel; room = λ e. absurd (cc); kept = k }
+  report_step r (Called c) acted served value a x m fuel leaves k = record { event = tt; sends = tt; halves = leaves.0; errors = leaves.1; shows = tt; stays = λ e. absurd (cc); move = refl; ends = (may_more d.setting.machine w s (form r (Called c) acted served [] (Some x) false) (Report x) (Called c) a m, refl, refl, refl, refl); own = refl; reset = refl; fuel = fuel; room = λ e. absurd (cc); kept = k }
+  report_step r (Entered l) acted served value a x m fuel leaves k = record { event = tt; sends = tt; halves = leaves.0; errors = leaves.1; shows = tt; stays = λ e. absurd (cc); move = refl; ends = (may_more d.setting.machine w s (form r (Entered l) acted served [] (Some x) false) (Report x) (Entered l) a m, refl, refl, refl, refl); own = refl; reset = refl; fuel = fuel; room = λ e. absurd (cc); kept = k }
 
   -- a notice
   pub note_step : (r : Open Call) (origin : Origin Call) (acted : Option Answer) (served : List ℕ) (report : Option DevError) (n : Notice) (by : Bool) (ns : List Owing) (value : ℕ) → d.fuel later < d.fuel f → (by ≡ true → d.setting.shows origin n chip s) → LeavesRight d.setting origin (reads_after r.reads (Note n)) (r.wrote || is_write (Note n)) r.acted_at → Kept s (form (rest_after d.setting.machine w s (form r origin acted served (record { notice = n; served = by } ∷ ns) report false) (Note n)) origin acted served ns report false) → Keeps (form r origin acted served (record { notice = n; served = by } ∷ ns) report false) (Note n) value goes
-  note_step r (Called c) acted served report n by ns value fuel shown leaves k = record { event = tt; halves = leaves.0; errors = leaves.1; shows = shown; stays = λ e. refl; move = (refl, refl); ends = tt; own = refl; reset = refl; fuel = fuel; room = λ e. absurd (cc); kept = k }
-  note_step r (Entered l) acted served report n by ns value fuel shown leaves k = record { event = tt; halves = leaves.0; errors = leaves.1; shows = shown; stays = λ e. refl; move = (refl, refl); ends = tt; own = refl; reset = refl; fuel = fuel; room = λ e. absurd (cc); kept = k }
+  note_step r (Called c) acted served report n by ns value fuel shown leaves k = record { event = tt; sends = tt; halves = leaves.0; errors = leaves.1; shows = shown; stays = λ e. refl; move = (refl, refl); ends = tt; own = refl; reset = refl; fuel = fuel; room = λ e. absurd (cc); kept = k }
+  note_step r (Entered l) acted served report n by ns value fuel shown leaves k = record { event = tt; sends = tt; halves = leaves.0; errors = leaves.1; shows = shown; stays = λ e. refl; move = (refl, refl); ends = tt; own = refl; reset = refl; fuel = fuel; room = λ e. absurd (cc); kept = k }
 
   own_event : (r : Open Call) (p : Past) (e : Event) (origin : Origin Call) → MayDo d.setting.machine w s p e origin → IsOwnEvent d.setting.machine w s (having r origin p true) e origin
   own_event r p Act (Called c) h = h
@@ -281,26 +296,27 @@ module _ {State Call Frame : Type 0} (d : Driver State Call Frame) (chip : Chip)
   own_event r p (Start u) origin h = h
 
   -- what the frame has done after an event
-  had : (r : Open Call) (p : Past) (made : Move) (e : Event) (origin : Origin Call) (s1 : State) (t : Told) → MayDo d.setting.machine w s p e origin → open_plain d.setting.machine w s (having r origin p true) made (Some e) (Some (outcome s1 t)) ≡ having (rest_acted d.setting.machine w s (having r origin p true) made origin e t) origin (past_after d.setting.machine w s origin e t (past_wrote w made p)) true
-  had r p made Act (Called c) s1 t may = refl
-  had r p made Act (Entered l) s1 t may = absurd may
-  had r p made (Serve k) (Called c) s1 t may = refl
-  had r p made (Serve k) (Entered l) s1 t may = refl
-  had r p made (Abort u) (Called c) s1 t may = refl
-  had r p made (Abort u) (Entered l) s1 t may = refl
-  had r p made (Start u) (Called c) s1 t may = refl
-  had r p made (Start u) (Entered l) s1 t may = refl
+  had : (r : Open Call) (p : Past) (made : Move) (e : Event) (origin : Origin Call) (s1 : State) (t : Told) (b : Option Begun) → MayDo d.setting.machine w s p e origin → open_plain d.setting.machine w s (having r origin p true) made (Some e) (Some (outcome_with s1 t b)) ≡ having (rest_acted d.setting.machine w s (having r origin p true) made origin e t) origin (past_after d.setting.machine w s origin e t (past_wrote w made p)) true
+  had r p made Act (Called c) s1 t b may = refl
+  had r p made Act (Entered l) s1 t b may = absurd may
+  had r p made (Serve k) (Called c) s1 t b may = refl
+  had r p made (Serve k) (Entered l) s1 t b may = refl
+  had r p made (Abort u) (Called c) s1 t b may = refl
+  had r p made (Abort u) (Entered l) s1 t b may = refl
+  had r p made (Start u) (Called c) s1 t b may = refl
+  had r p made (Start u) (Entered l) s1 t b may = refl
 
   -- an event, at a plain move in a window
-  pub event_step : (r : Open Call) (origin : Origin Call) (p : Past) (made : Move) (value : ℕ) (e : Event) (s1 : State) (t : Told) → is_shared made ≡ false → resets_chip made ≡ asks_reset d.setting.machine origin (Some e) (Some (outcome s1 t)) → d.setting.may origin made ≡ true → d.fuel later < d.fuel f → d.room later < d.room f → MayDo d.setting.machine w s p e origin → StandsAt e made value → SelectsRight d.setting origin chip w s e made → outcome_of d.setting.machine w s (happening_of origin (brought_by w p.committed made received) e) ≡ Some (outcome s1 t) → LeavesRight d.setting origin (reads_after r.reads made) (r.wrote || is_write made) (acted_then origin made e t r.acted_at) → Kept s1 (having (rest_acted d.setting.machine w s (having r origin p true) made origin e t) origin (past_after d.setting.machine w s origin e t (past_wrote w made p)) true) → Keeps (having r origin p true) made value (does (Some e))
-  event_step r origin p made value e s1 t plain reset own fuel room may stands selects is leaves k =
+  pub event_step : (r : Open Call) (origin : Origin Call) (p : Past) (made : Move) (value : ℕ) (e : Event) (s1 : State) (t : Told) (b : Option Begun) → is_shared made ≡ false → resets_chip made ≡ asks_reset d.setting.machine origin (Some e) (Some (outcome_with s1 t b)) → d.setting.may origin made ≡ true → d.fuel later < d.fuel f → d.room later < d.room f → MayDo d.setting.machine w s p e origin → StandsAt e made value → outcome_of d.setting.machine w s (happening_of origin (brought_by w p.committed made received) e) ≡ Some (outcome_with s1 t b) → SendsRight chip b made → LeavesRight d.setting origin (reads_after r.reads made) (r.wrote || is_write made) (acted_then origin made e t r.acted_at) → Kept s1 (having (rest_acted d.setting.machine w s (having r origin p true) made origin e t) origin (past_after d.setting.machine w s origin e t (past_wrote w made p)) true) → Keeps (having r origin p true) made value (does (Some e))
+  event_step r origin p made value e s1 t b plain reset own fuel room may stands is sends leaves k =
       let mac = d.setting.machine in
       let o = having r origin p true in
       let out = outcome_of mac w s (happening_of origin (brought_by w p.committed made received) e) in
       record {
-        event = (own_event r p e origin may, stands, selects, subst (λ x. IsSome x) (sym is) refl);
-        halves = subst (λ x. HalvesRight (halves_of d.setting origin) (reads_after r.reads made) (acted_at_by origin true made r.acted_at (Some e) x)) (sym is) (subst (λ x. HalvesRight (halves_of d.setting origin) (reads_after r.reads made) x) (sym (acted_same origin made e s1 t r.acted_at)) leaves.0);
-        errors = subst (λ x. ErrorsRight (r.wrote || is_write made) (acted_at_by origin true made r.acted_at (Some e) x)) (sym is) (subst (λ x. ErrorsRight (r.wrote || is_write made) x) (sym (acted_same origin made e s1 t r.acted_at)) leaves.1);
+        event = (own_event r p e origin may, stands, subst (λ x. IsSome x) (sym is) refl);
+        sends = subst (λ x. SendsRight chip (begun_by x) made) (sym is) sends;
+        halves = subst (λ x. HalvesRight (halves_of d.setting origin) (reads_after r.reads made) (acted_at_by origin true made r.acted_at (Some e) x)) (sym is) (subst (λ x. HalvesRight (halves_of d.setting origin) (reads_after r.reads made) x) (sym (acted_same origin made e s1 t b r.acted_at)) leaves.0);
+        errors = subst (λ x. ErrorsRight (r.wrote || is_write made) (acted_at_by origin true made r.acted_at (Some e) x)) (sym is) (subst (λ x. ErrorsRight (r.wrote || is_write made) x) (sym (acted_same origin made e s1 t b r.acted_at)) leaves.1);
         shows = shows_plain d.setting chip s origin p.owed made plain;
         stays = λ i. refl;
         move = move_plain true p.owed (report_by mac origin p.report (Some e) out) made plain;
@@ -309,5 +325,5 @@ module _ {State Call Frame : Type 0} (d : Driver State Call Frame) (chip : Chip)
         reset = subst (λ x. resets_chip made ≡ asks_reset mac origin (Some e) x) (sym is) reset;
         fuel = fuel;
         room = room_plain (d.setting.window_of origin) true (d.room f) (d.room later) made plain (λ e. room);
-        kept = subst (λ x. Kept (state_by s x) (open_with mac w s o made (Some e) x)) (sym is) (subst (λ x. Kept s1 x) (sym (plainly mac w s o made (Some e) (Some (outcome s1 t)) plain ∙ had r p made e origin s1 t may)) k);
+        kept = subst (λ x. Kept (state_by s x) (open_with mac w s o made (Some e) x)) (sym is) (subst (λ x. Kept s1 x) (sym (plainly mac w s o made (Some e) (Some (outcome_with s1 t b)) plain ∙ had r p made e origin s1 t b may)) k);
       }

@@ -10,7 +10,7 @@ use Rattle.mcal_base.specs.declared.moves.Move.TheVariants.{Read, Write, Load, S
 use Rattle.mcal_base.specs.declared.notice.Notice.{Notice}
 use Rattle.run_model.specs.World.{World}
 use Rattle.run_model.specs.Machine.{Told}
-use Rattle.run_model.specs.Frame.{Origin, Called, Entered, Owing, Open, owing, reads_after, is_write, missed_after, top_after, is_shared, resets_chip}
+use Rattle.run_model.specs.Frame.{Origin, Called, Entered, Owing, Open, owing, reads_after, is_write, missed_after, top_after, is_shared, resets_chip, begins_word}
 use Rattle.run_model.specs.Legal.{ReceivedRight, has_line, MayEnd}
 use Rattle.std.specs.List.{list_all}
 use Rattle.step_runner.specs.Driver.{most_steps, KeepsStep, stepped}
@@ -37,7 +37,7 @@ KeepsAt d chip w received f o ps s =
     let made = short_move d.word d.bodies.work_of f in
     let value = value_of chip made in
     let taken = short_gave d.looked d.bodies.takes f value in
-    KeepsStep (services_driver d) (record { chip = chip; world = w; state = s; opens = []; steps = 0 }) f o (short_left d.looked d.bodies.takes f value) (stepped made value received taken) (λ s1 o1. Relates d (chip_after chip made) w (top_after (short_left d.looked d.bodies.takes f value, o1) taken.ended ps) s1)
+    KeepsStep (services_driver d) (record { chip = chip; world = w; state = s; opens = []; steps = 0 }) f o (short_left d.looked d.bodies.takes f value) (stepped made value received taken) (λ s1 o1. Relates d (chip_after chip made received) w (top_after (short_left d.looked d.bodies.takes f value, o1) taken.ended ps) s1)
 
 -- how the mask stands after a step of a body: as the next place has it, or closed, where it is done
 abbrev pub StandsMasked : Bool → Bool → Option Done → Type 0
@@ -92,11 +92,11 @@ module _ {State Call Asked Body : Type 0} (d : Services State Call Asked Body) (
   load_by chip c x (Refused n) fresh over agrees h =
       let rest = rest_acted d.basis.setting.machine w s (having r (Called c) nothing_yet true) (Load d.word) (Called c) Act h.told in
       let leaves = refused_leaves d.basis.setting (having r (Called c) nothing_yet true) c d.word h.told n (record { wrote = fresh.wrote; reads = fresh.reads; acted = fresh.acted }) refl in
-      event_step (services_driver d) chip w s received (Loading (d.asked c)) (Opening n) _ r (Called c) nothing_yet (Load d.word) x Act s h.told refl (sym h.reset) (law.own_word (Called c)) (look_fuel d.most d.bodies.fuel (d.asked c) (Refused n) tt) (look_room d.wide d.bodies.room (d.asked c) (Refused n) tt) refl tt tt (h.is _) leaves ((agrees, stop_by rest (Called c) (past_after d.basis.setting.machine w s (Called c) Act h.told nothing_yet) n (record { may = (ap (λ x. Some x) h.tells.0, ap (list_all (λ l. has_line [] l || rest.missed l)) (h.polls)); served = false; owed = ap (owing false) h.tells.1; shown = λ e. absurd (cc); report = h.tells.2 }) leaves), over, waits)
+      event_step (services_driver d) chip w s received (Loading (d.asked c)) (Opening n) _ r (Called c) nothing_yet (Load d.word) x Act s h.told None refl (sym h.reset) (law.own_word (Called c)) (look_fuel d.most d.bodies.fuel (d.asked c) (Refused n) tt) (look_room d.wide d.bodies.room (d.asked c) (Refused n) tt) refl tt (h.is _) tt leaves ((agrees, stop_by rest (Called c) (past_after d.basis.setting.machine w s (Called c) Act h.told nothing_yet) n (record { may = (ap (λ x. Some x) h.tells.0, ap (list_all (λ l. has_line [] l || rest.missed l)) (h.polls)); served = false; owed = ap (owing false) h.tells.1; shown = λ e. absurd (cc); report = h.tells.2 }) leaves), over, waits)
   load_by chip c x (Goes k) fresh over agrees h =
       let rest = rest_after d.basis.setting.machine w s (having r (Called c) nothing_yet true) (Load d.word) in
       let before = fresh_behaves d.basis.setting true (having r (Called c) nothing_yet true) (record { wrote = fresh.wrote; reads = fresh.reads; acted = fresh.acted }) in
-      plain_step (services_driver d) chip w s received (Loading (d.asked c)) (Inside k) _ (with_past r nothing_yet) (Called c) None [] [] None true (Load d.word) x refl refl (law.own_word (Called c)) (look_fuel d.most d.bodies.fuel (d.asked c) (Goes k) h.fuel) (λ e. look_room d.wide d.bodies.room (d.asked c) (Goes k) h.room) (sound_leaves d.basis.setting (Called c) _ _ r.acted_at before.acted) (record { past = nothing_yet; form = ap (λ x. having rest (Called c) nothing_yet x) (sym h.closed); behaves = goes_behaves d.basis.setting true (having r (Called c) nothing_yet true) before (Load d.word) (d.bodies.clean k) (having rest (Called c) nothing_yet true) (λ e. (refl, refl)) refl refl refl before.acted; at = h.at }, over, waits)
+      plain_step (services_driver d) chip w s received (Loading (d.asked c)) (Inside k) _ (with_past r nothing_yet) (Called c) None [] [] None true (Load d.word) x refl refl refl (law.own_word (Called c)) (look_fuel d.most d.bodies.fuel (d.asked c) (Goes k) h.fuel) (λ e. look_room d.wide d.bodies.room (d.asked c) (Goes k) h.room) (sound_leaves d.basis.setting (Called c) _ _ r.acted_at before.acted) (record { past = nothing_yet; form = ap (λ x. having rest (Called c) nothing_yet x) (sym h.closed); behaves = goes_behaves d.basis.setting true (having r (Called c) nothing_yet true) before (Load d.word) (d.bodies.clean k) (having rest (Called c) nothing_yet true) (λ e. (refl, refl)) refl refl refl before.acted; at = h.at }, over, waits)
 
   -- what holds of the frame itself where its body goes on, and where it is done
   abbrev KeepsFrame : Open Call → Origin Call → Past → Bool → Body → Option Done → Type 0
@@ -140,10 +140,10 @@ module _ {State Call Asked Body : Type 0} (d : Services State Call Asked Body) (
   kept_event origin past past1 made k k1 e t (Some n) before cleans acts = leaves_event origin past made k k1 e t (Some n) before acts
 
   -- a move of a register or a word
-  works_by : (chip chip1 : Chip) (x : ℕ) (origin : Origin Call) (past : Past) (was : Bool) (made : Move) (k k1 : Body) (e : Option Event) (left : Option Done) → IsOver d origin r.tag (holds_in d ps) → Before origin past was k → KeepsClean (d.bodies.clean k) made (d.bodies.clean k1) left → is_shared made ≡ false → (e ≡ None → resets_chip made ≡ false) → d.basis.setting.may origin made ≡ true → Fueled k k1 left → KeepsMask was (is_closed (d.bodies.spot k1)) (d.bodies.room k) (d.bodies.room k1) e left → Works d.basis d.bodies (holds_in d ps) chip chip1 w s origin made (d.bodies.clean k) x received past missed_then k1 e left → KeepsBody chip chip1 x origin past was made k k1 e left
-  works_by chip chip1 x origin past true made k k1 None left over before cleans p calm own fuel mask h = plain_step (services_driver d) chip w s received (Inside k) (left_body k1 left) _ (with_past r past) origin past.acted past.served past.owed past.report true made x p (calm refl) own fuel (λ e. body_room d.wide d.bodies.room (d.bodies.room k) k1 left (room_shortens (is_closed (d.bodies.spot k1)) (d.bodies.room k) (d.bodies.room k1) None left mask)) (leaves_plain origin past true k made before) (continue_by chip1 s (RestAfter origin past true made) origin (past_wrote w made past) true k1 left over (stands_masked (is_closed (d.bodies.spot k1)) (d.bodies.room k) (d.bodies.room k1) None left mask) (kept_plain origin past (past_wrote w made past) true true made k k1 left before cleans) h)
-  works_by chip chip1 x origin past true made k k1 (Some e) left over before cleans p calm own fuel mask h = event_step (services_driver d) chip w s received (Inside k) (left_body k1 left) _ r origin past made x e h.state h.told p h.reset own fuel (body_room d.wide d.bodies.room (d.bodies.room k) k1 left (room_shortens (is_closed (d.bodies.spot k1)) (d.bodies.room k) (d.bodies.room k1) (Some e) left mask)) h.may h.stands h.selects h.is (leaves_event origin past made k k1 e h.told left before h.acts) (continue_by chip1 h.state (rest_acted d.basis.setting.machine w s (having r origin past true) made origin e h.told) origin (past_after d.basis.setting.machine w s origin e h.told (past_wrote w made past)) true k1 left over (stands_masked (is_closed (d.bodies.spot k1)) (d.bodies.room k) (d.bodies.room k1) (Some e) left mask) (kept_event origin past (past_after d.basis.setting.machine w s origin e h.told (past_wrote w made past)) made k k1 e h.told left before cleans h.acts) h.next)
-  works_by chip chip1 x origin past false made k k1 None None over before cleans p calm own fuel mask h = plain_step (services_driver d) chip w s received (Inside k) (Inside k1) _ (with_past r past) origin past.acted past.served past.owed past.report false made x p (calm refl) own fuel (λ e. absurd (cc)) (leaves_plain origin past false k made before) (continue_by chip1 s (RestAfter origin past false made) origin (past_wrote w made past) false k1 None over mask (kept_plain origin past (past_wrote w made past) false false made k k1 None before cleans) h)
+  works_by : (chip chip1 : Chip) (x : ℕ) (origin : Origin Call) (past : Past) (was : Bool) (made : Move) (k k1 : Body) (e : Option Event) (left : Option Done) → IsOver d origin r.tag (holds_in d ps) → Before origin past was k → KeepsClean (d.bodies.clean k) made (d.bodies.clean k1) left → is_shared made ≡ false → (e ≡ None → (resets_chip made ≡ false) × (begins_word made ≡ false)) → d.basis.setting.may origin made ≡ true → Fueled k k1 left → KeepsMask was (is_closed (d.bodies.spot k1)) (d.bodies.room k) (d.bodies.room k1) e left → Works d.basis d.bodies (holds_in d ps) chip chip1 w s origin made (d.bodies.clean k) x received past missed_then k1 e left → KeepsBody chip chip1 x origin past was made k k1 e left
+  works_by chip chip1 x origin past true made k k1 None left over before cleans p calm own fuel mask h = plain_step (services_driver d) chip w s received (Inside k) (left_body k1 left) _ (with_past r past) origin past.acted past.served past.owed past.report true made x p (calm refl).0 (calm refl).1 own fuel (λ e. body_room d.wide d.bodies.room (d.bodies.room k) k1 left (room_shortens (is_closed (d.bodies.spot k1)) (d.bodies.room k) (d.bodies.room k1) None left mask)) (leaves_plain origin past true k made before) (continue_by chip1 s (RestAfter origin past true made) origin (past_wrote w made past) true k1 left over (stands_masked (is_closed (d.bodies.spot k1)) (d.bodies.room k) (d.bodies.room k1) None left mask) (kept_plain origin past (past_wrote w made past) true true made k k1 left before cleans) h)
+  works_by chip chip1 x origin past true made k k1 (Some e) left over before cleans p calm own fuel mask h = event_step (services_driver d) chip w s received (Inside k) (left_body k1 left) _ r origin past made x e h.state h.told h.begins p h.reset own fuel (body_room d.wide d.bodies.room (d.bodies.room k) k1 left (room_shortens (is_closed (d.bodies.spot k1)) (d.bodies.room k) (d.bodies.room k1) (Some e) left mask)) h.may h.stands h.is h.sends (leaves_event origin past made k k1 e h.told left before h.acts) (continue_by chip1 h.state (rest_acted d.basis.setting.machine w s (having r origin past true) made origin e h.told) origin (past_after d.basis.setting.machine w s origin e h.told (past_wrote w made past)) true k1 left over (stands_masked (is_closed (d.bodies.spot k1)) (d.bodies.room k) (d.bodies.room k1) (Some e) left mask) (kept_event origin past (past_after d.basis.setting.machine w s origin e h.told (past_wrote w made past)) made k k1 e h.told left before cleans h.acts) h.next)
+  works_by chip chip1 x origin past false made k k1 None None over before cleans p calm own fuel mask h = plain_step (services_driver d) chip w s received (Inside k) (Inside k1) _ (with_past r past) origin past.acted past.served past.owed past.report false made x p (calm refl).0 (calm refl).1 own fuel (λ e. absurd (cc)) (leaves_plain origin past false k made before) (continue_by chip1 s (RestAfter origin past false made) origin (past_wrote w made past) false k1 None over mask (kept_plain origin past (past_wrote w made past) false false made k k1 None before cleans) h)
   works_by chip chip1 x origin past false made k k1 None (Some n) over before cleans p calm own fuel mask h = absurd mask
   works_by chip chip1 x origin past false made k k1 (Some e) left over before cleans p calm own fuel mask h = absurd mask
 
@@ -172,7 +172,7 @@ module _ {State Call Asked Body : Type 0} (d : Services State Call Asked Body) (
   tells_by chip chip1 x origin past false n k k1 None None still over before cleans fuel m h = notes_by chip chip1 x (with_past r past) origin n h.served past.acted past.served past.owed h.others past.report k k1 h.is fuel (λ q. subst (λ c. d.basis.setting.shows origin n c s) still (h.shown q)) (leaves_plain origin past false k (Note n) before) (continue_by chip1 s (RestAfter origin past false (Note n)) origin (record past { owed = h.others }) false k1 None over m.1 (kept_plain origin past (record past { owed = h.others }) false false (Note n) k k1 None before cleans) h.next)
 
   -- a body's step, by its move
-  body_by : (chip chip1 : Chip) (x : ℕ) (origin : Origin Call) (past : Past) (was : Bool) (made : Move) (k k1 : Body) (e : Option Event) (left : Option Done) → chip1 ≡ chip_after chip made → IsOver d origin r.tag (holds_in d ps) → Before origin past was k → KeepsClean (d.bodies.clean k) made (d.bodies.clean k1) left → is_shared made || d.basis.setting.may origin made ≡ true → (e ≡ None → resets_chip made ≡ false) → Fueled k k1 left → TurnsMask (d.basis.setting.window_of origin) was (is_closed (d.bodies.spot k1)) (d.bodies.room k) (d.bodies.room k1) made e left → Makes d.basis d.bodies (holds_in d ps) chip chip1 w s origin made (d.bodies.clean k) x received past missed_then k1 e left → KeepsBody chip chip1 x origin past was made k k1 e left
+  body_by : (chip chip1 : Chip) (x : ℕ) (origin : Origin Call) (past : Past) (was : Bool) (made : Move) (k k1 : Body) (e : Option Event) (left : Option Done) → chip1 ≡ chip_after chip made received → IsOver d origin r.tag (holds_in d ps) → Before origin past was k → KeepsClean (d.bodies.clean k) made (d.bodies.clean k1) left → is_shared made || d.basis.setting.may origin made ≡ true → (e ≡ None → (resets_chip made ≡ false) × (begins_word made ≡ false)) → Fueled k k1 left → TurnsMask (d.basis.setting.window_of origin) was (is_closed (d.bodies.spot k1)) (d.bodies.room k) (d.bodies.room k1) made e left → Makes d.basis d.bodies (holds_in d ps) chip chip1 w s origin made (d.bodies.clean k) x received past missed_then k1 e left → KeepsBody chip chip1 x origin past was made k k1 e left
   body_by chip chip1 x origin past was Mask k k1 e left is over before cleans own calm fuel m h = shuts_by chip chip1 x origin past was k k1 e left over before cleans fuel m h
   body_by chip chip1 x origin past was Unmask k k1 e left is over before cleans own calm fuel m h = opens_by chip chip1 x origin past was k k1 e left over before cleans fuel m h
   body_by chip chip1 x origin past was (Note n) k k1 e left is over before cleans own calm fuel m h = tells_by chip chip1 x origin past was n k k1 e left is over before cleans fuel m h
@@ -192,7 +192,7 @@ module _ {State Call Asked Body : Type 0} (d : Services State Call Asked Body) (
   open_by chip chip1 x origin a (One k) by acted served over leaves m shown agrees = unmask_step (services_driver d) chip w s received _ _ _ r origin acted served (owing by (k ∷ [])) None x (omega arith) (omega arith) (leaves_on d.basis.setting origin r.reads r.wrote r.acted_at leaves) ((agrees, record { may = more_done origin acted served (owing by (k ∷ [])) (owing by (k ∷ [])) None None true false Unmask a m; served = by; owed = refl; shown = shown; report = refl; leaves = leaves_on d.basis.setting origin r.reads r.wrote r.acted_at leaves; inside = refl }), over, waits)
   open_by chip chip1 x origin a (Two k j) by acted served over leaves m shown agrees = unmask_step (services_driver d) chip w s received _ _ _ r origin acted served (owing by (k ∷ j ∷ [])) None x (omega arith) (omega arith) (leaves_on d.basis.setting origin r.reads r.wrote r.acted_at leaves) ((agrees, record { may = more_done origin acted served (owing by (k ∷ j ∷ [])) (owing by (k ∷ j ∷ [])) None None true false Unmask a m; served = by; owed = refl; shown = shown; report = refl; leaves = leaves_on d.basis.setting origin r.reads r.wrote r.acted_at leaves; inside = refl }), over, waits)
 
-  tell_by : (chip : Chip) (x : ℕ) (origin : Origin Call) (a : Answer) (owed : Owed) (by : Bool) (acted : Option Answer) (served : List ℕ) → IsOver d origin r.tag (holds_in d ps) → LeavesRight d.basis.setting origin r.reads r.wrote r.acted_at → MayEnd origin (form r origin acted served (owing by (notices_in owed)) (error_in owed) false) a → (by ≡ true → AreShown d.basis origin (notices_in owed)) → d.basis.agrees (holds_in d ps) d.basis.settled chip w s → Keeps (services_driver d) chip w s received (Telling (record { answer = a; owed = owed })) (left_told a owed) (λ s1 o1. Relates d (chip_after chip (tells d.word owed)) w (top_after (left_told a owed, o1) (gave_told a owed).ended ps) s1) (form r origin acted served (owing by (notices_in owed)) (error_in owed) false) (tells d.word owed) x (gave_told a owed)
+  tell_by : (chip : Chip) (x : ℕ) (origin : Origin Call) (a : Answer) (owed : Owed) (by : Bool) (acted : Option Answer) (served : List ℕ) → IsOver d origin r.tag (holds_in d ps) → LeavesRight d.basis.setting origin r.reads r.wrote r.acted_at → MayEnd origin (form r origin acted served (owing by (notices_in owed)) (error_in owed) false) a → (by ≡ true → AreShown d.basis origin (notices_in owed)) → d.basis.agrees (holds_in d ps) d.basis.settled chip w s → Keeps (services_driver d) chip w s received (Telling (record { answer = a; owed = owed })) (left_told a owed) (λ s1 o1. Relates d (chip_after chip (tells d.word owed) received) w (top_after (left_told a owed, o1) (gave_told a owed).ended ps) s1) (form r origin acted served (owing by (notices_in owed)) (error_in owed) false) (tells d.word owed) x (gave_told a owed)
   tell_by chip x origin a Nothing by acted served over leaves m shown agrees = last_step (services_driver d) chip w s received _ _ _ r origin acted served d.word x a (law.own_word origin) m (omega arith) (leaves_on d.basis.setting origin r.reads r.wrote r.acted_at leaves) (below d law chip w s ps agrees waits)
   tell_by chip x origin a (Error e) by acted served over leaves m shown agrees = report_step (services_driver d) chip w s received _ _ _ r origin acted served x a e m (omega arith) (leaves_on d.basis.setting origin r.reads r.wrote r.acted_at leaves) (below d law chip w s ps agrees waits)
   tell_by chip x origin a (One k) by acted served over leaves m shown agrees = note_step (services_driver d) chip w s received _ _ _ r origin acted served None k by [] x (omega arith) (λ e. (shown e).0 (holds_in d ps) chip w s agrees) (leaves_on d.basis.setting origin r.reads r.wrote r.acted_at leaves) ((agrees, record { may = more_done origin acted served (owing by (k ∷ [])) [] None None false false (Note k) a m; served = by; owed = refl; shown = λ e. tt; report = refl; leaves = leaves_on d.basis.setting origin r.reads r.wrote r.acted_at leaves; inside = refl }), over, waits)
@@ -213,12 +213,12 @@ module _ {State Call Asked Body : Type 0} (d : Services State Call Asked Body) (
   unmask_shared origin = shared_by Unmask refl origin (d.basis.owns origin Unmask) refl
 
   calling : (chip : Chip) (w : World) (received : ℕ) (c : Call) (o : Open Call) (ps : List (Short Asked Body × Open Call)) (s : State) → IsFresh o → d.can c → d.basis.agrees (holds_in d ps) d.basis.settled chip w s → IsOver d (Called c) o.tag (holds_in d ps) → AllWait d ps → KeepsAt d chip w received (Calling (d.asked c)) (having o (Called c) nothing_yet false) ps s
-  calling chip w received c o ps s fresh can agrees over waits = mask_step (services_driver d) chip w s received (Calling (d.asked c)) (Loading (d.asked c)) _ (with_past o nothing_yet) (Called c) None [] [] None (value_of chip Mask) (omega arith) (let k = law.call_window c can in omega arith) (fresh_leaves d.basis.setting (Called c) o fresh) ((law.basis.agrees_apart (holds_in d ps) d.basis.settled chip w s Mask mask_shared agrees, record { call = c; asks = refl; form = refl; fresh = record { wrote = (fresh_on o fresh).wrote; reads = fresh.reads; acted = fresh.acted }; can = can }), over, waits)
+  calling chip w received c o ps s fresh can agrees over waits = mask_step (services_driver d) chip w s received (Calling (d.asked c)) (Loading (d.asked c)) _ (with_past o nothing_yet) (Called c) None [] [] None (value_of chip Mask) (omega arith) (let k = law.call_window c can in omega arith) (fresh_leaves d.basis.setting (Called c) o fresh) ((law.basis.agrees_apart (holds_in d ps) d.basis.settled chip w s Mask received mask_shared agrees, record { call = c; asks = refl; form = refl; fresh = record { wrote = (fresh_on o fresh).wrote; reads = fresh.reads; acted = fresh.acted }; can = can }), over, waits)
 
   loading : (chip : Chip) (w : World) (received : ℕ) (c : Call) (o : Open Call) (ps : List (Short Asked Body × Open Call)) (s : State) → IsFresh o → d.can c → d.basis.agrees (holds_in d ps) d.basis.settled chip w s → IsOver d (Called c) o.tag (holds_in d ps) → AllWait d ps → KeepsAt d chip w received (Loading (d.asked c)) (having o (Called c) nothing_yet true) ps s
   loading chip w received c o ps s fresh can agrees over waits = let x = value_of chip (Load d.word) in load_by d law ps waits s w o received chip c x (d.looked (d.asked c) x) fresh over agrees (law.looks (holds_in d ps) chip w s c can over.beside agrees)
 
-  pub short_steps : (chip : Chip) (w : World) (received : ℕ) (f : Short Asked Body) (o : Open Call) (ps : List (Short Asked Body × Open Call)) (s : State) → ReceivedRight d.basis.setting chip w (short_move d.word d.bodies.work_of f) received → d.basis.count s < most_steps → Relates d chip w ((f, o) ∷ ps) s → KeepsAt d chip w received f o ps s
+  pub short_steps : (chip : Chip) (w : World) (received : ℕ) (f : Short Asked Body) (o : Open Call) (ps : List (Short Asked Body × Open Call)) (s : State) → ReceivedRight chip w (short_move d.word d.bodies.work_of f) received → d.basis.count s < most_steps → Relates d chip w ((f, o) ∷ ps) s → KeepsAt d chip w received f o ps s
   short_steps chip w received (Calling a) o ps s come few h =
       let k = h.0.1 in
       let over = subst (λ x. IsOver d x o.tag (holds_in d ps)) (ap (λ x. x.origin) k.form) h.1 in
@@ -230,18 +230,18 @@ module _ {State Call Asked Body : Type 0} (d : Services State Call Asked Body) (
   short_steps chip w received (Entering k) o ps s come few h =
       let i = h.0.1 in
       let rest = rest_after d.basis.setting.machine w s (having o o.origin nothing_yet false) Mask in
-      subst (λ x. KeepsAt d chip w received (Entering k) x ps s) (sym i.form) (mask_step (services_driver d) chip w s received (Entering k) (Inside k) _ (with_past o nothing_yet) o.origin None [] [] None (value_of chip Mask) (omega arith) (let j = i.can.room in omega arith) (fresh_leaves d.basis.setting o.origin o i.fresh) (record { past = nothing_yet; form = ap (λ x. having rest o.origin nothing_yet x) (sym i.can.closed); behaves = fresh_behaves d.basis.setting (d.bodies.clean k) (having rest o.origin nothing_yet true) (record { wrote = (fresh_on o i.fresh).wrote; reads = i.fresh.reads; acted = i.fresh.acted }); at = i.can.at (holds_in d ps) (chip_after chip Mask) w s h.1.beside (law.basis.agrees_apart (holds_in d ps) d.basis.settled chip w s Mask mask_shared h.0.0) }, h.1, h.2))
+      subst (λ x. KeepsAt d chip w received (Entering k) x ps s) (sym i.form) (mask_step (services_driver d) chip w s received (Entering k) (Inside k) _ (with_past o nothing_yet) o.origin None [] [] None (value_of chip Mask) (omega arith) (let j = i.can.room in omega arith) (fresh_leaves d.basis.setting o.origin o i.fresh) (record { past = nothing_yet; form = ap (λ x. having rest o.origin nothing_yet x) (sym i.can.closed); behaves = fresh_behaves d.basis.setting (d.bodies.clean k) (having rest o.origin nothing_yet true) (record { wrote = (fresh_on o i.fresh).wrote; reads = i.fresh.reads; acted = i.fresh.acted }); at = i.can.at (holds_in d ps) (chip_after chip Mask received) w s h.1.beside (law.basis.agrees_apart (holds_in d ps) d.basis.settled chip w s Mask received mask_shared h.0.0) }, h.1, h.2))
   short_steps chip w received (Inside k) o ps s come few h =
       let made = d.bodies.work_of k in
       let x = value_of chip made in
       let t = d.bodies.takes k x in
       let i = h.0 in
       let held = holds_in d ps in
-      subst (λ y. KeepsAt d chip w received (Inside k) y ps s) (sym i.form) (body_by d law ps h.2 s w o received chip (chip_after chip made) x o.origin i.past (is_closed (d.bodies.spot k)) made k t.0 t.1.event t.1.done refl h.1 (subst (λ x. Behaves d.basis.setting (d.bodies.clean k) x) i.form i.behaves) (law.bodies.cleans k x) (law.bodies.own held chip w s k o.origin i.past i.at) (law.bodies.calm held chip w s k o.origin i.past i.at) (body_fuel d.most d.bodies.fuel (d.bodies.fuel k) t.0 t.1.done (law.bodies.shortens k x)) (law.bodies.turns held chip w s k o.origin i.past i.at) (law.bodies.steps held chip w s k o.origin received i.past o.missed come few i.at))
+      subst (λ y. KeepsAt d chip w received (Inside k) y ps s) (sym i.form) (body_by d law ps h.2 s w o received chip (chip_after chip made received) x o.origin i.past (is_closed (d.bodies.spot k)) made k t.0 t.1.event t.1.done refl h.1 (subst (λ x. Behaves d.basis.setting (d.bodies.clean k) x) i.form i.behaves) (law.bodies.cleans k x) (law.bodies.own held chip w s k o.origin i.past i.at) (law.bodies.calm held chip w s k o.origin i.past i.at) (body_fuel d.most d.bodies.fuel (d.bodies.fuel k) t.0 t.1.done (law.bodies.shortens k x)) (law.bodies.turns held chip w s k o.origin i.past i.at) (law.bodies.steps held chip w s k o.origin received i.past o.missed come few i.at))
   short_steps chip w received (Opening n) o ps s come few h =
       let k = h.0.1 in
       let e = form_is o (owing k.served (notices_in n.owed)) (error_in n.owed) true k.owed k.report k.inside in
-      subst (λ x. KeepsAt d chip w received (Opening n) x ps s) (sym e) (open_by d law ps h.2 s w o received chip (chip_after chip Unmask) (value_of chip Unmask) o.origin n.answer n.owed k.served o.acted o.served h.1 k.leaves (subst (λ x. MayEnd o.origin x n.answer) e k.may) k.shown (law.basis.agrees_apart (holds_in d ps) d.basis.settled chip w s Unmask unmask_shared h.0.0))
+      subst (λ x. KeepsAt d chip w received (Opening n) x ps s) (sym e) (open_by d law ps h.2 s w o received chip (chip_after chip Unmask received) (value_of chip Unmask) o.origin n.answer n.owed k.served o.acted o.served h.1 k.leaves (subst (λ x. MayEnd o.origin x n.answer) e k.may) k.shown (law.basis.agrees_apart (holds_in d ps) d.basis.settled chip w s Unmask received unmask_shared h.0.0))
   short_steps chip w received (Telling n) o ps s come few h =
       let k = h.0.1 in
       let e = form_is o (owing k.served (notices_in n.owed)) (error_in n.owed) false k.owed k.report k.inside in

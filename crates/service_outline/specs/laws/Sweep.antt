@@ -60,11 +60,11 @@ abbrev pub WordsAre : (at count : ℕ) → (ℕ → ℕ) → Chip → Type 0
 WordsAre at count want chip = (k : ℕ) → k < count → word_of chip (at + k) ≡ want k
 
 -- a word of them is stored, and they are swept one further
-pub swept_store : (at count : ℕ) (new old : ℕ → ℕ) (chip : Chip) (i v : ℕ) → i < count → at + count ≤ WORDS → length chip.words ≡ WORDS → v ≡ new i → WordsAre at count (swept i new old) chip → WordsAre at count (swept (i + 1) new old) (chip_after chip (Store (at + i) v))
-swept_store at count new old chip i v lt fits size is h k below = each_but (λ k. k < count → word_of (chip_after chip (Store (at + i) v)) (at + k) ≡ swept (i + 1) new old k) i here k others below
+pub swept_store : (at count : ℕ) (new old : ℕ → ℕ) (chip : Chip) (i v received : ℕ) → i < count → at + count ≤ WORDS → length chip.words ≡ WORDS → v ≡ new i → WordsAre at count (swept i new old) chip → WordsAre at count (swept (i + 1) new old) (chip_after chip (Store (at + i) v) received)
+swept_store at count new old chip i v received lt fits size is h k below = each_but (λ k. k < count → word_of (chip_after chip (Store (at + i) v) received) (at + k) ≡ swept (i + 1) new old k) i here k others below
   where
-    here : i < count → word_of (chip_after chip (Store (at + i) v)) (at + i) ≡ swept (i + 1) new old i
-    here lt = stored_same chip (at + i) v (omega (arith, lt, fits)) size ∙ (is ∙ sym (swept_new (i + 1) new old i (omega arith)))
+    here : i < count → word_of (chip_after chip (Store (at + i) v) received) (at + i) ≡ swept (i + 1) new old i
+    here lt = stored_same chip (at + i) v received (omega (arith, lt, fits)) size ∙ (is ∙ sym (swept_new (i + 1) new old i (omega arith)))
 
-    others : k ≢ i → k < count → word_of (chip_after chip (Store (at + i) v)) (at + k) ≡ swept (i + 1) new old k
-    others ne lt = stored_other chip (at + i) v (at + k) (λ e. ne (omega (arith, e))) ∙ (h k lt ∙ sym (swept_other i new old k ne))
+    others : k ≢ i → k < count → word_of (chip_after chip (Store (at + i) v) received) (at + k) ≡ swept (i + 1) new old k
+    others ne lt = stored_other chip (at + i) v received (at + k) (λ e. ne (omega (arith, e))) ∙ (h k lt ∙ sym (swept_other i new old k ne))

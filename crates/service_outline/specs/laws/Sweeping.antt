@@ -1,30 +1,26 @@
 -- A sweep owes no more.
-use Rattle.std.proofs.Common.{◌≡◌, ℕ, ◌+◌, ◌-◌, ◌<◌, ◌≤◌, Bool, true, false, ◌||◌, nat_lt, List, [], Option, Some, None, refl, sym, ap, subst, arith}
+use Rattle.std.proofs.Common.{◌≡◌, ℕ, ◌+◌, ◌-◌, ◌<◌, ◌≤◌, Bool, true, false, ◌||◌, nat_lt, List, None, refl, sym, subst, arith}
 use Rattle.std.specs.Prelude.{if◌then◌else◌}
 use Rattle.chip_model.specs.Chip.{Chip, value_of, chip_after, happened}
 use Rattle.mcal_base.specs.declared.directive.Order.{Order}
-use Rattle.mcal_base.specs.declared.moves.Event.{Event}
 use Rattle.mcal_base.specs.declared.moves.Move.{Move}
 use Rattle.mcal_base.specs.declared.moves.Move.TheVariants.{Mask, Unmask}
 use Rattle.run_model.specs.World.{World, world_after}
-use Rattle.run_model.specs.Frame.{Origin, missed_after, is_shared, resets_chip}
+use Rattle.run_model.specs.Frame.{Origin, missed_after, is_shared, resets_chip, begins_word}
 use Rattle.run_model.specs.Legal.{ReceivedRight}
 use Rattle.step_runner.specs.Driver.{most_steps}
-use Rattle.service_outline.specs.Acts.{Cleans}
-use Rattle.service_outline.specs.Done.{goes}
 use Rattle.service_outline.specs.Fuel.{Shortens}
 use Rattle.service_outline.specs.Past.{Past, past_wrote}
-use Rattle.service_outline.specs.Services.{Held, Basis, IsBasis, Elsewhere, MayCome, LongBodies, Stand, AreLong, Right, Makes, TurnsTo, TurnsMask, KeepsMask, is_closed, holds_at, place_at, with_holds}
-use Rattle.service_outline.specs.Sweep.{next_of, place_of}
+use Rattle.service_outline.specs.Services.{Held, Basis, IsBasis, Elsewhere, MayCome, LongBodies, Stand, AreLong, Right, Makes, TurnsTo, is_closed, holds_at, place_at, with_holds}
+use Rattle.service_outline.specs.Sweep.{place_of}
 use Rattle.service_outline.specs.Sweeping.{Sweeping, sweep, sweep_fuel, IsSweeping}
-use Rattle.service_outline.specs.declared.done.Done.{Done}
 use Rattle.service_outline.specs.declared.sweep.Place.{Place}
 use Rattle.service_outline.specs.declared.sweep.Place.TheVariants.{Opens, At, Closes, Follows}
 use Rattle.service_outline.specs.declared.sweep.Sweep.{Sweep}
 use Rattle.service_outline.specs.laws.Acts.{never_clean}
 use Rattle.service_outline.specs.laws.Both.{makes_lift}
 use Rattle.service_outline.specs.laws.ShortServices.{plain_makes, plain_turns}
-use Rattle.service_outline.specs.laws.StepKinds.{or_true}
+use Rattle.service_outline.specs.laws.StepKinds.{or_true, silent_received}
 use Rattle.service_outline.specs.laws.Sweep.{next_by}
 use Rattle.service_outline.specs.laws.There.{below}
 
@@ -77,39 +73,40 @@ module _ {State Call S B : Type 0} (g : Basis State Call) (v : Sweeping g S B) (
       by a Closes h = (refl, law.closed a, law.room a below o t h.1, refl, refl)
       by a (Follows j) h = right.turns below chip w s j o t h
 
-  steps : (below : List (Held Call g.Hold)) (chip : Chip) (w : World) (s : State) (k : Sweep S B) (o : Origin Call) (received : ℕ) (t : Past) (m : ℕ → Bool) → ReceivedRight g.setting chip w (Swept.work_of k) received → g.count s < most_steps → Stands below chip w s k o t → Right g Swept below chip w s k o received t m
+  steps : (below : List (Held Call g.Hold)) (chip : Chip) (w : World) (s : State) (k : Sweep S B) (o : Origin Call) (received : ℕ) (t : Past) (m : ℕ → Bool) → ReceivedRight chip w (Swept.work_of k) received → g.count s < most_steps → Stands below chip w s k o t → Right g Swept below chip w s k o received t m
   steps below chip w s k o received t m come few h = by k.objects k.place come h
     where
-      by : (a : S) (p : Place B) → ReceivedRight g.setting chip w (Swept.work_of (at a p)) received → Stands below chip w s (at a p) o t → Right g Swept below chip w s (at a p) o received t m
-      by a Opens come h = next_stands below (chip_after chip Unmask) w s a 0 o t (omega arith) h.1 (basis.agrees_apart _ g.settled chip w s Unmask (apart Unmask refl) h.0)
+      by : (a : S) (p : Place B) → ReceivedRight chip w (Swept.work_of (at a p)) received → Stands below chip w s (at a p) o t → Right g Swept below chip w s (at a p) o received t m
+      by a Opens come h = next_stands below (chip_after chip Unmask received) w s a 0 o t (omega arith) h.1 (basis.agrees_apart _ g.settled chip w s Unmask received (apart Unmask refl) h.0)
       by a (At i) come h =
           let made = v.move a i in
           let lt = h.1.1 in
-          plain_makes g Swept below chip (chip_after chip made) w s o false (value_of chip made) received t (missed_after g.setting.machine w s m) (at a (place_of (v.count a) (i + 1))) None None made (plain below a i o t lt h.1.0)
-          (next_stands below (chip_after chip made) w s a (i + 1) o (past_wrote w made t) (omega (arith, lt)) (law.stays a i below w o t h.1.0) (law.step a i below chip w s o t lt h.1.0 h.0))
-      by a Closes come h = law.follows a below (chip_after chip Mask) w s o t h.1 (basis.agrees_apart _ g.settled chip w s Mask (apart Mask refl) h.0)
+          let none = silent_received chip w made received (law.still a i).1 come in
+          plain_makes g Swept below chip (chip_after chip made received) w s o false (value_of chip made) received t (missed_after g.setting.machine w s m) (at a (place_of (v.count a) (i + 1))) None None made (plain below a i o t lt h.1.0)
+          (next_stands below (chip_after chip made received) w s a (i + 1) o (past_wrote w made t) (omega (arith, lt)) (law.stays a i below w o t h.1.0) (subst (λ n. g.agrees (with_holds o t.acted (v.hold a (i + 1)) below) g.settled (chip_after chip made n) w s) (sym none) (law.step a i below chip w s o t lt h.1.0 h.0)))
+      by a Closes come h = law.follows a below (chip_after chip Mask received) w s o t h.1 (basis.agrees_apart _ g.settled chip w s Mask received (apart Mask refl) h.0)
       by a (Follows j) come h =
           let y = value_of chip (b.work_of j) in
           let x = b.takes j y in
-          makes_lift g b Swept (λ i. at a (Follows i)) below (λ chip w s k o t h. h) chip (chip_after chip (b.work_of j)) w s o (b.work_of j) false y received t (missed_after g.setting.machine w s m) x.0 x.1.event x.1.done
-          (subst (λ q. Makes g b below chip (chip_after chip (b.work_of j)) w s o (b.work_of j) q y received t (missed_after g.setting.machine w s m) x.0 x.1.event x.1.done) (law.unclean j) (right.steps below chip w s j o received t m come few h))
+          makes_lift g b Swept (λ i. at a (Follows i)) below (λ chip w s k o t h. h) chip (chip_after chip (b.work_of j) received) w s o (b.work_of j) false y received t (missed_after g.setting.machine w s m) x.0 x.1.event x.1.done
+          (subst (λ q. Makes g b below chip (chip_after chip (b.work_of j) received) w s o (b.work_of j) q y received t (missed_after g.setting.machine w s m) x.0 x.1.event x.1.done) (law.unclean j) (right.steps below chip w s j o received t m come few h))
 
-  later : (below : List (Held Call g.Hold)) (chip : Chip) (w : World) (s : State) (order : Order) (k : Sweep S B) (o : Origin Call) (t : Past) → MayCome g.setting (with_holds o t.acted (holds_at (Swept.spot k)) below) chip w s order → Stands below chip w s k o t → place_at (Swept.spot k) below (g.foot (happened chip order)) (world_after w chip.rate order) (g.later w s order) o t
+  later : (below : List (Held Call g.Hold)) (chip : Chip) (w : World) (s : State) (order : Order) (k : Sweep S B) (o : Origin Call) (t : Past) → MayCome g.setting (with_holds o t.acted (holds_at (Swept.spot k)) below) chip w s order → Stands below chip w s k o t → place_at (Swept.spot k) below (g.foot (happened chip order)) (world_after w chip.clock.rate order) (g.later w s order) o t
   later below chip w s order k o t come h = by k.objects k.place come h
     where
-      by : (a : S) (p : Place B) → MayCome g.setting (with_holds o t.acted (holds_at (Swept.spot (at a p))) below) chip w s order → Stands below chip w s (at a p) o t → place_at (Swept.spot (at a p)) below (g.foot (happened chip order)) (world_after w chip.rate order) (g.later w s order) o t
+      by : (a : S) (p : Place B) → MayCome g.setting (with_holds o t.acted (holds_at (Swept.spot (at a p))) below) chip w s order → Stands below chip w s (at a p) o t → place_at (Swept.spot (at a p)) below (g.foot (happened chip order)) (world_after w chip.clock.rate order) (g.later w s order) o t
       by a Opens come h = h.1
       by a (At i) come h = h.1
       by a Closes come h = h.1
       by a (Follows j) come h = right.later below chip w s order j o t come h
 
-  calm : (below : List (Held Call g.Hold)) (chip : Chip) (w : World) (s : State) (k : Sweep S B) (o : Origin Call) (t : Past) → Stands below chip w s k o t → (Swept.takes k (value_of chip (Swept.work_of k))).1.event ≡ None → resets_chip (Swept.work_of k) ≡ false
+  calm : (below : List (Held Call g.Hold)) (chip : Chip) (w : World) (s : State) (k : Sweep S B) (o : Origin Call) (t : Past) → Stands below chip w s k o t → (Swept.takes k (value_of chip (Swept.work_of k))).1.event ≡ None → (resets_chip (Swept.work_of k) ≡ false) × (begins_word (Swept.work_of k) ≡ false)
   calm below chip w s k o t h e = by k.objects k.place h e
     where
-      by : (a : S) (p : Place B) → Stands below chip w s (at a p) o t → (Swept.takes (at a p) (value_of chip (Swept.work_of (at a p)))).1.event ≡ None → resets_chip (Swept.work_of (at a p)) ≡ false
-      by a Opens h e = refl
+      by : (a : S) (p : Place B) → Stands below chip w s (at a p) o t → (Swept.takes (at a p) (value_of chip (Swept.work_of (at a p)))).1.event ≡ None → (resets_chip (Swept.work_of (at a p)) ≡ false) × (begins_word (Swept.work_of (at a p)) ≡ false)
+      by a Opens h e = (refl, refl)
       by a (At i) h e = law.still a i
-      by a Closes h e = refl
+      by a Closes h e = (refl, refl)
       by a (Follows j) h e = right.calm below chip w s j o t h e
 
   next_fuel : (a : S) (i n : ℕ) → (i < v.count a → 2 + ((v.count a - i) + b.fuel (v.after a)) < n) → 1 + b.fuel (v.after a) < n → sweep_fuel v b a (place_of (v.count a) i) < n

@@ -1,5 +1,6 @@
 use Rattle.std.proofs.Common.{arith}
 use Rattle.bench_top.proofs.Board.{fits_driver}
+use Rattle.bench_top.proofs.Limits.{within_limits}
 use Rattle.gpt_driver.specs.laws.Lawful.{covers_timers}
 use Rattle.run_tests.proofs.limit_of_steps.stops_at_the_limit_of_steps.Goals as goal
 
@@ -11,3 +12,9 @@ run_within-requires-clause-script g c = record { lines = (omega (arith, c.init-f
 
 pub run_within-requires-clause-covers : goal.run_within-requires-clause-covers
 run_within-requires-clause-covers g c = covers_timers c.new-driver.result
+
+pub run_within-requires-clause-config : goal.run_within-requires-clause-config
+run_within-requires-clause-config g c = within_limits c.default_board-config.result c.default_board-config.ensures.valid
+
+pub run_within-requires-clause-wired : goal.run_within-requires-clause-wired
+run_within-requires-clause-wired g c = tt

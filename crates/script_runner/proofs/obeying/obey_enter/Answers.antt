@@ -1,17 +1,18 @@
 use Rattle.run_model.specs.Script.{deeds_of}
 use Rattle.script_runner.proofs.Orders.{began_line, stayed_line}
+use Rattle.chip_model.specs.Chip.{power_on}
 use Rattle.script_runner.proofs.obeying.obey_enter.Goals as goal
 
 pub returns-in-Ok-clause-began : goal.returns-in-Ok-clause-began
 returns-in-Ok-clause-began g c =
     let law = g.met.M.Module.laws c.args.driver.now c.requires.fits in
-    began_line (g.M.Module.spec c.args.driver.now) (g.M.Caller.call_of c.args.driver.now) c.args.script.now c.args.line c.depth-depth.result c.args.irq c.args.bus.now c.args.stack.now c.args.journal.now c.enter.new.stack c.begun.new.self
+    began_line (g.M.Module.spec c.args.driver.now) (power_on c.args.config.now 0) (g.M.Caller.call_of c.args.driver.now) c.args.script.now c.args.line c.depth-depth.result c.args.irq c.args.bus.now c.args.stack.now c.args.journal.now c.enter.new.stack c.begun.new.self
     (law.handled c.args.irq) c.requires.at c.in-Ok.ensures.cause c.depth-depth.ensures c.in-Ok.ensures.stack c.begun.ensures
-    (c.in-Ok.ensures.stands (deeds_of (g.M.Caller.call_of c.args.driver.now) c.args.script.now c.args.journal.now.entries) c.requires.fits c.requires.stands)
+    (c.in-Ok.ensures.stands (power_on c.args.config.now 0) (deeds_of (g.M.Caller.call_of c.args.driver.now) c.args.script.now c.args.journal.now.entries) c.requires.fits c.requires.stands)
     c.requires.stands (λ f e. law.line_fuel c.args.irq f e)
 
 pub returns-in-Err-clause-held : goal.returns-in-Err-clause-held
 returns-in-Err-clause-held g c =
     let law = g.met.M.Module.laws c.args.driver.now c.requires.fits in
-    stayed_line (g.M.Module.spec c.args.driver.now) (g.M.Caller.call_of c.args.driver.now) c.args.script.now c.args.line c.depth-depth.result c.args.irq c.in-Err.cause c.args.bus.now c.args.stack.now c.args.journal.now c.enter.new.stack c.held.new.self
+    stayed_line (g.M.Module.spec c.args.driver.now) (power_on c.args.config.now 0) (g.M.Caller.call_of c.args.driver.now) c.args.script.now c.args.line c.depth-depth.result c.args.irq c.in-Err.cause c.args.bus.now c.args.stack.now c.args.journal.now c.enter.new.stack c.held.new.self
     (law.handled c.args.irq) c.in-Err.ensures.cause c.depth-depth.ensures c.in-Err.ensures.stack c.held.ensures c.requires.stands

@@ -2,4 +2,4 @@ use Rattle.step_runner.proofs.Beginnings.{after-reset}
 use Rattle.step_runner.proofs.run.reset.Goals as goal
 
 pub returns-clause-stands : goal.returns-clause-stands
-returns-clause-stands g c driver h fits st = after-reset (g.M.Module.spec driver) g.M.Frame.Routine.move_of g.M.Frame.Routine.left g.M.Frame.Routine.gave (g.met.M.Module.laws driver fits) h c.args.bus.now c.reset.new.self c.args.stack.now c.clear.new.self c.args.reason c.reset.ensures c.clear.ensures.left st
+returns-clause-stands g c driver first h fits st = after-reset (g.M.Module.spec driver) g.M.Frame.Routine.move_of g.M.Frame.Routine.left g.M.Frame.Routine.gave (g.met.M.Module.laws driver fits) first h c.args.bus.now c.reset.new.self c.args.stack.now c.clear.new.self c.args.reason c.reset.ensures c.clear.ensures.left st

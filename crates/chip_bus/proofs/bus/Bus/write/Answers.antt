@@ -1,9 +1,0 @@
-use Rattle.std.proofs.Common.{refl, inl, inr}
-use Rattle.chip_bus.proofs.bus.Bus.write.Goals as goal
-
-pub returns-in-ConverterList : goal.returns-in-ConverterList
-returns-in-ConverterList c = elim c.in-ConverterList.is [
-  | inl e ↦ record { word = rw e.2 refl; state = rw (c.write-in-ConverterList.ensures, ← c.self.view_is, e.2) refl }
-  | inr (inl e) ↦ record { word = rw e.1 refl; state = rw (c.write-in-ConverterList.ensures, ← c.self.view_is, e.1) refl }
-  | inr (inr e) ↦ record { word = rw e.1 refl; state = rw (c.write-in-ConverterList.ensures, ← c.self.view_is, e.1) refl }
-]

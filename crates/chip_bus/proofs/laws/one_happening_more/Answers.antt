@@ -1,6 +1,0 @@
--- Proved over the definitions.
-use Rattle.chip_bus.proofs.HistoryLaws.{chip_of-append}
-use Rattle.chip_bus.proofs.laws.one_happening_more.Goals as goal
-
-pub returns : goal.returns
-returns _ = chip_of-append

@@ -1,6 +1,0 @@
--- Proved over the definitions.
-use Rattle.chip_bus.proofs.HistoryLaws.{word-stored, word-reset}
-use Rattle.chip_bus.proofs.laws.word_since_store.Goals as goal
-
-pub returns : goal.returns
-returns _ = record { stored = word-stored; reset = word-reset }

@@ -1,6 +1,0 @@
-use Rattle.std.proofs.Common.{◌≡◌, drop}
-use Rattle.chip_bus.specs.Wiring.{output_in}
-use Rattle.chip_bus.proofs.wiring.output.Given as goal
-
-abbrev pub invariant-loop-configured : goal.invariant-loop-configured
-invariant-loop-configured l = output_in l.channels l.channel ≡ output_in (drop l.configured-index l.channels) l.channel

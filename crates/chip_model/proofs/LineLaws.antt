@@ -1,0 +1,64 @@
+-- The bit of a line in the flags of its block is the line's flag.
+use Rattle.std.proofs.Common.{◌≡◌, ℕ, ◌+◌, ◌-◌, ◌*◌, ◌^◌, ◌<◌, ◌≤◌, ◌⊎◌, inl, inr, true, false, sym, ◌∙◌, ap, arith}
+use Rattle.std.specs.Prelude.{nat_lt, ◌==◌}
+use Rattle.std.proofs.lemmas.Nat.{pow_pos}
+use Rattle.std.proofs.lemmas.Bool.Decides.{nat_tests}
+use Rattle.std.proofs.lemmas.Nat.Bits.{bit_at_cat_high}
+use Rattle.mcal_base.specs.Bits.{has_bit}
+use Rattle.mcal_base.proofs.BitLaws.{has_bit-bits_of}
+use Rattle.chip_timers.specs.Timers as timers
+use Rattle.chip_timers.proofs.TimerLaws.{has_bit-flags_of}
+use Rattle.chip_pulses.specs.Pulses as pulses
+use Rattle.chip_captures.specs.Captures as captures
+use Rattle.chip_converter.specs.Converters as converters
+use Rattle.chip_converter.proofs.StateLaws as converter_laws
+use Rattle.chip_units.specs.Serials as serials
+use Rattle.chip_units.proofs.SerialLaws as serial_laws
+use Rattle.chip_model.specs.Chip.{Chip, flag_of}
+
+pub below : (a b : ℕ) → a < b → nat_lt a b ≡ true
+below a b lt = grind (arith, nat_tests)
+
+pub above : (a b : ℕ) → b ≤ a → nat_lt a b ≡ false
+above a b le = grind (arith, nat_tests)
+
+has_bit-shifted : (x n k : ℕ) → n ≤ k → has_bit (x * 2 ^ n) k ≡ has_bit x (k - n)
+has_bit-shifted x n k le =
+    let none : x * 2 ^ n ≡ x * 2 ^ n + 0 = omega arith in
+    rw none (ap (λ b. b == 1) (bit_at_cat_high x n 0 k (pow_pos n) le))
+
+pub flag-timer : (c : Chip) (line : ℕ) → line < 8 → has_bit (timers.flags_of c.timers) line ≡ flag_of c line
+flag-timer c line lt = rw (below line 8 lt) (has_bit-flags_of c.timers line lt)
+
+pub flag-pulse : (c : Chip) (line : ℕ) → 8 ≤ line → line < 16 → has_bit (pulses.lines_of c.pulses) line ≡ flag_of c line
+flag-pulse c line least lt =
+    rw (above line 8 least, below line 16 lt)
+    (has_bit-shifted (pulses.due_channels c.pulses) 8 line least
+    ∙ has_bit-bits_of (λ k. pulses.is_due c.pulses k) 8 (line - 8) (omega arith))
+
+pub flag-capture : (c : Chip) (line : ℕ) → 16 ≤ line → line < 24 → has_bit (captures.lines_of c.captures) line ≡ flag_of c line
+flag-capture c line least lt =
+    rw (above line 8 (omega arith), above line 16 least, below line 24 lt)
+    (has_bit-shifted (captures.waiting_channels c.captures) 16 line least
+    ∙ has_bit-bits_of (λ k. captures.is_waiting (captures.capture_at c.captures k)) 8 (line - 16) (omega arith))
+
+one_of : (n line : ℕ) → n ≤ line → line < n + 2 → (line ≡ n) ⊎ (line ≡ n + 1)
+one_of n line least lt = grind arith
+
+pub flag-converter : (c : Chip) (line : ℕ) → 24 ≤ line → line < 26 → has_bit (converters.flags_of c.converters) line ≡ flag_of c line
+flag-converter c line least lt = elim (one_of 24 line least lt) [
+  | inl e ↦ rw e (converter_laws.flag-first c.converters)
+  | inr e ↦ rw e (converter_laws.flag-second c.converters)
+]
+
+pub flag-serial : (c : Chip) (line : ℕ) → 26 ≤ line → line < 28 → has_bit (serials.flags_of c.serials) line ≡ flag_of c line
+flag-serial c line least lt = elim (one_of 26 line least lt) [
+  | inl e ↦ rw e (serial_laws.flag-first c.serials)
+  | inr e ↦ rw e (serial_laws.flag-second c.serials)
+]
+
+pub flag-trigger : (c : Chip) (line : ℕ) → 28 ≤ line → has_bit (converters.flags_of c.converters) line ≡ flag_of c line
+flag-trigger c line least =
+    let there : 28 + (line - 28) ≡ line = omega arith in
+    rw (above line 8 (omega arith), above line 16 (omega arith), above line 24 (omega arith), above line 26 (omega arith), above line 28 least)
+    (ap (λ k. has_bit (converters.flags_of c.converters) k) (sym there) ∙ converter_laws.flag-pulse c.converters (line - 28))

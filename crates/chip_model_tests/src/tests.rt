@@ -1,0 +1,144 @@
+ghost use Rattle.mcal_base.specs.declared.moves.Move.TheVariants.{Read, Write};
+ghost use Rattle.mcal_base.specs.Reach.{CanApply};
+
+use crate::wired::wired;
+use chip_model::Bus;
+use mcal_base::{Directive, Move, Order, Reason, Reg};
+
+/// What a read gives.
+fn read(bus: &mut Bus, reg: Reg) -> u32
+    requires { CanApply (Read reg) }
+{
+    bus.apply(&Move::Read(reg)).value
+}
+
+/// Writes a register, and answers the word that comes in.
+fn write(bus: &mut Bus, reg: Reg, value: u32) -> u32
+    requires { CanApply (Write reg value) }
+{
+    bus.apply(&Move::Write(reg, value)).received
+}
+
+/// The outside level of a pin.
+fn level(bus: &mut Bus, pin: u32, level: bool) {
+    let order = Order::Level(pin, level);
+    bus.hardware(&Directive { line: 1, order });
+}
+
+/// A pulse on a trigger input.
+fn trigger(bus: &mut Bus, input: u32) {
+    let order = Order::Trigger(input);
+    bus.hardware(&Directive { line: 1, order });
+}
+
+#[test]
+fn a_level_that_changes_is_an_edge(rt: HostRuntime) {
+    let Ok(mut bus) = Bus::new(rt.alloc(), &wired(), 0) else {
+        panic!(rt; "no memory");
+    };
+    let bus = &mut bus;
+    write(bus, Reg::CaptureCondition(6), 3);
+    write(bus, Reg::CaptureGateSet, 0x40);
+    write(bus, Reg::EnableSet, 1 << 22);
+    level(bus, 9, false);
+    assert!(rt; !bus.pending(22));
+    level(bus, 10, true);
+    assert!(rt; !bus.pending(22));
+    level(bus, 9, true);
+    assert!(rt; bus.pending(22) && bus.pin(9));
+    assert_eq!(rt; read(bus, Reg::CaptureInfo(6)), 5);
+    level(bus, 9, true);
+    assert_eq!(rt; read(bus, Reg::CaptureInfo(6)), 5);
+    level(bus, 9, false);
+    assert_eq!(rt; read(bus, Reg::CaptureInfo(6)), 9);
+}
+
+#[test]
+fn an_output_is_seen_in_its_mode_alone(rt: HostRuntime) {
+    let Ok(mut bus) = Bus::new(rt.alloc(), &wired(), 0) else {
+        panic!(rt; "no memory");
+    };
+    let bus = &mut bus;
+    write(bus, Reg::PulseIdle(3), 1);
+    assert_eq!(rt; read(bus, Reg::PulseOut(3)), 1);
+    write(bus, Reg::PinMode(40), 3);
+    assert!(rt; !bus.pin(40));
+    write(bus, Reg::PinDirectionSet(1), 0x300);
+    assert!(rt; bus.pin(40) && !bus.pin(41));
+    write(bus, Reg::PinMode(40), 2);
+    assert!(rt; !bus.pin(40));
+    write(bus, Reg::PinMode(40), 5);
+    assert!(rt; !bus.pin(40));
+    write(bus, Reg::PinMode(40), 3);
+    write(bus, Reg::PinOutSet(1), 0x300);
+    write(bus, Reg::PulseIdle(3), 0);
+    write(bus, Reg::PinMode(41), 3);
+    assert!(rt; !bus.pin(40) && bus.pin(41));
+}
+
+#[test]
+fn a_line_is_pending_by_its_own_bit(rt: HostRuntime) {
+    let Ok(mut bus) = Bus::new(rt.alloc(), &wired(), 0) else {
+        panic!(rt; "no memory");
+    };
+    let bus = &mut bus;
+    write(bus, Reg::PulseEdges, 0x8);
+    write(bus, Reg::PulseIdle(3), 1);
+    write(bus, Reg::TriggerSet, 4);
+    trigger(bus, 2);
+    trigger(bus, 1);
+    write(bus, Reg::EnableSet, !0x4000_0800);
+    assert!(rt; !bus.pending(11) && !bus.pending(30) && !bus.pending(29));
+    write(bus, Reg::EnableSet, 0x4000_0800);
+    assert!(rt; bus.pending(11) && bus.pending(30) && !bus.pending(29));
+    write(bus, Reg::PulseFlags, 8);
+    assert!(rt; !bus.pending(11) && bus.pending(30));
+    write(bus, Reg::TriggerFlags, 4);
+    assert!(rt; !bus.pending(30));
+}
+
+#[test]
+fn a_reset_keeps_what_stands_outside(rt: HostRuntime) {
+    let Ok(mut bus) = Bus::new(rt.alloc(), &wired(), 0) else {
+        panic!(rt; "no memory");
+    };
+    let bus = &mut bus;
+    write(bus, Reg::Ram(511), 7);
+    bus.apply(&Move::Store(147_455, 8));
+    write(bus, Reg::PinOutSet(0), 0x200);
+    write(bus, Reg::TriggerSet, 1);
+    trigger(bus, 0);
+    level(bus, 9, true);
+    bus.reset(Reason::Watchdog);
+    assert!(rt; bus.pin(9));
+    assert_eq!(rt; bus.ram(511), 0);
+    assert_eq!(rt; bus.word(147_455), 0);
+    assert_eq!(rt; read(bus, Reg::TriggerFlags), 0);
+    assert_eq!(rt; read(bus, Reg::ResetReason), 1);
+    write(bus, Reg::CaptureCondition(6), 3);
+    write(bus, Reg::CaptureGateSet, 0x40);
+    level(bus, 9, true);
+    assert_eq!(rt; read(bus, Reg::CaptureInfo(6)), 0);
+    write(bus, Reg::PinDirectionSet(0), 0x200);
+    assert!(rt; !bus.pin(9));
+}
+
+#[test]
+fn words_come_in_once_and_then_all_ones(rt: HostRuntime) {
+    let Ok(mut bus) = Bus::new(rt.alloc(), &wired(), 3) else {
+        panic!(rt; "no memory");
+    };
+    let bus = &mut bus;
+    let mut words = mcal_base::Short::new();
+    words.push(11);
+    words.push(12);
+    words.push(13);
+    let order = Order::Miso(1, words);
+    bus.hardware(&Directive { line: 1, order });
+    assert_eq!(rt; write(bus, Reg::SerialData(0), 1), 65_535);
+    assert_eq!(rt; write(bus, Reg::SerialData(1), 1), 11);
+    bus.reset(Reason::Software);
+    assert_eq!(rt; write(bus, Reg::SerialData(1), 1), 12);
+    assert_eq!(rt; write(bus, Reg::SerialData(1), 1), 13);
+    assert_eq!(rt; write(bus, Reg::SerialData(1), 1), 65_535);
+}
