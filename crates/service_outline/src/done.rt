@@ -4,7 +4,7 @@ ghost use Rattle.run_model.specs.Machine.{no_answer};
 ghost use Rattle.service_outline.specs.Done as spec;
 
 use det_errors::reported;
-use mcal_base::{Answer, DevError, ErrorName, Event, Head, Notice, Service, Words};
+use mcal_base::{Answer, AnswerName, DevError, ErrorName, Event, Head, Notice, Service, Words};
 use std::marker::Model;
 
 /// An answer of at most one number, as a frame keeps it; contracts see the answer.
@@ -78,6 +78,16 @@ pub fn nothing() -> Reply
 {
     Reply {
         head: Head::Nothing,
+        number: None,
+    }
+}
+
+/// The answer that is a name.
+pub fn named(name: AnswerName) -> Reply
+    ensures { result ≡ spec.named name }
+{
+    Reply {
+        head: Head::Name(name),
         number: None,
     }
 }

@@ -11,6 +11,8 @@ mod short;
 mod sweep;
 
 pub use body::{Body, Looked, Or, Service};
-pub use done::{BodyTaken, Done, Owed, Reply, acts, acts_with, ends, error, goes, nothing, number};
+pub use done::{
+    BodyTaken, Done, Owed, Reply, acts, acts_with, ends, error, goes, named, nothing, number,
+};
 pub use short::Short;
 pub use sweep::{Objects, Place, Sweep};

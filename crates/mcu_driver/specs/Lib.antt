@@ -1,0 +1,9 @@
+pub mod Bounds
+pub mod Checks
+pub mod Fits
+pub mod Ground
+pub mod Machine
+pub mod Requests
+pub mod Runs
+pub mod Table
+pub mod laws

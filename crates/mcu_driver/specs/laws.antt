@@ -1,0 +1,10 @@
+pub mod Base
+pub mod Bodies
+pub mod Clock
+pub mod Fill
+pub mod Ground
+pub mod Lawful
+pub mod Look
+pub mod Query
+pub mod Reset
+pub mod State

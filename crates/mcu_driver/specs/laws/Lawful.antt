@@ -1,0 +1,183 @@
+-- The driver of clock, RAM and resets, as the outline and the runner see it, and that it owes nothing.
+use Rattle.std.proofs.Common.{◌≡◌, ℕ, ◌+◌, ◌≤◌, Bool, true, false, not, nat_lt, List, [], ◌∷◌, Option, Some, None, refl, sym, ◌∙◌, ap, subst, arith}
+use Rattle.std.specs.Prelude.{is_some, if◌then◌else◌}
+use Rattle.std.proofs.lemmas.Bool.Decides.{nat_tests}
+use Rattle.chip_model.specs.Chip.{Chip, word_of}
+use Rattle.mcal_base.specs.declared.error_name.ErrorName.{ErrorName}
+use Rattle.mcal_base.specs.declared.moves.Event.TheVariants.{Act}
+use Rattle.run_model.specs.World.{World}
+use Rattle.run_model.specs.Machine.{outcome}
+use Rattle.run_model.specs.Frame.{Called, Open, asks_reset}
+use Rattle.step_runner.specs.Driver.{Covers}
+use Rattle.service_outline.specs.Both.{both}
+use Rattle.service_outline.specs.Done.{tells_error}
+use Rattle.service_outline.specs.Past.{Is_being}
+use Rattle.service_outline.specs.Services.{LongBodies, AreLong, Services, AreServices, Decides, Beside, AllLet, services_driver}
+use Rattle.service_outline.specs.declared.body.Looked.{Looked}
+use Rattle.service_outline.specs.declared.body.Looked.TheVariants.{Goes}
+use Rattle.service_outline.specs.declared.body.Or.{Or}
+use Rattle.service_outline.specs.declared.short.Short.{Short}
+use Rattle.service_outline.specs.declared.short.Short.TheVariants.{Calling, Loading, Entering, Inside, Opening, Telling, Returning}
+use Rattle.service_outline.specs.laws.Both.{both_right}
+use Rattle.service_outline.specs.laws.Reports.{error_told}
+use Rattle.mcu_driver.specs.Bounds.{class_of, size_of, call_steps, mcu_setting}
+use Rattle.mcu_driver.specs.Checks.{error_by, answer_refused}
+use Rattle.mcu_driver.specs.Ground.{Holds, McuAgrees, mcu_basis}
+use Rattle.mcu_driver.specs.Machine.{McuState, is_locked, acts_by, mcu_machine}
+use Rattle.mcu_driver.specs.Table.{multiplier_of, section_of, FitsMcu}
+use Rattle.mcu_driver.specs.declared.asked.Asked.{Asked}
+use Rattle.mcu_driver.specs.declared.call.Call.{Call}
+use Rattle.mcu_driver.specs.declared.call.Call.TheVariants.{Init, InitRamSection, Clock, GetPllStatus, GetResetReason, PerformReset, SetMode}
+use Rattle.mcu_driver.specs.declared.call.ClockCall.TheVariants.{InitClock, DistributePllClock}
+use Rattle.mcu_driver.specs.declared.driver.McuDriver.{McuDriver}
+use Rattle.mcu_driver.specs.declared.driver.Section.{Section}
+use Rattle.mcu_driver.specs.declared.service.clock.ClockBody.{ClockBody}
+use Rattle.mcu_driver.specs.declared.service.query.QueryBody.{QueryBody}
+use Rattle.mcu_driver.specs.declared.service.state.StateBody.{StateBody}
+use Rattle.mcu_driver.specs.declared.words.TheConstants.{STATE}
+use Rattle.mcu_driver.specs.laws.Bodies.{McuBody, fill_body}
+use Rattle.mcu_driver.specs.laws.Clock.{clock_bodies, clock_right}
+use Rattle.mcu_driver.specs.laws.Fill.{fill_bodies, fill_right, free_by, begun}
+use Rattle.mcu_driver.specs.laws.Ground.{basis_right}
+use Rattle.mcu_driver.specs.laws.Look.{mcu_looked, looked_by, begins, begun_filling, begun_starting, narrow, fill, Passed, on_of, section_there, multiplier_there, unhindered, distribute_by, early, asked_word}
+use Rattle.mcu_driver.specs.laws.Query.{query_bodies, query_right}
+use Rattle.mcu_driver.specs.laws.Reset.{reset_bodies, reset_right}
+use Rattle.mcu_driver.specs.laws.State.{state_bodies, state_right}
+
+abbrev pub plain_bodies : (d : McuDriver) → LongBodies (mcu_basis d) (Or StateBody (Or QueryBody ClockBody))
+plain_bodies d = both (state_bodies d) (both (query_bodies d) (clock_bodies d))
+
+abbrev pub mcu_bodies : (d : McuDriver) → LongBodies (mcu_basis d) McuBody
+mcu_bodies d = both (plain_bodies d) (both (reset_bodies d) (fill_bodies d))
+
+-- the most steps of a call's body: one a word of a section, and a few
+abbrev pub most_of : McuDriver → Call → ℕ
+most_of d (InitRamSection n) = 4 + size_of (section_of d n)
+most_of d _ = 2
+
+-- the driver; any call may be made
+abbrev pub mcu : McuDriver → Services McuState Call Asked McuBody
+mcu d = record {
+  basis = mcu_basis d;
+  bodies = mcu_bodies d;
+  fits = FitsMcu d;
+  can = λ call. Unit {0};
+  word = STATE;
+  asked = λ call. record { call = call; driver = d };
+  looked = mcu_looked;
+  most = λ q. most_of q.driver q.call;
+  wide = λ q. 2;
+  body_of = λ line. None;
+}
+
+bodies_right : (d : McuDriver) → FitsMcu d → AreLong (mcu_basis d) (mcu_bodies d)
+bodies_right d fits =
+    let g = mcu_basis d in
+    let clocks = both_right g (query_bodies d) (clock_bodies d) (query_right d) (clock_right d) in
+    let plain = both_right g (state_bodies d) (both (query_bodies d) (clock_bodies d)) (state_right d) clocks in
+    let others = both_right g (reset_bodies d) (fill_bodies d) (reset_right d) (fill_right d fits) in
+    both_right g (plain_bodies d) (both (reset_bodies d) (fill_bodies d)) plain others
+
+-- ---- what the load of the state word decides
+
+narrow_small : (n : ℕ) → n ≤ 512 → narrow n ≡ n
+narrow_small n le = by (nat_lt n 65536) (grind (arith, nat_tests))
+  where
+    by : (q : Bool) → q ≡ true → (if q then n else 0) ≡ n
+    by true e = refl
+    by false e = absurd (cc)
+
+-- a section of a sound configuration is filled as it is
+fill_same : (n : ℕ) (x : Section) → x.base + x.size ≤ 512 → fill n x ≡ record { section = n; base = x.base; size = x.size; value = x.default_value }
+fill_same n x le = ap (λ b. record { section = n; base = b; size = narrow x.size; value = x.default_value }) (narrow_small x.base (omega (arith, le))) ∙ ap (λ z. record { section = n; base = x.base; size = z; value = x.default_value }) (narrow_small x.size (omega (arith, le)))
+
+not_none : {A : Type 0} (k : Option A) → k ≡ None → is_some k ≡ true → ⊥
+not_none k e i = let f : is_some k ≡ false = ap (λ x. is_some x) e in cc
+
+module _ (d : McuDriver) (fits : FitsMcu d) (below : Holds) (chip : Chip) (w : World) (s : McuState) (h : McuAgrees d below chip w s) where
+  abbrev Looks : Call → Looked McuBody → Type 0
+  Looks call l = Decides (mcu d) below chip w s call l
+
+  fills : (n : ℕ) (k : Option Section) → section_of d n ≡ k → AllLet (mcu_setting d) (class_of (InitRamSection n)) below → Passed d s (InitRamSection n) → Looks (InitRamSection n) (begun_filling n k)
+  fills n None e l pass = absurd (not_none (section_of d n) e (section_there d s n pass))
+  fills n (Some x) e l pass = subst (λ r. Looks (InitRamSection n) (Goes (fill_body r))) (sym (fill_same n x (fits.inside n x e))) (record {
+    at = (begun d below chip w s n x e (on_of d s n pass) h, (Is_being, e, free_by d s.initialised n below h.right l));
+    closed = refl;
+    fuel = subst (λ q. 3 + (x.size + 1) ≤ 4 + size_of q) (sym e) (omega arith);
+    room = omega arith;
+  })
+
+  starts : (n : ℕ) (k : Option ℕ) → multiplier_of d n ≡ k → Passed d s (Clock (InitClock n)) → Looks (Clock (InitClock n)) (begun_starting k)
+  starts n None e pass = absurd (not_none (multiplier_of d n) e (multiplier_there d s n pass))
+  starts n (Some m) e pass = record {
+    at = (h, (n, Is_being, record { known = e; positive = (fits.multiplier n m e).0; slow = (fits.multiplier n m e).1; pass = unhindered d s (Clock (InitClock n)) refl pass }));
+    closed = refl;
+    fuel = omega arith;
+    room = omega arith;
+  }
+
+  goes_on : (call : Call) → Beside (mcu_setting d) (Called call) below → Passed d s call → Looks call (begins d call)
+  goes_on Init l pass = record { at = (h, Is_being); closed = refl; fuel = omega arith; room = omega arith }
+  goes_on (InitRamSection n) l pass = fills n (section_of d n) refl l pass
+  goes_on (Clock (InitClock n)) l pass = starts n (multiplier_of d n) refl pass
+  goes_on (Clock DistributePllClock) l pass = record { at = (h, ((Is_being, distribute_by d s pass), refl)); closed = refl; fuel = omega arith; room = omega arith }
+  goes_on GetPllStatus l pass = record { at = (h, (Is_being, unhindered d s GetPllStatus refl pass)); closed = refl; fuel = omega arith; room = omega arith }
+  goes_on GetResetReason l pass = record { at = (h, (Is_being, unhindered d s GetResetReason refl pass)); closed = refl; fuel = omega arith; room = omega arith }
+  goes_on PerformReset l pass = record { at = (h, (Is_being, unhindered d s PerformReset refl pass)); closed = refl; fuel = omega arith; room = omega arith }
+  goes_on (SetMode m) l pass = record { at = (h, (Is_being, unhindered d s (SetMode m) refl pass)); closed = refl; fuel = omega arith; room = omega arith }
+
+  -- an error asks for no reset
+  stays_on : (call : Call) (x : ErrorName) → asks_reset (mcu_machine d) (Called call) (Some Act) (Some (outcome s (tells_error (answer_refused call) x))) ≡ false
+  stays_on PerformReset x = refl
+  stays_on Init x = refl
+  stays_on (InitRamSection n) x = refl
+  stays_on (Clock (InitClock n)) x = refl
+  stays_on (Clock DistributePllClock) x = refl
+  stays_on GetPllStatus x = refl
+  stays_on GetResetReason x = refl
+  stays_on (SetMode m) x = refl
+
+  look_by : (call : Call) (e : Option ErrorName) → Beside (mcu_setting d) (Called call) below → error_by d call (not s.initialised) false ≡ e → Looks call (looked_by (record { call = call; driver = d }) e)
+  look_by call None l e = goes_on call l e
+  look_by call (Some x) l e = record { told = tells_error (answer_refused call) x; is = λ times. ap (λ y. Some (acts_by d w s call y)) (early d call (not s.initialised) (not (is_locked w s.pll)) x e); tells = error_told (mcu_machine d) call (answer_refused call) x; reset = stays_on call x; polls = refl }
+
+  looks : (call : Call) → Beside (mcu_setting d) (Called call) below → Looks call (mcu_looked (record { call = call; driver = d }) (word_of chip STATE))
+  looks call l = subst (λ x. Looks call (mcu_looked (record { call = call; driver = d }) x)) (sym h.state) (subst (λ q. Looks call q) (sym (asked_word d call s.initialised)) (look_by call (error_by d call (not s.initialised) false) l refl))
+
+-- ---- the laws
+
+call_steps_by : (d : McuDriver) (call : Call) → 7 + most_of d call ≤ call_steps d call
+call_steps_by d Init = omega arith
+call_steps_by d (InitRamSection n) = omega arith
+call_steps_by d _ = omega arith
+
+pub lawful : (d : McuDriver) → FitsMcu d → AreServices (mcu d)
+lawful d fits = record {
+  basis = basis_right d;
+  bodies = bodies_right d fits;
+  looks = λ below chip w s call can l h. looks d fits below chip w s h call l;
+  own_word = λ o. refl;
+  word_there = omega arith;
+  handled = λ line. refl;
+  enters = λ line k e. absurd (cc);
+  call_steps = λ call can. call_steps_by d call;
+  call_window = λ call can. omega arith;
+  line_steps = λ line k e. absurd (cc);
+}
+
+-- the peripheral rate is at most 16, and the driver has no watchdog
+top_slow : (d : McuDriver) (chip : Chip) (w : World) (f : Short Asked McuBody) (o : Open Call) (ps : List (Short Asked McuBody × Open Call)) (s : McuState) → (services_driver (mcu d)).relates chip w ((f, o) ∷ ps) s → s.rate ≤ 16
+top_slow d chip w (Calling a) o ps s h = h.0.0.rate
+top_slow d chip w (Loading a) o ps s h = h.0.0.rate
+top_slow d chip w (Entering k) o ps s h = h.0.0.rate
+top_slow d chip w (Inside k) o ps s h = h.0.at.0.rate
+top_slow d chip w (Opening n) o ps s h = h.0.0.rate
+top_slow d chip w (Telling n) o ps s h = h.0.0.rate
+top_slow d chip w (Returning a) o ps s h = h.0.0.rate
+
+pub slow_clock : (d : McuDriver) (chip : Chip) (w : World) (ps : List (Short Asked McuBody × Open Call)) (s : McuState) → FitsMcu d → (services_driver (mcu d)).relates chip w ps s → (services_driver (mcu d)).setting.machine.rate s ≤ 16
+slow_clock d chip w [] s fits h = h.rate
+slow_clock d chip w (p ∷ ps) s fits h = top_slow d chip w p.0 p.1 ps s h
+
+pub covers_clock : (d : McuDriver) → Covers (services_driver (mcu d))
+covers_clock d = record { unwatched = λ w s. refl }

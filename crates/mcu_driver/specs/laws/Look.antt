@@ -1,0 +1,150 @@
+-- The load of the state word: what it decides for each call, and what that shows.
+use Rattle.std.proofs.Common.{◌≡◌, ℕ, ◌<◌, Bool, true, false, ◌==◌, not, nat_lt, length, List, [], ◌∷◌, Option, Some, None, refl, arith}
+use Rattle.std.specs.Prelude.{if◌then◌else◌, is_some, slice_index_or}
+use Rattle.det_errors.proofs.RowLaws.{none_holds}
+use Rattle.det_errors.specs.Rows.{first_error, errors_of}
+use Rattle.mcal_base.specs.declared.error_name.ErrorName.{ErrorName}
+use Rattle.mcal_base.specs.declared.error_name.ErrorName.TheVariants.{McuPllNotLocked}
+use Rattle.mcal_base.specs.declared.service.Service.TheVariants as services
+use Rattle.run_model.specs.Machine.{no_answer}
+use Rattle.service_outline.specs.Done.{owed_error}
+use Rattle.service_outline.specs.declared.body.Looked.{Looked}
+use Rattle.service_outline.specs.declared.body.Looked.TheVariants.{Refused, Goes}
+use Rattle.service_outline.specs.declared.done.Done.{Done}
+use Rattle.service_outline.specs.declared.done.Owed.{Owed}
+use Rattle.service_outline.specs.declared.done.Owed.TheVariants.{Nothing}
+use Rattle.mcu_driver.specs.Checks.{facts_by, error_by, service_of, answer_refused, reporting}
+use Rattle.mcu_driver.specs.Ground.{state_word}
+use Rattle.mcu_driver.specs.Machine.{McuState}
+use Rattle.mcu_driver.specs.Table.{multiplier_of, section_of}
+use Rattle.mcu_driver.specs.declared.asked.Asked.{Asked}
+use Rattle.mcu_driver.specs.declared.call.Call.{Call}
+use Rattle.mcu_driver.specs.declared.call.Call.TheVariants.{Init, InitRamSection, Clock, GetPllStatus, GetResetReason, PerformReset, SetMode}
+use Rattle.mcu_driver.specs.declared.call.ClockCall.TheVariants.{InitClock, DistributePllClock}
+use Rattle.mcu_driver.specs.declared.driver.McuDriver.{McuDriver}
+use Rattle.mcu_driver.specs.declared.driver.Section.{Section}
+use Rattle.mcu_driver.specs.declared.service.clock.ClockBody.TheVariants.{Start, Look}
+use Rattle.mcu_driver.specs.declared.service.fill.Fill as fills
+use Rattle.mcu_driver.specs.declared.service.query.QueryBody.TheVariants.{Status, Reason}
+use Rattle.mcu_driver.specs.declared.service.reset.ResetBody.TheVariants.{Reset}
+use Rattle.mcu_driver.specs.declared.service.state.StateBody.TheVariants.{Initialise, Keep}
+use Rattle.mcu_driver.specs.laws.Bodies.{McuBody, state_body, query_body, clock_body, reset_body, fill_body}
+
+-- ---- what it decides
+
+abbrev pub facts_of : Asked → ℕ → List Bool
+facts_of q word = facts_by q.driver q.call (word == 0) false
+
+abbrev pub refusal_of : Asked → ErrorName → Done
+refusal_of q e = record { answer = answer_refused q.call; owed = owed_error (reporting q.driver) (service_of q.call) e }
+
+abbrev pub let_be : Looked McuBody
+let_be = Refused (record { answer = no_answer; owed = Nothing })
+
+-- a number of at most 16 bits
+abbrev pub narrow : ℕ → ℕ
+narrow n = if nat_lt n 65536 then n else 0
+
+-- how a section of a number is filled
+abbrev pub fill : ℕ → Section → fills.Fill
+fill n x = record { section = n; base = narrow x.base; size = narrow x.size; value = x.default_value }
+
+abbrev pub begun_filling : ℕ → Option Section → Looked McuBody
+begun_filling n None = let_be
+begun_filling n (Some x) = Goes (fill_body (fill n x))
+
+abbrev pub begun_starting : Option ℕ → Looked McuBody
+begun_starting None = let_be
+begun_starting (Some m) = Goes (clock_body (Start m))
+
+-- what the call owes where the PLL isn't locked
+abbrev pub unlocked_owed : McuDriver → Owed
+unlocked_owed d = owed_error (reporting d) services.McuDistributePllClock McuPllNotLocked
+
+-- what a call without an error so far goes on with
+abbrev pub begins : McuDriver → Call → Looked McuBody
+begins d Init = Goes (state_body Initialise)
+begins d (InitRamSection n) = begun_filling n (section_of d n)
+begins d (Clock (InitClock n)) = begun_starting (multiplier_of d n)
+begins d (Clock DistributePllClock) = Goes (clock_body (Look (unlocked_owed d)))
+begins d GetPllStatus = Goes (query_body Status)
+begins d GetResetReason = Goes (query_body Reason)
+begins d PerformReset = Goes (reset_body Reset)
+begins d (SetMode m) = Goes (state_body (Keep m))
+
+abbrev pub begun_of : Asked → Looked McuBody
+begun_of q = begins q.driver q.call
+
+abbrev pub looked_by : Asked → Option ErrorName → Looked McuBody
+looked_by q None = begun_of q
+looked_by q (Some e) = Refused (refusal_of q e)
+
+abbrev pub mcu_looked : Asked → ℕ → Looked McuBody
+mcu_looked q word = looked_by q (error_by q.driver q.call (word == 0) false)
+
+-- ---- what a call shows that has no error
+
+-- it shows no error before it looks at the PLL
+abbrev pub Passed : McuDriver → McuState → Call → Type 0
+Passed d s call = error_by d call (not s.initialised) false ≡ None
+
+-- it has none, whether the PLL is locked or not
+abbrev pub MayAct : McuDriver → McuState → Call → Type 0
+MayAct d s call = (unlocked : Bool) → error_by d call (not s.initialised) unlocked ≡ None
+
+no_error : (d : McuDriver) (s : McuState) (call : Call) → Passed d s call → (k : ℕ) → k < length (errors_of (service_of call)) → slice_index_or (facts_by d call (not s.initialised) false) k false ≡ false
+no_error d s call pass k lt = none_holds (errors_of (service_of call)) (facts_by d call (not s.initialised) false) pass k lt
+
+yes : (b : Bool) → not b ≡ false → b ≡ true
+yes true e = refl
+yes false e = absurd (cc)
+
+pub on_of : (d : McuDriver) (s : McuState) (n : ℕ) → Passed d s (InitRamSection n) → s.initialised ≡ true
+on_of d s n pass = yes s.initialised (no_error d s (InitRamSection n) pass 0 (omega arith))
+
+pub section_there : (d : McuDriver) (s : McuState) (n : ℕ) → Passed d s (InitRamSection n) → is_some (section_of d n) ≡ true
+section_there d s n pass = yes (is_some (section_of d n)) (no_error d s (InitRamSection n) pass 1 (omega arith))
+
+pub multiplier_there : (d : McuDriver) (s : McuState) (n : ℕ) → Passed d s (Clock (InitClock n)) → is_some (multiplier_of d n) ≡ true
+multiplier_there d s n pass = yes (is_some (multiplier_of d n)) (no_error d s (Clock (InitClock n)) pass 1 (omega arith))
+
+-- the lock counts for one call alone, and there only where the module is initialised
+abbrev pub is_distributing : Call → Bool
+is_distributing (Clock DistributePllClock) = true
+is_distributing _ = false
+
+pub unhindered : (d : McuDriver) (s : McuState) (call : Call) → is_distributing call ≡ false → Passed d s call → MayAct d s call
+unhindered d s (Clock DistributePllClock) other pass = absurd (cc)
+unhindered d s (Clock (InitClock n)) other pass = λ q. pass
+unhindered d s _ other pass = λ q. pass
+
+abbrev pub locks : Bool → Option ErrorName
+locks unlocked = if unlocked then Some McuPllNotLocked else None
+
+pub distribute_by : (d : McuDriver) (s : McuState) → Passed d s (Clock DistributePllClock) → (unlocked : Bool) → error_by d (Clock DistributePllClock) (not s.initialised) unlocked ≡ locks unlocked
+distribute_by d s pass unlocked = by s.initialised (yes s.initialised (no_error d s (Clock DistributePllClock) pass 0 (omega arith))) unlocked
+  where
+    by : (on : Bool) → on ≡ true → (q : Bool) → error_by d (Clock DistributePllClock) (not on) q ≡ locks q
+    by true e true = refl
+    by true e false = refl
+    by false e q = absurd (cc)
+
+-- an error that the look names stands whether the PLL is locked or not
+pub early : (d : McuDriver) (call : Call) (u unlocked : Bool) (e : ErrorName) → error_by d call u false ≡ Some e → error_by d call u unlocked ≡ Some e
+early d (Clock DistributePllClock) true unlocked e h = h
+early d (Clock DistributePllClock) false unlocked e h = absurd (cc)
+early d (Clock (InitClock n)) u unlocked e h = h
+early d _ u unlocked e h = h
+
+pub asked_word : (d : McuDriver) (call : Call) (on : Bool) → mcu_looked (record { call = call; driver = d }) (state_word on) ≡ looked_by (record { call = call; driver = d }) (error_by d call (not on) false)
+asked_word d call true = refl
+asked_word d call false = refl
+
+-- a section that there is may be filled
+pub fill_passes : (d : McuDriver) (s : McuState) (n : ℕ) (x : Section) → section_of d n ≡ Some x → s.initialised ≡ true → MayAct d s (InitRamSection n)
+fill_passes d s n x e on unlocked = by s.initialised on (section_of d n) e
+  where
+    by : (b : Bool) → b ≡ true → (o : Option Section) → o ≡ Some x → first_error services.McuInitRamSection (not b ∷ not (is_some o) ∷ false ∷ false ∷ false ∷ false ∷ []) ≡ None
+    by true f (Some y) g = refl
+    by true f None g = absurd (cc)
+    by false f o g = absurd (cc)

@@ -1,0 +1,27 @@
+//! The driver of the clock, the RAM sections and resets: its calls as frames of single steps.
+//!
+//! The clock block and the RAM words hold the module's state, and two driver words the rest: whether it is initialised,
+//! and the mode. A section is filled with the mask open, and until the act its words are nobody else's.
+#![tactic(auto)]
+
+mod asked;
+mod bounds;
+mod call;
+mod driver;
+mod frames;
+pub mod laws;
+mod request;
+mod service;
+mod words;
+
+pub use asked::Asked;
+pub use call::{Call, ClockCall};
+pub use driver::{McuDriver, Section};
+pub use frames::{McuFrame, McuMachine};
+pub use request::call_of;
+pub use service::clock::ClockBody;
+pub use service::fill::{Fill, FilledBody};
+pub use service::query::QueryBody;
+pub use service::reset::ResetBody;
+pub use service::state::StateBody;
+pub use service::{FillBody, McuBody, PlainBody};

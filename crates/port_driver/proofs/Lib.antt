@@ -1,0 +1,3 @@
+mod ByNumber
+mod ModeLaws
+mod RunLaws

@@ -1,0 +1,9 @@
+pub mod Bounds
+pub mod Checks
+pub mod Ground
+pub mod Machine
+pub mod Requests
+pub mod Runs
+pub mod Table
+pub mod Writes
+pub mod laws

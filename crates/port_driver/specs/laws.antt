@@ -1,0 +1,9 @@
+pub mod Bodies
+pub mod Ground
+pub mod Halves
+pub mod Init
+pub mod Lawful
+pub mod Look
+pub mod Pins
+pub mod Ranks
+pub mod Refresh

@@ -1,0 +1,136 @@
+-- The driver of the pins, as the outline and the runner see it, and that it is lawful.
+use Rattle.std.proofs.Common.{◌≡◌, ℕ, List, ◌+◌, ◌≤◌, true, false, ◌==◌, not, [], ◌∷◌, Option, Some, None, refl, sym, ◌∙◌, ap, subst, arith}
+use Rattle.chip_model.specs.Chip.{Chip, word_of}
+use Rattle.mcal_base.specs.declared.error_name.ErrorName.{ErrorName}
+use Rattle.mcal_base.specs.declared.moves.Event.TheVariants.{Act}
+use Rattle.run_model.specs.Causes.{blocks}
+use Rattle.run_model.specs.World.{World}
+use Rattle.run_model.specs.Machine.{no_answer, outcome}
+use Rattle.run_model.specs.Frame.{Origin, Open, Called, asks_reset}
+use Rattle.service_outline.specs.declared.short.Short.{Short}
+use Rattle.service_outline.specs.Both.{both}
+use Rattle.service_outline.specs.Done.{tells_error}
+use Rattle.service_outline.specs.Past.{Is_being}
+use Rattle.service_outline.specs.Services.{Services, LongBodies, AreLong, AreServices, AllLet, Beside, Decides, mark_of, services_driver}
+use Rattle.service_outline.specs.Short.{short_move, short_left, short_gave}
+use Rattle.service_outline.specs.laws.Both.{both_right}
+use Rattle.service_outline.specs.laws.Lawful.{services_lawful}
+use Rattle.service_outline.specs.laws.Reports.{error_told}
+use Rattle.step_runner.specs.Driver.{IsLawful, Covers}
+use Rattle.mcal_base.specs.declared.moves.Move.TheVariants.{Load}
+use Rattle.port_driver.specs.Bounds.{class_of, call_steps, port_setting}
+use Rattle.port_driver.specs.Checks.{error_by}
+use Rattle.port_driver.specs.Ground.{Holds, HeldRight, Alone, Is_alone, PortAgrees, port_basis}
+use Rattle.port_driver.specs.Machine.{PortState, acts_by, port_machine}
+use Rattle.port_driver.specs.Table.{FitsPort}
+use Rattle.port_driver.specs.Writes.{configured}
+use Rattle.port_driver.specs.declared.asked.Asked.{Asked}
+use Rattle.port_driver.specs.declared.call.Call.{Call}
+use Rattle.port_driver.specs.declared.call.Call.TheVariants.{Init, RefreshPortDirection}
+use Rattle.port_driver.specs.declared.call.Call.TheVariants as calls
+use Rattle.port_driver.specs.declared.call.PinCall.TheVariants.{SetPinDirection, SetPinMode}
+use Rattle.port_driver.specs.declared.driver.PortDriver.{PortDriver}
+use Rattle.port_driver.specs.declared.words.TheConstants.{STATE}
+use Rattle.port_driver.specs.laws.Bodies.{PortBody}
+use Rattle.port_driver.specs.laws.Ground.{basis_right, may_dry}
+use Rattle.port_driver.specs.laws.Init.{init_bodies, init_right, begins_init, Is_setup}
+use Rattle.port_driver.specs.laws.Look.{port_looked, looked_by, begins, direction_within, mode_within, mode_given, asked_word}
+use Rattle.port_driver.specs.laws.Pins.{pin_bodies, pin_right}
+use Rattle.port_driver.specs.laws.Ranks.{configured_few}
+use Rattle.port_driver.specs.laws.Refresh.{refresh_bodies, refresh_right, Is_same}
+
+abbrev pub port_bodies : (d : PortDriver) → LongBodies (port_basis d) PortBody
+port_bodies d = both (init_bodies d) (both (refresh_bodies d) (pin_bodies d))
+
+-- the steps of a call's body, at most
+abbrev pub most_by : PortDriver → Call → ℕ
+most_by d Init = 12 + configured d
+most_by d _ = 4
+
+abbrev pub port : PortDriver → Services PortState Call Asked PortBody
+port d = record {
+  basis = port_basis d;
+  bodies = port_bodies d;
+  fits = FitsPort d;
+  can = λ c. Unit {0};
+  word = STATE;
+  asked = λ c. record { call = c; driver = d };
+  looked = port_looked;
+  most = λ q. most_by d q.call;
+  wide = λ q. 4;
+  body_of = λ l. None;
+}
+
+-- beside what holds anything no call of the module begins
+blocked : (d : PortDriver) (call : Call) (o : Origin Call) → o ≡ Called Init → blocks (class_of call) (mark_of (port_setting d) o) ≡ true
+blocked d call o e = ap (λ (x : Origin Call). blocks (class_of call) (mark_of (port_setting d) x)) e ∙ by call
+  where
+    by : (call : Call) → blocks (class_of call) (mark_of (port_setting d) (Called Init)) ≡ true
+    by Init = refl
+    by RefreshPortDirection = refl
+    by (calls.Pin p call) = refl
+
+alone : (d : PortDriver) (call : Call) (below : Holds) → HeldRight below → AllLet (port_setting d) (class_of call) below → Alone below
+alone d call [] right lets = Is_alone
+alone d call (h ∷ hs) right lets = absurd (let f = sym (blocked d call h.by right.0) ∙ lets.0 in cc)
+
+asks_none : (d : PortDriver) (call : Call) (s : PortState) (e : ErrorName) → asks_reset (port_machine d) (Called call) (Some Act) (Some (outcome s (tells_error no_answer e))) ≡ false
+asks_none d Init s e = refl
+asks_none d RefreshPortDirection s e = refl
+asks_none d (calls.Pin p (SetPinDirection x)) s e = refl
+asks_none d (calls.Pin p (SetPinMode m)) s e = refl
+
+goes_on : (d : PortDriver) (below : Holds) (chip : Chip) (w : World) (s : PortState) (call : Call) → Alone below → PortAgrees d below 0 chip w s → error_by d call (not s.initialised) ≡ None → Decides (port d) below chip w s call (begins d call)
+goes_on d below chip w s Init Is_alone h pass = record { at = (begins_init d chip w s h, (Is_setup, (Is_being, Is_alone))); closed = refl; fuel = omega arith; room = omega arith }
+goes_on d below chip w s RefreshPortDirection Is_alone h pass = record { at = (h, (Is_same, Is_being, Is_alone, omega arith, pass)); closed = refl; fuel = omega arith; room = omega arith }
+goes_on d below chip w s (calls.Pin p (SetPinDirection x)) Is_alone h pass = record { at = (h, (Is_being, Is_alone, direction_within d p x (not s.initialised) pass, pass)); closed = refl; fuel = omega arith; room = omega arith }
+goes_on d below chip w s (calls.Pin p (SetPinMode (Some m))) Is_alone h pass = record { at = (h, (Is_being, Is_alone, mode_within d p (Some m) (not s.initialised) pass, pass)); closed = refl; fuel = omega arith; room = omega arith }
+goes_on d below chip w s (calls.Pin p (SetPinMode None)) a h pass = absurd (mode_given d p (not s.initialised) pass)
+
+module _ (d : PortDriver) (below : Holds) (chip : Chip) (w : World) (s : PortState) (h : PortAgrees d below 0 chip w s) where
+  look_by : (call : Call) → Alone below → (e : Option ErrorName) → error_by d call (not s.initialised) ≡ e → Decides (port d) below chip w s call (looked_by (record { call = call; driver = d }) e)
+  look_by call a None e = goes_on d below chip w s call a h e
+  look_by call a (Some x) e = record {
+    told = tells_error no_answer x;
+    is = λ times. ap (λ y. Some (acts_by d s call y)) e;
+    tells = error_told (port_machine d) call no_answer x;
+    reset = asks_none d call s x;
+    polls = refl;
+  }
+
+  looks : (call : Call) → Beside (port_setting d) (Called call) below → Decides (port d) below chip w s call (port_looked (record { call = call; driver = d }) (word_of chip STATE))
+  looks call beside = subst (λ q. Decides (port d) below chip w s call (looked_by (record { call = call; driver = d }) (error_by d call q))) (sym (ap (λ v. v == 0) h.word ∙ asked_word s.initialised)) (look_by call (alone d call below h.right beside) (error_by d call (not s.initialised)) refl)
+
+module _ (d : PortDriver) where
+  bodies_right : AreLong (port_basis d) (port_bodies d)
+  bodies_right = both_right (port_basis d) (init_bodies d) (both (refresh_bodies d) (pin_bodies d)) (init_right d) (both_right (port_basis d) (refresh_bodies d) (pin_bodies d) (refresh_right d) (pin_right d))
+
+  steps_by : (call : Call) → 7 + most_by d call ≤ call_steps d call
+  steps_by Init = let few = configured_few d in omega (arith, few)
+  steps_by RefreshPortDirection = omega arith
+  steps_by (calls.Pin p call) = omega arith
+
+  pub port_right : AreServices (port d)
+  port_right = record {
+    basis = basis_right d;
+    bodies = bodies_right;
+    looks = λ below chip w s c can beside h. looks d below chip w s h c beside;
+    own_word = λ o. may_dry o (Load STATE) refl refl;
+    word_there = omega arith;
+    handled = λ line. refl;
+    enters = λ line k e. absurd (cc);
+    call_steps = λ c can. steps_by c;
+    call_window = λ c can. omega arith;
+    line_steps = λ line k e. absurd (cc);
+  }
+
+  -- whatever runs above them, the frames of the driver are right at each step
+  pub lawful : IsLawful (services_driver (port d)) (short_move STATE (port d).bodies.work_of) (short_left (port d).looked (port d).bodies.takes) (short_gave (port d).looked (port d).bodies.takes)
+  lawful = services_lawful (port d) port_right
+
+-- it leaves the peripheral rate alone, and has no watchdog
+pub slow_pins : (d : PortDriver) (chip : Chip) (w : World) (ps : List (Short Asked PortBody × Open Call)) (s : PortState) → FitsPort d → (services_driver (port d)).relates chip w ps s → (services_driver (port d)).setting.machine.rate s ≤ 16
+slow_pins d chip w ps s fits h = omega arith
+
+pub covers_pins : (d : PortDriver) → Covers (services_driver (port d))
+covers_pins d = record { unwatched = λ w s. refl }

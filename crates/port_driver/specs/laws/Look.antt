@@ -1,0 +1,90 @@
+-- The load of the state word: what it decides for each call.
+use Rattle.std.proofs.Common.{◌≡◌, ℕ, ◌<◌, Bool, true, false, ◌==◌, not, length, nat_lt, List, Option, Some, None, refl, arith}
+use Rattle.std.specs.Prelude.{if◌then◌else◌, is_some, slice_index_or}
+use Rattle.std.proofs.lemmas.Bool.Decides.{nat_tests}
+use Rattle.det_errors.proofs.RowLaws.{none_holds}
+use Rattle.det_errors.specs.Rows.{errors_of}
+use Rattle.mcal_base.specs.Bits.{bit_of}
+use Rattle.mcal_base.specs.declared.config.port.PortPinDirection.{PortPinDirection}
+use Rattle.mcal_base.specs.declared.config.port.PortPinMode.{PortPinMode}
+use Rattle.mcal_base.specs.declared.error_name.ErrorName.{ErrorName}
+use Rattle.run_model.specs.Machine.{no_answer}
+use Rattle.service_outline.specs.Done.{owed_error}
+use Rattle.service_outline.specs.declared.done.Done.{Done}
+use Rattle.service_outline.specs.declared.done.Owed.TheVariants.{Nothing}
+use Rattle.service_outline.specs.declared.body.Looked.{Looked}
+use Rattle.service_outline.specs.declared.body.Looked.TheVariants.{Refused, Goes}
+use Rattle.port_driver.specs.Checks.{service_of, facts_by, error_by, reporting, has_mode}
+use Rattle.port_driver.specs.Table.{pin_of}
+use Rattle.port_driver.specs.declared.asked.Asked.{Asked}
+use Rattle.port_driver.specs.declared.call.Call.{Call}
+use Rattle.port_driver.specs.declared.call.Call.TheVariants.{Init, RefreshPortDirection}
+use Rattle.port_driver.specs.declared.call.Call.TheVariants as calls
+use Rattle.port_driver.specs.declared.call.PinCall.TheVariants.{SetPinDirection, SetPinMode}
+use Rattle.port_driver.specs.declared.driver.Pin.{Pin}
+use Rattle.port_driver.specs.declared.driver.PortDriver.{PortDriver}
+use Rattle.port_driver.specs.declared.service.pin.PinBody.TheVariants.{Direction, Mode}
+use Rattle.port_driver.specs.declared.service.refresh.RefreshBody.TheVariants.{Write}
+use Rattle.port_driver.specs.laws.Bodies.{PortBody, init_body, refresh_body, pin_body}
+
+abbrev pub facts_of : Asked → ℕ → List Bool
+facts_of q word = facts_by q.driver q.call (word == 0)
+
+abbrev pub refusal_of : Asked → ErrorName → Done
+refusal_of q e = record { answer = no_answer; owed = owed_error (reporting q.driver) (service_of q.call) e }
+
+abbrev pub let_be : Looked PortBody
+let_be = Refused (record { answer = no_answer; owed = Nothing })
+
+-- what a call without an error goes on with
+abbrev pub begins : PortDriver → Call → Looked PortBody
+begins d Init = Goes (init_body (record { driver = d }))
+begins d RefreshPortDirection = Goes (refresh_body (Write d 0))
+begins d (calls.Pin p (SetPinDirection x)) = Goes (pin_body (Direction p x))
+begins d (calls.Pin p (SetPinMode (Some m))) = Goes (pin_body (Mode p m))
+begins d (calls.Pin p (SetPinMode None)) = let_be
+
+abbrev pub begun_of : Asked → Looked PortBody
+begun_of q = begins q.driver q.call
+
+abbrev pub looked_by : Asked → Option ErrorName → Looked PortBody
+looked_by q None = begun_of q
+looked_by q (Some e) = Refused (refusal_of q e)
+
+abbrev pub port_looked : Asked → ℕ → Looked PortBody
+port_looked q word = looked_by q (error_by q.driver q.call (word == 0))
+
+-- ---- what a call shows that has no error
+
+no_error : (d : PortDriver) (call : Call) (uninit : Bool) → error_by d call uninit ≡ None → (k : ℕ) → k < length (errors_of (service_of call)) → slice_index_or (facts_by d call uninit) k false ≡ false
+no_error d call uninit pass k lt = none_holds (errors_of (service_of call)) (facts_by d call uninit) pass k lt
+
+yes : (b : Bool) → not b ≡ false → b ≡ true
+yes true e = refl
+yes false e = absurd (cc)
+
+-- a configured pin is one of the 64
+within : (d : PortDriver) (p : ℕ) → is_some (pin_of d p) ≡ true → p < 64
+within d p h = by (nat_lt p 64) (slice_index_or d.pins p None) refl h
+  where
+    by : (q : Bool) (k : Option Pin) → nat_lt p 64 ≡ q → is_some (if q then k else None) ≡ true → p < 64
+    by true k e h = grind (arith, nat_tests)
+    by false k e h = absurd (cc)
+
+pub direction_within : (d : PortDriver) (p : ℕ) (x : PortPinDirection) (uninit : Bool) → error_by d (calls.Pin p (SetPinDirection x)) uninit ≡ None → p < 64
+direction_within d p x uninit pass = within d p (yes _ (no_error d (calls.Pin p (SetPinDirection x)) uninit pass 1 (omega arith)))
+
+pub mode_within : (d : PortDriver) (p : ℕ) (m : Option PortPinMode) (uninit : Bool) → error_by d (calls.Pin p (SetPinMode m)) uninit ≡ None → p < 64
+mode_within d p m uninit pass = within d p (yes _ (no_error d (calls.Pin p (SetPinMode m)) uninit pass 1 (omega arith)))
+
+-- and what is no mode is refused
+pub mode_given : (d : PortDriver) (p : ℕ) (uninit : Bool) → error_by d (calls.Pin p (SetPinMode None)) uninit ≡ None → ⊥
+mode_given d p uninit pass = by (pin_of d p) (no_error d (calls.Pin p (SetPinMode None)) uninit pass 2 (omega arith))
+  where
+    by : (k : Option Pin) → not (has_mode k None) ≡ false → ⊥
+    by None e = cc
+    by (Some k) e = cc
+
+pub asked_word : (b : Bool) → (bit_of b == 0) ≡ not b
+asked_word true = refl
+asked_word false = refl

@@ -1,0 +1,173 @@
+-- Port_RefreshPortDirection: its writes, what holds at each, and that they are right.
+use Rattle.std.proofs.Common.{◌≡◌, ℕ, ◌+◌, ◌-◌, ◌/◌, ◌<◌, Bool, true, false, not, nat_lt, [], Option, Some, None, refl, sym, ◌∙◌, ap, subst, arith}
+use Rattle.std.specs.Prelude.{if◌then◌else◌}
+use Rattle.std.proofs.lemmas.Bool.Decides.{nat_tests}
+use Rattle.chip_model.specs.Chip.{Chip, chip_after, value_of}
+use Rattle.mcal_base.specs.declared.moves.Event.TheVariants.{Act}
+use Rattle.mcal_base.specs.declared.moves.Move.{Move}
+use Rattle.run_model.specs.World.{World, world_after}
+use Rattle.run_model.specs.Machine.{tells_nothing, no_answer}
+use Rattle.run_model.specs.Frame.{Origin, Called, missed_after, is_shared}
+use Rattle.service_outline.specs.declared.done.BodyTaken.{BodyTaken}
+use Rattle.service_outline.specs.declared.done.Owed.TheVariants.{Nothing}
+use Rattle.service_outline.specs.Done.{goes, ends}
+use Rattle.service_outline.specs.Fuel.{Shortens}
+use Rattle.service_outline.specs.Past.{Past, nothing_yet, past_wrote, Being, Is_being}
+use Rattle.service_outline.specs.Services.{LongBodies, Spot, Within, Stand, AreLong, Right, MakesTo, TurnsTo, place_at}
+use Rattle.service_outline.specs.laws.Acts.{never_clean}
+use Rattle.service_outline.specs.laws.StepKinds.{or_true}
+use Rattle.port_driver.specs.Bounds.{may, writes_latches}
+use Rattle.port_driver.specs.Checks.{error_by}
+use Rattle.port_driver.specs.Ground.{Holds, Alone, Is_alone, put, put_mode, PortAgrees, port_basis}
+use Rattle.port_driver.specs.Machine.{PinState, PortState, pin_at, is_out, refreshed, work, acts_by, port_machine}
+use Rattle.port_driver.specs.Table.{pin_of}
+use Rattle.port_driver.specs.Writes.{wanted_of, wants, sets, ones, half_write, rank_of}
+use Rattle.port_driver.specs.declared.call.Call.{Call}
+use Rattle.port_driver.specs.declared.call.Call.TheVariants.{RefreshPortDirection}
+use Rattle.port_driver.specs.declared.driver.Pin.{Pin}
+use Rattle.port_driver.specs.declared.driver.PortDriver.{PortDriver}
+use Rattle.port_driver.specs.declared.service.refresh.RefreshBody.{RefreshBody}
+use Rattle.port_driver.specs.declared.service.refresh.RefreshBody.TheVariants as bodies
+use Rattle.port_driver.specs.declared.writes.Side.TheVariants.{Levels, Directions, Fixed}
+use Rattle.port_driver.specs.laws.Ground.{written_agrees, with_fixed, may_halves, IsCalm, calm_halves, past_halves, sends_halves, may_dry, dry_halves}
+use Rattle.port_driver.specs.laws.Halves.{halves_after, length-after, put_none, put_whole, put_written}
+
+abbrev pub refresh_work : RefreshBody → Move
+refresh_work (bodies.Write d n) = half_write d Fixed n
+
+abbrev pub refresh_takes : RefreshBody → ℕ → RefreshBody × BodyTaken
+refresh_takes (bodies.Write d n) x = if nat_lt n 3 then (bodies.Write d (n + 1), goes) else (bodies.Write d n, ends (Some Act) no_answer Nothing)
+
+abbrev pub refresh_left : RefreshBody → ℕ
+refresh_left (bodies.Write d n) = 1 + (3 - n)
+
+-- it is this driver
+pub data Same (d : PortDriver) : PortDriver → Type 0 where
+  Is_same : Same d d
+
+abbrev pub refresh_spot : (d : PortDriver) → RefreshBody → Spot (port_basis d)
+refresh_spot d (bodies.Write e n) = Within n [] (λ below f w s o t. Same d e × Being (Called RefreshPortDirection) nothing_yet o t × Alone below × (n < 4) × (error_by d RefreshPortDirection (not s.initialised) ≡ None))
+
+abbrev pub refresh_bodies : (d : PortDriver) → LongBodies (port_basis d) RefreshBody
+refresh_bodies d = record { work_of = refresh_work; takes = refresh_takes; fuel = refresh_left; room = refresh_left; clean = λ k. false; spot = refresh_spot d }
+
+under : (n : ℕ) → nat_lt n 3 ≡ true → n < 3
+under n e = grind (arith, nat_tests)
+
+last : (n : ℕ) → n < 4 → nat_lt n 3 ≡ false → n ≡ 3
+last n lt e = grind (arith, nat_tests)
+
+-- all of them made, the directions are the refreshed ones
+direction_done : (k : Option Pin) (p : ℕ) (x : PinState) → p < 64 → put (wanted_of Fixed k) p 4 (is_out x.direction) ≡ is_out (refreshed k x).direction
+direction_done None p x lt = refl
+direction_done (Some k) p x lt = by k.direction_changeable
+  where
+    by : (q : Bool) → put (if q then None else Some (is_out k.direction)) p 4 (is_out x.direction) ≡ is_out (if q then x else record x { direction = k.direction }).direction
+    by true = refl
+    by false = put_whole (Some (is_out k.direction)) p (is_out x.direction) lt
+
+same_mode : (k : Option Pin) (x : PinState) → x.mode ≡ (refreshed k x).mode
+same_mode None x = refl
+same_mode (Some k) x = by k.direction_changeable
+  where
+    by : (q : Bool) → x.mode ≡ (if q then x else record x { direction = k.direction }).mode
+    by true = refl
+    by false = refl
+
+same_latch : (k : Option Pin) (x : PinState) → x.latch ≡ (refreshed k x).latch
+same_latch None x = refl
+same_latch (Some k) x = by k.direction_changeable
+  where
+    by : (q : Bool) → x.latch ≡ (if q then x else record x { direction = k.direction }).latch
+    by true = refl
+    by false = refl
+
+module _ (d : PortDriver) where
+  -- one more of its writes
+  wrote : (chip : Chip) (w : World) (s : PortState) (n received : ℕ) → PortAgrees d [] n chip w s → PortAgrees d [] (n + 1) (chip_after chip (half_write d Fixed n) received) w s
+  wrote chip w s n received h =
+      let b = record chip.pins { out = halves_after (sets n) chip.pins.out (n / 2) (ones (wants d Fixed) n) } in
+      written_agrees d [] [] n (n + 1) chip w s s _ _ received b (with_fixed chip (sets n) (n / 2) (ones (wants d Fixed) n) received) tt refl
+      (record { out = length-after (sets n) chip.pins.out (n / 2) (ones (wants d Fixed) n) ∙ h.whole.out; latches = h.whole.latches; modes = h.whole.modes })
+      h.latches
+      h.modes
+      (λ p lt. put_written (wants d Fixed) chip.pins.out n p _ h.whole.out lt (h.directions p lt))
+      h
+
+  refreshed_all : (chip : Chip) (w : World) (s : PortState) → PortAgrees d [] 4 chip w s → PortAgrees d [] 0 chip w (work d s RefreshPortDirection)
+  refreshed_all chip w s h = record {
+    right = tt;
+    all = h.all;
+    whole = h.whole;
+    word = h.word;
+    latches = λ p lt. h.latches p lt ∙ ap (λ b. put (wants d Levels p) p 0 b) (same_latch (pin_of d p) (pin_at s p));
+    modes = λ p lt. h.modes p lt ∙ ap (λ m. put_mode (pin_of d p) (rank_of d p) 0 m) (same_mode (pin_of d p) (pin_at s p));
+    directions = λ p lt. h.directions p lt ∙ (ap (λ b. put (wants d Fixed p) p 4 b) (put_none (wants d Directions p) p (is_out (pin_at s p).direction)) ∙ (direction_done (pin_of d p) p (pin_at s p) lt ∙ sym (put_none (wants d Fixed p) p _ ∙ put_none (wants d Directions p) p _)));
+  }
+
+  steps : (below : Holds) (chip : Chip) (w : World) (s : PortState) (k : RefreshBody) (o : Origin Call) (y : ℕ) (t : Past) (m : ℕ → Bool) → Stand (port_basis d) (refresh_bodies d) below chip w s k o t → Right (port_basis d) (refresh_bodies d) below chip w s k o y t m
+  steps below chip w s (bodies.Write e n) o y t m (h, (Is_same, Is_being, Is_alone, lt, pass)) = by (nat_lt n 3) refl
+    where
+      made : Move
+      made = half_write d Fixed n
+
+      after : Chip
+      after = chip_after chip made y
+
+      now : PortAgrees d [] (n + 1) after w s
+      now = wrote chip w s n y h
+
+      same : nothing_yet ≡ past_wrote w made nothing_yet
+      same = sym (past_halves w Fixed (sets n) (n / 2) (ones (wants d Fixed) n) nothing_yet)
+
+      by : (q : Bool) → nat_lt n 3 ≡ q → MakesTo (port_basis d) (refresh_bodies d) [] chip after w s (Called RefreshPortDirection) made false 0 y nothing_yet (missed_after (port_machine d) w s m) (if q then (bodies.Write d (n + 1), goes) else (bodies.Write d n, ends (Some Act) no_answer Nothing))
+      by true i = (now, (Is_same, subst (λ x. Being (Called RefreshPortDirection) nothing_yet (Called RefreshPortDirection) x) same Is_being, Is_alone, (let low = under n i in omega (arith, low)), pass))
+      by false i = record {
+        may = refl;
+        stands = tt;
+        state = work d s RefreshPortDirection;
+        told = tells_nothing;
+        begins = None;
+        is = ap (λ x. Some (acts_by d s RefreshPortDirection x)) pass;
+        sends = sends_halves chip Fixed (sets n) (n / 2) (ones (wants d Fixed) n);
+        acts = tt;
+        reset = (calm_halves Fixed (sets n) (n / 2) (ones (wants d Fixed) n)).still;
+        next = (refreshed_all after w s (subst (λ j. PortAgrees d [] j after w s) (let is = last n lt i in omega (arith, is)) now), record { may = (refl, refl); served = false; owed = refl; shown = λ x. absurd (cc); report = refl });
+      }
+
+  own : (below : Holds) (chip : Chip) (w : World) (s : PortState) (k : RefreshBody) (o : Origin Call) (t : Past) → Stand (port_basis d) (refresh_bodies d) below chip w s k o t → may (refresh_work k) ≡ true
+  own below chip w s (bodies.Write e n) o t (h, (same, being, alone, lt, pass)) = may_halves Fixed (sets n) (n / 2) (ones (wants e Fixed) n) (omega (arith, lt))
+
+  dry : (k : RefreshBody) → writes_latches (refresh_work k) ≡ false
+  dry (bodies.Write e n) = dry_halves Fixed (sets n) (n / 2) (ones (wants e Fixed) n) (λ e. absurd (cc))
+
+  calm : (k : RefreshBody) → IsCalm (refresh_work k)
+  calm (bodies.Write e n) = calm_halves Fixed (sets n) (n / 2) (ones (wants e Fixed) n)
+
+  turns : (k : RefreshBody) (x : ℕ) → TurnsTo (refresh_bodies d) 32 k (refresh_takes k x)
+  turns (bodies.Write e n) x = by (nat_lt n 3) refl
+    where
+      by : (q : Bool) → nat_lt n 3 ≡ q → TurnsTo (refresh_bodies d) 32 (bodies.Write e n) (if q then (bodies.Write e (n + 1), goes) else (bodies.Write e n, ends (Some Act) no_answer Nothing))
+      by true i = (refl, let low = under n i in omega (arith, low))
+      by false i = omega arith
+
+  shortens : (k : RefreshBody) (x : ℕ) → Shortens refresh_left k (refresh_takes k x)
+  shortens (bodies.Write e n) x = by (nat_lt n 3) refl
+    where
+      by : (q : Bool) → nat_lt n 3 ≡ q → Shortens refresh_left (bodies.Write e n) (if q then (bodies.Write e (n + 1), goes) else (bodies.Write e n, ends (Some Act) no_answer Nothing))
+      by true i = let low = under n i in omega (arith, low)
+      by false i = omega arith
+
+  stays : (below : Holds) (w w1 : World) (s : PortState) (k : RefreshBody) (o : Origin Call) (t : Past) → place_at ((refresh_bodies d).spot k) below tt w s o t → place_at ((refresh_bodies d).spot k) below tt w1 s o t
+  stays below w w1 s (bodies.Write e n) o t h = h
+
+  pub refresh_right : AreLong (port_basis d) (refresh_bodies d)
+  refresh_right = record {
+    own = λ below chip w s k o t h. or_true (is_shared (refresh_work k)) (may_dry o (refresh_work k) (own below chip w s k o t h) (dry k));
+    turns = λ below chip w s k o t h. turns k (value_of chip (refresh_work k));
+    steps = λ below chip w s k o y t m come few h. steps below chip w s k o y t m h;
+    later = λ below chip w s order k o t come h. stays below w (world_after w chip.clock.rate order) s k o t h.1;
+    calm = λ below chip w s k o t h e. let c = calm k in (c.still, c.silent);
+    shortens = shortens;
+    cleans = λ k x. never_clean (refresh_work k) k (refresh_takes k x);
+  }

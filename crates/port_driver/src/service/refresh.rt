@@ -1,0 +1,38 @@
+use crate::driver::PortDriver;
+use crate::writes::Side;
+use mcal_base::Move;
+use service_outline::{Body, BodyTaken, Owed, acts_with, goes, nothing};
+
+/// `Port_RefreshPortDirection`, from the load of the state word on.
+#[derive(Clone, Copy, Debug)]
+pub enum RefreshBody {
+    /// It makes this one of its four writes, and acts at the last one.
+    Write(PortDriver, u16),
+}
+
+impl Body for RefreshBody {
+    ghost use Rattle.port_driver.specs.laws.Refresh.{refresh_work, refresh_takes};
+
+    ghost work_of = { refresh_work };
+
+    ghost takes = { refresh_takes };
+
+    fn next(&self) -> Move {
+        match *self {
+            RefreshBody::Write(driver, write) => driver.half_write(Side::Fixed, write),
+        }
+    }
+
+    fn took(&mut self, _value: u32) -> BodyTaken {
+        match *self {
+            RefreshBody::Write(driver, write) => {
+                if write < 3 {
+                    *self = RefreshBody::Write(driver, write + 1);
+                    goes()
+                } else {
+                    acts_with(nothing(), Owed::Nothing)
+                }
+            }
+        }
+    }
+}

@@ -1,0 +1,132 @@
+-- What frames of the module may do, and what a run of the driver is over.
+use Rattle.std.specs.Prelude.{◌≡◌, ℕ, ◌+◌, ◌*◌, ◌%◌, ◌<◌, ◌==◌, nat_lt, Bool, true, false, ◌&&◌, not, Option, Some, None, is_some}
+use Rattle.chip_pulses.specs.Pulses as pulses
+use Rattle.mcal_base.specs.Bits.{bit_of}
+use Rattle.mcal_base.specs.declared.module_name.ModuleName.{ModuleName}
+use Rattle.mcal_base.specs.declared.module_name.ModuleName.TheVariants.{Pwm}
+use Rattle.mcal_base.specs.declared.moves.Move.{Move}
+use Rattle.mcal_base.specs.declared.moves.Move.TheVariants.{Read, Write, Load, Store}
+use Rattle.mcal_base.specs.declared.register.Reg.{Reg}
+use Rattle.mcal_base.specs.declared.register.Reg.TheVariants.{EnableSet, EnableClear, PulsePeriod, PulseDuty, PulsePolarity, PulseCommit, PulseIdle, PulseOut, PulseEdges, PulseFlags}
+use Rattle.run_model.specs.declared.class.Class.{Class}
+use Rattle.run_model.specs.declared.class.Kind.TheVariants.{Exclusive, Keyed, Query}
+use Rattle.run_model.specs.declared.class.KeyKind.TheVariants as keys
+use Rattle.run_model.specs.Frame.{Origin, Called}
+use Rattle.run_model.specs.World.{World}
+use Rattle.run_model.specs.Moment.{Setting}
+use Rattle.service_outline.specs.There.{names_there}
+use Rattle.pwm_driver.specs.Machine.{PwmState, first_state, level_at, pwm_machine}
+use Rattle.pwm_driver.specs.Table.{channel_of, channel_of_line}
+use Rattle.pwm_driver.specs.declared.call.Call.{Call}
+use Rattle.pwm_driver.specs.declared.call.Call.TheVariants.{Init, DeInit, GetOutputState, Channel}
+use Rattle.pwm_driver.specs.declared.driver.Channel as configured
+use Rattle.pwm_driver.specs.declared.driver.PwmDriver.{PwmDriver}
+
+-- ---- classes, levels, lines
+
+-- the class of a call: the state of an output may always be asked, and what is asked of a channel otherwise has that channel as its key
+abbrev pub class_of : Call → Class
+class_of Init = record { kind = Exclusive; «module» = Pwm; key = None }
+class_of DeInit = record { kind = Exclusive; «module» = Pwm; key = None }
+class_of (GetOutputState c) = record { kind = Query; «module» = Pwm; key = None }
+class_of (Channel c call) = record { kind = Keyed; «module» = Pwm; key = Some (record { kind = keys.Channel; number = c }) }
+
+-- the level of a line, 1 where no configured channel uses it
+abbrev pub level_by : Option configured.Channel → ℕ
+level_by None = 1
+level_by (Some k) = k.level
+
+abbrev pub level_of : PwmDriver → ℕ → ℕ
+level_of d l = level_by (channel_of_line d l)
+
+abbrev pub owner_of : ℕ → ModuleName
+owner_of l = Pwm
+
+-- ---- steps and windows
+
+-- the number of configured channels
+abbrev pub counted : PwmDriver → ℕ → ℕ
+counted d c = bit_of (is_some (channel_of d c))
+
+abbrev pub channel_count : PwmDriver → ℕ
+channel_count d = counted d 0 + counted d 1 + counted d 2 + counted d 3 + counted d 4 + counted d 5 + counted d 6 + counted d 7
+
+-- the most steps of a frame: of `Pwm_Init` and of `Pwm_DeInit` 48 more for each configured channel
+abbrev pub whole_steps : PwmDriver → ℕ
+whole_steps d = 64 + 48 * channel_count d
+
+abbrev pub steps_of : PwmDriver → Origin Call → ℕ
+steps_of d (Called Init) = whole_steps d
+steps_of d (Called DeInit) = whole_steps d
+steps_of d _ = 64
+
+-- the most moves of a window
+abbrev pub window_of : Origin Call → ℕ
+window_of o = 32
+
+-- ---- what a frame may name
+
+-- a register of the pulse units
+abbrev pub is_pulse : Reg → Bool
+is_pulse (PulsePeriod c) = true
+is_pulse (PulseDuty c) = true
+is_pulse (PulsePolarity c) = true
+is_pulse (PulseCommit c) = true
+is_pulse (PulseIdle c) = true
+is_pulse (PulseOut c) = true
+is_pulse PulseEdges = true
+is_pulse PulseFlags = true
+is_pulse _ = false
+
+-- the value has bits of lines 8 to 15, and of no other
+abbrev pub is_for_lines : ℕ → Bool
+is_for_lines v = not (v == 0) && (v % 256 == 0 && nat_lt v 65536)
+
+-- a register of the module, or a value for lines of the module alone
+abbrev pub may_write : Reg → ℕ → Bool
+may_write EnableSet v = is_for_lines v
+may_write EnableClear v = is_for_lines v
+may_write r v = is_pulse r
+
+-- a driver word of the module, which uses 64
+abbrev pub is_own_word : ℕ → Bool
+is_own_word k = not (nat_lt k 24576) && nat_lt k 24640
+
+abbrev pub may_name : Move → Bool
+may_name (Read r) = is_pulse r
+may_name (Write r v) = may_write r v
+may_name (Load k) = is_own_word k
+may_name (Store k v) = is_own_word k
+may_name _ = false
+
+-- a move that a frame of the module may make: it names what is the module's and is there
+abbrev pub pwm_may : Move → Bool
+pwm_may made = may_name made && names_there made
+
+-- ---- the outputs
+
+-- the outputs of all eight pulse units are the machine's
+abbrev pub OutputsAgree : PwmDriver → pulses.Pulses → World → PwmState → Type 0
+OutputsAgree d b w s = (c : ℕ) → c < 8 → pulses.level_at b c ≡ level_at d w s c
+
+-- ---- the setting
+
+-- what a run of the driver is over
+abbrev pub pwm_setting : PwmDriver → Setting PwmState Call
+pwm_setting d = record {
+  machine = pwm_machine d;
+  first = first_state;
+  class_of = class_of;
+  level_of = level_of d;
+  owner_of = owner_of;
+  used = λ l. is_some (channel_of_line d l);
+  steps_of = steps_of d;
+  window_of = window_of;
+  may = λ o made. pwm_may made;
+  halves = λ call. None;
+  fills = λ c. false;
+  fill_busy = λ w s origins c. false;
+  rest = λ chip w s. Unit {0};
+  unmasked = λ chip w s origins. OutputsAgree d chip.pulses w s;
+  shows = λ origin n chip s. Unit {0};
+}

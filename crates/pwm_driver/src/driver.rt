@@ -1,0 +1,132 @@
+ghost use Rattle.std.specs.Prelude.{◌≡◌};
+ghost use Rattle.pwm_driver.specs.Bounds as bounds;
+ghost use Rattle.pwm_driver.specs.Table as spec;
+
+use crate::call::Call;
+use mcal_base::{ModuleName, PwmChannel, PwmChannelClass, PwmConfig, PwmOutputState};
+use run_model::Class;
+
+/// A configured channel.
+#[derive(Clone, Copy, Debug, PartialEq, Eq)]
+pub struct Channel {
+    /// `PwmChannelId`, 0 to 7.
+    pub number: u8,
+    /// `PwmChannelClass` is that of a variable period.
+    pub variable_period: bool,
+    /// `PwmDutycycleDefault`.
+    pub duty_cycle_default: u32,
+    /// `PwmIdleState` is high.
+    pub idle_high: bool,
+    /// `PwmPolarity` is high.
+    pub polarity_high: bool,
+    /// Whether `PwmNotification` is given.
+    pub notification: bool,
+    /// `PeriodTicks`: the period from `Pwm_Init` on.
+    pub period_ticks: u32,
+    /// `Level` of its line.
+    pub level: u32,
+}
+
+/// The pulse driver: what it keeps of a configuration.
+#[derive(Clone, Copy, Debug)]
+pub struct PwmDriver {
+    /// `PwmDevErrorDetect`.
+    pub detect: bool,
+    /// The channels by number, where they are configured.
+    pub channels: [Option<Channel>; 8],
+}
+
+impl PwmDriver {
+    /// The driver under a configuration. It takes no memory.
+    pub fn new(config: &PwmConfig) -> PwmDriver
+        ensures { result ≡ spec.driver_of config.now }
+    {
+        let channels = config.channels.as_slice();
+        PwmDriver {
+            detect: config.dev_error_detect,
+            channels: [
+                find(channels, 0),
+                find(channels, 1),
+                find(channels, 2),
+                find(channels, 3),
+                find(channels, 4),
+                find(channels, 5),
+                find(channels, 6),
+                find(channels, 7),
+            ],
+        }
+    }
+
+    /// The channel of a number, where it is configured.
+    pub fn channel(&self, number: u32) -> Option<Channel>
+        ensures { result ≡ spec.channel_of self.now number }
+    {
+        if number < 8 {
+            self.channels[number as usize]
+        } else {
+            None
+        }
+    }
+
+    /// The channel of a line, where it is configured.
+    pub fn channel_of_line(&self, line: u32) -> Option<Channel>
+        ensures { result ≡ spec.channel_of_line self.now line }
+    {
+        if line < 8 {
+            None
+        } else {
+            self.channel(line - 8)
+        }
+    }
+
+    /// The class of a call.
+    pub fn class(&self, call: &Call) -> Class
+        ensures { result ≡ bounds.class_of call.now }
+    {
+        call.class()
+    }
+
+    /// The level of a line, 1 where no configured channel uses it.
+    pub fn level(&self, line: u32) -> u32
+        ensures { result ≡ bounds.level_of self.now line }
+    {
+        match self.channel_of_line(line) {
+            Some(channel) => channel.level,
+            None => 1,
+        }
+    }
+
+    /// The module to which a line's handler belongs.
+    pub fn owner(&self, _line: u32) -> ModuleName
+        ensures { result ≡ bounds.owner_of _line }
+    {
+        ModuleName::Pwm
+    }
+}
+
+/// The first channel with this number.
+fn find(channels: &[PwmChannel], number: u8) -> Option<Channel>
+    ensures { result ≡ spec.channel_in channels.now number }
+{
+    for channel in channels {
+        if channel.id == u32::from(number) {
+            return Some(taken(channel, number));
+        }
+    }
+    None
+}
+
+fn taken(channel: &PwmChannel, number: u8) -> Channel
+    ensures { result ≡ spec.taken channel.now number }
+{
+    Channel {
+        number,
+        variable_period: channel.class == PwmChannelClass::VariablePeriod,
+        duty_cycle_default: channel.duty_cycle_default,
+        idle_high: channel.idle_state == PwmOutputState::High,
+        polarity_high: channel.polarity == PwmOutputState::High,
+        notification: channel.notification,
+        period_ticks: channel.period_ticks,
+        level: channel.level,
+    }
+}

@@ -1,0 +1,12 @@
+pub mod Bounds
+pub mod Channels
+pub mod Checks
+pub mod Laws
+pub mod Machine
+pub mod Numbered
+pub mod Pending
+pub mod Requests
+pub mod Runs
+pub mod State
+pub mod Table
+pub mod Transfers
