@@ -5,7 +5,7 @@ ghost use Rattle.mcu_driver.specs.Table as spec;
 ghost use Rattle.service_outline.specs.Done.{owed_error};
 
 use mcal_base::{
-    ErrorName, McuClockSetting, McuConfig, McuModeSetting, McuRamSection, ModuleName, Service,
+    Config, ErrorName, McuClockSetting, McuModeSetting, McuRamSection, ModuleName, Service,
 };
 use service_outline::Owed;
 
@@ -38,14 +38,14 @@ pub struct McuDriver {
 
 impl McuDriver {
     /// The driver under a configuration. It takes no memory.
-    pub fn new(config: &McuConfig) -> McuDriver
-        ensures { result ≡ spec.driver_of config.now }
+    pub fn new(config: &Config) -> McuDriver
+        ensures { result ≡ spec.driver_of config.now.mcu }
     {
-        let settings = config.clock_settings.as_slice();
-        let modes = config.modes.as_slice();
-        let sections = config.ram_sections.as_slice();
+        let settings = config.mcu.clock_settings.as_slice();
+        let modes = config.mcu.modes.as_slice();
+        let sections = config.mcu.ram_sections.as_slice();
         McuDriver {
-            detect: config.dev_error_detect,
+            detect: config.mcu.dev_error_detect,
             multipliers: [
                 find_multiplier(settings, 0),
                 find_multiplier(settings, 1),

@@ -2,7 +2,7 @@ ghost use Rattle.std.specs.Prelude.{◌≡◌, ◌<◌};
 ghost use Rattle.port_driver.specs.Bounds as bounds;
 ghost use Rattle.port_driver.specs.Table as spec;
 
-use mcal_base::{ModuleName, PortConfig, PortPin, PortPinDirection, PortPinMode};
+use mcal_base::{Config, ModuleName, PortPin, PortPinDirection, PortPinMode};
 
 /// How many pins there are.
 const PINS: u32 = 64;
@@ -65,12 +65,12 @@ pub struct PortDriver {
 
 impl PortDriver {
     /// The driver under a configuration. It takes no memory.
-    pub fn new(config: &PortConfig) -> PortDriver
-        ensures { result ≡ spec.driver_of config.now }
+    pub fn new(config: &Config) -> PortDriver
+        ensures { result ≡ spec.driver_of config.now.port }
     {
         PortDriver {
-            detect: config.dev_error_detect,
-            pins: by_number(config.pins.as_slice()),
+            detect: config.port.dev_error_detect,
+            pins: by_number(config.port.pins.as_slice()),
         }
     }
 

@@ -3,7 +3,7 @@ ghost use Rattle.pwm_driver.specs.Bounds as bounds;
 ghost use Rattle.pwm_driver.specs.Table as spec;
 
 use crate::call::Call;
-use mcal_base::{ModuleName, PwmChannel, PwmChannelClass, PwmConfig, PwmOutputState};
+use mcal_base::{Config, ModuleName, PwmChannel, PwmChannelClass, PwmOutputState};
 use run_model::Class;
 
 /// A configured channel.
@@ -38,12 +38,12 @@ pub struct PwmDriver {
 
 impl PwmDriver {
     /// The driver under a configuration. It takes no memory.
-    pub fn new(config: &PwmConfig) -> PwmDriver
-        ensures { result ≡ spec.driver_of config.now }
+    pub fn new(config: &Config) -> PwmDriver
+        ensures { result ≡ spec.driver_of config.now.pwm }
     {
-        let channels = config.channels.as_slice();
+        let channels = config.pwm.channels.as_slice();
         PwmDriver {
-            detect: config.dev_error_detect,
+            detect: config.pwm.dev_error_detect,
             channels: [
                 find(channels, 0),
                 find(channels, 1),
