@@ -1,17 +1,25 @@
--- What is written line by line is the report.
-use Rattle.std.proofs.Common.{◌≡◌, ℕ, Bool, true, false, List, [], ◌∷◌, ◌++◌, refl, ap, sym, ◌∙◌, append_assoc, cond, arith}
-use Rattle.std.specs.Prelude.{◌&&◌, flat_map, count_by}
+-- What is written line by line is the report, as far as it may be long.
+use Rattle.std.proofs.Common.{◌≡◌, ℕ, ◌+◌, ◌<◌, ◌≤◌, Bool, true, false, List, [], ◌∷◌, ◌++◌, refl, ap, sym, subst, ◌∙◌, append_assoc, cond, arith, Option, Some, None, map, length}
+use Rattle.std.specs.Prelude.{◌&&◌, ◌==◌, nat_lt, flat_map, count_by, decimal, codes}
 use Rattle.std.specs.List.{list_all}
-use Rattle.std.proofs.lemmas.List.{append-nil, map-append}
+use Rattle.std.proofs.lemmas.Bool.Decides.{nat_tests}
+use Rattle.std.proofs.lemmas.Bool.{eqb-true}
+use Rattle.std.proofs.lemmas.List.{append-nil, map-append, length-append}
 use Rattle.std.proofs.lemmas.List.Folds.{list_all-append}
 use Rattle.mcal_base.specs.declared.directive.Directive.{Directive}
-use Rattle.run_model.specs.Entry.{Entry}
+use Rattle.mcal_base.specs.declared.directive.Order.{Order}
+use Rattle.mcal_base.specs.declared.directive.Order.TheVariants as orders
+use Rattle.run_model.specs.Entry.{Entry, Said, Happens, Begins, Stays, Steps, Resets}
+use Rattle.run_model.specs.declared.item.Stepped.{Stepped}
 use Rattle.bench_report.specs.declared.frames.Purpose.{Purpose}
-use Rattle.bench_report.specs.Lines.{Line, Done, numbered, end_text}
+use Rattle.bench_report.specs.Limit.{most_bytes, is_too_long}
+use Rattle.bench_report.specs.Lines.{Line, Holds, Restarts, Shows, Done, numbered, line_text, end_text}
+use Rattle.bench_report.specs.Rows.{Row}
+use Rattle.bench_report.specs.Shown.{rows_text, next_rows, order_texts, said_texts, shows_after, texts_of}
 use Rattle.bench_report.specs.declared.tally.Tally.{Tally}
 use Rattle.bench_report.proofs.Counts.{calls_after, handlers_after, held_after, errors_after, notes_after}
-use Rattle.bench_report.specs.Report.{Numbered, said_lines, frames_after, is_step, chapter_lines, chapter_frames, with_done, own_entries, later_entries, report_lines, report, all_numbered, is_return, is_leave, is_hold, is_error, is_note}
-use Rattle.bench_report.specs.Pages.{Page, Course, beginning, put, say, say_all, entry_put, entries_put, closed, chapter_put, script_put, page_after}
+use Rattle.bench_report.specs.Report.{Numbered, order_lines, said_lines, step_lines, move_lines, end_lines, frames_after, frames_after_end, is_step, chapter_lines, chapter_frames, chapter_shows, with_done, own_entries, later_entries, report_lines, report, all_numbered, is_return, is_leave, is_hold, is_error, is_note, end_of}
+use Rattle.bench_report.specs.Pages.{Page, Course, blank, beginning, fitting, fitting_text, with_line, with_text, with_lines, put, paste, ended, say, say_all, text_put, order_put, said_put, step_put, entry_put, entries_put, closed, chapter_put, script_put, page_after}
 
 and_assoc : (a b c : Bool) → ((a && b) && c) ≡ (a && (b && c))
 and_assoc true b c = refl
@@ -21,100 +29,236 @@ and_true : (a : Bool) → (a && true) ≡ a
 and_true true = refl
 and_true false = refl
 
+-- ---- texts that grow
+
+longer : (xs ys : List ℕ) → is_too_long xs ≡ true → is_too_long (xs ++ ys) ≡ true
+longer xs ys h = let more = length-append xs ys in grind (arith, nat_tests)
+
+fit_by : (b : Bool) (p : Page) (n : ℕ) (l : Line) → is_too_long p.text ≡ b → put (cond b None (Some p)) n l ≡ fitting (with_line p n l)
+fit_by true p n l h = rw (longer p.text (numbered n l) h)
+fit_by false p n l h = refl
+
+put_fits : (p : Page) (n : ℕ) (l : Line) → put (fitting p) n l ≡ fitting (with_line p n l)
+put_fits p n l = fit_by (is_too_long p.text) p n l refl
+
+paste_by : (b : Bool) (p : Page) (text : List ℕ) → is_too_long p.text ≡ b → paste (cond b None (Some p)) text ≡ fitting (with_text p text)
+paste_by true p text h = rw (longer p.text text h)
+paste_by false p text h = refl
+
+paste_fits : (p : Page) (text : List ℕ) → paste (fitting p) text ≡ fitting (with_text p text)
+paste_fits p text = paste_by (is_too_long p.text) p text refl
+
+ended_by : (b : Bool) (p : Page) → is_too_long p.text ≡ b → ended (cond b None (Some p)) ≡ fitting_text (p.text ++ end_text p.tally)
+ended_by true p h = rw (longer p.text (end_text p.tally) h)
+ended_by false p h = refl
+
+ended_fits : (p : Page) → ended (fitting p) ≡ fitting_text (p.text ++ end_text p.tally)
+ended_fits p = ended_by (is_too_long p.text) p refl
+
 -- pages and lines
-pub page_after-append : (page : Page) (xs ys : List Numbered) → page_after page (xs ++ ys) ≡ page_after (page_after page xs) ys
+after_fits : (p : Page) (ls : List Numbered) → page_after (fitting p) ls ≡ fitting (with_lines p ls)
+after_fits p [] = refl
+after_fits p (l ∷ ls) = ap (λ q. page_after q ls) (put_fits p l.number l.says) ∙ after_fits (with_line p l.number l.says) ls
+
+page_after-append : (page : Option Page) (xs ys : List Numbered) → page_after page (xs ++ ys) ≡ page_after (page_after page xs) ys
 page_after-append page [] ys = refl
 page_after-append page (x ∷ xs) ys = page_after-append (put page x.number x.says) xs ys
 
-pub page_after-text : (page : Page) (xs : List Numbered) → (page_after page xs).text ≡ page.text ++ flat_map (λ l. numbered l.number l.says) xs
-page_after-text page [] = sym (append-nil page.text)
-page_after-text page (x ∷ xs) = page_after-text (put page x.number x.says) xs ∙ append_assoc page.text (numbered x.number x.says) (flat_map (λ l. numbered l.number l.says) xs)
+with_lines-text : (page : Page) (xs : List Numbered) → (with_lines page xs).text ≡ page.text ++ flat_map (λ l. numbered l.number l.says) xs
+with_lines-text page [] = sym (append-nil page.text)
+with_lines-text page (x ∷ xs) = with_lines-text (with_line page x.number x.says) xs ∙ append_assoc page.text (numbered x.number x.says) (flat_map (λ l. numbered l.number l.says) xs)
 
--- lines of one number, said one after the other
-pub said_is : (c : Course) (n : ℕ) (lines : List Line) → say_all c n lines ≡ record { page = page_after c.page (all_numbered n lines); frames = c.frames; silent = c.silent && list_all is_step lines }
-said_is c n [] = ap (λ s. record { page = c.page; frames = c.frames; silent = s }) (sym (and_true c.silent))
-said_is c n (line ∷ lines) = said_is (say c n line) n lines ∙ ap (λ s. record { page = page_after (put c.page n line) (all_numbered n lines); frames = c.frames; silent = s }) (and_assoc c.silent (is_step line) (list_all is_step lines))
+with_lines-append : (page : Page) (xs ys : List Numbered) → with_lines page (xs ++ ys) ≡ with_lines (with_lines page xs) ys
+with_lines-append page [] ys = refl
+with_lines-append page (x ∷ xs) ys = with_lines-append (with_line page x.number x.says) xs ys
+
+-- the lines of a show, at once and one after the other
+rows_one : (p : Page) (n : ℕ) (rows : List Row) → with_lines p (all_numbered n (map (λ row. Shows row) rows)) ≡ with_text p (rows_text n rows)
+rows_one p n [] = ap (λ t. record { text = t; tally = p.tally }) (sym (append-nil p.text))
+rows_one p n (row ∷ rows) = rows_one (with_line p n (Shows row)) n rows ∙ ap (λ t. record { text = t; tally = p.tally }) (append_assoc p.text (numbered n (Shows row)) (rows_text n rows))
+
+rows_pasted : (p : Page) (n : ℕ) (rows : List Row) → paste (fitting p) (rows_text n rows) ≡ page_after (fitting p) (all_numbered n (map (λ row. Shows row) rows))
+rows_pasted p n rows = paste_fits p (rows_text n rows) ∙ ap (λ q. fitting q) (sym (rows_one p n rows)) ∙ sym (after_fits p (all_numbered n (map (λ row. Shows row) rows)))
+
+numbered_some : (n : ℕ) (l : Line) (xs : List ℕ) → (length (numbered n l ++ xs) == 0) ≡ false
+numbered_some n l xs =
+    let a = length-append (numbered n l) xs in
+    let b = length-append (decimal n) (codes " " ++ (line_text l ++ codes "\n")) in
+    grind (arith, nat_tests)
+
+rows_silent : (n : ℕ) (rows : List Row) → (length (rows_text n rows) == 0) ≡ list_all is_step (map (λ row. Shows row) rows)
+rows_silent n [] = refl
+rows_silent n (row ∷ rows) = numbered_some n (Shows row) (rows_text n rows)
+
+-- ---- lines of one number, said one after the other
+
+said_is : (c : Course) (n : ℕ) (lines : List Line) → say_all c n lines ≡ record { page = page_after c.page (all_numbered n lines); frames = c.frames; silent = c.silent && list_all is_step lines; shows = c.shows }
+said_is c n [] = ap (λ s. record { page = c.page; frames = c.frames; silent = s; shows = c.shows }) (sym (and_true c.silent))
+said_is c n (line ∷ lines) = said_is (say c n line) n lines ∙ ap (λ s. record { page = page_after (put c.page n line) (all_numbered n lines); frames = c.frames; silent = s; shows = c.shows }) (and_assoc c.silent (is_step line) (list_all is_step lines))
 
 -- lines said in two parts
-pub say_all-append : (c : Course) (n : ℕ) (xs ys : List Line) → say_all c n (xs ++ ys) ≡ say_all (say_all c n xs) n ys
+say_all-append : (c : Course) (n : ℕ) (xs ys : List Line) → say_all c n (xs ++ ys) ≡ say_all (say_all c n xs) n ys
 say_all-append c n [] ys = refl
 say_all-append c n (x ∷ xs) ys = say_all-append (say c n x) n xs ys
 
--- the page, the frames and the silence after the items of a directive
-after_lines : Course → ℕ → List Line → List Purpose → Course
-after_lines c n lines frames = record { page = page_after c.page (all_numbered n lines); frames = frames; silent = c.silent && list_all is_step lines }
+-- what stands after lines
+made : List Purpose → List (List ℕ) → Option Page → Bool → Course
+made frames shows page silent = record { page = page; frames = frames; silent = silent; shows = shows }
 
-with_frames : List Purpose → Course → Course
-with_frames frames c = record c { frames = frames }
+after_lines : Course → ℕ → List Line → List Purpose → List (List ℕ) → Course
+after_lines c n lines frames shows = made frames shows (page_after c.page (all_numbered n lines)) (c.silent && list_all is_step lines)
 
-entry_is : (traced : Bool) (d : Directive) (c : Course) (e : Entry) → entry_put traced d c e ≡ after_lines c d.line (said_lines traced e.depth c.frames e.said) (frames_after d.order c.frames e.said)
-unfolding after_lines with_frames
-entry_is traced d c e = ap (λ (k : Course). with_frames (frames_after d.order c.frames e.said) k) (said_is c d.line (said_lines traced e.depth c.frames e.said))
-
--- lines after lines
-page_twice : (page : Page) (n : ℕ) (xs ys : List Line) → page_after (page_after page (all_numbered n xs)) (all_numbered n ys) ≡ page_after page (all_numbered n (xs ++ ys))
+page_twice : (page : Option Page) (n : ℕ) (xs ys : List Line) → page_after (page_after page (all_numbered n xs)) (all_numbered n ys) ≡ page_after page (all_numbered n (xs ++ ys))
 page_twice page n xs ys =
     sym (ap (λ ls. page_after page ls) (map-append (λ line. record { number = n; says = line }) xs ys) ∙ page_after-append page (all_numbered n xs) (all_numbered n ys))
 
 silent_twice : (a : Bool) (xs ys : List Line) → ((a && list_all is_step xs) && list_all is_step ys) ≡ (a && list_all is_step (xs ++ ys))
 silent_twice a xs ys = and_assoc a (list_all is_step xs) (list_all is_step ys) ∙ ap (λ b. a && b) (sym (list_all-append is_step xs ys))
 
-made : List Purpose → Page → Bool → Course
-made frames page silent = record { page = page; frames = frames; silent = silent }
-
-after_twice : (c : Course) (n : ℕ) (xs ys : List Line) (fs gs : List Purpose) → after_lines (after_lines c n xs fs) n ys gs ≡ after_lines c n (xs ++ ys) gs
+after_twice : (c : Course) (n : ℕ) (xs ys : List Line) (fs gs : List Purpose) (ts us : List (List ℕ)) → after_lines (after_lines c n xs fs ts) n ys gs us ≡ after_lines c n (xs ++ ys) gs us
 unfolding after_lines made
-after_twice c n xs ys fs gs =
-    ap (λ (p : Page). made gs p ((c.silent && list_all is_step xs) && list_all is_step ys)) (page_twice c.page n xs ys)
-    ∙ ap (λ (s : Bool). made gs (page_after c.page (all_numbered n (xs ++ ys))) s) (silent_twice c.silent xs ys)
+after_twice c n xs ys fs gs ts us =
+    ap (λ (p : Option Page). made gs us p ((c.silent && list_all is_step xs) && list_all is_step ys)) (page_twice c.page n xs ys)
+    ∙ ap (λ (s : Bool). made gs us (page_after c.page (all_numbered n (xs ++ ys))) s) (silent_twice c.silent xs ys)
 
-entries_are : (traced : Bool) (d : Directive) (c : Course) (es : List Entry) → entries_put traced d c es ≡ after_lines c d.line (chapter_lines traced d.order c.frames es) (chapter_frames d.order c.frames es)
+after_none : (c : Course) (n : ℕ) (ts : List (List ℕ)) → c.shows ≡ ts → c ≡ after_lines c n [] c.frames ts
 unfolding after_lines made
-entries_are traced d c [] = ap (λ (s : Bool). made c.frames c.page s) (sym (and_true c.silent))
-entries_are traced d c (e ∷ es) =
-    ap (λ (k : Course). entries_put traced d k es) (entry_is traced d c e)
-    ∙ entries_are traced d (after_lines c d.line (said_lines traced e.depth c.frames e.said) (frames_after d.order c.frames e.said)) es
-    ∙ after_twice c d.line (said_lines traced e.depth c.frames e.said) (chapter_lines traced d.order (frames_after d.order c.frames e.said) es) (frames_after d.order c.frames e.said) (chapter_frames d.order (frames_after d.order c.frames e.said) es)
+after_none c n ts h = ap (λ (us : List (List ℕ)). made c.frames us c.page c.silent) h ∙ ap (λ (s : Bool). made c.frames ts c.page s) (sym (and_true c.silent))
+
+-- ---- an item
+
+-- lines that are said, with what the frames after them were begun for
+said_after : (c : Course) (n : ℕ) (lines : List Line) (frames : List Purpose) (ts : List (List ℕ)) → c.shows ≡ ts → record (say_all c n lines) { frames = frames } ≡ after_lines c n lines frames ts
+unfolding after_lines made
+said_after c n lines frames ts h = ap (λ (k : Course). record k { frames = frames }) (said_is c n lines) ∙ ap (λ (us : List (List ℕ)). made frames us (page_after c.page (all_numbered n lines)) (c.silent && list_all is_step lines)) h
+
+-- the lines of a step
+three : (c : Course) (n : ℕ) (xs ys zs : List Line) → say_all (say_all (say_all c n xs) n ys) n zs ≡ say_all c n (xs ++ (ys ++ zs))
+three c n xs ys zs = sym (say_all-append (say_all c n xs) n ys zs) ∙ sym (say_all-append c n xs (ys ++ zs))
+
+-- the frames and the texts stay, whatever lines are said
+said_frames : (c : Course) (n : ℕ) (lines : List Line) → (say_all c n lines).frames ≡ c.frames
+said_frames c n lines = ap (λ (k : Course). k.frames) (said_is c n lines)
+
+-- a step's three kinds of lines
+step_of : Course → List Purpose → ℕ → Stepped → Course
+step_of k frames n e = record (say_all k n (end_lines frames e.ended)) { frames = frames_after_end frames e.ended }
+
+step_is : (traced : Bool) (c : Course) (n depth : ℕ) (e : Stepped) →
+    step_put traced c n depth e ≡ after_lines c n (step_lines traced depth e ++ (move_lines e.made ++ end_lines c.frames e.ended)) (frames_after_end c.frames e.ended) c.shows
+unfolding step_of
+step_is traced c n depth e =
+    let k = say_all (say_all c n (step_lines traced depth e)) n (move_lines e.made) in
+    let frames : k.frames ≡ c.frames = said_frames (say_all c n (step_lines traced depth e)) n (move_lines e.made) ∙ said_frames c n (step_lines traced depth e) in
+    ap (λ (fs : List Purpose). step_of k fs n e) frames
+    ∙ ap (λ (x : Course). record x { frames = frames_after_end c.frames e.ended }) (three c n (step_lines traced depth e) (move_lines e.made) (end_lines c.frames e.ended))
+    ∙ said_after c n (step_lines traced depth e ++ (move_lines e.made ++ end_lines c.frames e.ended)) (frames_after_end c.frames e.ended) c.shows refl
+
+-- a show
+show_is : (c : Course) (p : Page) (n : ℕ) (rows : List Row) (ts : List (List ℕ)) → c.page ≡ fitting p → c.shows ≡ rows_text n rows ∷ ts →
+    text_put c c.shows ≡ after_lines c n (map (λ row. Shows row) rows) c.frames ts
+unfolding after_lines made
+show_is c p n rows ts fits h =
+    ap (λ (us : List (List ℕ)). text_put c us) h
+    ∙ ap (λ (s : Bool). made c.frames ts (paste c.page (rows_text n rows)) (c.silent && s)) (rows_silent n rows)
+    ∙ ap (λ (q : Option Page). made c.frames ts q (c.silent && list_all is_step (map (λ row. Shows row) rows)))
+    (subst (λ (q : Option Page). paste q (rows_text n rows) ≡ page_after q (all_numbered n (map (λ row. Shows row) rows))) (sym fits) (rows_pasted p n rows))
+
+order_is : (c : Course) (p : Page) (n : ℕ) (shows : List (List Row)) (o : Order) (ts : List (List ℕ)) → c.page ≡ fitting p → c.shows ≡ order_texts n shows o ++ ts →
+    order_put c o ≡ after_lines c n (order_lines (next_rows shows) o) c.frames ts
+order_is c p n shows (orders.Show what) ts fits h = show_is c p n (next_rows shows) ts fits h
+order_is c p n shows _ ts fits h = after_none c n ts h
+
+-- an item
+said_one : (traced : Bool) (d : Directive) (c : Course) (p : Page) (depth : ℕ) (shows : List (List Row)) (said : Said) (ts : List (List ℕ)) → c.page ≡ fitting p → c.shows ≡ said_texts d.line shows said ++ ts →
+    said_put traced d c depth said ≡ after_lines c d.line (said_lines traced depth c.frames (next_rows shows) said) (frames_after d.order c.frames said) ts
+said_one traced d c p depth shows (Happens o) ts fits h = order_is c p d.line shows o ts fits h
+said_one traced d c p depth shows Begins ts fits h = said_after c d.line [] (frames_after d.order c.frames Begins) ts h
+said_one traced d c p depth shows (Stays cause) ts fits h = said_after c d.line (Holds cause ∷ []) c.frames ts h
+said_one traced d c p depth shows (Steps e) ts fits h = step_is traced c d.line depth e ∙ ap (λ (us : List (List ℕ)). after_lines c d.line (step_lines traced depth e ++ (move_lines e.made ++ end_lines c.frames e.ended)) (frames_after_end c.frames e.ended) us) h
+said_one traced d c p depth shows (Resets reason k) ts fits h = said_after c d.line (Restarts reason k ∷ []) [] ts h
+
+-- ---- the items of a directive
+
+-- what stands after them
+after_own : Bool → Directive → Course → List (List Row) → (own later : List Entry) → Course
+after_own traced d c shows own later = after_lines c d.line (chapter_lines traced d.order c.frames shows own) (chapter_frames d.order c.frames own) (texts_of later (chapter_shows shows own))
+
+none_own : (traced : Bool) (d : Directive) (c : Course) (shows : List (List Row)) (es : List Entry) → c.shows ≡ texts_of es shows → c ≡ after_own traced d c shows [] es
+unfolding after_own
+none_own traced d c shows es told = after_none c d.line (texts_of es shows) told
+
+-- one more in front
+entries_one : (traced : Bool) (d : Directive) (c : Course) (p : Page) (shows : List (List Row)) (e : Entry) (es : List Entry) → c.page ≡ fitting p → c.shows ≡ texts_of (e ∷ es) shows → e.line ≡ d.line →
+    ((k : Course) (q : Page) (later : List (List Row)) → k.page ≡ fitting q → k.shows ≡ texts_of es later → entries_put traced d k (own_entries d.line es) ≡ after_own traced d k later (own_entries d.line es) (later_entries d.line es)) →
+    entries_put traced d (entry_put traced d c e) (own_entries d.line es) ≡ after_own traced d c shows (e ∷ own_entries d.line es) (later_entries d.line es)
+unfolding after_own after_lines made
+entries_one traced d c p shows e es fits told same more =
+    let lines = said_lines traced e.depth c.frames (next_rows shows) e.said in
+    let frames = frames_after d.order c.frames e.said in
+    let rest = texts_of es (shows_after shows e.said) in
+    let k = after_lines c d.line lines frames rest in
+    let q = with_lines p (all_numbered d.line lines) in
+    let fitted : page_after c.page (all_numbered d.line lines) ≡ fitting q = ap (λ x. page_after x (all_numbered d.line lines)) fits ∙ after_fits p (all_numbered d.line lines) in
+    let one : entry_put traced d c e ≡ k = said_one traced d c p e.depth shows e.said rest fits (told ∙ ap (λ (n : ℕ). said_texts n shows e.said ++ rest) same) in
+    ap (λ (x : Course). entries_put traced d x (own_entries d.line es)) one
+    ∙ more k q (shows_after shows e.said) fitted refl
+    ∙ after_twice c d.line lines (chapter_lines traced d.order frames (shows_after shows e.said) (own_entries d.line es)) frames (chapter_frames d.order frames (own_entries d.line es)) rest
+    (texts_of (later_entries d.line es) (chapter_shows (shows_after shows e.said) (own_entries d.line es)))
+
+-- all of them, by whether the first is the directive's
+entries_by : (b : Bool) (traced : Bool) (d : Directive) (c : Course) (p : Page) (shows : List (List Row)) (e : Entry) (es : List Entry) → c.page ≡ fitting p → c.shows ≡ texts_of (e ∷ es) shows → (e.line == d.line) ≡ b →
+    ((k : Course) (q : Page) (later : List (List Row)) → k.page ≡ fitting q → k.shows ≡ texts_of es later → entries_put traced d k (own_entries d.line es) ≡ after_own traced d k later (own_entries d.line es) (later_entries d.line es)) →
+    entries_put traced d c (cond b (e ∷ own_entries d.line es) []) ≡ after_own traced d c shows (cond b (e ∷ own_entries d.line es) []) (cond b (later_entries d.line es) (e ∷ es))
+entries_by true traced d c p shows e es fits told is more = entries_one traced d c p shows e es fits told (eqb-true e.line d.line is) more
+entries_by false traced d c p shows e es fits told is more = none_own traced d c shows (e ∷ es) told
+
+entries_are : (traced : Bool) (d : Directive) (es : List Entry) (c : Course) (p : Page) (shows : List (List Row)) → c.page ≡ fitting p → c.shows ≡ texts_of es shows →
+    entries_put traced d c (own_entries d.line es) ≡ after_own traced d c shows (own_entries d.line es) (later_entries d.line es)
+entries_are traced d [] c p shows fits told = none_own traced d c shows [] told
+entries_are traced d (e ∷ es) c p shows fits told = entries_by (e.line == d.line) traced d c p shows e es fits told refl (λ k q later f t. entries_are traced d es k q later f t)
+
+-- ---- a directive
 
 -- the line ok, where it comes
-closed_page : (page : Page) (n : ℕ) (lines : List Line) (frames : List Purpose) (b : Bool) → (closed n (made frames (page_after page (all_numbered n lines)) b)).page ≡ page_after page (all_numbered n (cond b (lines ++ Done ∷ []) lines))
+closed_is : (page : Option Page) (n : ℕ) (lines : List Line) (frames : List Purpose) (ts : List (List ℕ)) (b : Bool) →
+    closed n (made frames ts (page_after page (all_numbered n lines)) b) ≡ made frames ts (page_after page (all_numbered n (cond b (lines ++ Done ∷ []) lines))) (b && false)
 unfolding made
-closed_page page n lines frames true = page_twice page n lines (Done ∷ [])
-closed_page page n lines frames false = refl
+closed_is page n lines frames ts true = ap (λ (q : Option Page). made frames ts q false) (page_twice page n lines (Done ∷ []))
+closed_is page n lines frames ts false = refl
 
-closed_frames : (page : Page) (n : ℕ) (frames : List Purpose) (b : Bool) → (closed n (made frames page b)).frames ≡ frames
-unfolding made
-closed_frames page n frames true = refl
-closed_frames page n frames false = refl
-
--- a directive with its items
 spoken : Course → Course
 spoken c = record c { silent = true }
 
-chapter_page : (traced : Bool) (d : Directive) (c : Course) (es : List Entry) → (chapter_put traced d c es).page ≡ page_after c.page (all_numbered d.line (with_done (chapter_lines traced d.order c.frames (own_entries d.line es))))
-unfolding after_lines made spoken
-chapter_page traced d c es =
-    ap (λ (k : Course). (closed d.line k).page) (entries_are traced d (spoken c) (own_entries d.line es))
-    ∙ closed_page c.page d.line (chapter_lines traced d.order c.frames (own_entries d.line es)) (chapter_frames d.order c.frames (own_entries d.line es)) (list_all is_step (chapter_lines traced d.order c.frames (own_entries d.line es)))
+-- what stands after a directive with its items
+after_chapter : Bool → Directive → Course → List (List Row) → List Entry → Bool → Course
+after_chapter traced d c shows es b = made (chapter_frames d.order c.frames (own_entries d.line es)) (texts_of (later_entries d.line es) (chapter_shows shows (own_entries d.line es)))
+    (page_after c.page (all_numbered d.line (with_done (chapter_lines traced d.order c.frames shows (own_entries d.line es))))) b
 
-chapter_after : (traced : Bool) (d : Directive) (c : Course) (es : List Entry) → (chapter_put traced d c es).frames ≡ chapter_frames d.order c.frames (own_entries d.line es)
-unfolding after_lines made spoken
-chapter_after traced d c es =
-    ap (λ (k : Course). (closed d.line k).frames) (entries_are traced d (spoken c) (own_entries d.line es))
-    ∙ closed_frames (page_after c.page (all_numbered d.line (chapter_lines traced d.order c.frames (own_entries d.line es)))) d.line (chapter_frames d.order c.frames (own_entries d.line es)) (list_all is_step (chapter_lines traced d.order c.frames (own_entries d.line es)))
+chapter_is : (traced : Bool) (d : Directive) (c : Course) (p : Page) (shows : List (List Row)) (es : List Entry) → c.page ≡ fitting p → c.shows ≡ texts_of es shows →
+    chapter_put traced d c es ≡ after_chapter traced d c shows es (list_all is_step (chapter_lines traced d.order c.frames shows (own_entries d.line es)) && false)
+unfolding after_own after_lines spoken after_chapter
+chapter_is traced d c p shows es fits told =
+    ap (λ (k : Course). closed d.line k) (entries_are traced d es (spoken c) p shows fits told)
+    ∙ closed_is c.page d.line (chapter_lines traced d.order c.frames shows (own_entries d.line es)) (chapter_frames d.order c.frames (own_entries d.line es))
+    (texts_of (later_entries d.line es) (chapter_shows shows (own_entries d.line es))) (list_all is_step (chapter_lines traced d.order c.frames shows (own_entries d.line es)))
 
--- a script
-script_is : (traced : Bool) (c : Course) (ds : List Directive) (es : List Entry) → (script_put traced c ds es).page ≡ page_after c.page (report_lines traced c.frames ds es)
-script_is traced c [] es = refl
-script_is traced c (d ∷ ds) es =
-    script_is traced (chapter_put traced d c es) ds (later_entries d.line es)
-    ∙ ap (λ (p : Page). page_after p (report_lines traced (chapter_put traced d c es).frames ds (later_entries d.line es))) (chapter_page traced d c es)
-    ∙ ap (λ (fs : List Purpose). page_after (page_after c.page (all_numbered d.line (with_done (chapter_lines traced d.order c.frames (own_entries d.line es))))) (report_lines traced fs ds (later_entries d.line es))) (chapter_after traced d c es)
-    ∙ sym (page_after-append c.page (all_numbered d.line (with_done (chapter_lines traced d.order c.frames (own_entries d.line es)))) (report_lines traced (chapter_frames d.order c.frames (own_entries d.line es)) ds (later_entries d.line es)))
+-- ---- a script
+script_is : (traced : Bool) (ds : List Directive) (c : Course) (p : Page) (shows : List (List Row)) (es : List Entry) → c.page ≡ fitting p → c.shows ≡ texts_of es shows →
+    (script_put traced c ds es).page ≡ fitting (with_lines p (report_lines traced c.frames shows ds es))
+unfolding after_chapter made
+script_is traced [] c p shows es fits told = fits
+script_is traced (d ∷ ds) c p shows es fits told =
+    let own = own_entries d.line es in
+    let later = later_entries d.line es in
+    let lines = all_numbered d.line (with_done (chapter_lines traced d.order c.frames shows own)) in
+    let k = after_chapter traced d c shows es (list_all is_step (chapter_lines traced d.order c.frames shows own) && false) in
+    let fitted : page_after c.page lines ≡ fitting (with_lines p lines) = ap (λ x. page_after x lines) fits ∙ after_fits p lines in
+    ap (λ (x : Course). (script_put traced x ds later).page) (chapter_is traced d c p shows es fits told)
+    ∙ script_is traced ds k (with_lines p lines) (chapter_shows shows own) later fitted refl
+    ∙ ap (λ (q : Page). fitting q) (sym (with_lines-append p lines (report_lines traced (chapter_frames d.order c.frames own) (chapter_shows shows own) ds later)))
 
--- the whole text of a page
-whole : Page → List ℕ
-whole page = page.text ++ end_text page.tally
+-- ---- the whole text
 
 tallied : ℕ → ℕ → ℕ → ℕ → ℕ → Tally
 tallied c h x e m = record { calls = c; handlers = h; held = x; errors = e; notes = m }
@@ -122,16 +266,24 @@ tallied c h x e m = record { calls = c; handlers = h; held = x; errors = e; note
 tallied_same : (c c' h h' x x' e e' m m' : ℕ) → c ≡ c' → h ≡ h' → x ≡ x' → e ≡ e' → m ≡ m' → tallied c h x e m ≡ tallied c' h' x' e' m'
 tallied_same c c' h h' x x' e e' m m' p q r s t = cc
 
-tally_is : (lines : List Numbered) → (page_after beginning.page lines).tally ≡ tallied (count_by (λ l. is_return l.says) lines) (count_by (λ l. is_leave l.says) lines) (count_by (λ l. is_hold l.says) lines) (count_by (λ l. is_error l.says) lines) (count_by (λ l. is_note l.says) lines)
+tally_is : (lines : List Numbered) → (with_lines blank lines).tally ≡ tallied (count_by (λ l. is_return l.says) lines) (count_by (λ l. is_leave l.says) lines) (count_by (λ l. is_hold l.says) lines) (count_by (λ l. is_error l.says) lines) (count_by (λ l. is_note l.says) lines)
 unfolding tallied
 tally_is lines =
     tallied_same _ _ _ _ _ _ _ _ _ _
-    (omega (arith, calls_after beginning.page lines)) (omega (arith, handlers_after beginning.page lines)) (omega (arith, held_after beginning.page lines))
-    (omega (arith, errors_after beginning.page lines)) (omega (arith, notes_after beginning.page lines))
+    (omega (arith, calls_after blank lines)) (omega (arith, handlers_after blank lines)) (omega (arith, held_after blank lines))
+    (omega (arith, errors_after blank lines)) (omega (arith, notes_after blank lines))
 
-pub report_is : (traced : Bool) (script : List Directive) (es : List Entry) → (script_put traced beginning script es).page.text ++ end_text (script_put traced beginning script es).page.tally ≡ report traced script es
-unfolding whole tallied
-report_is traced script es =
-    ap (λ (p : Page). whole p) (script_is traced beginning script es)
-    ∙ ap (λ (bs : List ℕ). bs ++ end_text (page_after beginning.page (report_lines traced [] script es)).tally) (page_after-text beginning.page (report_lines traced [] script es))
-    ∙ ap (λ (t : Tally). flat_map (λ l. numbered l.number l.says) (report_lines traced [] script es) ++ end_text t) (tally_is (report_lines traced [] script es))
+whole_is : (lines : List Numbered) → (with_lines blank lines).text ++ end_text (with_lines blank lines).tally ≡ flat_map (λ l. numbered l.number l.says) lines ++ end_of lines
+unfolding tallied
+whole_is lines =
+    ap (λ (bs : List ℕ). bs ++ end_text (with_lines blank lines).tally) (with_lines-text blank lines)
+    ∙ ap (λ (t : Tally). flat_map (λ l. numbered l.number l.says) lines ++ end_text t) (tally_is lines)
+
+-- the text that is written is the report, or nothing where the report is too long
+pub report_is : (traced : Bool) (script : List Directive) (es : List Entry) (shows : List (List Row)) →
+    ended (script_put traced (beginning (texts_of es shows)) script es).page ≡ fitting_text (report traced script es shows)
+report_is traced script es shows =
+    let lines = report_lines traced [] shows script es in
+    ap (λ q. ended q) (script_is traced script (beginning (texts_of es shows)) blank shows es refl refl)
+    ∙ ended_fits (with_lines blank lines)
+    ∙ ap (λ t. fitting_text t) (whole_is lines)

@@ -17,6 +17,7 @@ use Rattle.mcal_base.specs.declared.service.Service.{Service}
 use Rattle.mcal_base.specs.Names.{service_text, answer_text, notice_text}
 use Rattle.det_errors.specs.Spelling.{error_text}
 use Rattle.bench_report.specs.Registers.{register_text}
+use Rattle.bench_report.specs.Rows.{Row, row_text}
 use Rattle.bench_report.specs.declared.lines.Line as written
 use Rattle.bench_report.specs.declared.tally.Tally.{Tally}
 use Rattle.bench_report.specs.declared.lines.Line.TheVariants as lines
@@ -37,6 +38,8 @@ pub data Line : Type 0 where
   Leaves : ℕ → Line
   -- the chip was reset, and so many frames were dropped
   Restarts : Reason → ℕ → Line
+  -- a row that is shown
+  Shows : Row → Line
   -- nothing else is printed
   Done : Line
 
@@ -110,6 +113,7 @@ line_text (Errs found) = report_text (codes "error") found
 line_text (Returns service head words) = codes "return " ++ (service_text service ++ (head_text head ++ words_text words))
 line_text (Leaves line) = codes "left " ++ decimal line
 line_text (Restarts reason dropped) = codes "reset " ++ (reason_text reason ++ (codes " " ++ decimal dropped))
+line_text (Shows row) = row_text row
 line_text Done = codes "ok"
 
 -- a line with its number and its line feed

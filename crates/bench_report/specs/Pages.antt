@@ -1,12 +1,15 @@
--- How the lines of a report are written one after the other.
-use Rattle.std.specs.Prelude.{ℕ, ◌+◌, ◌&&◌, List, [], ◌∷◌, ◌++◌, Bool, true, Option, if◌then◌else◌}
+-- How the lines of a report are written one after the other, as far as a report may be long.
+use Rattle.std.specs.Prelude.{ℕ, ◌+◌, ◌==◌, ◌&&◌, List, [], ◌∷◌, ◌++◌, length, Bool, true, Option, Some, None, if◌then◌else◌}
 use Rattle.mcal_base.specs.declared.answer.Answer.{Answer}
 use Rattle.mcal_base.specs.declared.directive.Directive.{Directive}
-use Rattle.run_model.specs.Entry.{Entry}
+use Rattle.mcal_base.specs.declared.directive.Order.{Order}
+use Rattle.mcal_base.specs.declared.directive.Order.TheVariants as orders
+use Rattle.run_model.specs.Entry.{Entry, Said, Happens, Begins, Stays, Steps, Resets}
 use Rattle.run_model.specs.declared.item.Stepped.{Stepped}
 use Rattle.bench_report.specs.declared.frames.Purpose.{Purpose}
 use Rattle.bench_report.specs.declared.tally.Tally.{Tally}
-use Rattle.bench_report.specs.Lines.{Line, Holds, Makes, Notes, Errs, Returns, Leaves, Restarts, Done, numbered}
+use Rattle.bench_report.specs.Limit.{is_too_long}
+use Rattle.bench_report.specs.Lines.{Line, Holds, Makes, Notes, Errs, Returns, Leaves, Restarts, Shows, Done, numbered, end_text}
 use Rattle.bench_report.specs.Report.{Numbered, frames_after, frames_after_end, said_lines, step_lines, move_lines, end_lines, is_step, own_entries, later_entries}
 
 -- one more line is counted
@@ -18,6 +21,7 @@ counted tally (Errs found) = record tally { errors = tally.errors + 1 }
 counted tally (Returns service head words) = record tally { calls = tally.calls + 1 }
 counted tally (Leaves line) = record tally { handlers = tally.handlers + 1 }
 counted tally (Restarts reason dropped) = tally
+counted tally (Shows row) = tally
 counted tally Done = tally
 
 -- the text so far and what its lines count
@@ -25,19 +29,47 @@ pub record Page : Type 0 where
   pub text : List ℕ
   pub tally : Tally
 
--- a page with one more line
-abbrev pub put : Page → ℕ → Line → Page
-put page number line = record { text = page.text ++ numbered number line; tally = counted page.tally line }
+-- the page, where it is not too long
+abbrev pub fitting : Page → Option Page
+fitting page = if is_too_long page.text then None else Some page
 
--- the page, what the frames were begun for, and whether the directive printed nothing but steps yet
+-- a page with one more line
+abbrev pub with_line : Page → ℕ → Line → Page
+with_line page number line = record { text = page.text ++ numbered number line; tally = counted page.tally line }
+
+abbrev pub put : Option Page → ℕ → Line → Option Page
+put None number line = None
+put (Some page) number line = fitting (with_line page number line)
+
+-- a page with the lines of a show behind it, which are not counted
+abbrev pub with_text : Page → List ℕ → Page
+with_text page text = record { text = page.text ++ text; tally = page.tally }
+
+abbrev pub paste : Option Page → List ℕ → Option Page
+paste None text = None
+paste (Some page) text = fitting (with_text page text)
+
+-- the whole text, where it is not too long
+abbrev pub fitting_text : List ℕ → Option (List ℕ)
+fitting_text text = if is_too_long text then None else Some text
+
+abbrev pub ended : Option Page → Option (List ℕ)
+ended None = None
+ended (Some page) = fitting_text (page.text ++ end_text page.tally)
+
+-- the page, what the frames were begun for, whether the directive printed nothing but steps yet, and the texts of the shows to come
 pub record Course : Type 0 where
-  pub page : Page
+  pub page : Option Page
   pub frames : List Purpose
   pub silent : Bool
+  pub shows : List (List ℕ)
 
 -- before the first line
-abbrev pub beginning : Course
-beginning = record { page = record { text = []; tally = record { calls = 0; handlers = 0; held = 0; errors = 0; notes = 0 } }; frames = []; silent = true }
+abbrev pub blank : Page
+blank = record { text = []; tally = record { calls = 0; handlers = 0; held = 0; errors = 0; notes = 0 } }
+
+abbrev pub beginning : (shows : List (List ℕ)) → Course
+beginning shows = record { page = Some blank; frames = []; silent = true; shows = shows }
 
 -- after one more line, and after lines
 abbrev pub say : Course → ℕ → Line → Course
@@ -55,10 +87,25 @@ end_put c number ended = record (say_all c number (end_lines c.frames ended)) { 
 abbrev pub step_put : Bool → Course → ℕ → ℕ → Stepped → Course
 step_put traced c number depth step = end_put (say_all (say_all c number (step_lines traced depth step)) number (move_lines step.made)) number step.ended
 
+-- after the lines of a show
+abbrev pub text_put : Course → List (List ℕ) → Course
+text_put c [] = c
+text_put c (text ∷ texts) = record c { page = paste c.page text; silent = c.silent && (length text == 0); shows = texts }
+
+abbrev pub order_put : Course → Order → Course
+order_put c (orders.Show what) = text_put c c.shows
+order_put c _ = c
+
 -- after an item of a directive, and after items
+abbrev pub said_put : Bool → Directive → Course → ℕ → Said → Course
+said_put traced directive c depth (Happens what) = order_put c what
+said_put traced directive c depth Begins = record c { frames = frames_after directive.order c.frames Begins }
+said_put traced directive c depth (Stays cause) = say c directive.line (Holds cause)
+said_put traced directive c depth (Steps step) = step_put traced c directive.line depth step
+said_put traced directive c depth (Resets reason dropped) = record (say c directive.line (Restarts reason dropped)) { frames = [] }
+
 abbrev pub entry_put : Bool → Directive → Course → Entry → Course
-entry_put traced directive c entry =
-    record (say_all c directive.line (said_lines traced entry.depth c.frames entry.said)) { frames = frames_after directive.order c.frames entry.said }
+entry_put traced directive c entry = said_put traced directive c entry.depth entry.said
 
 abbrev pub entries_put : Bool → Directive → Course → List Entry → Course
 entries_put traced directive c [] = c
@@ -77,7 +124,11 @@ abbrev pub script_put : Bool → Course → List Directive → List Entry → Co
 script_put traced c [] entries = c
 script_put traced c (directive ∷ script) entries = script_put traced (chapter_put traced directive c entries) script (later_entries directive.line entries)
 
--- a page after lines
-abbrev pub page_after : Page → List Numbered → Page
+-- a page after lines, and one that may be of any length
+abbrev pub page_after : Option Page → List Numbered → Option Page
 page_after page [] = page
 page_after page (line ∷ lines) = page_after (put page line.number line.says) lines
+
+abbrev pub with_lines : Page → List Numbered → Page
+with_lines page [] = page
+with_lines page (line ∷ lines) = with_lines (with_line page line.number line.says) lines

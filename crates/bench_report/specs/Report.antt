@@ -1,4 +1,4 @@
--- The report of a script and of what its journal says.
+-- The report of a script, of what its journal says, and of the rows that each of its shows printed.
 use Rattle.std.specs.Prelude.{ℕ, ◌==◌, List, [], ◌∷◌, ◌++◌, Bool, true, false, Option, Some, None, map, drop, flat_map, count_by, option_to_list, if◌then◌else◌}
 use Rattle.std.specs.List.{list_all}
 use Rattle.mcal_base.specs.declared.answer.Answer.{Answer}
@@ -11,7 +11,9 @@ use Rattle.run_model.specs.Entry.{Entry, Said, Happens, Begins, Stays, Steps, Re
 use Rattle.run_model.specs.declared.item.Stepped.{Stepped}
 use Rattle.bench_report.specs.declared.frames.Purpose.{Purpose}
 use Rattle.bench_report.specs.declared.frames.Purpose.TheVariants as purposes
-use Rattle.bench_report.specs.Lines.{Line, Holds, Makes, Notes, Errs, Returns, Leaves, Restarts, Done, numbered, end_text}
+use Rattle.bench_report.specs.Lines.{Line, Holds, Makes, Notes, Errs, Returns, Leaves, Restarts, Shows, Done, numbered, end_text}
+use Rattle.bench_report.specs.Rows.{Row}
+use Rattle.bench_report.specs.Shown.{next_rows, shows_after}
 
 -- what a directive begins a frame for
 abbrev pub purpose_of : Order → Option Purpose
@@ -52,22 +54,32 @@ end_lines [] (Some answer) = []
 end_lines (purposes.Call service ∷ frames) (Some answer) = Returns service answer.head answer.words ∷ []
 end_lines (purposes.Handler line ∷ frames) (Some answer) = Leaves line ∷ []
 
--- the lines of an item, with what the frames before it were begun for
-abbrev pub said_lines : Bool → ℕ → List Purpose → Said → List Line
-said_lines traced depth frames (Happens what) = []
-said_lines traced depth frames Begins = []
-said_lines traced depth frames (Stays cause) = Holds cause ∷ []
-said_lines traced depth frames (Steps step) = step_lines traced depth step ++ (move_lines step.made ++ end_lines frames step.ended)
-said_lines traced depth frames (Resets reason dropped) = Restarts reason dropped ∷ []
+-- the lines of what happened: a show prints its rows
+abbrev pub order_lines : List Row → Order → List Line
+order_lines rows (orders.Show what) = map (λ row. Shows row) rows
+order_lines rows _ = []
 
--- the lines of the items of a directive, and what the frames after them were begun for
-abbrev pub chapter_lines : Bool → Order → List Purpose → List Entry → List Line
-chapter_lines traced order frames [] = []
-chapter_lines traced order frames (entry ∷ entries) = said_lines traced entry.depth frames entry.said ++ chapter_lines traced order (frames_after order frames entry.said) entries
+-- the lines of an item, with what the frames before it were begun for, and the rows of the show that comes next
+abbrev pub said_lines : Bool → ℕ → List Purpose → List Row → Said → List Line
+said_lines traced depth frames rows (Happens what) = order_lines rows what
+said_lines traced depth frames rows Begins = []
+said_lines traced depth frames rows (Stays cause) = Holds cause ∷ []
+said_lines traced depth frames rows (Steps step) = step_lines traced depth step ++ (move_lines step.made ++ end_lines frames step.ended)
+said_lines traced depth frames rows (Resets reason dropped) = Restarts reason dropped ∷ []
+
+-- the lines of the items of a directive, what the frames after them were begun for, and the shows that are left
+abbrev pub chapter_lines : Bool → Order → List Purpose → List (List Row) → List Entry → List Line
+chapter_lines traced order frames shows [] = []
+chapter_lines traced order frames shows (entry ∷ entries) =
+    said_lines traced entry.depth frames (next_rows shows) entry.said ++ chapter_lines traced order (frames_after order frames entry.said) (shows_after shows entry.said) entries
 
 abbrev pub chapter_frames : Order → List Purpose → List Entry → List Purpose
 chapter_frames order frames [] = frames
 chapter_frames order frames (entry ∷ entries) = chapter_frames order (frames_after order frames entry.said) entries
+
+abbrev pub chapter_shows : List (List Row) → List Entry → List (List Row)
+chapter_shows shows [] = shows
+chapter_shows shows (entry ∷ entries) = chapter_shows (shows_after shows entry.said) entries
 
 -- the line of a step itself, beside which a directive may print ok
 abbrev pub is_step : Line → Bool
@@ -96,12 +108,17 @@ abbrev pub all_numbered : ℕ → List Line → List Numbered
 all_numbered number lines = map (λ line. record { number = number; says = line }) lines
 
 -- the lines of a script, directive by directive
-abbrev pub report_lines : Bool → List Purpose → List Directive → List Entry → List Numbered
-report_lines traced frames [] entries = []
-report_lines traced frames (directive ∷ script) entries =
+abbrev pub report_lines : Bool → List Purpose → List (List Row) → List Directive → List Entry → List Numbered
+report_lines traced frames shows [] entries = []
+report_lines traced frames shows (directive ∷ script) entries =
     let own = own_entries directive.line entries in
-    all_numbered directive.line (with_done (chapter_lines traced directive.order frames own))
-    ++ report_lines traced (chapter_frames directive.order frames own) script (later_entries directive.line entries)
+    all_numbered directive.line (with_done (chapter_lines traced directive.order frames shows own))
+    ++ report_lines traced (chapter_frames directive.order frames own) (chapter_shows shows own) script (later_entries directive.line entries)
+
+-- the items that belong to no directive of the script
+abbrev pub left_over : List Directive → List Entry → List Entry
+left_over [] entries = entries
+left_over (directive ∷ script) entries = left_over script (later_entries directive.line entries)
 
 -- the kinds of lines that the last line counts
 abbrev pub is_return : Line → Bool
@@ -135,7 +152,7 @@ end_of lines = end_text (record {
 })
 
 -- the report, with a line for each step where it is traced
-abbrev pub report : Bool → List Directive → List Entry → List ℕ
-report traced script entries =
-    let lines = report_lines traced [] script entries in
+abbrev pub report : Bool → List Directive → List Entry → (shows : List (List Row)) → List ℕ
+report traced script entries shows =
+    let lines = report_lines traced [] shows script entries in
     flat_map (λ l. numbered l.number l.says) lines ++ end_of lines

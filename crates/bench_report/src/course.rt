@@ -1,15 +1,16 @@
-ghost use Rattle.std.specs.Prelude.{ℕ, List, ◌≡◌, ◌++◌, [], OnOk, IfOk, Some, false, string_bytes};
+ghost use Rattle.std.specs.Prelude.{ℕ, List, ◌≡◌, [], OnOk, IfOk, Some, None, Err, false, map, string_bytes};
 ghost use Rattle.std.specs.Bool.{OnTrue};
 ghost use Rattle.run_model.specs.Entry.{entries, entry_at, words_at, answer_at, step_at};
-ghost use Rattle.bench_report.specs.Lines.{line_of, end_text};
+ghost use Rattle.bench_report.specs.Lines.{line_of};
 ghost use Rattle.bench_report.specs.Report as spec;
 ghost use Rattle.bench_report.specs.Pages as pages;
 
 use crate::frames::{Frames, Purpose, purpose_of};
+use crate::limit::ReportEnd;
 use crate::lines::Line;
 use crate::page::Page;
 use mcal_base::{Directive, Move};
-use run_model::{Item, Logged, LoggedAnswer, Span, What};
+use run_model::{Hardware, Item, Logged, LoggedAnswer, Span, What};
 use std::alloc::{AllocError, Global};
 use std::marker::Model;
 
@@ -29,31 +30,35 @@ fn is_silent(logged: &Logged) -> bool
     logged.ended.is_none() && !matches!(logged.made, Move::Note(_) | Move::Report(_))
 }
 
-/// A report under way: its lines, what the frames were begun for, and whether the directive printed nothing but steps yet.
+/// A report under way: its lines, what the frames were begun for, whether the directive printed nothing but steps yet,
+/// and the lines of the shows to come.
 #[derive(Drop)]
-pub(crate) struct Course {
+pub(crate) struct Course<'a> {
     page: Page,
     frames: Frames,
     silent: bool,
+    shows: &'a [String],
 }
 
-impl Model for Course {
+impl<'a> Model for Course<'a> {
+    ghost use Rattle.std.specs.Prelude.{map, string_bytes};
     ghost use Rattle.bench_report.specs.Pages as pages;
 
     ghost Value = { pages.Course };
 
-    ghost view = { λ c. record { page = c.page; frames = c.frames; silent = c.silent } };
+    ghost view = { λ c. record { page = c.page; frames = c.frames; silent = c.silent; shows = map string_bytes c.shows.now } };
 }
 
-impl Course {
-    /// The beginning of a report.
-    pub(crate) fn new(alloc: Global) -> Course
-        ensures { result ≡ pages.beginning }
+impl<'a> Course<'a> {
+    /// The beginning of a report, with the lines of its shows.
+    pub(crate) fn new(alloc: Global, shows: &'a [String]) -> Course<'a>
+        ensures { result ≡ pages.beginning (map string_bytes shows.now) }
     {
         Course {
             page: Page::new(alloc),
             frames: Frames::new(alloc),
             silent: true,
+            shows,
         }
     }
 
@@ -151,6 +156,18 @@ impl Course {
         self.step_lines(traced, number, depth, words, logged)
     }
 
+    /// Prints the lines of the show that comes next.
+    fn show(&mut self) -> Result<(), AllocError>
+        ensures { OnOk result (self.new ≡ pages.text_put self.old self.old.shows) }
+    {
+        let [text, later @ ..] = self.shows else {
+            return Ok(());
+        };
+        self.shows = later;
+        self.silent = self.silent && text.as_str().is_empty();
+        self.page.paste(text.as_str())
+    }
+
     /// Prints the lines of an item that is no step.
     fn other(
         &mut self,
@@ -162,6 +179,7 @@ impl Course {
         ensures { OnOk result (self.new ≡ pages.entry_put traced directive.now self.old (entry_at words.now item.now)) }
     {
         match &item.what {
+            What::Happened(Hardware::Show(_)) => self.show(),
             What::Happened(_) => Ok(()),
             What::Begun => self.frames.begin(purpose_of(&directive.order)),
             What::Held(cause) => self.say(directive.line, Line::Holds(*cause)),
@@ -190,13 +208,13 @@ impl Course {
     }
 
     /// Prints the lines of the items that stand next with the line of a directive, and gives those behind them.
-    fn entries<'a>(
+    fn entries<'b>(
         &mut self,
         traced: bool,
         directive: &Directive,
         words: &[u32],
-        items: &'a [Item],
-    ) -> Result<&'a [Item], AllocError>
+        items: &'b [Item],
+    ) -> Result<&'b [Item], AllocError>
         ensures put { OnOk result (self.new ≡ pages.entries_put traced directive.now self.old (spec.own_entries directive.now.line (entries words.now items.now))) }
         ensures rest { IfOk result (λ later. entries words.now later.now ≡ spec.later_entries directive.now.line (entries words.now items.now)) }
     {
@@ -222,13 +240,13 @@ impl Course {
     }
 
     /// Prints the lines of a directive, and gives the items behind its own.
-    pub(crate) fn chapter<'a>(
+    pub(crate) fn chapter<'b>(
         &mut self,
         traced: bool,
         directive: &Directive,
         words: &[u32],
-        items: &'a [Item],
-    ) -> Result<&'a [Item], AllocError>
+        items: &'b [Item],
+    ) -> Result<&'b [Item], AllocError>
         ensures put { OnOk result (self.new ≡ pages.chapter_put traced directive.now self.old (entries words.now items.now)) }
         ensures rest { IfOk result (λ later. entries words.now later.now ≡ spec.later_entries directive.now.line (entries words.now items.now)) }
     {
@@ -239,8 +257,9 @@ impl Course {
     }
 
     /// The whole text.
-    pub(crate) fn end(self) -> Result<String, AllocError>
-        ensures { IfOk result (λ s. string_bytes s ≡ self.page.text ++ end_text self.page.tally) }
+    pub(crate) fn end(self) -> Result<String, ReportEnd>
+        ensures text { IfOk result (λ s. pages.ended self.entry.page ≡ Some (string_bytes s)) }
+        ensures too_long { result ≡ Err ReportEnd.TooLong → pages.ended self.entry.page ≡ None }
     {
         self.page.end()
     }

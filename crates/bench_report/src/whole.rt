@@ -1,24 +1,30 @@
-ghost use Rattle.std.specs.Prelude.{◌≡◌, IfOk, string_bytes};
+ghost use Rattle.std.specs.Prelude.{ℕ, List, ◌≡◌, ◌<◌, ◌≤◌, [], Err, IfOk, length, map, string_bytes, string_len};
+ghost use Rattle.bench_report.specs.Limit.{most_bytes};
 ghost use Rattle.bench_report.specs.Report as spec;
+ghost use Rattle.bench_report.specs.Rows.{Row};
+ghost use Rattle.bench_report.specs.Shown.{kept, texts_of};
 ghost use Rattle.bench_report.specs.Pages as pages;
 ghost use Rattle.run_model.specs.Entry.{entries};
 
 use crate::course::Course;
+use crate::limit::ReportEnd;
+use crate::shown::ShownTexts;
 use mcal_base::Directive;
 use run_model::{Item, Journal};
 use std::alloc::{AllocError, Global};
 
 /// Writes the lines of a script, directive by directive.
-fn written(
+fn written<'a>(
     alloc: Global,
     script: &[Directive],
     words: &[u32],
     items: &[Item],
+    shows: &'a [String],
     traced: bool,
-) -> Result<Course, AllocError>
-    ensures { IfOk result (λ c. c ≡ pages.script_put traced pages.beginning script.now (entries words.now items.now)) }
+) -> Result<Course<'a>, AllocError>
+    ensures { IfOk result (λ c. c ≡ pages.script_put traced (pages.beginning (map string_bytes shows.now)) script.now (entries words.now items.now)) }
 {
-    let mut course = Course::new(alloc);
+    let mut course = Course::new(alloc, shows);
     let mut rest = items;
     for directive in script {
         rest = course.chapter(traced, directive, words, rest)?;
@@ -26,14 +32,33 @@ fn written(
     Ok(course)
 }
 
-/// The report of a script whose run left a journal, with a line for each step where it is traced.
+/// The report of a script whose run left a journal and showed these texts, with a line for each step where it is traced.
 pub fn report(
     alloc: Global,
     script: &[Directive],
     journal: &Journal,
+    shown: &ShownTexts,
     traced: bool,
-) -> Result<String, AllocError>
-    ensures { IfOk result (λ text. string_bytes text ≡ spec.report traced script.now journal.now.entries) }
+) -> Result<String, ReportEnd>
+    ensures text { (shows : List (List Row)) → shown.now ≡ kept (texts_of journal.now.entries shows) →
+        IfOk result (λ text. string_bytes text ≡ spec.report traced script.now journal.now.entries shows) }
+    ensures within { IfOk result (λ text. string_len text ≤ most_bytes) }
+    // All items are those of the script, so that all that was shown is printed.
+    ensures too_long { (shows : List (List Row)) → shown.now ≡ kept (texts_of journal.now.entries shows) → spec.left_over script.now journal.now.entries ≡ [] →
+        result ≡ Err ReportEnd.TooLong → most_bytes < length (spec.report traced script.now journal.now.entries shows) }
 {
-    written(alloc, script, journal.words(), journal.items(), traced)?.end()
+    let Some(shows) = shown.texts() else {
+        return Err(ReportEnd::TooLong);
+    };
+    match written(
+        alloc,
+        script,
+        journal.words(),
+        journal.items(),
+        shows,
+        traced,
+    ) {
+        Ok(course) => course.end(),
+        Err(_) => Err(ReportEnd::NoMemory),
+    }
 }

@@ -1,6 +1,6 @@
 -- What a configuration is, by its fault or its record.
-use Rattle.std.proofs.Common.{◌≡◌, refl, ap, Option, Some, None}
-use Rattle.std.specs.Prelude.{Result, Ok, Err, IsSome, List, ℕ}
+use Rattle.std.proofs.Common.{◌≡◌, ap, Option, Some, None}
+use Rattle.std.specs.Prelude.{Ok, Err, IsSome, List, ℕ}
 use Rattle.mcal_base.specs.declared.config.whole.Config.{Config}
 use Rattle.config_rows.specs.declared.fault.ConfigFault.{ConfigFault}
 use Rattle.mcal_config.specs.Whole.{fault_of, record_of}

@@ -1,9 +1,10 @@
 -- What a judgement of the bytes says of the outcome, where the source tells its bytes.
-use Rattle.std.proofs.Common.{◌≡◌, ◌≢◌, refl, ap, ℕ, ◌<◌, ◌≤◌, ◌++◌, [], List, Bool, length, Option, Some, None, inl, inr, subst, sym, arith, ◌∙◌}
+use Rattle.std.proofs.Common.{◌≡◌, ◌≢◌, refl, ap, ℕ, ◌<◌, ◌≤◌, ◌++◌, [], List, Bool, true, false, length, Option, Some, None, inl, inr, subst, sym, arith, ◌∙◌}
 use Rattle.std.specs.Prelude.{Result, Ok, Err}
 use Rattle.std.specs.Option.{IfSome}
 use Rattle.std.specs.Io.KnownBytes.{Appends, Consumes, IsAtEnd}
 use Rattle.std.proofs.lemmas.List.{append-nil}
+use Rattle.std.proofs.lemmas.Bool.{ltb-true, ltb-false}
 use Rattle.std.proofs.lemmas.Bool.Decides.{nat_tests}
 use Rattle.mcal_base.specs.declared.config.whole.Config.{Config}
 use Rattle.mcal_base.specs.declared.directive.Directive.{Directive}
@@ -11,7 +12,7 @@ use Rattle.run_model.specs.Entry.{Entry}
 use Rattle.mcal_base.specs.Causes.{Rose}
 use Rattle.mcal_base.specs.declared.module_name.ModuleName.{ModuleName}
 use Rattle.config_rows.specs.declared.fault.ConfigFault.{ConfigFault}
-use Rattle.bench_report.specs.Report.{report}
+use Rattle.bench_report.specs.Limit.{most_bytes, is_too_long}
 use Rattle.bench_script.specs.Lines.{file}
 use Rattle.bench_script.specs.Script.{script}
 use Rattle.bench_script.specs.declared.fault.ScriptFault.{ScriptFault}
@@ -21,9 +22,10 @@ use Rattle.bench_top.specs.declared.refusal.Refusal.{Refusal}
 use Rattle.bench_top.specs.declared.refusal.Refusal.TheVariants as refusals
 use Rattle.bench_top.specs.declared.words.Form.{Form}
 use Rattle.bench_top.specs.declared.words.Form.TheVariants.{Check, Run}
-use Rattle.bench_top.specs.Judged.{Ending, Judgement, Prints, Runs, ending_of, judged, judged_built, judged_whole, judged_script, configuration_of, judged_parts, judged_file, too_many_bytes, too_many_steps, usage, read_fault}
-use Rattle.bench_top.specs.Outcomes.{Concludes, Ends, FrontOf, WritesFront, output}
-use Rattle.bench_top.specs.Runs.{IsWholeRun, IsStoppedRun, bound_of_script}
+use Rattle.bench_top.specs.Judged.{Ending, Judgement, Prints, Runs, ending_of, judged, judged_built, judged_whole, judged_script, configuration_of, judged_parts, judged_file, too_many_bytes, too_long_report, usage, read_fault}
+use Rattle.bench_top.specs.Outcomes.{Concludes, Ends, IsEnded, IsCutOff, FrontOf, WritesFront, reported}
+use Rattle.bench_top.specs.Runs.{IsWholeRun, report_of}
+use Rattle.mcal_system.specs.Runs.{bound_of}
 
 -- the bytes are judged so, where they are told
 pub record JudgesSo (left : Option (List ℕ)) (form : Option Form) (judgement : Judgement) : Type 0 where
@@ -31,10 +33,9 @@ pub record JudgesSo (left : Option (List ℕ)) (form : Option Form) (judgement :
 
 pub exact_of : (left : Option (List ℕ)) (form : Option Form) (j : Judgement) (status : ℕ) (entries : List Entry) (before after : Option (List ℕ)) (faults now : ℕ) →
     JudgesSo left form j → Concludes j status entries before after faults now → status ≢ 3 → status ≢ 4 →
-    IfSome left (λ bytes. Ends (judged form bytes) status entries × Appends before after (output (judged form bytes) status entries))
+    IfSome left (λ bytes. IsEnded (judged form bytes) status entries before after)
 exact_of None form j status entries before after faults now h c s m = tt
-exact_of (Some bytes) form j status entries before after faults now h c s m =
-    subst (λ (k : Judgement). Ends k status entries × Appends before after (output k status entries)) (sym h.judges) (c.ends s m, c.written s m)
+exact_of (Some bytes) form j status entries before after faults now h c s m = subst (λ (k : Judgement). IsEnded k status entries before after) (sym h.judges) (c.ends s m)
 
 pub front_of : (left : Option (List ℕ)) (form : Option Form) (j : Judgement) (failed : Type 0) (status : ℕ) (entries : List Entry) (before after : Option (List ℕ)) (faults now : ℕ) →
     JudgesSo left form j → Concludes j status entries before after faults now → status ≡ 3 →
@@ -53,61 +54,77 @@ fault_front_of (Some bytes) form failed status entries before after faults now h
 pub same_end : {A B E : Type 0} (s : Result B E) (x y : E) (r : Result A E) → r ≡ Err x → r ≡ Err y → s ≡ Err x → s ≡ Err y
 same_end s x y r e f g = let i : x ≡ y = cc in g ∙ ap (λ z. Err z) i
 
--- a script whose bounds are within the limit is run to its end
-whole_at : (traced : Bool) (config : Config) (script : List Directive) (status : ℕ) (entries : List Entry) → Ends (Runs traced config script) status entries → bound_of_script config script ≤ 1000000 → status ≡ 0
-whole_at traced config script status entries (inl e) few = e.0
-whole_at traced config script status entries (inr e) few = absurd (let more = e.1.bound in omega (arith, few, more))
+-- a report that is no longer than it may be is printed
+reported_by : (b : Bool) (text : List ℕ) → is_too_long text ≡ b → length text ≤ most_bytes → (reported text).status ≡ 0
+reported_by true text h few = absurd (let more = ltb-true most_bytes (length text) h in omega (arith, more, few))
+reported_by false text h few = rw h refl
 
-pub whole_of : (j : Judgement) (status : ℕ) (entries : List Entry) (traced : Bool) (config : Config) (script : List Directive) → Ends j status entries → j ≡ Runs traced config script → bound_of_script config script ≤ 1000000 → status ≡ 0
-whole_of j status entries traced config script e is few = whole_at traced config script status entries (subst (λ (k : Judgement). Ends k status entries) is e) few
+-- a script whose bounds are within the limit, and whose report is not too long, is run to its end
+whole_at : (traced : Bool) (config : Config) (script : List Directive) (ending : Ending) (entries : List Entry) → Ends (Runs traced config script) ending entries → bound_of config script ≤ 1000000 →
+    length (report_of traced config script entries) ≤ most_bytes → ending.status ≡ 0
+whole_at traced config script ending entries (inl e) few short = ap (λ (x : Ending). x.status) e.1 ∙ reported_by (is_too_long (report_of traced config script entries)) (report_of traced config script entries) refl short
+whole_at traced config script ending entries (inr e) few short = absurd (let more = e.0.bound in omega (arith, few, more))
 
-pub printed_of : (j : Judgement) (status : ℕ) (entries : List Entry) (ending : Ending) → Ends j status entries → j ≡ Prints ending → status ≡ ending.status
-printed_of j status entries ending e is = (subst (λ (k : Judgement). Ends k status entries) is e).0
+pub whole_of : (j : Judgement) (status : ℕ) (entries : List Entry) (before after : Option (List ℕ)) (traced : Bool) (config : Config) (script : List Directive) → IsEnded j status entries before after → j ≡ Runs traced config script →
+    bound_of config script ≤ 1000000 → length (report_of traced config script entries) ≤ most_bytes → status ≡ 0
+whole_of j status entries before after traced config script e is few short =
+    e.status_is ∙ whole_at traced config script e.ending entries (subst (λ (k : Judgement). Ends k e.ending entries) is e.ends) few short
+
+pub printed_of : (j : Judgement) (status : ℕ) (entries : List Entry) (before after : Option (List ℕ)) (ending : Ending) → IsEnded j status entries before after → j ≡ Prints ending → status ≡ ending.status
+printed_of j status entries before after ending e is = e.status_is ∙ ap (λ (x : Ending). x.status) (subst (λ (k : Judgement). Ends k e.ending entries) is e.ends).0
 
 -- no fault was met, so the call ended as it was judged
 pub complete_of : (left : Option (List ℕ)) (form : Option Form) (j : Judgement) (status : ℕ) (entries : List Entry) (before after : Option (List ℕ)) (faults now : ℕ) →
     JudgesSo left form j → Concludes j status entries before after faults now → (Rose faults now → ⊥) →
-    IfSome left (λ bytes. (traced : Bool) (config : Config) (script : List Directive) → judged form bytes ≡ Runs traced config script → bound_of_script config script ≤ 1000000 → status ≢ 4 → status ≡ 0)
+    IfSome left (λ bytes. (traced : Bool) (config : Config) (script : List Directive) → judged form bytes ≡ Runs traced config script → bound_of config script ≤ 1000000 →
+    length (report_of traced config script entries) ≤ most_bytes → status ≢ 4 → status ≡ 0)
 complete_of None form j status entries before after faults now h c still = tt
 complete_of (Some bytes) form j status entries before after faults now h c still =
-    λ traced config script e few m. whole_of j status entries traced config script (c.ends (λ s. still (c.fault s)) m) (sym h.judges ∙ e) few
+    λ traced config script e few short m. whole_of j status entries before after traced config script (c.ends (λ s. still (c.fault s)) m) (sym h.judges ∙ e) few short
 
 pub checks_of : (left : Option (List ℕ)) (form : Option Form) (j : Judgement) (status : ℕ) (entries : List Entry) (before after : Option (List ℕ)) (faults now : ℕ) →
     JudgesSo left form j → Concludes j status entries before after faults now → (Rose faults now → ⊥) →
     IfSome left (λ bytes. (ending : Ending) → judged form bytes ≡ Prints ending → status ≢ 4 → status ≡ ending.status)
 checks_of None form j status entries before after faults now h c still = tt
 checks_of (Some bytes) form j status entries before after faults now h c still =
-    λ ending e m. printed_of j status entries ending (c.ends (λ s. still (c.fault s)) m) (sym h.judges ∙ e)
+    λ ending e m. printed_of j status entries before after ending (c.ends (λ s. still (c.fault s)) m) (sym h.judges ∙ e)
 
--- a run that stopped, and the line that says so
-pub stopped_concludes : (traced : Bool) (config : Config) (script : List Directive) (status : ℕ) (entries : List Entry) (before after : Option (List ℕ)) (faults now : ℕ) (text : List ℕ) → text ≡ too_many_steps.text → status ≤ 7 →
-    IsStoppedRun config script entries → (status ≢ 3 → status ≡ too_many_steps.status) → (status ≢ 3 → Appends before after text) → (status ≢ 3 → now ≡ faults) → (status ≡ 3 → Rose faults now) → (status ≡ 3 → WritesFront before after text)
-    → Concludes (Runs traced config script) status entries before after faults now
-stopped_concludes traced config script status entries before after faults now text said known run is wrote still fault front = record {
-  known = known;
-  ends = λ a b. inr (is a, run);
-  written = λ a b. subst (λ (n : ℕ). Appends before after (output (Runs traced config script) n entries)) (sym (is a)) (subst (Appends before after) said (wrote a));
-  front = λ e. record { status = too_many_steps.status; ends = inr (refl, run); front = subst (WritesFront before after) said (front e) };
-  nothing = λ e. absurd (let f : status ≢ 3 = λ g. absurd (omega (arith, e, g)) in let i = is f in omega (arith, e, i));
-  no_journal = λ e. absurd (let f : status ≢ 3 = λ g. absurd (omega (arith, e, g)) in let i = is f in omega (arith, e, i));
-  still = still;
-  fault = fault;
-}
+-- what was cut off of a text that is printed
+pub printed_front : (printed : Ending) (entries : List Entry) (before after : Option (List ℕ)) → IsCutOff (Prints printed) entries before after → WritesFront before after printed.text × (entries ≡ [])
+printed_front printed entries before after h = (subst (λ (x : Ending). WritesFront before after x.text) h.ends.0 h.front, h.ends.1)
 
--- a run that went to its end, and its report
-pub whole_concludes : (traced : Bool) (config : Config) (script : List Directive) (status : ℕ) (entries : List Entry) (before after : Option (List ℕ)) (faults now : ℕ) (text : List ℕ) → text ≡ report traced script entries → status ≤ 7 →
-    IsWholeRun config script entries → (status ≢ 3 → status ≡ 0) → (status ≢ 3 → Appends before after text) → (status ≢ 3 → now ≡ faults) → (status ≡ 3 → Rose faults now) → (status ≡ 3 → WritesFront before after text)
-    → Concludes (Runs traced config script) status entries before after faults now
-whole_concludes traced config script status entries before after faults now text said known run is wrote still fault front = record {
-  known = known;
-  ends = λ a b. inl (is a, run);
-  written = λ a b. subst (λ (n : ℕ). Appends before after (output (Runs traced config script) n entries)) (sym (is a)) (subst (Appends before after) said (wrote a));
-  front = λ e. record { status = 0; ends = inl (refl, run); front = subst (WritesFront before after) said (front e) };
-  nothing = λ e. absurd (let f : status ≢ 3 = λ g. absurd (omega (arith, e, g)) in let i = is f in omega (arith, e, i));
-  no_journal = λ e. absurd (let f : status ≢ 3 = λ g. absurd (omega (arith, e, g)) in let i = is f in omega (arith, e, i));
-  still = still;
-  fault = fault;
-}
+-- a call that writes the text with which it is to end
+pub concludes_of : (j : Judgement) (ending : Ending) (status : ℕ) (entries : List Entry) (before after : Option (List ℕ)) (faults now : ℕ) → Ends j ending entries → ending.status ≢ 3 → ending.status ≢ 4 → status ≤ 7 →
+    (status ≢ 3 → status ≡ ending.status) → (status ≢ 3 → Appends before after ending.text) → (status ≢ 3 → now ≡ faults) → (status ≡ 3 → Rose faults now) → (status ≡ 3 → WritesFront before after ending.text)
+    → Concludes j status entries before after faults now
+concludes_of j ending status entries before after faults now ends three four known is wrote still fault front =
+    let never : (A : Type 0) → status ≡ 4 → A = λ A e. absurd (let f : status ≢ 3 = λ g. absurd (omega (arith, e, g)) in four (sym (is f) ∙ e)) in
+    record {
+      known = known;
+      ends = λ a b. record { ending = ending; ends = ends; status_is = is a; written = wrote a };
+      front = λ e. record { ending = ending; ends = ends; front = front e };
+      nothing = never (Appends before after []);
+      no_journal = never (entries ≡ []);
+      still = still;
+      fault = fault;
+    }
+
+-- how a whole run ends
+report_by : (b : Bool) (text : List ℕ) → is_too_long text ≡ b → length text ≤ most_bytes → record { status = 0; text = text } ≡ reported text
+report_by true text h few = absurd (let more = ltb-true most_bytes (length text) h in omega (arith, more, few))
+report_by false text h few = rw h refl
+
+pub report_ends : (traced : Bool) (config : Config) (script : List Directive) (entries : List Entry) (text : List ℕ) → IsWholeRun config script entries → text ≡ report_of traced config script entries → length text ≤ most_bytes →
+    Ends (Runs traced config script) (record { status = 0; text = text }) entries
+report_ends traced config script entries text run is few =
+    inl (run, report_by (is_too_long text) text refl few ∙ ap (λ t. reported t) is)
+
+long_by : (b : Bool) (text : List ℕ) → is_too_long text ≡ b → most_bytes < length text → too_long_report ≡ reported text
+long_by true text h more = rw h refl
+long_by false text h more = absurd (let few = ltb-false most_bytes (length text) h in omega (arith, more, few))
+
+pub too_long_ends : (traced : Bool) (config : Config) (script : List Directive) (entries : List Entry) → IsWholeRun config script entries → most_bytes < length (report_of traced config script entries) → Ends (Runs traced config script) too_long_report entries
+too_long_ends traced config script entries run more = inl (run, long_by (is_too_long (report_of traced config script entries)) (report_of traced config script entries) refl more)
 
 -- ---- a file never ends with the status of wrong words or of a fault of the source
 
@@ -128,14 +145,18 @@ refused_before (refusals.LineNotBuilt line) = (λ e. cc, λ e. cc)
 
 -- a judgement of a file
 abbrev IsOfFile : Judgement → Type 0
-IsOfFile j = (status : ℕ) (entries : List Entry) → Ends j status entries → NotBefore status
+IsOfFile j = (ending : Ending) (entries : List Entry) → Ends j ending entries → NotBefore ending.status
 
 prints_after : (r : Refusal) → IsOfFile (Prints (ending_of r))
-prints_after r status entries e = subst NotBefore (sym e.0) (refused_before r)
+prints_after r ending entries e = subst (λ (x : Ending). NotBefore x.status) (sym e.0) (refused_before r)
+
+reported_before : (b : Bool) (text : List ℕ) → is_too_long text ≡ b → NotBefore (reported text).status
+reported_before true text h = rw h (λ f. cc, λ f. cc)
+reported_before false text h = rw h (λ f. cc, λ f. cc)
 
 runs_after : (traced : Bool) (config : Config) (script : List Directive) → IsOfFile (Runs traced config script)
-runs_after traced config script status entries (inl e) = (λ f. let i = e.0 in cc, λ f. let i = e.0 in cc)
-runs_after traced config script status entries (inr e) = (λ f. let i = e.0 in cc, λ f. let i = e.0 in cc)
+runs_after traced config script ending entries (inl e) = subst (λ (x : Ending). NotBefore x.status) (sym e.1) (reported_before (is_too_long (report_of traced config script entries)) (report_of traced config script entries) refl)
+runs_after traced config script ending entries (inr e) = subst (λ (x : Ending). NotBefore x.status) (sym e.1) (λ f. cc, λ f. cc)
 
 built_after : (traced : Bool) (config : Config) (script : List Directive) (m : Option ModuleName) (line : Option ℕ) → IsOfFile (judged_built traced config script m line)
 built_after traced config script (Some m) line = prints_after (refusals.ModuleNotBuilt m)
@@ -143,8 +164,8 @@ built_after traced config script None (Some line) = prints_after (refusals.LineN
 built_after traced config script None None = runs_after traced config script
 
 whole_after : (form : Form) (config : Config) (script : List Directive) → IsOfFile (judged_whole form config script)
-whole_after Check config script status entries e = (λ f. let i = e.0 in cc, λ f. let i = e.0 in cc)
-whole_after (Run traced) config script status entries e = built_after traced config script (unbuilt_module config) (unbuilt_line script) status entries e
+whole_after Check config script ending entries e = subst (λ (x : Ending). NotBefore x.status) (sym e.0) (λ f. cc, λ f. cc)
+whole_after (Run traced) config script ending entries e = built_after traced config script (unbuilt_module config) (unbuilt_line script) ending entries e
 
 script_after : (form : Form) (config : Config) (r : Result (List Directive) ScriptFault) → IsOfFile (judged_script form config r)
 script_after form config (Ok script) = whole_after form config script

@@ -1,7 +1,7 @@
-pub mod Board
 pub mod Configurations
 pub mod Judging
+pub mod Keeping
 pub mod Known
-pub mod Limits
-pub mod Running
+pub mod Lines
+pub mod Rows
 pub mod Scripts

@@ -1,18 +1,36 @@
--- What can be run today: one module, and the directives that its scripts need.
+-- What can be run today: the modules that have a driver, their services, and the directives that their scripts need.
 use Rattle.std.specs.Prelude.{◌≡◌, Ok, ℕ, ◌+◌, ◌==◌, ◌&&◌, not, List, [], ◌∷◌, length, Bool, true, false, Option, find, option_map}
 use Rattle.mcal_base.specs.Names.{module_of}
 use Rattle.mcal_base.specs.declared.config.whole.Config.{Config}
 use Rattle.mcal_base.specs.declared.directive.Directive.{Directive}
 use Rattle.mcal_base.specs.declared.directive.Order.{Order}
-use Rattle.mcal_base.specs.declared.directive.Order.TheVariants.{Call, Do, Enter, Serve, Run, Upto, Finish, Tick}
+use Rattle.mcal_base.specs.declared.directive.Order.TheVariants.{Call, Do, Enter, Serve, Run, Upto, Finish, Tick, Level, Reset, Show}
+use Rattle.mcal_base.specs.declared.directive.Shown.{Shown}
+use Rattle.mcal_base.specs.declared.directive.Shown.TheVariants.{Pins, Ram, Buffers}
 use Rattle.mcal_base.specs.declared.module_name.ModuleName.{ModuleName}
 use Rattle.mcal_base.specs.declared.module_name.ModuleName.TheVariants.{Mcu, Port, Gpt, Pwm, Icu, Adc, Spi}
+use Rattle.mcal_base.specs.declared.service.Service.{Service}
 use Rattle.bench_script.specs.Script.{script}
 
 -- the module has a driver
 abbrev pub has_driver : ModuleName → Bool
+has_driver Mcu = true
+has_driver Port = true
 has_driver Gpt = true
+has_driver Pwm = true
+has_driver Icu = true
 has_driver _ = false
+
+-- the service can be called: one of a module that has a driver
+abbrev pub is_served : Service → Bool
+is_served s = has_driver (module_of s)
+
+-- there is something to show
+abbrev pub is_shown : Shown → Bool
+is_shown Pins = true
+is_shown Ram = true
+is_shown Buffers = true
+is_shown _ = false
 
 -- the tables in the arrays of a module
 abbrev pub tables_of : Config → ModuleName → ℕ
@@ -34,14 +52,17 @@ unbuilt_module c = find (is_missing c) (Mcu ∷ Port ∷ Gpt ∷ Pwm ∷ Icu ∷
 
 -- the directive, and the service that it names, can be run
 abbrev pub is_built : Order → Bool
-is_built (Call level request) = has_driver (module_of request.service)
-is_built (Do level request) = has_driver (module_of request.service)
+is_built (Call level request) = is_served request.service
+is_built (Do level request) = is_served request.service
 is_built (Enter line) = true
 is_built (Serve line) = true
 is_built (Run n) = true
 is_built (Upto stop) = true
 is_built Finish = true
 is_built (Tick n) = true
+is_built (Level pin high) = true
+is_built (Reset reason) = true
+is_built (Show shown) = is_shown shown
 is_built _ = false
 
 -- the line of the first directive that can't be run

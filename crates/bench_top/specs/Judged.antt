@@ -53,6 +53,10 @@ too_many_directives = record { status = 5; text = codes "too long: more than 500
 abbrev pub too_many_steps : Ending
 too_many_steps = record { status = 5; text = codes "too long: more than 1000000 steps\n" }
 
+-- the report of a run would be longer than it may be
+abbrev pub too_long_report : Ending
+too_long_report = record { status = 5; text = codes "too long: more than 268435456 bytes of report\n" }
+
 -- how a call ends whose file is refused
 abbrev pub ending_of : Refusal → Ending
 ending_of refusals.NoSeparator = record { status = 7; text = codes "script fault 0 NoSeparator\n" }

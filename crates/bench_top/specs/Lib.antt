@@ -2,4 +2,5 @@ pub mod Built
 pub mod Judged
 pub mod Outcomes
 pub mod Runs
+pub mod Shows
 pub mod Words

@@ -1,7 +1,7 @@
 ghost use Rattle.std.specs.Prelude.{◌≡◌};
 ghost use Rattle.bench_top.specs.Built as spec;
 
-use mcal_base::{Config, Directive, ModuleName, Order};
+use mcal_base::{Config, Directive, ModuleName, Order, Service, Shown};
 
 /// The modules, in the order of the configuration.
 const MODULES: [ModuleName; 7] = [
@@ -18,7 +18,24 @@ const MODULES: [ModuleName; 7] = [
 fn has_driver(name: ModuleName) -> bool
     ensures { result ≡ spec.has_driver name }
 {
-    name == ModuleName::Gpt
+    matches!(
+        name,
+        ModuleName::Mcu | ModuleName::Port | ModuleName::Gpt | ModuleName::Pwm | ModuleName::Icu
+    )
+}
+
+/// Whether a service can be called.
+fn is_served(service: Service) -> bool
+    ensures { result ≡ spec.is_served service }
+{
+    has_driver(service.module())
+}
+
+/// Whether there is something to show.
+fn is_shown(shown: Shown) -> bool
+    ensures { result ≡ spec.is_shown shown }
+{
+    matches!(shown, Shown::Pins | Shown::Ram | Shown::Buffers)
 }
 
 /// The tables in the arrays of a module.
@@ -55,13 +72,16 @@ fn is_built(order: &Order) -> bool
     ensures { result ≡ spec.is_built order.now }
 {
     match order {
-        Order::Call(_, request) | Order::Do(_, request) => has_driver(request.service.module()),
+        Order::Call(_, request) | Order::Do(_, request) => is_served(request.service),
         Order::Enter(_)
         | Order::Serve(_)
         | Order::Run(_)
         | Order::Upto(_)
         | Order::Finish
-        | Order::Tick(_) => true,
+        | Order::Tick(_)
+        | Order::Level(..)
+        | Order::Reset(_) => true,
+        Order::Show(shown) => is_shown(*shown),
         _ => false,
     }
 }

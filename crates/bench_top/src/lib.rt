@@ -7,6 +7,7 @@ mod input;
 mod output;
 mod refusal;
 mod run;
+mod show;
 mod top;
 mod words;
 
@@ -15,6 +16,5 @@ pub use file::{BenchFile, FileEnd, read_file};
 pub use input::{LIMIT, ReadEnd, read_all};
 pub use output::write_all;
 pub use refusal::Refusal;
-pub use run::MOST_STEPS;
 pub use top::{Outcome, bench};
 pub use words::{Form, form_of};

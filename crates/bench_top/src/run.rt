@@ -1,25 +1,99 @@
-ghost use Rattle.std.specs.Prelude.{IfOk};
+ghost use Rattle.std.specs.Prelude.{◌≡◌, ◌<◌, [], IfOk, OnOk, Some, length, slice_get};
 ghost use Rattle.std.specs.Bool.{OnFalse, OnTrue};
 ghost use Rattle.config_facts.specs.Valid.{IsValid};
-ghost use Rattle.script_runner.specs.Scripts.{IsScript};
-ghost use Rattle.bench_top.specs.Runs.{IsWholeRun, IsStoppedRun};
+ghost use Rattle.script_runner.specs.Scripts.{IsScript, AllOffered};
+ghost use Rattle.bench_report.specs.Shown.{kept};
+ghost use Rattle.mcal_system.specs.Runs.{AddsItems, IsSameRun, SystemRun};
+ghost use Rattle.mcal_system.specs.Setting.{has_service};
+ghost use Rattle.bench_top.specs.Shows as spec;
+ghost use Rattle.bench_top.specs.Runs.{IsWholeRun, IsStoppedRun, IsShown, IsKept};
 
-use gpt_driver::GptDriver;
-use mcal_base::{Config, Directive, NoMemory};
-use script_runner::{Ran, run_within};
-use std::alloc::Global;
+use crate::show::shown_text;
+use bench_report::ShownTexts;
+use mcal_base::{Config, Directive, NoMemory, Order, Shown};
+use mcal_system::System;
+use run_model::Journal;
+use std::alloc::{AllocError, Global};
 
-/// The most steps of a run.
-pub const MOST_STEPS: u32 = 1_000_000;
+/// How a run ended.
+#[derive(Drop)]
+pub(crate) struct Ran {
+    /// All that was done.
+    pub(crate) journal: Journal,
+    /// What was shown.
+    pub(crate) shown: ShownTexts,
+    /// Whether the run stopped, since one more step than the most would have been taken.
+    pub(crate) too_long: bool,
+}
 
-/// Runs a script over the timer driver of a configuration: to its end, or until one more step than the most would be
-/// taken.
-pub fn run(alloc: Global, config: &Config, script: &[Directive]) -> Result<Ran, NoMemory>
-    requires valid { IsValid config.now }
-    requires script { IsScript script.now }
-    ensures whole { IfOk result (λ ran. OnFalse ran.too_long (IsWholeRun config.now script.now ran.journal.entries)) }
-    ensures stopped { IfOk result (λ ran. OnTrue ran.too_long (IsStoppedRun config.now script.now ran.journal.entries)) }
+/// The directive at a place of a script.
+fn directive_at(script: &[Directive], at: usize) -> &Directive
+    requires { at < length script.now }
+    ensures { slice_get script.now at ≡ Some result.now }
 {
-    let driver = GptDriver::new(config);
-    run_within(alloc, &driver, config, script, MOST_STEPS)
+    &script[at]
+}
+
+/// What an order shows, where it is a show.
+fn shown_by(order: &Order) -> Option<Shown>
+    ensures { result ≡ spec.shown_by order.now }
+{
+    match order {
+        Order::Show(what) => Some(*what),
+        _ => None,
+    }
+}
+
+/// Keeps what a directive has shown that was obeyed just now.
+fn keep_shown(
+    alloc: Global,
+    system: &System<'_>,
+    directive: &Directive,
+    shown: &mut ShownTexts,
+) -> Result<(), AllocError>
+    requires valid { IsValid system.now.config }
+    ensures { (before : SystemRun) → IsSameRun before system.now → AddsItems directive.now before system.now → IsKept before shown.old → OnOk result (IsKept system.now shown.new) }
+{
+    let Some(what) = shown_by(&directive.order) else {
+        return Ok(());
+    };
+    if !system.is_at_rest() {
+        return Ok(());
+    }
+    if shown.is_full() {
+        return Ok(());
+    }
+    shown.push(shown_text(alloc, system, directive.line, what)?)
+}
+
+/// Runs a script over all modules of a configuration: to its end, or until one more step than the most would be taken.
+pub(crate) fn run(alloc: Global, config: Config, script: &[Directive]) -> Result<Ran, NoMemory>
+    requires valid { IsValid config }
+    requires script { IsScript script.now }
+    requires offered { AllOffered has_service script.now }
+    ensures whole { IfOk result (λ ran. OnFalse ran.too_long (IsWholeRun config script.now ran.journal.entries)) }
+    ensures stopped { IfOk result (λ ran. OnTrue ran.too_long (IsStoppedRun config script.now ran.journal.entries)) }
+    // What was shown is kept, as far as a report may have it.
+    ensures shown { IfOk result (λ ran. OnFalse ran.too_long (IsShown config script.now ran.journal.entries ran.shown)) }
+{
+    let mut system = System::new(alloc, config, script)?;
+    let mut shown = ShownTexts::new(alloc);
+    for at in 0..script.len() {
+        let directive = directive_at(script, at);
+        if system.obey(directive).is_err() {
+            return Ok(Ran {
+                journal: system.into_journal(),
+                shown,
+                too_long: true,
+            });
+        }
+        if keep_shown(alloc, &system, directive, &mut shown).is_err() {
+            return Err(NoMemory);
+        }
+    }
+    Ok(Ran {
+        journal: system.into_journal(),
+        shown,
+        too_long: false,
+    })
 }

@@ -4,13 +4,16 @@ ghost use Rattle.std.specs.Io.KnownBytes.{Appends, IsAtEnd};
 ghost use Rattle.mcal_base.specs.Causes.{Rose};
 ghost use Rattle.mcal_base.specs.declared.config.whole.Config as records;
 ghost use Rattle.config_facts.specs.Valid.{IsValid};
+ghost use Rattle.bench_report.specs.Limit.{most_bytes};
 ghost use Rattle.bench_script.specs.Lines.{file};
-ghost use Rattle.script_runner.specs.Scripts.{IsScript};
+ghost use Rattle.mcal_system.specs.Runs.{bound_of};
+ghost use Rattle.mcal_system.specs.Setting.{has_service};
+ghost use Rattle.script_runner.specs.Scripts.{IsScript, AllOffered};
 ghost use Rattle.bench_top.specs.Built.{IsRead};
 ghost use Rattle.bench_top.specs.Judged as spec;
-ghost use Rattle.bench_top.specs.Judged.{Ending, Prints, Runs, judged};
-ghost use Rattle.bench_top.specs.Outcomes.{Concludes, Ends, FrontOf, WritesFront, output};
-ghost use Rattle.bench_top.specs.Runs.{bound_of_script};
+ghost use Rattle.bench_top.specs.Judged.{Ending, Judgement, Prints, Runs, judged};
+ghost use Rattle.bench_top.specs.Outcomes.{Concludes, Ends, IsEnded, FrontOf, WritesFront};
+ghost use Rattle.bench_top.specs.Runs.{report_of};
 ghost use Rattle.bench_top.specs.Words.{form_of};
 
 use crate::built::{unbuilt_line, unbuilt_module};
@@ -20,7 +23,7 @@ use crate::output::write_all;
 use crate::refusal::Refusal;
 use crate::run::run;
 use crate::words::{Form, form_of};
-use bench_report::report;
+use bench_report::{ReportEnd, report};
 use mcal_base::{Config, Directive, Sink, Source};
 use run_model::Journal;
 use std::alloc::{AllocError, Global};
@@ -35,6 +38,9 @@ const READ_FAULT: &str = "read fault\n";
 /// What is printed where more bytes came than an input may have.
 const TOO_MANY_BYTES: &str = "too long: more than 1048576 bytes\n";
 
+/// What is printed where the report would be longer than it may be.
+const TOO_LONG_REPORT: &str = "too long: more than 268435456 bytes of report\n";
+
 /// What is printed where one more step than the most would be taken.
 const TOO_MANY_STEPS: &str = "too long: more than 1000000 steps\n";
 
@@ -48,16 +54,16 @@ pub struct Outcome {
 }
 
 /// Writes all of a text. Where the sink meets a fault the status is 3.
+#[tactic(auto, using(crate::proofs::Judging::concludes_of))]
 fn finish<K: Sink>(out: &mut K, status: u8, text: &[u8], journal: Journal) -> Outcome
     requires fault { status ≢ 3 }
+    requires memory { status ≢ 4 }
     requires known { status ≤ 7 }
-    ensures known { result.status ≤ 7 }
-    ensures status { result.status ≢ 3 → result.status ≡ status }
-    ensures written { result.status ≢ 3 → Appends (K.taken out.old) (K.taken out.new) text.now }
-    ensures still { result.status ≢ 3 → K.faults out.new ≡ K.faults out.old }
-    ensures fault { result.status ≡ 3 → Rose (K.faults out.old) (K.faults out.new) }
-    ensures front { result.status ≡ 3 → WritesFront (K.taken out.old) (K.taken out.new) text.now }
+    ensures remembers { result.status ≢ 4 }
     ensures journal { result.journal ≡ journal }
+    // It ends as it was judged, where the call is to end with this status and this text.
+    ensures concludes { (judgement : Judgement) → Ends judgement (record { status = status; text = text.now }) journal.entries →
+        Concludes judgement result.status result.journal.entries (K.taken out.old) (K.taken out.new) (K.faults out.old) (K.faults out.new) }
 {
     match write_all(out, text) {
         Ok(()) => Outcome { status, journal },
@@ -114,17 +120,18 @@ fn check<K: Sink>(alloc: Global, out: &mut K, script: &[Directive]) -> Outcome
     }
 }
 
-/// Runs a script, and writes the report, or that the run was too long.
+/// Runs a script, and writes the report, or that the run or the report was too long.
 fn run_and_report<K: Sink>(
     alloc: Global,
     out: &mut K,
     traced: bool,
-    config: &Config,
+    config: Config,
     script: &[Directive],
 ) -> Outcome
-    requires valid { IsValid config.now }
+    requires valid { IsValid config }
     requires script { IsScript script.now }
-    ensures { Concludes (Runs traced config.now script.now) result.status result.journal.entries (K.taken out.old) (K.taken out.new) (K.faults out.old) (K.faults out.new) }
+    requires offered { AllOffered has_service script.now }
+    ensures { Concludes (Runs traced config script.now) result.status result.journal.entries (K.taken out.old) (K.taken out.new) (K.faults out.old) (K.faults out.new) }
 {
     let Ok(ran) = run(alloc, config, script) else {
         return no_memory(alloc);
@@ -132,17 +139,18 @@ fn run_and_report<K: Sink>(
     if ran.too_long {
         return finish(out, 5, TOO_MANY_STEPS.as_bytes(), ran.journal);
     }
-    match report(alloc, script, &ran.journal, traced) {
+    match report(alloc, script, &ran.journal, &ran.shown, traced) {
         Ok(text) => finish(out, 0, text.as_bytes(), ran.journal),
-        Err(_) => no_memory(alloc),
+        Err(ReportEnd::TooLong) => finish(out, 5, TOO_LONG_REPORT.as_bytes(), ran.journal),
+        Err(ReportEnd::NoMemory) => no_memory(alloc),
     }
 }
 
 /// Runs a file that was read, where all of it can be run.
-fn run_built<K: Sink>(alloc: Global, out: &mut K, traced: bool, read: &BenchFile) -> Outcome
-    requires valid { IsValid read.now.config }
-    requires script { IsRead read.now.script.items }
-    ensures { Concludes (spec.judged_whole (Form.Run traced) read.now.config read.now.script.items) result.status result.journal.entries (K.taken out.old) (K.taken out.new) (K.faults out.old) (K.faults out.new) }
+fn run_built<K: Sink>(alloc: Global, out: &mut K, traced: bool, read: BenchFile) -> Outcome
+    requires valid { IsValid read.config }
+    requires script { IsRead read.script.items }
+    ensures { Concludes (spec.judged_whole (Form.Run traced) read.config read.script.items) result.status result.journal.entries (K.taken out.old) (K.taken out.new) (K.faults out.old) (K.faults out.new) }
 {
     if let Some(module) = unbuilt_module(&read.config) {
         return refuse(alloc, out, Refusal::ModuleNotBuilt(module));
@@ -150,14 +158,15 @@ fn run_built<K: Sink>(alloc: Global, out: &mut K, traced: bool, read: &BenchFile
     if let Some(line) = unbuilt_line(&read.script) {
         return refuse(alloc, out, Refusal::LineNotBuilt(line));
     }
-    run_and_report(alloc, out, traced, &read.config, &read.script)
+    let BenchFile { config, script } = read;
+    run_and_report(alloc, out, traced, config, &script)
 }
 
 /// Does what a form asks for with a file that was read.
-fn act<K: Sink>(alloc: Global, out: &mut K, form: Form, read: &BenchFile) -> Outcome
-    requires valid { IsValid read.now.config }
-    requires script { IsRead read.now.script.items }
-    ensures { Concludes (spec.judged_whole form read.now.config read.now.script.items) result.status result.journal.entries (K.taken out.old) (K.taken out.new) (K.faults out.old) (K.faults out.new) }
+fn act<K: Sink>(alloc: Global, out: &mut K, form: Form, read: BenchFile) -> Outcome
+    requires valid { IsValid read.config }
+    requires script { IsRead read.script.items }
+    ensures { Concludes (spec.judged_whole form read.config read.script.items) result.status result.journal.entries (K.taken out.old) (K.taken out.new) (K.faults out.old) (K.faults out.new) }
 {
     match form {
         Form::Check => check(alloc, out, &read.script),
@@ -171,7 +180,7 @@ fn conclude<K: Sink>(alloc: Global, out: &mut K, form: Form, bytes: &[u8]) -> Ou
     ensures { Concludes (spec.judged_file form (file bytes.now)) result.status result.journal.entries (K.taken out.old) (K.taken out.new) (K.faults out.old) (K.faults out.new) }
 {
     match read_file(alloc, bytes) {
-        Ok(read) => act(alloc, out, form, &read),
+        Ok(read) => act(alloc, out, form, read),
         Err(FileEnd::Refused(refusal)) => refuse(alloc, out, refusal),
         Err(FileEnd::NoMemory) => no_memory(alloc),
     }
@@ -186,8 +195,7 @@ pub fn bench<S: Source, K: Sink>(
 ) -> Outcome
     // Where no fault was met and memory was found, the status, the journal and the output are those of the definition.
     ensures exact { result.status ≢ 2 → result.status ≢ 3 → result.status ≢ 4 → IfSome (S.left input.old) (λ bytes.
-        let judgement = judged (form_of (map string_bytes words.now)) bytes in
-        Ends judgement result.status result.journal.entries × Appends (K.taken out.old) (K.taken out.new) (output judgement result.status result.journal.entries)) }
+        IsEnded (judged (form_of (map string_bytes words.now)) bytes) result.status result.journal.entries (K.taken out.old) (K.taken out.new)) }
     // There are no other statuses.
     ensures known { result.status ≤ 7 }
     // The words alone decide on status 1, and on the line that is printed then.
@@ -210,9 +218,11 @@ pub fn bench<S: Source, K: Sink>(
     ensures nothing { result.status ≡ 4 → Appends (K.taken out.old) (K.taken out.new) [] × (result.journal.entries ≡ []) }
     // Status 0 comes only where all was read.
     ensures ended { result.status ≡ 0 → IsAtEnd (S.left input.new) }
-    // A file that is not refused is run to its end, where no fault is met, memory is found and the bounds of its frames are within the limit of steps.
+    // A file that is not refused is run to its end and reported, where no fault is met, memory is found, the bounds of its frames are within the limit of steps and its report
+    // within the limit of bytes.
     ensures complete { (Rose (S.faults input.old) (S.faults input.new) → ⊥) → (Rose (K.faults out.old) (K.faults out.new) → ⊥) → IfSome (S.left input.old) (λ bytes.
-        (traced : Bool) (config : records.Config) (script : List Directive) → judged (form_of (map string_bytes words.now)) bytes ≡ Runs traced config script → bound_of_script config script ≤ 1000000 → result.status ≢ 4 → result.status ≡ 0) }
+        (traced : Bool) (config : records.Config) (script : List Directive) → judged (form_of (map string_bytes words.now)) bytes ≡ Runs traced config script → bound_of config script ≤ 1000000 →
+        length (report_of traced config script result.journal.entries) ≤ most_bytes → result.status ≢ 4 → result.status ≡ 0) }
     // And a file that is not refused is checked.
     ensures checks { (Rose (S.faults input.old) (S.faults input.new) → ⊥) → (Rose (K.faults out.old) (K.faults out.new) → ⊥) → IfSome (S.left input.old) (λ bytes.
         (ending : Ending) → judged (form_of (map string_bytes words.now)) bytes ≡ Prints ending → result.status ≢ 4 → result.status ≡ ending.status) }

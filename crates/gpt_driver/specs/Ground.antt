@@ -32,7 +32,7 @@ use Rattle.gpt_driver.specs.declared.words.TheConstants.{STATE}
 
 -- ---- the setting
 
--- the class of a call: one about a channel has that channel as its key, and beside any other nothing of the module may run
+-- the class of a call: one about a channel has that channel as its key; any other begins only where no frame of the module is under way, and no call of the module begins over it
 abbrev pub class_of : Call → Class
 class_of (Channel c call) = record { kind = Keyed; «module» = Gpt; key = Some (record { kind = keys.Channel; number = c }) }
 class_of _ = record { kind = Exclusive; «module» = Gpt; key = None }

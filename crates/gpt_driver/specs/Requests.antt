@@ -35,7 +35,7 @@ on a call = Channel (number_of a) call
 abbrev pub changes : Option Argument → kinds.Change → Call
 changes a by = on a (Change by)
 
--- the call of a service with its arguments; a service of another module stands for `Gpt_Init`
+-- the call of a service of the module with its arguments; that of another module asks for none, and what stands here for it is never asked for
 abbrev pub call_by : Service → (first second : Option Argument) → Call
 call_by services.GptDeInit a b = DeInit
 call_by services.GptSetMode a b = SetMode (mode_of a)

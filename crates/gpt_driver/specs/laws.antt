@@ -5,6 +5,7 @@ pub mod Courses
 pub mod DeInit
 pub mod Ground
 pub mod Init
+pub mod Keeps
 pub mod Lawful
 pub mod Look
 pub mod Mode

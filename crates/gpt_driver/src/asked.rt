@@ -14,7 +14,7 @@ use crate::service::switch::SwitchBody;
 use crate::service::{self, GptBody};
 use crate::words::STATE;
 use det_errors::{Facts, first_error};
-use mcal_base::{ErrorName, Service};
+use mcal_base::{Answer, ErrorName, Service};
 use service_outline::{Done, Looked, Owed, Reply, nothing, number};
 
 /// A call with the driver that it is made of.
@@ -44,6 +44,8 @@ impl service_outline::Service for Asked {
             None => self.begin(),
         }
     }
+
+    fn finish(_body: &GptBody, _ended: &mut Option<Answer>) {}
 }
 
 impl Asked {

@@ -1,4 +1,4 @@
-ghost use Rattle.std.specs.Prelude.{◌≡◌, ◌≤◌, slice_get};
+ghost use Rattle.std.specs.Prelude.{◌≡◌, ◌≤◌, slice_get, true};
 ghost use Rattle.gpt_driver.specs.Ground.{whole_steps, counted};
 ghost use Rattle.gpt_driver.specs.Requests as spec;
 
@@ -35,12 +35,13 @@ fn argument(request: &Request, at: usize) -> Option<Argument>
     request.arguments.as_slice().get(at).copied()
 }
 
-/// The call of a service with its arguments. A service of another module, for which nobody asks this driver, stands
-/// for `Gpt_Init`.
+/// The call of a service of the module with its arguments.
 fn call_by(service: Service, first: Option<Argument>, second: Option<Argument>) -> Call
+    requires { spec.has_service service ≡ true }
     ensures { result ≡ spec.call_by service first second }
 {
     match service {
+        Service::GptInit => Call::Init,
         Service::GptDeInit => Call::DeInit,
         Service::GptSetMode => Call::SetMode(mode(first)),
         Service::GptGetTimeElapsed => on(first, ChannelCall::GetTimeElapsed),
@@ -52,7 +53,7 @@ fn call_by(service: Service, first: Option<Argument>, second: Option<Argument>) 
         Service::GptEnableWakeup => changes(first, Change::Wakeup(true)),
         Service::GptDisableWakeup => changes(first, Change::Wakeup(false)),
         Service::GptCheckWakeup => changes(first, Change::Check),
-        _ => Call::Init,
+        _ => unreachable!(),
     }
 }
 

@@ -4,6 +4,7 @@ use Rattle.std.specs.Prelude.{◌≡◌, ◌≢◌, ℕ, ◌+◌, ◌*◌, ◌<�
 use Rattle.chip_model.specs.Chip.{Chip, word_of}
 use Rattle.chip_model.specs.Histories.{HasAll}
 use Rattle.det_errors.specs.Reports.{Reporting}
+use Rattle.mcal_base.specs.declared.answer.Answer.{Answer}
 use Rattle.mcal_base.specs.declared.error_name.ErrorName.TheVariants.{McuParamRamsection, AdcIdle}
 use Rattle.mcal_base.specs.declared.module_name.ModuleName.TheVariants.{Mcu}
 use Rattle.mcal_base.specs.declared.moves.Event.TheVariants.{Act, Serve, Start}
@@ -35,7 +36,8 @@ use Rattle.service_outline.specs.declared.done.Owed.TheVariants.{Nothing}
 use Rattle.service_outline.specs.declared.sweep.Place.TheVariants.{Opens}
 use Rattle.service_outline.specs.declared.sweep.Sweep.{Sweep}
 use Rattle.service_outline.specs.Both.{both}
-use Rattle.service_outline.specs.Done.{goes, acts, ends, number, owed_error, tells_error}
+use Rattle.service_outline.specs.Done.{goes, acts, ends, numbers, owed_error, tells_error}
+use Rattle.service_outline.specs.Owing.{Owing, Under, owing, Windows, windows}
 use Rattle.service_outline.specs.Past.{Past, nothing_yet, Being}
 use Rattle.service_outline.specs.Services.{Held, Basis, Spot, Within, Outside, LongBodies, Services}
 use Rattle.service_outline.specs.Sweeping.{Sweeping, sweep}
@@ -49,7 +51,7 @@ use Rattle.held_example.specs.declared.filling.Job.{Job}
 use Rattle.held_example.specs.declared.keeping.Putting.{Putting}
 use Rattle.held_example.specs.declared.keeping.Putting.TheVariants as puts
 use Rattle.held_example.specs.declared.keeping.Taking.{Taking}
-use Rattle.held_example.specs.declared.keeping.Taking.TheVariants.{Newest, Pin, Open, Copy, Shut, Release}
+use Rattle.held_example.specs.declared.keeping.Taking.TheVariants.{Newest, Pin, Open, Copy, Again, Shut, Release, Leave, Over}
 use Rattle.held_example.specs.declared.polling.Polling.{Polling}
 use Rattle.held_example.specs.declared.polling.Polling.TheVariants as polls
 use Rattle.held_example.specs.declared.rebooting.Rebooting.{Rebooting}
@@ -91,9 +93,16 @@ abbrev pub fills_by : State → ℕ → ℕ → Bool → Outcome State
 fills_by s n v true = outcome (filled s n v) tells_nothing
 fills_by s n v false = outcome s (tells_error no_answer McuParamRamsection)
 
+-- the answer that is these numbers, and the one that is a value, twice
+abbrev pub both_read : ℕ → ℕ → Answer
+both_read x y = numbers (x ∷ y ∷ [])
+
+abbrev pub twice : ℕ → Answer
+twice v = both_read v v
+
 abbrev pub tells_kept : Option ℕ → Told
 tells_kept None = tells_error no_answer AdcIdle
-tells_kept (Some v) = record { answer = number v; error = None; notices = [] }
+tells_kept (Some v) = record { answer = twice v; error = None; notices = [] }
 
 abbrev pub starts_by : State → Bool → Option (Outcome State)
 starts_by s true = Some (outcome (record s { waiting = false }) tells_nothing)
@@ -258,22 +267,20 @@ promised (h ∷ hs) = is_promise h.what || promised hs
 abbrev pub HeldRight : Chip → Held Call Hold → Hold → Type 0
 HeldRight chip h (Part n v i) = h.by ≡ Called (Fill n v)
 HeldRight chip h Promise = Unit {0}
-HeldRight chip h (Pinned b) = (h.by ≡ Called Take) × (b < 2) × (word_of chip PIN ≡ 1 + b) × (h.acted ≡ Some (number (word_of chip (bank b))))
+HeldRight chip h (Pinned b) = (h.by ≡ Called Take) × (b < 2) × (word_of chip PIN ≡ 1 + b) × (h.acted ≡ Some (twice (word_of chip (bank b))))
 
 abbrev pub AllRight : Chip → Holds → Type 0
 AllRight chip [] = Unit {0}
 AllRight chip (h ∷ hs) = HeldRight chip h h.what × AllRight chip hs
 
--- what the top frame has under work: nothing, the mark, or the newest bank, which is to be this one
+-- what the top frame has under work: nothing, or the mark
 pub data Work : Type 0 where
   Settled : Work
   Marking : Work
-  Publishing : ℕ → Work
 
 abbrev pub MarkAgrees : Work → Chip → Bool → Type 0
 MarkAgrees Settled chip waiting = word_of chip MARK ≡ flag waiting
 MarkAgrees Marking chip waiting = Unit {0}
-MarkAgrees (Publishing b) chip waiting = word_of chip MARK ≡ flag waiting
 
 -- the newest bank has the value that was kept last
 abbrev pub IsKept : Chip → Option ℕ → Type 0
@@ -283,7 +290,6 @@ IsKept chip (Some v) = (b : ℕ) × (b < 2) × (word_of chip NEWEST ≡ 1 + b) �
 abbrev pub KeptAgrees : Work → Chip → Option ℕ → Type 0
 KeptAgrees Settled chip kept = IsKept chip kept
 KeptAgrees Marking chip kept = IsKept chip kept
-KeptAgrees (Publishing b) chip kept = (b < 2) × (kept ≡ Some (word_of chip (bank b)))
 
 -- the words agree with the state and with what is held, but for what is under work
 pub record Agrees (held : Holds) (work : Work) (chip : Chip) (w : World) (s : State) : Type 0 where
@@ -295,8 +301,8 @@ pub record Agrees (held : Holds) (work : Work) (chip : Chip) (w : World) (s : St
   pub starts : s.waiting ≡ true → promised held ≡ true
 
 -- of the chip the places see which bank is the newest, and which is pinned
-abbrev pub basis : Basis State Call
-basis = record {
+abbrev pub bare : Basis State Call
+bare = record {
   setting = setting;
   wired = λ chip. Unit {0};
   lines = λ l. false;
@@ -310,6 +316,17 @@ basis = record {
   Foot = ℕ × ℕ;
   foot = λ chip. (word_of chip NEWEST, word_of chip PIN);
 }
+
+-- the store that a frame owes its window: this bank becomes the newest
+abbrev pub is_publishing : Move → Bool
+is_publishing (Store k v) = k == NEWEST
+is_publishing _ = false
+
+abbrev pub publishing : Owing ℕ
+publishing = record { own = is_publishing; fits = λ b chip. Unit {0}; move = λ b. Store NEWEST (1 + b); left = λ b x. None; more = λ b. 0 }
+
+abbrev pub basis : Basis State Call
+basis = owing bare publishing
 
 -- ---- a section is filled: a sweep of eight words, and then the act
 
@@ -348,7 +365,7 @@ abbrev pub filling : Sweeping basis Job Filled
 filling = record { count = job_count; move = job_move; after = job_after; hold = part; place = IsFilling }
 
 abbrev pub filled_spot : Filled → Spot basis
-filled_spot (fills.Act r) = Within Settled (part r 8) (λ below f w s o p. IsFilling r below o p)
+filled_spot (fills.Act r) = Within (Under Settled) (part r 8) (λ below f w s o p. IsFilling r below o p)
 
 abbrev pub filled_bodies : LongBodies basis Filled
 filled_bodies = record { work_of = filled_work; takes = filled_takes; fuel = λ k. 1; room = λ k. 1; clean = λ k. false; spot = filled_spot }
@@ -403,8 +420,8 @@ ask_room Go = 2
 ask_room Unmark = 1
 
 -- the frame's past after its act, and after its notice
-abbrev pub owing : Past
-owing = record nothing_yet { acted = Some no_answer; owed = record { notice = notice; served = false } ∷ [] }
+abbrev pub promised_notice : Past
+promised_notice = record nothing_yet { acted = Some no_answer; owed = record { notice = notice; served = false } ∷ [] }
 
 abbrev pub told_all : Past
 told_all = record nothing_yet { acted = Some no_answer }
@@ -414,13 +431,13 @@ abbrev pub promise : List Hold
 promise = Promise ∷ []
 
 abbrev pub ask_spot : Asking → Spot basis
-ask_spot Want = Within Settled [] (λ below f w s o p. Being (Called Ask) nothing_yet o p)
-ask_spot OpenOnce = Within Settled promise (λ below f w s o p. Being (Called Ask) owing o p)
-ask_spot Tell = Outside promise (λ below o p. Being (Called Ask) owing o p)
+ask_spot Want = Within (Under Settled) [] (λ below f w s o p. Being (Called Ask) nothing_yet o p)
+ask_spot OpenOnce = Within (Under Settled) promise (λ below f w s o p. Being (Called Ask) promised_notice o p)
+ask_spot Tell = Outside promise (λ below o p. Being (Called Ask) promised_notice o p)
 ask_spot ShutAgain = Outside promise (λ below o p. Being (Called Ask) told_all o p)
-ask_spot Look = Within Settled promise (λ below f w s o p. Being (Called Ask) told_all o p)
-ask_spot Go = Within Settled promise (λ below f w s o p. Being (Called Ask) told_all o p × (s.waiting ≡ true))
-ask_spot Unmark = Within Marking [] (λ below f w s o p. Being (Called Ask) told_all o p × (s.waiting ≡ false))
+ask_spot Look = Within (Under Settled) promise (λ below f w s o p. Being (Called Ask) told_all o p)
+ask_spot Go = Within (Under Settled) promise (λ below f w s o p. Being (Called Ask) told_all o p × (s.waiting ≡ true))
+ask_spot Unmark = Within (Under Marking) [] (λ below f w s o p. Being (Called Ask) told_all o p × (s.waiting ≡ false))
 
 abbrev pub ask_bodies : LongBodies basis Asking
 ask_bodies = record { work_of = ask_work; takes = ask_takes; fuel = ask_fuel; room = ask_room; clean = λ k. false; spot = ask_spot }
@@ -443,22 +460,41 @@ put_fuel (puts.Keep b v) = 2
 put_fuel (puts.Publish b) = 1
 
 abbrev pub put_spot : Putting → Spot basis
-put_spot (puts.Look v) = Within Settled [] (λ below f w s o p. Being (Called (Put v)) nothing_yet o p)
-put_spot (puts.Keep b v) = Within Settled [] (λ below f w s o p. Being (Called (Put v)) nothing_yet o p × (b < 2) × (f.1 ≢ 1 + b))
-put_spot (puts.Publish b) = Within (Publishing b) [] (λ below f w s o p. (v : ℕ) × Being (Called (Put v)) told_all o p)
+put_spot (puts.Look v) = Within (Under Settled) [] (λ below f w s o p. Being (Called (Put v)) nothing_yet o p)
+put_spot (puts.Keep b v) = Within (Under Settled) [] (λ below f w s o p. Being (Called (Put v)) nothing_yet o p × (b < 2) × (f.1 ≢ 1 + b))
+put_spot (puts.Publish b) = Outside [] (λ below o p. ⊥)
+
+-- after its act the frame owes the store
+abbrev pub put_owes : Putting → Option ℕ
+put_owes (puts.Publish b) = Some b
+put_owes _ = None
+
+abbrev pub put_windows : Windows bare ℕ (Unit {0}) Putting publishing
+put_windows = record {
+  bodies = record { work_of = put_work; takes = put_takes; fuel = put_fuel; room = put_fuel; clean = λ k. false; spot = put_spot };
+  owes = put_owes;
+  about = λ b. tt;
+  hold = λ a. [];
+  place = λ a below o p. (v : ℕ) × Being (Called (Put v)) told_all o p;
+  steps_after = λ a. 0;
+  room_after = λ a. 0;
+}
 
 abbrev pub put_bodies : LongBodies basis Putting
-put_bodies = record { work_of = put_work; takes = put_takes; fuel = put_fuel; room = put_fuel; clean = λ k. false; spot = put_spot }
+put_bodies = windows put_windows
 
--- ---- the value is taken: its bank is pinned at the act, and copied with the mask open
+-- ---- the value is taken: its bank is pinned at the act, and read twice with the mask open. The frame ends with what was read
 
 abbrev pub take_work : Taking → Move
 take_work Newest = Load NEWEST
 take_work (Pin b) = Store PIN (1 + b)
 take_work (Open b) = Unmask
 take_work (Copy b) = Load (bank b)
-take_work (Shut b x) = Mask
-take_work (Release b x) = Store PIN 0
+take_work (Again b x) = Load (bank b)
+take_work (Shut b x y) = Mask
+take_work (Release b x y) = Store PIN 0
+take_work (Leave x y) = Unmask
+take_work (Over x y) = Load STATE
 
 -- the bank that a word names
 abbrev pub named : ℕ → ℕ
@@ -471,25 +507,39 @@ abbrev pub take_takes : Taking → ℕ → Taking × BodyTaken
 take_takes Newest x = if x == 0 then (Newest, none_kept) else (Pin (named x), goes)
 take_takes (Pin b) x = (Open b, acts)
 take_takes (Open b) x = (Copy b, goes)
-take_takes (Copy b) x = (Shut b x, goes)
-take_takes (Shut b y) x = (Release b y, goes)
-take_takes (Release b y) x = (Release b y, ends None (number y) Nothing)
+take_takes (Copy b) x = (Again b x, goes)
+take_takes (Again b y) x = (Shut b y x, goes)
+take_takes (Shut b y z) x = (Release b y z, goes)
+take_takes (Release b y z) x = (Leave y z, goes)
+take_takes (Leave y z) x = (Over y z, goes)
+take_takes (Over y z) x = (Over y z, ends None no_answer Nothing)
+
+-- what it ends its frame with
+abbrev pub take_ends : Taking → Option Answer
+take_ends (Over x y) = Some (both_read x y)
+take_ends _ = None
 
 abbrev pub take_fuel : Taking → ℕ
-take_fuel Newest = 6
-take_fuel (Pin b) = 5
-take_fuel (Open b) = 4
-take_fuel (Copy b) = 3
-take_fuel (Shut b x) = 2
-take_fuel (Release b x) = 1
+take_fuel Newest = 9
+take_fuel (Pin b) = 8
+take_fuel (Open b) = 7
+take_fuel (Copy b) = 6
+take_fuel (Again b x) = 5
+take_fuel (Shut b x y) = 4
+take_fuel (Release b x y) = 3
+take_fuel (Leave x y) = 2
+take_fuel (Over x y) = 1
 
 abbrev pub take_room : Taking → ℕ
 take_room Newest = 2
 take_room (Pin b) = 1
 take_room (Open b) = 0
 take_room (Copy b) = 0
-take_room (Shut b x) = 0
-take_room (Release b x) = 1
+take_room (Again b x) = 0
+take_room (Shut b x y) = 0
+take_room (Release b x y) = 1
+take_room (Leave x y) = 0
+take_room (Over x y) = 0
 
 -- where it may find that nothing is kept it has only loaded a word
 abbrev pub take_clean : Taking → Bool
@@ -506,23 +556,26 @@ abbrev pub NonePinned : Holds → Type 0
 NonePinned [] = Unit {0}
 NonePinned (h ∷ hs) = (is_pin h.what ≡ false) × NonePinned hs
 
-abbrev pub answered : ℕ → Past
-answered v = record nothing_yet { acted = Some (number v) }
+abbrev pub answered : Answer → Past
+answered a = record nothing_yet { acted = Some a }
 
 -- it has answered this
-abbrev pub IsTaking : ℕ → Holds → Origin Call → Past → Type 0
-IsTaking v below o p = Being (Called Take) (answered v) o p × NonePinned below
+abbrev pub IsTaking : Answer → Holds → Origin Call → Past → Type 0
+IsTaking a below o p = Being (Called Take) (answered a) o p × NonePinned below
 
 abbrev pub pinned : ℕ → List Hold
 pinned b = Pinned b ∷ []
 
 abbrev pub take_spot : Taking → Spot basis
-take_spot Newest = Within Settled [] (λ below f w s o p. Being (Called Take) nothing_yet o p × NonePinned below)
-take_spot (Pin b) = Within Settled [] (λ below f w s o p. Being (Called Take) nothing_yet o p × NonePinned below × (b < 2) × (f.0 ≡ 1 + b))
-take_spot (Open b) = Within Settled (pinned b) (λ below f w s o p. (v : ℕ) × IsTaking v below o p)
-take_spot (Copy b) = Outside (pinned b) (λ below o p. (b < 2) × (v : ℕ) × IsTaking v below o p)
-take_spot (Shut b x) = Outside (pinned b) (λ below o p. IsTaking x below o p)
-take_spot (Release b x) = Within Settled (pinned b) (λ below f w s o p. IsTaking x below o p)
+take_spot Newest = Within (Under Settled) [] (λ below f w s o p. Being (Called Take) nothing_yet o p × NonePinned below)
+take_spot (Pin b) = Within (Under Settled) [] (λ below f w s o p. Being (Called Take) nothing_yet o p × NonePinned below × (b < 2) × (f.0 ≡ 1 + b))
+take_spot (Open b) = Within (Under Settled) (pinned b) (λ below f w s o p. (v : ℕ) × IsTaking (twice v) below o p)
+take_spot (Copy b) = Outside (pinned b) (λ below o p. (b < 2) × (v : ℕ) × IsTaking (twice v) below o p)
+take_spot (Again b x) = Outside (pinned b) (λ below o p. (b < 2) × IsTaking (twice x) below o p)
+take_spot (Shut b x y) = Outside (pinned b) (λ below o p. IsTaking (both_read x y) below o p)
+take_spot (Release b x y) = Within (Under Settled) (pinned b) (λ below f w s o p. IsTaking (both_read x y) below o p)
+take_spot (Leave x y) = Within (Under Settled) [] (λ below f w s o p. IsTaking (both_read x y) below o p)
+take_spot (Over x y) = Outside [] (λ below o p. ⊥)
 
 abbrev pub take_bodies : LongBodies basis Taking
 take_bodies = record { work_of = take_work; takes = take_takes; fuel = take_fuel; room = take_room; clean = take_clean; spot = take_spot }
@@ -545,8 +598,8 @@ abbrev pub polling : Past
 polling = record nothing_yet { acted = Some no_answer; polled = 0 ∷ [] }
 
 abbrev pub poll_spot : Polling → Spot basis
-poll_spot polls.Act = Within Settled [] (λ below f w s o p. Being (Called Poll) nothing_yet o p)
-poll_spot polls.Serve = Within Settled [] (λ below f w s o p. Being (Called Poll) polling o p)
+poll_spot polls.Act = Within (Under Settled) [] (λ below f w s o p. Being (Called Poll) nothing_yet o p)
+poll_spot polls.Serve = Within (Under Settled) [] (λ below f w s o p. Being (Called Poll) polling o p)
 
 abbrev pub poll_bodies : LongBodies basis Polling
 poll_bodies = record { work_of = poll_work; takes = poll_takes; fuel = poll_fuel; room = poll_fuel; clean = λ k. false; spot = poll_spot }
@@ -560,7 +613,7 @@ abbrev pub reboot_work : Rebooting → Move
 reboot_work Reset = Write ResetRequest 1
 
 abbrev pub reboot_spot : Rebooting → Spot basis
-reboot_spot Reset = Within Settled [] (λ below f w s o p. Being (Called Reboot) nothing_yet o p)
+reboot_spot Reset = Within (Under Settled) [] (λ below f w s o p. Being (Called Reboot) nothing_yet o p)
 
 abbrev pub reboot_bodies : LongBodies basis Rebooting
 reboot_bodies = record { work_of = reboot_work; takes = reboot_takes; fuel = λ k. 1; room = λ k. 1; clean = λ k. false; spot = reboot_spot }
@@ -581,6 +634,13 @@ looked (Put v) x = Goes (Second (First (First (puts.Look v))))
 looked Take x = Goes (Second (First (Second Newest)))
 looked Poll x = Goes (Second (Second (First polls.Act)))
 looked Reboot x = Goes (Second (Second (Second Reset)))
+
+-- what bodies end their frame with
+abbrev pub ends_with : Body → Option Answer
+ends_with (First k) = None
+ends_with (Second (First (First k))) = None
+ends_with (Second (First (Second k))) = take_ends k
+ends_with (Second (Second k)) = None
 
 abbrev pub toy : Services State Call Call Body
 toy = record {

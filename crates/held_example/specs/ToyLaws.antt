@@ -26,18 +26,23 @@ use Rattle.run_model.specs.Causes.{blocks}
 use Rattle.step_runner.specs.Driver.{IsLawful}
 use Rattle.service_outline.specs.Acts.{Cleans}
 use Rattle.service_outline.specs.Both.{both}
-use Rattle.service_outline.specs.Done.{goes, acts, number}
+use Rattle.service_outline.specs.Done.{goes, acts}
 use Rattle.service_outline.specs.Fuel.{Shortens}
+use Rattle.service_outline.specs.Owing.{is_simple, same_chip, AreOwed, GoesFree, AreWindows, AreFree}
 use Rattle.service_outline.specs.Past.{Past, nothing_yet, Is_being}
-use Rattle.service_outline.specs.Services.{Held, IsBasis, Steady, Stand, AreLong, Right, Works, TurnsTo, AreServices, Decides, Beside, AllLet, services_driver, mark_of, place_at}
+use Rattle.service_outline.specs.Services.{Held, IsBasis, Steady, Stand, AreEnding, AreLong, Right, RightOr, ended_at, Continues, Works, TurnsTo, AreEndingServices, Decides, Beside, AllLet, services_driver, mark_of, place_at}
+use Rattle.service_outline.specs.declared.body.Or.TheVariants.{First, Second}
 use Rattle.service_outline.specs.declared.done.BodyTaken.{BodyTaken}
-use Rattle.service_outline.specs.Short.{short_move, short_left, short_gave}
+use Rattle.service_outline.specs.Short.{short_move, short_left, ending_gave, ended_by}
 use Rattle.service_outline.specs.laws.Acts.{never_clean}
-use Rattle.service_outline.specs.laws.Both.{both_right}
+use Rattle.service_outline.specs.laws.Both.{both_ending, both_right}
+use Rattle.service_outline.specs.laws.Ending.{goes_right}
 use Rattle.service_outline.specs.laws.Lawful.{services_lawful}
+use Rattle.service_outline.specs.laws.Owing.{owing_basis, windows_right}
+use Rattle.service_outline.specs.laws.SimpleMoves.{simple_owed}
 use Rattle.service_outline.specs.laws.Sweeping.{sweep_right}
 use Rattle.service_outline.specs.laws.Words.{stored_same, stored_other, stores_in, word_apart, word_later, fills_there}
-use Rattle.held_example.specs.Toy.{State, first_state, cells_of, table, put, filled, fills_by, tells_kept, starts_by, machine, class_of, is_own_word, is_own_register, owns, setting, Hold, Part, Promise, Pinned, Holds, cell, MARK, STATE, NEWEST, PIN, bank, flag, want_by, want, HeldRight, AllRight, Work, Settled, Marking, Publishing, MarkAgrees, IsKept, KeptAgrees, Agrees, basis, job_move, filled_bodies, filled_takes, is_of, Free, filling, fill_bodies, notice, tells_notice, told_all, ask_work, ask_bodies, ask_takes, ask_fuel, look_takes, put_work, put_takes, put_fuel, put_bodies, take_work, named, none_kept, take_takes, take_fuel, take_clean, take_bodies, is_pin, NonePinned, answered, poll_work, poll_takes, poll_fuel, poll_bodies, reboot_work, reboot_takes, reboot_bodies, fill_looked, looked, toy}
+use Rattle.held_example.specs.Toy.{State, first_state, cells_of, table, put, filled, fills_by, tells_kept, starts_by, machine, class_of, is_own_word, is_own_register, owns, setting, Hold, Part, Promise, Pinned, Holds, cell, MARK, STATE, NEWEST, PIN, bank, flag, want_by, want, HeldRight, AllRight, Work, Settled, Marking, MarkAgrees, IsKept, KeptAgrees, Agrees, bare, is_publishing, publishing, basis, job_move, filled_bodies, filled_takes, is_of, Free, filling, fill_bodies, notice, tells_notice, told_all, ask_work, ask_bodies, ask_takes, ask_fuel, look_takes, put_work, put_takes, put_fuel, put_owes, put_windows, put_bodies, take_work, named, none_kept, take_takes, take_fuel, take_clean, take_ends, take_bodies, ends_with, both_read, twice, is_pin, NonePinned, answered, poll_work, poll_takes, poll_fuel, poll_bodies, reboot_work, reboot_takes, reboot_bodies, fill_looked, looked, toy}
 use Rattle.held_example.specs.declared.asking.Asking.{Asking}
 use Rattle.held_example.specs.declared.asking.Asking.TheVariants.{Want, OpenOnce, Tell, ShutAgain, Look, Go, Unmark}
 use Rattle.held_example.specs.declared.call.Call.{Call}
@@ -48,7 +53,7 @@ use Rattle.held_example.specs.declared.filling.Job.{Job}
 use Rattle.held_example.specs.declared.keeping.Putting.{Putting}
 use Rattle.held_example.specs.declared.keeping.Putting.TheVariants as puts
 use Rattle.held_example.specs.declared.keeping.Taking.{Taking}
-use Rattle.held_example.specs.declared.keeping.Taking.TheVariants.{Newest, Pin, Open, Copy, Shut, Release}
+use Rattle.held_example.specs.declared.keeping.Taking.TheVariants.{Newest, Pin, Open, Copy, Again, Shut, Release, Leave, Over}
 use Rattle.held_example.specs.declared.polling.Polling.{Polling}
 use Rattle.held_example.specs.declared.polling.Polling.TheVariants as polls
 use Rattle.held_example.specs.declared.rebooting.Rebooting.{Rebooting}
@@ -59,7 +64,7 @@ use Rattle.held_example.specs.declared.rebooting.Rebooting.TheVariants.{Reset}
 right_one : (a b : Chip) (h : Held Call Hold) (x : Hold) → word_of b PIN ≡ word_of a PIN → ((i : ℕ) → word_of a PIN ≡ 1 + i → i < 2 → word_of b (bank i) ≡ word_of a (bank i)) → HeldRight a h x → HeldRight b h x
 right_one a b h (Part n v i) pin banks r = r
 right_one a b h Promise pin banks r = tt
-right_one a b h (Pinned i) pin banks r = (r.0, r.1, pin ∙ r.2, r.3 ∙ ap (λ x. Some (number x)) (sym (banks i r.2 r.1)))
+right_one a b h (Pinned i) pin banks r = (r.0, r.1, pin ∙ r.2, r.3 ∙ ap (λ x. Some (twice x)) (sym (banks i r.2 r.1)))
 
 right_by : (a b : Chip) (held : Holds) → word_of b PIN ≡ word_of a PIN → ((i : ℕ) → word_of a PIN ≡ 1 + i → i < 2 → word_of b (bank i) ≡ word_of a (bank i)) → AllRight a held → AllRight b held
 right_by a b [] pin banks r = tt
@@ -78,7 +83,6 @@ unpinned a b (h ∷ hs) none r = (unpinned_one a b h h.what none.0 r.0, unpinned
 mark_by : (work : Work) (a b : Chip) (q : Bool) → word_of b MARK ≡ word_of a MARK → MarkAgrees work a q → MarkAgrees work b q
 mark_by Settled a b q e h = e ∙ h
 mark_by Marking a b q e h = tt
-mark_by (Publishing i) a b q e h = e ∙ h
 
 is_kept_by : (a b : Chip) (k : Option ℕ) → word_of b NEWEST ≡ word_of a NEWEST → ((i : ℕ) → i < 2 → word_of b (bank i) ≡ word_of a (bank i)) → IsKept a k → IsKept b k
 is_kept_by a b None e banks h = e ∙ h
@@ -87,7 +91,6 @@ is_kept_by a b (Some v) e banks h = (h.0, h.1, e ∙ h.2, banks h.0 h.1 ∙ h.3)
 kept_by : (work : Work) (a b : Chip) (k : Option ℕ) → word_of b NEWEST ≡ word_of a NEWEST → ((i : ℕ) → i < 2 → word_of b (bank i) ≡ word_of a (bank i)) → KeptAgrees work a k → KeptAgrees work b k
 kept_by Settled a b k e banks h = is_kept_by a b k e banks h
 kept_by Marking a b k e banks h = is_kept_by a b k e banks h
-kept_by (Publishing i) a b k e banks h = (h.0, h.1 ∙ ap (λ x. Some x) (sym (banks i h.0)))
 
 -- ---- the basis
 
@@ -151,9 +154,6 @@ all_moved chip made received all = all-step chip (Made made received) tt all
 
 apart : (held : Holds) (work : Work) (chip : Chip) (w : World) (s : State) (made : Move) (received : ℕ) → owns made ≡ false → Agrees held work chip w s → Agrees held work (chip_after chip made received) w s
 apart held work chip w s made received e h = same_words held work chip (chip_after chip made received) w w s (all_moved chip made received h.all) (λ k own. word_apart is_own_word chip made received k (unstored made e) own) h
-
-foot_apart : (chip : Chip) (made : Move) (received : ℕ) → owns made ≡ false → basis.foot (chip_after chip made received) ≡ basis.foot chip
-foot_apart chip made received e = ap (λ x. (x, word_of (chip_after chip made received) PIN)) (word_apart is_own_word chip made received NEWEST (unstored made e) refl) ∙ ap (λ x. (word_of chip NEWEST, x)) (word_apart is_own_word chip made received PIN (unstored made e) refl)
 
 plain : (made : Move) → owns made ≡ true → is_shared made ≡ false
 plain (Read r) e = refl
@@ -228,14 +228,13 @@ error_leaves w s Take times out e = subst (λ o. ErrorLeaves s o) (given e) (tak
 error_leaves w s Poll times out e = subst (λ o. ErrorLeaves s o) (given e) (λ some. absurd (cc))
 error_leaves w s Reboot times out e = subst (λ o. ErrorLeaves s o) (given e) (λ some. absurd (cc))
 
-pub basis_right : IsBasis basis
-basis_right = record {
+bare_right : IsBasis bare
+bare_right = record {
   starts = λ chip w wired stands. reset_agrees chip w PowerOn stands.all;
   moves = λ held chip w s order come. refl;
   resets = λ held work chip w s reason h. (outcome first_state tells_nothing, refl, reset_agrees chip w reason h.all);
-  agrees_later = λ held work chip w s order come h. later held work chip w s order (fills_there setting (is_masked chip) w s come.frames order come.free) h;
-  agrees_apart = λ held work chip w s made received e h. apart held work chip w s made received (e (Called Ask)) h;
-  foot_apart = λ chip made received e. foot_apart chip made received (e (Called Ask));
+  agrees_later = λ held work chip w s order come shut h. later held work chip w s order (fills_there setting (is_masked chip) w s come.frames order come.free) h;
+  agrees_apart = λ held chip w s made received e h. apart held Settled chip w s made received (e (Called Ask)) h;
   may_owns = λ o made e. e;
   owns_plain = λ o made e. plain made e;
   may_there = λ o made e. there made e;
@@ -259,6 +258,17 @@ basis_right = record {
   rate_moves = λ w s order out e. refl;
   rate_resets = λ chip w s reason out e. refl;
 }
+
+-- the store that is owed
+publishing_simple : (made : Move) → is_publishing made ≡ true → is_simple made ≡ true
+publishing_simple (Store k v) e = refl
+publishing_simple _ e = absurd (cc)
+
+publishing_right : AreOwed bare publishing same_chip
+publishing_right = simple_owed bare publishing publishing_simple (λ b chip. tt) (λ b c x e. absurd (cc))
+
+pub basis_right : IsBasis basis
+basis_right = owing_basis bare publishing same_chip publishing_right bare_right
 
 masked : (held : Holds) (work : Work) (chip : Chip) (w : World) (s : State) → Agrees held work chip w s → Agrees held work (chip_after chip Mask 0) w s
 masked held work chip w s h = apart held work chip w s Mask 0 refl h
@@ -396,7 +406,7 @@ filled_right = record {
   own = λ below chip w s k o t h. refl;
   turns = λ below chip w s k o t h. turns k;
   steps = λ below chip w s k o y t m come few h. filled_steps below chip w s k o y t m h;
-  later = λ below chip w s order k o t come h. stays below w (world_after w chip.clock.rate order) chip (happened chip order) s k o t h.1;
+  later = λ below chip w s order k o t come shut h. stays below w (world_after w chip.clock.rate order) chip (happened chip order) s k o t h.1;
   calm = λ below chip w s k o t h e. (refl, refl);
   shortens = λ k x. omega arith;
   cleans = λ k x. tt;
@@ -541,7 +551,7 @@ ask_right = record {
   own = λ below chip w s k o t h. ask_own k;
   turns = λ below chip w s k o t h. ask_turns k (value_of chip (ask_work k));
   steps = λ below chip w s k o y t m come few h. ask_steps below chip w s k o y t m h;
-  later = λ below chip w s order k o t come h. ask_stays below chip (happened chip order) w (world_after w chip.clock.rate order) s k o t h.1;
+  later = λ below chip w s order k o t come shut h. ask_stays below chip (happened chip order) w (world_after w chip.clock.rate order) s k o t h.1;
   calm = λ below chip w s k o t h e. ask_calm k;
   shortens = ask_shortens;
   cleans = λ k x. never_clean (ask_work k) k (ask_takes k x);
@@ -557,59 +567,49 @@ put_on : (below : Holds) (chip : Chip) (w : World) (s : State) (before : Chip) (
 put_on below chip w s before x y v m true ne h = (h, (Is_being, omega arith, ne))
 put_on below chip w s before x y v m false ne h = (h, (Is_being, omega arith, ne))
 
--- the act: the value stands in a bank that isn't pinned, which is to be the newest
-put_kept : (below : Holds) (chip : Chip) (w : World) (s : State) (b v : ℕ) → b < 2 → word_of chip PIN ≢ 1 + b → Agrees below Settled chip w s → Agrees below (Publishing b) (chip_after chip (Store (bank b) v) 0) w (record s { kept = Some v })
+-- the act: the value stands in a bank that isn't pinned, and after the store that is owed that is the newest
+put_kept : (below : Holds) (chip : Chip) (w : World) (s : State) (b v : ℕ) → b < 2 → word_of chip PIN ≢ 1 + b → Agrees below Settled chip w s → Agrees below Settled (chip_after (chip_after chip (Store (bank b) v) 0) (Store NEWEST (1 + b)) 0) w (record s { kept = Some v })
 put_kept below chip w s b v lt free h =
-    let after = chip_after chip (Store (bank b) v) 0 in
+    let first = chip_after chip (Store (bank b) v) 0 in
+    let after = chip_after first (Store NEWEST (1 + b)) 0 in
+    let all = all_moved chip (Store (bank b) v) 0 h.all in
     record {
-      right = right_by chip after below (stored_other chip (bank b) v 0 PIN (omega arith)) (λ i p q. stored_other chip (bank b) v 0 (bank i) (λ e. let same : i ≡ b = omega (arith, e) in free (p ∙ ap (λ x. 1 + x) same))) h.right;
-      all = all_moved chip (Store (bank b) v) 0 h.all;
-      cells = λ c j p q. stored_other chip (bank b) v 0 (cell c j) (omega (arith, p, q)) ∙ h.cells c j p q;
-      mark = stored_other chip (bank b) v 0 MARK (omega arith) ∙ h.mark;
-      kept = (lt, ap (λ x. Some x) (sym (stored_same chip (bank b) v 0 (omega (arith, lt)) h.all.words)));
+      right = right_by chip after below (stored_other first NEWEST (1 + b) 0 PIN (omega arith) ∙ stored_other chip (bank b) v 0 PIN (omega arith))
+          (λ i p q. stored_other first NEWEST (1 + b) 0 (bank i) (bank_apart i NEWEST (omega arith)) ∙ stored_other chip (bank b) v 0 (bank i) (λ e. let same : i ≡ b = omega (arith, e) in free (p ∙ ap (λ x. 1 + x) same))) h.right;
+      all = all_moved first (Store NEWEST (1 + b)) 0 all;
+      cells = λ c j p q. stored_other first NEWEST (1 + b) 0 (cell c j) (omega (arith, p, q)) ∙ (stored_other chip (bank b) v 0 (cell c j) (omega (arith, p, q)) ∙ h.cells c j p q);
+      mark = stored_other first NEWEST (1 + b) 0 MARK (omega arith) ∙ (stored_other chip (bank b) v 0 MARK (omega arith) ∙ h.mark);
+      kept = (b, lt, stored_same first NEWEST (1 + b) 0 (omega arith) all.words, stored_other first NEWEST (1 + b) 0 (bank b) (bank_apart b NEWEST (omega arith)) ∙ stored_same chip (bank b) v 0 (omega (arith, lt)) h.all.words);
       starts = h.starts;
     }
 
-put_published : (below : Holds) (chip : Chip) (w : World) (s : State) (b : ℕ) → Agrees below (Publishing b) chip w s → Agrees below Settled (chip_after chip (Store NEWEST (1 + b)) 0) w s
-put_published below chip w s b h =
-    let v = 1 + b in
-    let after = chip_after chip (Store NEWEST v) 0 in
-    record {
-      right = right_by chip after below (stored_other chip NEWEST v 0 PIN (omega arith)) (λ i p lt. stored_other chip NEWEST v 0 (bank i) (bank_apart i NEWEST (omega arith))) h.right;
-      all = all_moved chip (Store NEWEST v) 0 h.all;
-      cells = λ c j p q. stored_other chip NEWEST v 0 (cell c j) (omega (arith, p, q)) ∙ h.cells c j p q;
-      mark = stored_other chip NEWEST v 0 MARK (omega arith) ∙ h.mark;
-      kept = subst (λ k. IsKept after k) (sym h.kept.1) (b, h.kept.0, stored_same chip NEWEST v 0 (omega arith) h.all.words, stored_other chip NEWEST v 0 (bank b) (bank_apart b NEWEST (omega arith)));
-      starts = h.starts;
-    }
+put_steps : (below : Holds) (chip : Chip) (w : World) (s : State) (k : Putting) (o : Origin Call) (y : ℕ) (t : Past) (m : ℕ → Bool) → put_owes k ≡ None → Stand basis put_bodies below chip w s k o t → Right basis put_bodies below chip w s k o y t m
+put_steps below chip w s (puts.Look v) o y t m e (h, Is_being) = let x = word_of chip PIN in put_on below chip w s chip x y v (missed_after machine w s m) (x == 1) (other_bank x (x == 1) refl) h
+put_steps below chip w s (puts.Keep b v) o y t m e (h, (Is_being, lt, free)) = record { may = refl; stands = tt; state = record s { kept = Some v }; told = tells_nothing; begins = None; is = refl; sends = tt; acts = tt; reset = refl; next = ((1, (refl, tt, put_kept below chip w s b v lt free h)), (v, Is_being)) }
+put_steps below chip w s (puts.Publish b) o y t m e h = absurd (cc)
 
-put_steps : (below : Holds) (chip : Chip) (w : World) (s : State) (k : Putting) (o : Origin Call) (y : ℕ) (t : Past) (m : ℕ → Bool) → Stand basis put_bodies below chip w s k o t → Right basis put_bodies below chip w s k o y t m
-put_steps below chip w s (puts.Look v) o y t m (h, Is_being) = let x = word_of chip PIN in put_on below chip w s chip x y v (missed_after machine w s m) (x == 1) (other_bank x (x == 1) refl) h
-put_steps below chip w s (puts.Keep b v) o y t m (h, (Is_being, lt, free)) = record { may = refl; stands = tt; state = record s { kept = Some v }; told = tells_nothing; begins = None; is = refl; sends = tt; acts = tt; reset = refl; next = (put_kept below chip w s b v lt free h, (v, Is_being)) }
-put_steps below chip w s (puts.Publish b) o y t m (h, (v, Is_being)) = (put_published below chip w s b h, record { may = (refl, refl); served = false; owed = refl; shown = λ e. absurd (cc); report = refl })
+put_own : (below : Holds) (chip : Chip) (w : World) (s : State) (k : Putting) (o : Origin Call) (t : Past) → put_owes k ≡ None → Stand basis put_bodies below chip w s k o t → is_shared (put_work k) || owns (put_work k) ≡ true
+put_own below chip w s (puts.Look v) o t e h = refl
+put_own below chip w s (puts.Keep b v) o t e (h, (p, lt, free)) = own_bank b lt
+put_own below chip w s (puts.Publish b) o t e h = absurd (cc)
 
-put_own : (below : Holds) (chip : Chip) (w : World) (s : State) (k : Putting) (o : Origin Call) (t : Past) → Stand basis put_bodies below chip w s k o t → is_shared (put_work k) || owns (put_work k) ≡ true
-put_own below chip w s (puts.Look v) o t h = refl
-put_own below chip w s (puts.Keep b v) o t (h, (p, lt, free)) = own_bank b lt
-put_own below chip w s (puts.Publish b) o t h = refl
-
-put_turns : (k : Putting) (x : ℕ) → TurnsTo put_bodies 16 k (put_takes k x)
-put_turns (puts.Look v) x = by (x == 1)
+put_turns : (k : Putting) (x : ℕ) → put_owes k ≡ None → TurnsTo put_bodies 16 k (put_takes k x)
+put_turns (puts.Look v) x e = by (x == 1)
   where
     by : (q : Bool) → TurnsTo put_bodies 16 (puts.Look v) (if q then (puts.Keep 1 v, goes) else (puts.Keep 0 v, goes))
     by true = (refl, omega arith)
     by false = (refl, omega arith)
-put_turns (puts.Keep b v) x = (refl, omega arith)
-put_turns (puts.Publish b) x = omega arith
+put_turns (puts.Keep b v) x e = (refl, omega arith)
+put_turns (puts.Publish b) x e = absurd (cc)
 
-put_shortens : (k : Putting) (x : ℕ) → Shortens put_fuel k (put_takes k x)
-put_shortens (puts.Look v) x = by (x == 1)
+put_shortens : (k : Putting) (x : ℕ) → put_owes k ≡ None → Shortens put_bodies.fuel k (put_takes k x)
+put_shortens (puts.Look v) x e = by (x == 1)
   where
-    by : (q : Bool) → Shortens put_fuel (puts.Look v) (if q then (puts.Keep 1 v, goes) else (puts.Keep 0 v, goes))
+    by : (q : Bool) → Shortens put_bodies.fuel (puts.Look v) (if q then (puts.Keep 1 v, goes) else (puts.Keep 0 v, goes))
     by true = omega arith
     by false = omega arith
-put_shortens (puts.Keep b v) x = omega arith
-put_shortens (puts.Publish b) x = omega arith
+put_shortens (puts.Keep b v) x e = omega arith
+put_shortens (puts.Publish b) x e = absurd (cc)
 
 -- what the hardware does leaves the words
 pin_happened : (chip : Chip) (order : Order) → HasAll chip → word_of (happened chip order) PIN ≡ word_of chip PIN
@@ -618,26 +618,68 @@ pin_happened chip order all = word_later chip order PIN all.words (omega arith)
 newest_happened : (chip : Chip) (order : Order) → HasAll chip → word_of (happened chip order) NEWEST ≡ word_of chip NEWEST
 newest_happened chip order all = word_later chip order NEWEST all.words (omega arith)
 
-put_later : (below : Holds) (chip : Chip) (w w1 : World) (s : State) (order : Order) (k : Putting) (o : Origin Call) (t : Past) → HasAll chip → place_at (put_bodies.spot k) below (basis.foot chip) w s o t → place_at (put_bodies.spot k) below (basis.foot (happened chip order)) w1 s o t
-put_later below chip w w1 s order (puts.Look v) o t all h = h
-put_later below chip w w1 s order (puts.Keep b v) o t all h = (h.0, h.1, λ e. h.2 (sym (pin_happened chip order all) ∙ e))
-put_later below chip w w1 s order (puts.Publish b) o t all h = h
+put_later : (below : Holds) (chip : Chip) (w w1 : World) (s : State) (order : Order) (k : Putting) (o : Origin Call) (t : Past) → put_owes k ≡ None → Stand basis put_bodies below chip w s k o t → place_at (put_bodies.spot k) below (basis.foot (happened chip order)) w1 s o t
+put_later below chip w w1 s order (puts.Look v) o t e (h, f) = f
+put_later below chip w w1 s order (puts.Keep b v) o t e (h, f) = (f.0, f.1, λ i. f.2 (sym (pin_happened chip order h.all) ∙ i))
+put_later below chip w w1 s order (puts.Publish b) o t e h = absurd (cc)
 
 put_calm : (k : Putting) → (resets_chip (put_work k) ≡ false) × (begins_word (put_work k) ≡ false)
 put_calm (puts.Look v) = (refl, refl)
 put_calm (puts.Keep b v) = (refl, refl)
 put_calm (puts.Publish b) = (refl, refl)
 
-pub put_right : AreLong basis put_bodies
-put_right = record {
-  own = put_own;
-  turns = λ below chip w s k o t h. put_turns k (value_of chip (put_work k));
-  steps = λ below chip w s k o y t m come few h. put_steps below chip w s k o y t m h;
-  later = λ below chip w s order k o t come h. put_later below chip w (world_after w chip.clock.rate order) s order k o t h.0.all h.1;
-  calm = λ below chip w s k o t h e. put_calm k;
-  shortens = put_shortens;
-  cleans = λ k x. never_clean (put_work k) k (put_takes k x);
+-- what is owed at a place is what the body does there
+put_wins : AreWindows put_windows (λ k. None)
+put_wins = record {
+  makes = makes;
+  on = λ k b c x e i. absurd (cc);
+  over = λ k b x e i. over k b x e;
+  unended = λ k b x e. refl;
+  may = λ a below o t made h e. may made e;
+  stands = λ k b x below chip w s o t m e i p h. stands k b x below chip w s o t m e p h;
 }
+  where
+    makes : (k : Putting) (b : ℕ) → put_owes k ≡ Some b → put_work k ≡ Store NEWEST (1 + b)
+    makes (puts.Look v) b e = absurd (cc)
+    makes (puts.Keep c v) b e = absurd (cc)
+    makes (puts.Publish c) b e = ap (λ i. Store NEWEST (1 + i)) (given e)
+
+    over : (k : Putting) (b x : ℕ) → put_owes k ≡ Some b → ((put_takes k x).1.event ≡ None) × GoesFree put_windows tt (put_takes k x).0 (put_takes k x).1.done
+    over (puts.Look v) b x e = absurd (cc)
+    over (puts.Keep c v) b x e = absurd (cc)
+    over (puts.Publish c) b x e = (refl, tt)
+
+    may : (made : Move) → is_publishing made ≡ true → owns made ≡ true
+    may (Store k v) e = let is : k ≡ NEWEST = grind (arith, nat_tests) in ap is_own_word is
+    may _ e = absurd (cc)
+
+    stands : (k : Putting) (b x : ℕ) (below : Holds) (chip : Chip) (w : World) (s : State) (o : Origin Call) (t : Past) (m : ℕ → Bool) → put_owes k ≡ Some b → put_windows.place tt below o t → Agrees below Settled chip w s → Continues basis put_bodies below chip w s o t m (put_takes k x).0 (put_takes k x).1.done
+    stands (puts.Look v) b x below chip w s o t m e p h = absurd (cc)
+    stands (puts.Keep c v) b x below chip w s o t m e p h = absurd (cc)
+    stands (puts.Publish c) b x below chip w s o t m e (v, Is_being) h = (h, record { may = (refl, refl); served = false; owed = refl; shown = λ e. absurd (cc); report = refl })
+
+put_free : AreFree basis put_bodies put_owes (λ k. None)
+put_free = record {
+  own = put_own;
+  turns = λ below chip w s k o t e h. put_turns k (value_of chip (put_work k)) e;
+  steps = λ below chip w s k o y t m e come few h. put_steps below chip w s k o y t m e h;
+  later = λ below chip w s order k o t e come shut h. put_later below chip w (world_after w chip.clock.rate order) s order k o t e h;
+  calm = λ below chip w s k o t e h i. put_calm k;
+  shortens = put_shortens;
+  cleans = λ k x e. cleans k x e;
+}
+  where
+    cleans : (k : Putting) (x : ℕ) → put_owes k ≡ None → Cleans put_bodies.clean (put_work k) k (put_takes k x)
+    cleans (puts.Look v) x e = by (x == 1)
+      where
+        by : (q : Bool) → Cleans put_bodies.clean (Load PIN) (puts.Look v) (if q then (puts.Keep 1 v, goes) else (puts.Keep 0 v, goes))
+        by true = λ f. absurd (cc)
+        by false = λ f. absurd (cc)
+    cleans (puts.Keep b v) x e = λ f. absurd (cc)
+    cleans (puts.Publish b) x e = absurd (cc)
+
+pub put_right : AreLong basis put_bodies
+put_right = windows_right bare publishing same_chip publishing_right put_windows (λ k. None) put_wins put_free
 
 -- ---- the value is taken
 
@@ -669,11 +711,11 @@ newest_on below chip w s y m (Some v) e (b, lt, is, has) none h false i =
     (h, (Is_being, none, subst (λ x. x < 2) (sym n) lt, is ∙ ap (λ x. 1 + x) (sym n)))
 
 -- the act: the newest bank is pinned, and has what is answered
-pinned_now : (below : Holds) (chip : Chip) (w : World) (s : State) (b v : ℕ) → b < 2 → word_of chip (bank b) ≡ v → NonePinned below → Agrees below Settled chip w s → Agrees (record { by = Called Take; what = Pinned b; acted = Some (number v) } ∷ below) Settled (chip_after chip (Store PIN (1 + b)) 0) w s
+pinned_now : (below : Holds) (chip : Chip) (w : World) (s : State) (b v : ℕ) → b < 2 → word_of chip (bank b) ≡ v → NonePinned below → Agrees below Settled chip w s → Agrees (record { by = Called Take; what = Pinned b; acted = Some (twice v) } ∷ below) Settled (chip_after chip (Store PIN (1 + b)) 0) w s
 pinned_now below chip w s b v lt has none h =
     let after = chip_after chip (Store PIN (1 + b)) 0 in
     record {
-      right = ((refl, lt, stored_same chip PIN (1 + b) 0 (omega arith) h.all.words, ap (λ x. Some (number x)) (sym (stored_other chip PIN (1 + b) 0 (bank b) (bank_apart b PIN (omega arith)) ∙ has))), unpinned chip after below none h.right);
+      right = ((refl, lt, stored_same chip PIN (1 + b) 0 (omega arith) h.all.words, ap (λ x. Some (twice x)) (sym (stored_other chip PIN (1 + b) 0 (bank b) (bank_apart b PIN (omega arith)) ∙ has))), unpinned chip after below none h.right);
       all = all_moved chip (Store PIN (1 + b)) 0 h.all;
       cells = λ c j p q. stored_other chip PIN (1 + b) 0 (cell c j) (omega (arith, p, q)) ∙ h.cells c j p q;
       mark = stored_other chip PIN (1 + b) 0 MARK (omega arith) ∙ h.mark;
@@ -712,36 +754,53 @@ abbrev first_number : Option Answer → ℕ
 first_number None = 0
 first_number (Some a) = slice_index_or a.words 0 0
 
-same_number : (v x : ℕ) → Some (number v) ≡ Some (number x) → x ≡ v
-same_number v x e = sym (ap first_number e)
+same_twice : (v x : ℕ) → Some (twice v) ≡ Some (twice x) → x ≡ v
+same_twice v x e = sym (ap first_number e)
 
-take_steps : (below : Holds) (chip : Chip) (w : World) (s : State) (k : Taking) (o : Origin Call) (y : ℕ) (t : Past) (m : ℕ → Bool) → Stand basis take_bodies below chip w s k o t → Right basis take_bodies below chip w s k o y t m
-take_steps below chip w s Newest o y t m (h, (Is_being, none)) = newest_on below chip w s y (missed_after machine w s m) s.kept refl h.kept none h (word_of chip NEWEST == 0) refl
+-- where it looks for the newest bank its frame goes on
+newest_goes : (x : ℕ) → ended_at take_bodies take_ends Newest x ≡ None
+newest_goes x = by (x == 0)
+  where
+    by : (q : Bool) → let p : Taking × BodyTaken = if q then (Newest, none_kept) else (Pin (named x), goes) in ended_by (take_ends p.0) p.1.done ≡ None
+    by true = refl
+    by false = refl
+
+take_steps : (below : Holds) (chip : Chip) (w : World) (s : State) (k : Taking) (o : Origin Call) (y : ℕ) (t : Past) (m : ℕ → Bool) → Stand basis take_bodies below chip w s k o t → RightOr basis take_bodies below chip w s k o y t m (ended_at take_bodies take_ends k (value_of chip (take_work k)))
+take_steps below chip w s Newest o y t m (h, (Is_being, none)) = goes_right basis take_bodies below chip w s Newest (Called Take) y nothing_yet m (ended_at take_bodies take_ends Newest (word_of chip NEWEST)) (newest_goes (word_of chip NEWEST)) (newest_on below chip w s y (missed_after machine w s m) s.kept refl h.kept none h (word_of chip NEWEST == 0) refl)
 take_steps below chip w s (Pin b) o y t m (h, (Is_being, none, lt, newest)) = pin_on below chip w s y b (missed_after machine w s m) s.kept refl h.kept lt newest none h
 take_steps below chip w s (Open b) o y t m (h, (v, f)) = (unmasked _ Settled chip w s h, (h.right.0.1, v, f))
-take_steps below chip w s (Copy b) o y t m (h, (lt, v, (Is_being, none))) = (h, subst (λ x. place_at (take_bodies.spot (Shut b x)) below (basis.foot chip) w s (Called Take) (answered v)) (sym (same_number v (word_of chip (bank b)) h.right.0.3)) (Is_being, none))
-take_steps below chip w s (Shut b x) o y t m (h, f) = (masked _ Settled chip w s h, f)
-take_steps below chip w s (Release b x) o y t m (h, (Is_being, none)) = (released below chip w s b o (answered x) none h, record { may = (refl, refl); served = false; owed = refl; shown = λ e. absurd (cc); report = refl })
+take_steps below chip w s (Copy b) o y t m (h, (lt, v, (Is_being, none))) = (h, subst (λ x. place_at (take_bodies.spot (Again b x)) below (basis.foot chip) w s (Called Take) (answered (twice v))) (sym (same_twice v (word_of chip (bank b)) h.right.0.3)) (lt, (Is_being, none)))
+take_steps below chip w s (Again b x) o y t m (h, (lt, (Is_being, none))) = (h, subst (λ z. place_at (take_bodies.spot (Shut b x z)) below (basis.foot chip) w s (Called Take) (answered (twice x))) (sym (same_twice x (word_of chip (bank b)) h.right.0.3)) (Is_being, none))
+take_steps below chip w s (Shut b x z) o y t m (h, f) = (masked _ Settled chip w s h, f)
+take_steps below chip w s (Release b x z) o y t m (h, (Is_being, none)) = (released below chip w s b o (answered (both_read x z)) none h, (Is_being, none))
+take_steps below chip w s (Leave x z) o y t m (h, (Is_being, none)) = (refl, unmasked _ Settled chip w s h, record { may = (refl, refl); served = false; owed = refl; shown = λ e. absurd (cc); report = refl })
+take_steps below chip w s (Over x z) o y t m (h, f) = absurd f
 
 take_own : (below : Holds) (chip : Chip) (w : World) (s : State) (k : Taking) (o : Origin Call) (t : Past) → Stand basis take_bodies below chip w s k o t → is_shared (take_work k) || owns (take_work k) ≡ true
 take_own below chip w s Newest o t h = refl
 take_own below chip w s (Pin b) o t h = refl
 take_own below chip w s (Open b) o t h = refl
 take_own below chip w s (Copy b) o t (h, (lt, v, f)) = own_bank b lt
-take_own below chip w s (Shut b x) o t h = refl
-take_own below chip w s (Release b x) o t h = refl
+take_own below chip w s (Again b x) o t (h, (lt, f)) = own_bank b lt
+take_own below chip w s (Shut b x y) o t h = refl
+take_own below chip w s (Release b x y) o t h = refl
+take_own below chip w s (Leave x y) o t h = refl
+take_own below chip w s (Over x y) o t h = refl
 
-take_turns : (k : Taking) (x : ℕ) → TurnsTo take_bodies 16 k (take_takes k x)
-take_turns Newest x = by (x == 0)
+take_turns : (below : Holds) (chip : Chip) (w : World) (s : State) (k : Taking) (o : Origin Call) (t : Past) (x : ℕ) → Stand basis take_bodies below chip w s k o t → TurnsTo take_bodies 16 k (take_takes k x)
+take_turns below chip w s Newest o t x h = by (x == 0)
   where
     by : (q : Bool) → TurnsTo take_bodies 16 Newest (if q then (Newest, none_kept) else (Pin (named x), goes))
     by true = omega arith
     by false = (refl, omega arith)
-take_turns (Pin b) x = (refl, omega arith)
-take_turns (Open b) x = (refl, refl, refl, refl)
-take_turns (Copy b) x = refl
-take_turns (Shut b y) x = (refl, refl, omega arith, refl, refl)
-take_turns (Release b y) x = omega arith
+take_turns below chip w s (Pin b) o t x h = (refl, omega arith)
+take_turns below chip w s (Open b) o t x h = (refl, refl, refl, refl)
+take_turns below chip w s (Copy b) o t x h = refl
+take_turns below chip w s (Again b y) o t x h = refl
+take_turns below chip w s (Shut b y z) o t x h = (refl, refl, omega arith, refl, refl)
+take_turns below chip w s (Release b y z) o t x h = (refl, omega arith)
+take_turns below chip w s (Leave y z) o t x h = (refl, refl, refl, refl)
+take_turns below chip w s (Over y z) o t x h = absurd h.1
 
 take_shortens : (k : Taking) (x : ℕ) → Shortens take_fuel k (take_takes k x)
 take_shortens Newest x = by (x == 0)
@@ -752,8 +811,11 @@ take_shortens Newest x = by (x == 0)
 take_shortens (Pin b) x = omega arith
 take_shortens (Open b) x = omega arith
 take_shortens (Copy b) x = omega arith
-take_shortens (Shut b y) x = omega arith
-take_shortens (Release b y) x = omega arith
+take_shortens (Again b y) x = omega arith
+take_shortens (Shut b y z) x = omega arith
+take_shortens (Release b y z) x = omega arith
+take_shortens (Leave y z) x = omega arith
+take_shortens (Over y z) x = omega arith
 
 take_cleans : (k : Taking) (x : ℕ) → Cleans take_clean (take_work k) k (take_takes k x)
 take_cleans Newest x = by (x == 0)
@@ -764,31 +826,40 @@ take_cleans Newest x = by (x == 0)
 take_cleans (Pin b) x = λ e. absurd (cc)
 take_cleans (Open b) x = λ e. absurd (cc)
 take_cleans (Copy b) x = λ e. absurd (cc)
-take_cleans (Shut b y) x = λ e. absurd (cc)
-take_cleans (Release b y) x = tt
+take_cleans (Again b y) x = λ e. absurd (cc)
+take_cleans (Shut b y z) x = λ e. absurd (cc)
+take_cleans (Release b y z) x = λ e. absurd (cc)
+take_cleans (Leave y z) x = λ e. absurd (cc)
+take_cleans (Over y z) x = tt
 
-take_later : (below : Holds) (chip : Chip) (w w1 : World) (s : State) (order : Order) (k : Taking) (o : Origin Call) (t : Past) → HasAll chip → place_at (take_bodies.spot k) below (basis.foot chip) w s o t → place_at (take_bodies.spot k) below (basis.foot (happened chip order)) w1 s o t
-take_later below chip w w1 s order Newest o t all h = h
-take_later below chip w w1 s order (Pin b) o t all h = (h.0, h.1, h.2, newest_happened chip order all ∙ h.3)
-take_later below chip w w1 s order (Open b) o t all h = h
-take_later below chip w w1 s order (Copy b) o t all h = h
-take_later below chip w w1 s order (Shut b x) o t all h = h
-take_later below chip w w1 s order (Release b x) o t all h = h
+take_later : (below : Holds) (chip : Chip) (w w1 : World) (s : State) (order : Order) (k : Taking) (o : Origin Call) (t : Past) → Stand basis take_bodies below chip w s k o t → place_at (take_bodies.spot k) below (basis.foot (happened chip order)) w1 s o t
+take_later below chip w w1 s order Newest o t (h, f) = f
+take_later below chip w w1 s order (Pin b) o t (h, f) = (f.0, f.1, f.2, newest_happened chip order h.all ∙ f.3)
+take_later below chip w w1 s order (Open b) o t (h, f) = f
+take_later below chip w w1 s order (Copy b) o t (h, f) = f
+take_later below chip w w1 s order (Again b x) o t (h, f) = f
+take_later below chip w w1 s order (Shut b x y) o t (h, f) = f
+take_later below chip w w1 s order (Release b x y) o t (h, f) = f
+take_later below chip w w1 s order (Leave x y) o t (h, f) = f
+take_later below chip w w1 s order (Over x y) o t (h, f) = f
 
 take_calm : (k : Taking) → (resets_chip (take_work k) ≡ false) × (begins_word (take_work k) ≡ false)
 take_calm Newest = (refl, refl)
 take_calm (Pin b) = (refl, refl)
 take_calm (Open b) = (refl, refl)
 take_calm (Copy b) = (refl, refl)
-take_calm (Shut b x) = (refl, refl)
-take_calm (Release b x) = (refl, refl)
+take_calm (Again b x) = (refl, refl)
+take_calm (Shut b x y) = (refl, refl)
+take_calm (Release b x y) = (refl, refl)
+take_calm (Leave x y) = (refl, refl)
+take_calm (Over x y) = (refl, refl)
 
-pub take_right : AreLong basis take_bodies
+pub take_right : AreEnding basis take_bodies take_ends
 take_right = record {
   own = take_own;
-  turns = λ below chip w s k o t h. take_turns k (value_of chip (take_work k));
+  turns = λ below chip w s k o t h. take_turns below chip w s k o t (value_of chip (take_work k)) h;
   steps = λ below chip w s k o y t m come few h. take_steps below chip w s k o y t m h;
-  later = λ below chip w s order k o t come h. take_later below chip w (world_after w chip.clock.rate order) s order k o t h.0.all h.1;
+  later = λ below chip w s order k o t come shut h. take_later below chip w (world_after w chip.clock.rate order) s order k o t h;
   calm = λ below chip w s k o t h e. take_calm k;
   shortens = take_shortens;
   cleans = take_cleans;
@@ -816,7 +887,7 @@ poll_right = record {
   own = λ below chip w s k o t h. refl;
   turns = λ below chip w s k o t h. turns k (value_of chip (poll_work k));
   steps = λ below chip w s k o y t m come few h. poll_steps below chip w s k o y t m h;
-  later = λ below chip w s order k o t come h. stays below chip (happened chip order) w (world_after w chip.clock.rate order) s k o t h.1;
+  later = λ below chip w s order k o t come shut h. stays below chip (happened chip order) w (world_after w chip.clock.rate order) s k o t h.1;
   calm = λ below chip w s k o t h e. (refl, refl);
   shortens = shortens;
   cleans = λ k x. never_clean (poll_work k) k (poll_takes k x);
@@ -855,7 +926,7 @@ reboot_right = record {
   own = λ below chip w s k o t h. own k;
   turns = λ below chip w s k o t h. turns k (value_of chip (reboot_work k));
   steps = λ below chip w s k o y t m come few h. reboot_steps below chip w s k o y t m h;
-  later = λ below chip w s order k o t come h. stays below chip (happened chip order) w (world_after w chip.clock.rate order) s k o t h.1;
+  later = λ below chip w s order k o t come shut h. stays below chip (happened chip order) w (world_after w chip.clock.rate order) s k o t h.1;
   calm = λ below chip w s k o t h e. acts_there k (value_of chip (reboot_work k)) e;
   shortens = shortens;
   cleans = λ k x. never_clean (reboot_work k) k (reboot_takes k x);
@@ -922,14 +993,14 @@ module _ (below : Holds) (chip : Chip) (w : World) (s : State) (h : Agrees below
   looks Poll l = record { at = (h, Is_being); closed = refl; fuel = omega arith; room = omega arith }
   looks Reboot l = record { at = (h, Is_being); closed = refl; fuel = omega arith; room = omega arith }
 
-bodies_right : AreLong basis toy.bodies
+bodies_right : AreEnding basis toy.bodies ends_with
 bodies_right =
     let first = both_right basis fill_bodies ask_bodies fill_right ask_right in
-    let kept = both_right basis put_bodies take_bodies put_right take_right in
+    let kept = both_ending basis put_bodies take_bodies (λ k. ends_with (Second (First k))) put_right take_right in
     let others = both_right basis poll_bodies reboot_bodies poll_right reboot_right in
-    both_right basis (both fill_bodies ask_bodies) (both (both put_bodies take_bodies) (both poll_bodies reboot_bodies)) first (both_right basis (both put_bodies take_bodies) (both poll_bodies reboot_bodies) kept others)
+    both_ending basis (both fill_bodies ask_bodies) (both (both put_bodies take_bodies) (both poll_bodies reboot_bodies)) ends_with first (both_ending basis (both put_bodies take_bodies) (both poll_bodies reboot_bodies) (λ k. ends_with (Second k)) kept others)
 
-pub toy_right : AreServices toy
+pub toy_right : AreEndingServices toy ends_with
 toy_right = record {
   basis = basis_right;
   bodies = bodies_right;
@@ -944,5 +1015,5 @@ toy_right = record {
 }
 
 -- whatever runs above them, the frames of the module are right at each step, and at rest no unit waits
-pub toy_lawful : IsLawful (services_driver toy) (short_move toy.word toy.bodies.work_of) (short_left toy.looked toy.bodies.takes) (short_gave toy.looked toy.bodies.takes)
+pub toy_lawful : IsLawful (services_driver toy) (short_move toy.word toy.bodies.work_of) (short_left toy.looked toy.bodies.takes) (ending_gave toy.looked toy.bodies.takes ends_with)
 toy_lawful = services_lawful toy toy_right

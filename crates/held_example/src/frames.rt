@@ -7,7 +7,7 @@ use crate::filling::{Filled, Job};
 use crate::keeping::{Putting, Taking};
 use crate::polling::Polling;
 use crate::rebooting::Rebooting;
-use mcal_base::{ErrorName, ModuleName, Service as ServiceName};
+use mcal_base::{Answer, ErrorName, ModuleName, Service as ServiceName};
 use run_model::{Class, Key, KeyKind, Kind};
 use service_outline::{Done, Looked, Or, Place, Service, Short, Sweep, error, nothing};
 use std::marker::Model;
@@ -25,13 +25,15 @@ pub type ToyFrame = Short<Call, ToyBody>;
 impl Service for Call {
     type Body = ToyBody;
 
-    ghost use Rattle.held_example.specs.Toy.{STATE, looked};
+    ghost use Rattle.held_example.specs.Toy.{STATE, looked, ends_with};
 
     ghost WORD = { STATE };
 
     const WORD: u32 = 32_809;
 
     ghost looked_of = { looked };
+
+    ghost ends_with = { ends_with };
 
     fn look(&self, _value: u32) -> Looked<ToyBody> {
         match *self {
@@ -69,6 +71,12 @@ impl Service for Call {
                 let body = Or::Second(Rebooting::Reset);
                 Looked::Goes(Or::Second(Or::Second(body)))
             }
+        }
+    }
+
+    fn finish(body: &ToyBody, ended: &mut Option<Answer>) {
+        if let Or::Second(Or::First(Or::Second(taking))) = body {
+            taking.finish(ended);
         }
     }
 }

@@ -1,8 +1,8 @@
-ghost use Rattle.std.specs.Prelude.{◌≡◌};
+ghost use Rattle.std.specs.Prelude.{◌≡◌, None};
 ghost use Rattle.held_example.specs.Toy as spec;
 
-use mcal_base::{ErrorName, Move, Service};
-use service_outline::{Body, BodyTaken, Owed, acts, acts_with, ends, error, goes, nothing, number};
+use mcal_base::{Answer, ErrorName, Head, Move, Service, Words};
+use service_outline::{Body, BodyTaken, Owed, acts, acts_with, ends, error, goes, nothing};
 
 /// A value is put into the bank that isn't pinned, which is the newest then.
 #[derive(Clone, Copy, Debug, PartialEq, Eq)]
@@ -42,7 +42,8 @@ impl Body for Putting {
     }
 }
 
-/// The value that was kept last is taken: the act pins its bank, which is copied with the mask open.
+/// The value that was kept last is taken, twice: the act pins its bank, which is read with the mask open. The body keeps what
+/// it read, and ends its frame with that at its last opening of the mask.
 #[derive(Clone, Copy, Debug, PartialEq, Eq)]
 pub enum Taking {
     /// It looks which bank is the newest.
@@ -51,12 +52,18 @@ pub enum Taking {
     Pin(u8),
     /// It opens the mask.
     Open(u8),
-    /// It copies the bank.
+    /// It reads the bank.
     Copy(u8),
-    /// It closes the mask, with what it copied.
-    Shut(u8, u32),
+    /// It reads the bank once more, with what it read.
+    Again(u8, u32),
+    /// It closes the mask, with all that it read.
+    Shut(u8, u32, u32),
     /// It releases the bank.
-    Release(u8, u32),
+    Release(u8, u32, u32),
+    /// It opens the mask for the last time.
+    Leave(u32, u32),
+    /// Its frame has ended, with what it read.
+    Over(u32, u32),
 }
 
 impl Body for Taking {
@@ -70,10 +77,11 @@ impl Body for Taking {
         match *self {
             Taking::Newest => Move::Load(32_810),
             Taking::Pin(bank) => Move::Store(32_811, 1 + u32::from(bank)),
-            Taking::Open(_) => Move::Unmask,
-            Taking::Copy(bank) => Move::Load(32_812 + u32::from(bank)),
+            Taking::Open(_) | Taking::Leave(..) => Move::Unmask,
+            Taking::Copy(bank) | Taking::Again(bank, _) => Move::Load(32_812 + u32::from(bank)),
             Taking::Shut(..) => Move::Mask,
             Taking::Release(..) => Move::Store(32_811, 0),
+            Taking::Over(..) => Move::Load(32_809),
         }
     }
 
@@ -83,12 +91,33 @@ impl Body for Taking {
             Taking::Newest => (Taking::Pin(named(value)), goes()),
             Taking::Pin(bank) => (Taking::Open(bank), acts()),
             Taking::Open(bank) => (Taking::Copy(bank), goes()),
-            Taking::Copy(bank) => (Taking::Shut(bank, value), goes()),
-            Taking::Shut(bank, kept) => (Taking::Release(bank, kept), goes()),
-            Taking::Release(_, kept) => (*self, ends(None, number(kept), Owed::Nothing)),
+            Taking::Copy(bank) => (Taking::Again(bank, value), goes()),
+            Taking::Again(bank, first) => (Taking::Shut(bank, first, value), goes()),
+            Taking::Shut(bank, first, second) => (Taking::Release(bank, first, second), goes()),
+            Taking::Release(_, first, second) => (Taking::Leave(first, second), goes()),
+            Taking::Leave(first, second) => (Taking::Over(first, second), goes()),
+            Taking::Over(..) => (*self, ends(None, nothing(), Owed::Nothing)),
         };
         *self = after;
         taken
+    }
+}
+
+impl Taking {
+    /// Writes the answer, where the frame has ended.
+    pub fn finish(&self, ended: &mut Option<Answer>)
+        requires { ended.old ≡ None }
+        ensures { ended.new ≡ spec.take_ends self.now }
+    {
+        if let Taking::Over(first, second) = *self {
+            let mut words = Words::new();
+            words.push(first);
+            words.push(second);
+            *ended = Some(Answer {
+                head: Head::Numbers,
+                words,
+            });
+        }
     }
 }
 

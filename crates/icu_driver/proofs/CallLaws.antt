@@ -8,7 +8,7 @@ use Rattle.mcal_base.specs.declared.error_name.ErrorName.{ErrorName}
 use Rattle.run_model.specs.Machine.{Outcome}
 use Rattle.icu_driver.specs.Checks.{error_by}
 use Rattle.icu_driver.specs.Edges.{newest, values_by}
-use Rattle.icu_driver.specs.Laws.{IsCleared}
+use Rattle.icu_driver.specs.Claims.{IsCleared}
 use Rattle.icu_driver.specs.Machine.{IcuState, Capture, Start, capture_at, with_capture, index_by, value_or, cleared, cleared_all, channel_work, asked, acts_by, acts, is_on}
 use Rattle.icu_driver.specs.Table.{channel_of, is_linear}
 use Rattle.icu_driver.specs.declared.call.Call.TheVariants.{Init, DeInit, Channel}
@@ -16,7 +16,7 @@ use Rattle.icu_driver.specs.declared.call.ChannelCall.{ChannelCall}
 use Rattle.icu_driver.specs.declared.driver.Channel as configured
 use Rattle.icu_driver.specs.declared.driver.IcuDriver.{IcuDriver}
 use Rattle.icu_driver.proofs.RoomLaws.{none_there, within}
-use Rattle.icu_driver.proofs.Tables.{by_channel_at, by_if}
+use Rattle.icu_driver.specs.laws.Tables.{by_channel_at, by_if}
 
 -- a configured channel is one of the eight
 pub below : (d : IcuDriver) (c : ℕ) (k : configured.Channel) → channel_of d c ≡ Some k → c < 8

@@ -9,7 +9,7 @@ use Rattle.icu_driver.specs.Table.{channel_of}
 use Rattle.icu_driver.specs.declared.driver.Channel as configured
 use Rattle.icu_driver.specs.declared.driver.IcuDriver.{IcuDriver}
 use Rattle.icu_driver.proofs.CallLaws.{below, same_number, other_number}
-use Rattle.icu_driver.proofs.Tables.{by_channel_at}
+use Rattle.icu_driver.specs.laws.Tables.{by_channel_at}
 
 same_level : (a b : Bool) → a ≡ b → is_same a b ≡ true
 same_level true true e = refl

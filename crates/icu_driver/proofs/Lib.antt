@@ -3,4 +3,3 @@ pub mod EdgeLaws
 pub mod MeasureLaws
 pub mod RoomLaws
 pub mod StampLaws
-pub mod Tables

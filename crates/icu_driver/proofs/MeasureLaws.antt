@@ -4,7 +4,7 @@ use Rattle.std.specs.Prelude.{if◌then◌else◌}
 use Rattle.std.specs.List.{AllByRecursion}
 use Rattle.std.specs.Option.{option_map}
 use Rattle.icu_driver.specs.Edges.{Edge, is_same, up_to, beginning_at, measures}
-use Rattle.icu_driver.specs.Laws.{IsMeasure}
+use Rattle.icu_driver.specs.Claims.{IsMeasure}
 
 same_by : (a b : Bool) → is_same a b ≡ true → a ≡ b
 same_by true true e = refl

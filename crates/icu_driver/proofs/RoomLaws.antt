@@ -11,7 +11,7 @@ use Rattle.run_model.specs.World.{World}
 use Rattle.run_model.specs.Machine.{Happening, Acts, Serves, Starts, Aborts, Moves, Restarts, Outcome, tells_nothing, outcome}
 use Rattle.icu_driver.specs.Checks.{error_by}
 use Rattle.icu_driver.specs.Edges.{Edge, is_same}
-use Rattle.icu_driver.specs.Laws.{HasRoom}
+use Rattle.icu_driver.specs.Claims.{HasRoom}
 use Rattle.icu_driver.specs.Machine.{IcuState, Capture, capture_at, by_channel, untouched, with_capture, first_state, edge_queued, is_taken, edge_taken, edge_at_pin, moved, switched, cleared, channel_work, asked, cleared_all, acts_by, acts, is_on, is_full, completes, served_by, served_edge, served, ready, happens, index}
 use Rattle.icu_driver.specs.Table.{channel_of, channel_number, is_counter}
 use Rattle.icu_driver.specs.declared.call.Call.{Call}
@@ -20,7 +20,7 @@ use Rattle.icu_driver.specs.declared.call.ChannelCall.{ChannelCall}
 use Rattle.icu_driver.specs.declared.call.ChannelCall.TheVariants as calls
 use Rattle.icu_driver.specs.declared.driver.Channel as configured
 use Rattle.icu_driver.specs.declared.driver.IcuDriver.{IcuDriver}
-use Rattle.icu_driver.proofs.Tables.{by_channel_at, by_if}
+use Rattle.icu_driver.specs.laws.Tables.{by_channel_at, by_if}
 
 -- at most four edges wait on a channel
 abbrev Few : Capture → Type 0

@@ -16,7 +16,7 @@ use Rattle.icu_driver.specs.declared.call.ChannelCall.{ChannelCall}
 use Rattle.icu_driver.specs.declared.call.ChannelCall.TheVariants as calls
 use Rattle.icu_driver.specs.declared.driver.Channel as configured
 use Rattle.icu_driver.specs.declared.driver.IcuDriver.{IcuDriver}
-use Rattle.icu_driver.proofs.Tables.{by_channel_at, by_if}
+use Rattle.icu_driver.specs.laws.Tables.{by_channel_at, by_if}
 
 -- a channel has the stamps that another had
 abbrev SameStamps : Capture → Capture → Type 0

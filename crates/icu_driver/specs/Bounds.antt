@@ -154,5 +154,5 @@ icu_setting d = record {
   fill_busy = λ w s origins c. false;
   rest = λ chip w s. (c : ℕ) → IsSome (channel_of d c) → HasStamps chip s c;
   unmasked = λ chip w s origins. Unit {0};
-  shows = λ origin n chip s. HasStamps chip s n.id;
+  shows = λ origin n chip s. IsSome (channel_of d n.id) → HasStamps chip s n.id;
 }

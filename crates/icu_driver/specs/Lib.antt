@@ -1,7 +1,11 @@
 pub mod Bounds
 pub mod Checks
+pub mod Claims
 pub mod Edges
-pub mod Laws
+pub mod Fits
+pub mod Ground
 pub mod Machine
 pub mod Requests
 pub mod Table
+pub mod Words
+pub mod laws

@@ -1,5 +1,5 @@
 -- The calls that the requests of a script ask for.
-use Rattle.std.specs.Prelude.{ℕ, Bool, true, false, Option, Some, None, slice_get}
+use Rattle.std.specs.Prelude.{ℕ, ◌<◌, ◌^◌, Bool, true, false, Option, Some, None, slice_get, unwrap_or}
 use Rattle.mcal_base.specs.Names.{module_of}
 use Rattle.mcal_base.specs.declared.module_name.ModuleName.{ModuleName}
 use Rattle.mcal_base.specs.declared.module_name.ModuleName.TheVariants.{Icu}
@@ -61,6 +61,15 @@ call_by s a b c = asks a (channel_call_by s b c)
 
 abbrev pub call_of : Request → Option Call
 call_of r = call_by r.service (slice_get r.arguments 0) (slice_get r.arguments 1) (slice_get r.arguments 2)
+
+-- the same, which no request of another module asks for
+abbrev pub asked_for : Request → Call
+asked_for r = unwrap_or (call_of r) Init
+
+-- the numbers of a call fit a register
+abbrev pub IsSmall : Call → Type 0
+IsSmall (Channel c (StartTimestamp size interval)) = interval < 2 ^ 32
+IsSmall _ = Unit {0}
 
 abbrev pub is_icu : ModuleName → Bool
 is_icu Icu = true

@@ -1,13 +1,16 @@
 ghost use Rattle.std.specs.Prelude.{◌≡◌};
+ghost use Rattle.service_outline.specs.Done.{owed_error};
 ghost use Rattle.icu_driver.specs.Bounds as bounds;
+ghost use Rattle.icu_driver.specs.Checks.{reporting};
 ghost use Rattle.icu_driver.specs.Table as spec;
 
 use crate::call::Call;
 use mcal_base::{
-    Config, IcuChannel, IcuMeasurementMode, IcuSignalMeasurementProperty, IcuStartEdge,
-    IcuTimestampMeasurementProperty, ModuleName,
+    Config, ErrorName, IcuChannel, IcuMeasurementMode, IcuSignalMeasurementProperty, IcuStartEdge,
+    IcuTimestampMeasurementProperty, ModuleName, Service,
 };
 use run_model::Class;
+use service_outline::Owed;
 
 /// A configured channel.
 #[derive(Clone, Copy, Debug, PartialEq, Eq)]
@@ -63,6 +66,13 @@ impl IcuDriver {
                 find(channels, 7),
             ],
         }
+    }
+
+    /// What a call of a service owes for an error.
+    pub fn owed(&self, service: Service, error: ErrorName) -> Owed
+        ensures { result ≡ owed_error (reporting self.now) service error }
+    {
+        service_outline::error(self.detect, self.classification, service, error)
     }
 
     /// The channel of a number, where it is configured.

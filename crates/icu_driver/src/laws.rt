@@ -13,7 +13,7 @@ ghost use Rattle.run_model.specs.Machine.{Happening, Acts, Serves, Restarts, Out
 ghost use Rattle.run_model.specs.World.{World};
 ghost use Rattle.icu_driver.specs.Bounds.{stamp_at};
 ghost use Rattle.icu_driver.specs.Edges.{Edge, measures, time_between};
-ghost use Rattle.icu_driver.specs.Laws.{HasRoom, is_switch, IsMeasure, IsCleared, drops_mark, drops_count, tells_notice};
+ghost use Rattle.icu_driver.specs.Claims.{HasRoom, is_switch, IsMeasure, IsCleared, drops_mark, drops_count, tells_notice};
 ghost use Rattle.icu_driver.specs.Machine.{IcuState, Capture, Start, first_state, icu_machine, acts, capture_at, moved, is_taken, edge_taken, channel_work, index, stamped, measured, served_by, completes, stamp_in, handed};
 ghost use Rattle.icu_driver.specs.Table.{is_counter, is_linear, chooses, channel_of, channel_of_line, channel_number};
 ghost use Rattle.icu_driver.specs.declared.call.Call.{Call};

@@ -1,11 +1,36 @@
-//! The capture driver: its calls, what it keeps of a configuration, and the machine of the capture channels.
+//! The capture driver: its calls and handlers as frames of single steps, what it keeps of a configuration, and the
+//! machine of the capture channels.
+//!
+//! The capture registers hold gates, waiting edges and counts, and driver words the rest: whether the module is
+//! initialised, the notifications and active marks, how far stamps came, and what a measurement has seen.
 #![tactic(auto)]
 
+mod asked;
 mod call;
+mod caller;
 mod driver;
+mod frames;
+mod handler;
 pub mod laws;
 mod request;
+mod service;
+mod shown;
+mod words;
 
+pub use asked::Asked;
 pub use call::{Call, ChannelCall};
 pub use driver::{Channel, IcuDriver};
+pub use frames::{IcuFrame, IcuMachine};
 pub use request::call_of;
+pub use service::IcuBody;
+pub use service::change::ChangeBody;
+pub use service::count::CountBody;
+pub use service::deinit::DeInitBody;
+pub use service::detect::DetectBody;
+pub use service::duty::DutyBody;
+pub use service::gate::GateBody;
+pub use service::init::InitBody;
+pub use service::keep::{KeepBody, Kept};
+pub use service::measure::MeasureBody;
+pub use service::sample::{SampleBody, Sampled};
+pub use service::stamp::{StampBody, Stamping};

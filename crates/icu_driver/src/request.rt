@@ -9,12 +9,19 @@ pub fn call_of(request: &Request) -> Call
     requires { spec.has_service request.now.service ≡ true }
     ensures { spec.call_of request.now ≡ Some result }
 {
-    let first = argument(request, 0);
-    let second = argument(request, 1);
-    match call_by(request.service, first, second, argument(request, 2)) {
+    match asked(request) {
         Some(call) => call,
         None => unreachable!(),
     }
+}
+
+/// The call that a request asks for, none where its service is one of another module.
+fn asked(request: &Request) -> Option<Call>
+    ensures { result ≡ spec.call_of request.now }
+{
+    let first = argument(request, 0);
+    let second = argument(request, 1);
+    call_by(request.service, first, second, argument(request, 2))
 }
 
 /// An argument of a request.

@@ -3,6 +3,7 @@ pub mod Bodies
 pub mod Clock
 pub mod Fill
 pub mod Ground
+pub mod Keeps
 pub mod Lawful
 pub mod Look
 pub mod Query

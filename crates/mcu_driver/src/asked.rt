@@ -12,7 +12,7 @@ use crate::service::state::StateBody;
 use crate::service::{self, McuBody};
 use crate::words::STATE;
 use det_errors::{Facts, first_error};
-use mcal_base::{AnswerName, ErrorName, Service};
+use mcal_base::{Answer, AnswerName, ErrorName, Service};
 use service_outline::{Done, Looked, Owed, Reply, named, nothing};
 
 /// A call with the driver that it is made of.
@@ -42,6 +42,8 @@ impl service_outline::Service for Asked {
             None => self.begin(),
         }
     }
+
+    fn finish(_body: &McuBody, _ended: &mut Option<Answer>) {}
 }
 
 impl Asked {

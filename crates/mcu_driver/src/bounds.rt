@@ -7,7 +7,7 @@ use crate::driver::McuDriver;
 
 impl McuDriver {
     /// The most steps of a call's frame.
-    pub fn call_steps(&self, call: Call) -> u32
+    pub(crate) fn steps_of(&self, call: Call) -> u32
         requires { FitsMcu self.now }
         ensures steps { result ≡ spec.call_steps self.now call }
         ensures few { result ≤ 1216 }

@@ -7,6 +7,7 @@
 mod asked;
 mod bounds;
 mod call;
+mod caller;
 mod driver;
 mod frames;
 pub mod laws;
@@ -18,7 +19,6 @@ pub use asked::Asked;
 pub use call::{Call, ClockCall};
 pub use driver::{McuDriver, Section};
 pub use frames::{McuFrame, McuMachine};
-pub use request::call_of;
 pub use service::clock::ClockBody;
 pub use service::fill::{Fill, FilledBody};
 pub use service::query::QueryBody;

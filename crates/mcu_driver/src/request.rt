@@ -33,7 +33,7 @@ fn call_by(service: Service, first: Option<Argument>) -> Call
 }
 
 /// The call that a request asks for, which names a service of the module.
-pub fn call_of(request: &Request) -> Call
+pub(crate) fn call_of(request: &Request) -> Call
     requires { spec.has_service request.now.service ≡ true }
     ensures { Some result ≡ spec.call_of request.now }
 {

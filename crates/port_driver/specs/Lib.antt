@@ -1,5 +1,6 @@
 pub mod Bounds
 pub mod Checks
+pub mod Fits
 pub mod Ground
 pub mod Machine
 pub mod Requests

@@ -1,5 +1,5 @@
 -- The calls that the requests of a script ask for.
-use Rattle.std.specs.Prelude.{ℕ, Bool, true, false, Option, Some, None, slice_get}
+use Rattle.std.specs.Prelude.{ℕ, Bool, true, false, Option, Some, None, slice_get, unwrap_or}
 use Rattle.mcal_base.specs.Names.{module_of}
 use Rattle.mcal_base.specs.declared.module_name.ModuleName.{ModuleName}
 use Rattle.mcal_base.specs.declared.module_name.ModuleName.TheVariants.{Port}
@@ -47,6 +47,10 @@ call_by _ a b = None
 -- the call that a request asks for
 abbrev pub call_of : Request → Option Call
 call_of r = call_by r.service (slice_get r.arguments 0) (slice_get r.arguments 1)
+
+-- the same, which no request of another module asks for
+abbrev pub asked_for : Request → Call
+asked_for r = unwrap_or (call_of r) Init
 
 abbrev pub is_port : ModuleName → Bool
 is_port Port = true

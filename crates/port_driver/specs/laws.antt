@@ -2,7 +2,9 @@ pub mod Bodies
 pub mod Ground
 pub mod Halves
 pub mod Init
+pub mod Keeps
 pub mod Lawful
+pub mod Levels
 pub mod Look
 pub mod Pins
 pub mod Ranks

@@ -10,7 +10,7 @@ use crate::service::refresh::RefreshBody;
 use crate::service::{self, PortBody};
 use crate::words::STATE;
 use det_errors::{Facts, first_error};
-use mcal_base::{ErrorName, PortPinMode};
+use mcal_base::{Answer, ErrorName, PortPinMode};
 use service_outline::{Done, Looked, Owed, error, nothing};
 
 /// A call with the driver that it is made of.
@@ -40,6 +40,8 @@ impl service_outline::Service for Asked {
             None => self.begin(),
         }
     }
+
+    fn finish(_body: &PortBody, _ended: &mut Option<Answer>) {}
 }
 
 impl Asked {

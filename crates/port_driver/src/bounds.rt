@@ -12,7 +12,7 @@ const MOST_STEPS: u32 = 64;
 
 impl PortDriver {
     /// The most steps of a call's frame.
-    pub fn call_steps(&self, call: &Call) -> u32
+    pub(crate) fn steps_of(&self, call: &Call) -> u32
         ensures steps { result ≡ spec.steps_of self.now (Called call.now) }
         ensures few { result ≤ 10176 }
     {
@@ -23,7 +23,7 @@ impl PortDriver {
     }
 
     /// The most steps of a handler's frame. The module has none.
-    pub fn line_steps(&self, _line: u32) -> u32
+    pub(crate) fn handler_steps(&self, _line: u32) -> u32
         ensures steps { result ≡ spec.steps_of self.now (Entered _line) }
         ensures few { result ≤ 10176 }
     {

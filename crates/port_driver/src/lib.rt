@@ -7,6 +7,7 @@
 mod asked;
 mod bounds;
 mod call;
+mod caller;
 mod driver;
 mod frames;
 pub mod laws;
@@ -19,7 +20,6 @@ pub use asked::Asked;
 pub use call::{Call, PinCall};
 pub use driver::{Modes, Pin, PortDriver};
 pub use frames::{PortFrame, PortMachine};
-pub use request::call_of;
 pub use service::PortBody;
 pub use service::init::{InitDone, Setup};
 pub use service::pin::PinBody;

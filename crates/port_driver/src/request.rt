@@ -63,7 +63,7 @@ fn argument(request: &Request, at: usize) -> Option<Argument>
 }
 
 /// The call that a request asks for, which names a service of the module.
-pub fn call_of(request: &Request) -> Call
+pub(crate) fn call_of(request: &Request) -> Call
     requires { spec.has_service request.now.service ≡ true }
     ensures { Some result ≡ spec.call_of request.now }
 {

@@ -1,13 +1,13 @@
 -- Switching a notification and a serving drop the mark.
-use Rattle.std.proofs.Common.{◌≡◌, ℕ, zero, suc, ◌+◌, ◌-◌, ◌<◌, ◌==◌, nat_lt, Bool, true, false, not, ◌&&◌, ◌||◌, Option, Some, None, refl, sym, ◌∙◌, ap, subst, arith}
-use Rattle.std.specs.Prelude.{if◌then◌else◌, slice_index_or}
+use Rattle.std.proofs.Common.{◌≡◌, ℕ, ◌+◌, ◌-◌, nat_lt, Bool, true, false, not, ◌&&◌, ◌||◌, Option, Some, None, refl, sym, ◌∙◌, ap, subst, arith}
+use Rattle.std.specs.Prelude.{if◌then◌else◌}
 use Rattle.std.proofs.lemmas.Bool.Decides.{nat_tests}
 use Rattle.mcal_base.specs.declared.error_name.ErrorName.{ErrorName}
 use Rattle.run_model.specs.World.{World}
 use Rattle.run_model.specs.Machine.{Outcome}
 use Rattle.pwm_driver.specs.Checks.{error_by}
 use Rattle.pwm_driver.specs.Output.{level_of, turns_within, turns_between}
-use Rattle.pwm_driver.specs.Machine.{PwmState, Pulse, pulse_at, table, silent, with_pulse, forgotten, switched, is_marked, is_marked_by, channel_work, acts_by, acts, ready_by, ready, served}
+use Rattle.pwm_driver.specs.Machine.{PwmState, Pulse, pulse_at, with_pulse, forgotten, switched, is_marked, is_marked_by, channel_work, acts_by, acts, ready_by, ready, served}
 use Rattle.pwm_driver.specs.Table.{channel_of, channel_number, channel_of_line, polarity_of}
 use Rattle.pwm_driver.specs.declared.call.Call.TheVariants as calls
 use Rattle.pwm_driver.specs.declared.call.ChannelCall.{ChannelCall}
@@ -15,40 +15,7 @@ use Rattle.pwm_driver.specs.declared.call.ChannelCall.TheVariants.{EnableNotific
 use Rattle.pwm_driver.specs.declared.call.PwmEdge.{PwmEdge}
 use Rattle.pwm_driver.specs.declared.driver.Channel.{Channel}
 use Rattle.pwm_driver.specs.declared.driver.PwmDriver.{PwmDriver}
-
--- ---- channels by number
-
-by_eight : (P : ℕ → Type 0) → P 0 → P 1 → P 2 → P 3 → P 4 → P 5 → P 6 → P 7 → (c : ℕ) → c < 8 → P c
-by_eight P p0 p1 p2 p3 p4 p5 p6 p7 zero lt = p0
-by_eight P p0 p1 p2 p3 p4 p5 p6 p7 (suc zero) lt = p1
-by_eight P p0 p1 p2 p3 p4 p5 p6 p7 (suc (suc zero)) lt = p2
-by_eight P p0 p1 p2 p3 p4 p5 p6 p7 (suc (suc (suc zero))) lt = p3
-by_eight P p0 p1 p2 p3 p4 p5 p6 p7 (suc (suc (suc (suc zero)))) lt = p4
-by_eight P p0 p1 p2 p3 p4 p5 p6 p7 (suc (suc (suc (suc (suc zero))))) lt = p5
-by_eight P p0 p1 p2 p3 p4 p5 p6 p7 (suc (suc (suc (suc (suc (suc zero)))))) lt = p6
-by_eight P p0 p1 p2 p3 p4 p5 p6 p7 (suc (suc (suc (suc (suc (suc (suc zero))))))) lt = p7
-by_eight P p0 p1 p2 p3 p4 p5 p6 p7 (suc (suc (suc (suc (suc (suc (suc (suc c)))))))) lt = absurd (omega (arith, lt))
-
-same_yes : (c : ℕ) → (c == c) ≡ true
-same_yes c = grind (arith, nat_tests)
-
--- the channel of a number in a table
-pub table_at : (f : ℕ → Pulse) (c : ℕ) → c < 8 → slice_index_or (table f) c silent ≡ f c
-table_at f = by_eight (λ i. slice_index_or (table f) i silent ≡ f i) refl refl refl refl refl refl refl refl
-
--- the channel that was put there
-pub with_at : (s : PwmState) (c : ℕ) (p : Pulse) → c < 8 → pulse_at (with_pulse s c p) c ≡ p
-with_at s c p lt = table_at (λ k. if k == c then p else pulse_at s k) c lt ∙ ap (λ q. if q then p else pulse_at s c) (same_yes c)
-
-pub below : (c : ℕ) → nat_lt c 8 ≡ true → c < 8
-below c e = grind (arith, nat_tests)
-
--- a configured channel is one of eight
-pub within_by : (d : PwmDriver) (c : ℕ) (k : Channel) (q : Bool) → nat_lt c 8 ≡ q → channel_of d c ≡ Some k → c < 8
-within_by d c k true e f = below c e
-within_by d c k false e f =
-    let none : channel_of d c ≡ None = ap (λ b. if b then slice_index_or d.channels c None else None) e in
-    absurd (cc)
+use Rattle.pwm_driver.specs.laws.Parts.{channel_same, known_within}
 
 -- ---- marks
 
@@ -74,7 +41,7 @@ module _ (d : PwmDriver) (w : World) (s : PwmState) (c : ℕ) (p : Pulse) (since
   dropped_by None e = refl
   dropped_by (Some k) e =
       and_false s.initialised (is_marked (Some k) w.now (pulse_at (with_pulse s c p) c))
-      (ap (λ (x : Pulse). is_marked (Some k) w.now x) (with_at s c p (within_by d c k (nat_lt c 8) refl e)) ∙ unmarked_by p.notified (polarity_of (Some k)) w.now p since turned)
+      (ap (λ (x : Pulse). is_marked (Some k) w.now x) (channel_same s c p (known_within d c k e)) ∙ unmarked_by p.notified (polarity_of (Some k)) w.now p since turned)
 
   pub dropped : ready_by (channel_of d c) w (with_pulse s c p) c ≡ false
   dropped = dropped_by (channel_of d c) refl

@@ -8,7 +8,7 @@ use Rattle.run_model.specs.World.{World}
 use Rattle.run_model.specs.Machine.{Happening, Acts, Serves, Starts, Aborts, Moves, Restarts}
 use Rattle.run_model.specs.Frame.{state_by}
 use Rattle.pwm_driver.specs.Checks.{error_by}
-use Rattle.pwm_driver.specs.Laws.{Occurrence, leaves_off, state_after, after_all}
+use Rattle.pwm_driver.specs.Runs.{Occurrence, leaves_off, state_after, after_all}
 use Rattle.pwm_driver.specs.Output.{absolute, level_of, regime_level}
 use Rattle.pwm_driver.specs.Machine.{PwmState, Pulse, pulse_at, with_pulse, forgotten, started, ended, is_marked_by, channel_work, acts_by, acts, level_at, ready_by, ready, served}
 use Rattle.pwm_driver.specs.Table.{channel_of, channel_number, polarity_of}
@@ -19,7 +19,8 @@ use Rattle.pwm_driver.specs.declared.call.ChannelCall.{ChannelCall}
 use Rattle.pwm_driver.specs.declared.call.ChannelCall.TheVariants.{SetDutyCycle, SetPeriodAndDuty, SetOutputToIdle, EnableNotification, DisableNotification}
 use Rattle.pwm_driver.specs.declared.driver.Channel.{Channel}
 use Rattle.pwm_driver.specs.declared.driver.PwmDriver.{PwmDriver}
-use Rattle.pwm_driver.proofs.DropLaws.{table_at, with_at, within_by, and_false}
+use Rattle.pwm_driver.specs.laws.Parts.{table_at, channel_same, known_within}
+use Rattle.pwm_driver.proofs.DropLaws.{and_false}
 use Rattle.pwm_driver.proofs.StayLaws.{ready_is}
 
 -- ---- calls about all channels
@@ -39,11 +40,11 @@ deinit_off d w s committed on = ap (λ e. (acts_by d w s DeInit committed e).sta
 -- a configured channel after them
 started_by : (d : PwmDriver) (w : World) (s : PwmState) (c : ℕ) (k : Channel) (committed : ℕ → ℕ) → channel_of d c ≡ Some k → pulse_at (acts_by d w s Init committed None).state c ≡ started (Some k) (committed c) (pulse_at s c)
 started_by d w s c k committed there =
-    table_at (λ i. started (channel_of d i) (committed i) (pulse_at s i)) c (within_by d c k _ refl there) ∙ ap (λ (o : Option Channel). started o (committed c) (pulse_at s c)) there
+    table_at (λ i. started (channel_of d i) (committed i) (pulse_at s i)) c (known_within d c k there) ∙ ap (λ (o : Option Channel). started o (committed c) (pulse_at s c)) there
 
 ended_by : (d : PwmDriver) (w : World) (s : PwmState) (c : ℕ) (k : Channel) (committed : ℕ → ℕ) → channel_of d c ≡ Some k → pulse_at (acts_by d w s DeInit committed None).state c ≡ ended (Some k) w.now (pulse_at s c)
 ended_by d w s c k committed there =
-    table_at (λ i. ended (channel_of d i) w.now (pulse_at s i)) c (within_by d c k _ refl there) ∙ ap (λ (o : Option Channel). ended o w.now (pulse_at s c)) there
+    table_at (λ i. ended (channel_of d i) w.now (pulse_at s i)) c (known_within d c k there) ∙ ap (λ (o : Option Channel). ended o w.now (pulse_at s c)) there
 
 pub init_starts : (d : PwmDriver) (w : World) (s : PwmState) (c : ℕ) (k : Channel) (committed : ℕ → ℕ) → s.initialised ≡ false → channel_of d c ≡ Some k → pulse_at (acts d w s Init committed).state c ≡ started (Some k) (committed c) (pulse_at s c)
 init_starts d w s c k committed off there = ap (λ e. pulse_at (acts_by d w s Init committed e).state c) (init_clean d s off) ∙ started_by d w s c k committed there
@@ -158,7 +159,7 @@ off_by d later s xs c None there f left = refl
 off_by d later s xs c (Some k) there f left =
     let end : PwmState = after_all d s xs in
     and_false end.initialised (is_marked_by (pulse_at end c).notified k.polarity_high later.now (pulse_at end c))
-    (ap (λ n. is_marked_by n k.polarity_high later.now (pulse_at end c)) (all_off d s xs c (within_by d c k _ refl there) left (f k there)))
+    (ap (λ n. is_marked_by n k.polarity_high later.now (pulse_at end c)) (all_off d s xs c (known_within d c k there) left (f k there)))
 
 -- no mark comes in a run from a state where it is off
 stays_off : (d : PwmDriver) (later : World) (s : PwmState) (xs : List Occurrence) (c : ℕ) → ((x : Channel) → channel_of d c ≡ Some x → IsOff s c) → list_all (λ (x : Occurrence). leaves_off c x.what) xs ≡ true → ready d later (after_all d s xs) (c + 8) ≡ false
@@ -169,7 +170,7 @@ disabled_by : (d : PwmDriver) (w : World) (s : PwmState) (c : ℕ) (committed : 
 disabled_by d w s c committed (Some e) told k there = absurd (cc told)
 disabled_by d w s c committed None told k there =
     let p : Pulse = channel_work (channel_of d c) w.now DisableNotification (pulse_at s c) in
-    ap (λ (x : Pulse). x.notified) (with_at s c p (within_by d c k _ refl there)) ∙ ap (λ (o : Option Channel). (channel_work o w.now DisableNotification (pulse_at s c)).notified) there
+    ap (λ (x : Pulse). x.notified) (channel_same s c p (known_within d c k there)) ∙ ap (λ (o : Option Channel). (channel_work o w.now DisableNotification (pulse_at s c)).notified) there
 
 pub disabled_stays_off : (d : PwmDriver) (w later : World) (s : PwmState) (c : ℕ) (committed : ℕ → ℕ) (xs : List Occurrence) → (acts d w s (calls.Channel c DisableNotification) committed).told.error ≡ None
     → list_all (λ (x : Occurrence). leaves_off c x.what) xs ≡ true → ready d later (after_all d (acts d w s (calls.Channel c DisableNotification) committed).state xs) (c + 8) ≡ false

@@ -4,7 +4,7 @@ use Rattle.mcal_base.specs.declared.error_name.ErrorName.{ErrorName}
 use Rattle.det_errors.specs.Rows.{first_error}
 use Rattle.run_model.specs.World.{World}
 use Rattle.pwm_driver.specs.Checks.{channel_service, allows, may_set, error_by}
-use Rattle.pwm_driver.specs.Laws.{TurnsBetween, sets_output}
+use Rattle.pwm_driver.specs.Runs.{TurnsBetween, sets_output}
 use Rattle.pwm_driver.specs.Output.{Output, Idle, level_of, with_new, absolute, turns, turns_between}
 use Rattle.pwm_driver.specs.Machine.{PwmState, Pulse, pulse_at, with_pulse, is_marked, is_marked_by, is_notified, put_out, channel_work, acts_by, acts, level_at, ready_by, ready}
 use Rattle.pwm_driver.specs.Table.{channel_of, channel_of_line, polarity_of}
@@ -14,8 +14,9 @@ use Rattle.pwm_driver.specs.declared.call.ChannelCall.TheVariants.{SetDutyCycle,
 use Rattle.pwm_driver.specs.declared.call.PwmEdge.{PwmEdge}
 use Rattle.pwm_driver.specs.declared.driver.Channel.{Channel}
 use Rattle.pwm_driver.specs.declared.driver.PwmDriver.{PwmDriver}
-use Rattle.pwm_driver.proofs.ChangeLaws.{times_of, of_times}
-use Rattle.pwm_driver.proofs.DropLaws.{with_at, within_by, line_of, number_of, none_since}
+use Rattle.pwm_driver.specs.laws.Changes.{times_of, of_times}
+use Rattle.pwm_driver.specs.laws.Parts.{channel_same, known_within}
+use Rattle.pwm_driver.proofs.DropLaws.{line_of, number_of, none_since}
 
 -- ---- time goes on
 
@@ -102,7 +103,7 @@ and_true a b e f = ap (λ x. x && b) e ∙ f
 put_ready : (d : PwmDriver) (w : World) (s : PwmState) (c : ℕ) (k : Channel) (p : Pulse) → channel_of d c ≡ Some k → s.initialised ≡ true → is_marked (Some k) w.now p ≡ true → ready_by (Some k) w (with_pulse s c p) c ≡ true
 put_ready d w s c k p there on e =
     and_true s.initialised (is_marked (Some k) w.now (pulse_at (with_pulse s c p) c)) on
-    (ap (λ (x : Pulse). is_marked (Some k) w.now x) (with_at s c p (within_by d c k _ refl there)) ∙ e)
+    (ap (λ (x : Pulse). is_marked (Some k) w.now x) (channel_same s c p (known_within d c k there)) ∙ e)
 
 stays_by : (d : PwmDriver) (w : World) (s : PwmState) (c : ℕ) (call : ChannelCall) (k : Option Channel) → channel_of d c ≡ k → sets_output call ≡ true → ready_by k w s c ≡ true
     → ready_by k w (with_pulse s c (channel_work k w.now call (pulse_at s c))) c ≡ true
@@ -165,7 +166,7 @@ left_by : (d : PwmDriver) (w : World) (s : PwmState) (c : ℕ) (call : ChannelCa
     → ready_by (Some k) w (with_pulse s c (channel_work (Some k) w.now call (pulse_at s c))) c ≡ true
 left_by d w s c call edge k there on set is e =
     let p : Pulse = channel_work (Some k) w.now call (pulse_at s c) in
-    let at : pulse_at (with_pulse s c p) c ≡ p = with_at s c p (within_by d c k _ refl there) in
+    let at : pulse_at (with_pulse s c p) c ≡ p = channel_same s c p (known_within d c k there) in
     put_ready d w s c k p there on
     (work_left k w.now call edge (pulse_at s c) set is (subst (λ (x : Pulse). turns edge (level_of k.polarity_high (pulse_at s c).output w.now) (level_of k.polarity_high x.output w.now) ≡ true) at e))
 
@@ -214,7 +215,7 @@ none_by : (d : PwmDriver) (w : World) (s : PwmState) (c : ℕ) (call : ChannelCa
 none_by d w s c call edge None there set is r e = refl
 none_by d w s c call edge (Some k) there set is r e =
     let p : Pulse = channel_work (Some k) w.now call (pulse_at s c) in
-    let at : pulse_at (with_pulse s c p) c ≡ p = with_at s c p (within_by d c k _ refl there) in
+    let at : pulse_at (with_pulse s c p) c ≡ p = channel_same s c p (known_within d c k there) in
     none_by_mark s.initialised (is_marked (Some k) w.now (pulse_at s c)) (is_marked (Some k) w.now (pulse_at (with_pulse s c p) c)) r
     (λ m. ap (λ (x : Pulse). is_marked (Some k) w.now x) at ∙ work_unmarked k w.now call edge (pulse_at s c) set is m (subst (λ (x : Pulse). turns edge (level_of k.polarity_high (pulse_at s c).output w.now) (level_of k.polarity_high x.output w.now) ≡ false) at e))
 

@@ -4,7 +4,7 @@ use Rattle.std.specs.Prelude.{if◌then◌else◌}
 use Rattle.std.proofs.lemmas.Bool.Decides.{nat_tests}
 use Rattle.std.proofs.lemmas.Nat.{div-add-mod'}
 use Rattle.std.proofs.Math.Nat.{mod-lt}
-use Rattle.pwm_driver.specs.Laws.{StartsAtEnd}
+use Rattle.pwm_driver.specs.Runs.{StartsAtEnd}
 use Rattle.pwm_driver.specs.Output.{Output, Runs, GivesWay, Regime, regime_level, period_end, succeeded, with_new}
 
 is_below : (a b : ℕ) → a < b → nat_lt a b ≡ true

@@ -41,6 +41,14 @@ call_by _ a b c = None
 abbrev pub call_of : Request → Option Call
 call_of r = call_by r.service (slice_get r.arguments 0) (slice_get r.arguments 1) (slice_get r.arguments 2)
 
+-- and Init where it asks for none: nobody makes such a request of this driver
+abbrev pub call_or : Option Call → Call
+call_or None = Init
+call_or (Some call) = call
+
+abbrev pub asked_call : Request → Call
+asked_call r = call_or (call_of r)
+
 abbrev pub is_pwm : ModuleName → Bool
 is_pwm Pwm = true
 is_pwm _ = false

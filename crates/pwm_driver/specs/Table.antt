@@ -1,5 +1,5 @@
 -- The configured channels.
-use Rattle.std.specs.Prelude.{ℕ, ◌-◌, Bool, true, false, ◌==◌, nat_lt, if◌then◌else◌, List, [], ◌∷◌, Option, Some, None, slice_index_or}
+use Rattle.std.specs.Prelude.{◌≡◌, ℕ, ◌-◌, Bool, true, false, ◌==◌, nat_lt, if◌then◌else◌, List, [], ◌∷◌, Option, Some, None, slice_index_or}
 use Rattle.mcal_base.specs.declared.config.pwm.PwmChannel.{PwmChannel}
 use Rattle.mcal_base.specs.declared.config.pwm.PwmChannelClass.{PwmChannelClass}
 use Rattle.mcal_base.specs.declared.config.pwm.PwmChannelClass.TheVariants.{FixedPeriod, FixedPeriodShifted, VariablePeriod}
@@ -51,3 +51,7 @@ channel_of_line d l = if nat_lt l 8 then None else channel_of d (channel_number 
 abbrev pub polarity_of : Option Channel → Bool
 polarity_of None = false
 polarity_of (Some k) = k.polarity_high
+
+-- what the driver has to be: each channel stands at its number
+pub record FitsPwm (d : PwmDriver) : Type 0 where
+  pub number : (c : ℕ) (k : Channel) → channel_of d c ≡ Some k → k.number ≡ c

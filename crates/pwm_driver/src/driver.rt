@@ -1,10 +1,10 @@
 ghost use Rattle.std.specs.Prelude.{◌≡◌};
-ghost use Rattle.pwm_driver.specs.Bounds as bounds;
+ghost use Rattle.service_outline.specs.Done.{owed_error};
+ghost use Rattle.pwm_driver.specs.Checks.{reporting};
 ghost use Rattle.pwm_driver.specs.Table as spec;
 
-use crate::call::Call;
-use mcal_base::{Config, ModuleName, PwmChannel, PwmChannelClass, PwmOutputState};
-use run_model::Class;
+use mcal_base::{Config, ErrorName, PwmChannel, PwmChannelClass, PwmOutputState, Service};
+use service_outline::Owed;
 
 /// A configured channel.
 #[derive(Clone, Copy, Debug, PartialEq, Eq)]
@@ -79,28 +79,11 @@ impl PwmDriver {
         }
     }
 
-    /// The class of a call.
-    pub fn class(&self, call: &Call) -> Class
-        ensures { result ≡ bounds.class_of call.now }
+    /// What a call of a service owes for an error.
+    pub fn owed(&self, service: Service, error: ErrorName) -> Owed
+        ensures { result ≡ owed_error (reporting self.now) service error }
     {
-        call.class()
-    }
-
-    /// The level of a line, 1 where no configured channel uses it.
-    pub fn level(&self, line: u32) -> u32
-        ensures { result ≡ bounds.level_of self.now line }
-    {
-        match self.channel_of_line(line) {
-            Some(channel) => channel.level,
-            None => 1,
-        }
-    }
-
-    /// The module to which a line's handler belongs.
-    pub fn owner(&self, _line: u32) -> ModuleName
-        ensures { result ≡ bounds.owner_of _line }
-    {
-        ModuleName::Pwm
+        service_outline::error(self.detect, 1, service, error)
     }
 }
 

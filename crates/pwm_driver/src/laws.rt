@@ -5,7 +5,7 @@ ghost use Rattle.std.specs.List.{list_all};
 ghost use Rattle.mcal_base.specs.declared.directive.Reason.{Reason};
 ghost use Rattle.run_model.specs.Machine.{Acts, Serves, Restarts, Outcome, ErrorLeaves, tells_nothing, outcome};
 ghost use Rattle.run_model.specs.World.{World};
-ghost use Rattle.pwm_driver.specs.Laws.{StartsAtEnd, TurnsBetween, Occurrence, sets_output, leaves_off, after_all};
+ghost use Rattle.pwm_driver.specs.Runs.{StartsAtEnd, TurnsBetween, Occurrence, sets_output, leaves_off, after_all};
 ghost use Rattle.pwm_driver.specs.Machine.{PwmState, Pulse, first_state, pwm_machine, acts, ready, is_marked, pulse_at, level_at};
 ghost use Rattle.pwm_driver.specs.Output.{Output, Idle, Runs, GivesWay, Regime, absolute, level_of, regime_level, with_new, turns, turns_between};
 ghost use Rattle.pwm_driver.specs.Table.{channel_of};

@@ -3,13 +3,14 @@
 
 ghost use Rattle.std.specs.Prelude.{◌≡◌, None};
 
-use bench_report::{RegisterName, report};
+use bench_report::{RegisterName, ReportEnd, RowName, ShownTexts, Value, report, write_row};
 use irq_control::Held;
 use mcal_base::{
     Answer, AnswerName, DevError, Directive, ErrorName, Event, Head, Move, Notice, NoticeKind,
-    Order, Reason, Reg, Request, Service, Short, Unit,
+    Order, Reason, Reg, Request, Service, Short, Shown, Unit,
 };
 use run_model::{Journal, Stepped};
+use std::alloc::AllocError;
 use std::io;
 
 /// A call of a service.
@@ -44,12 +45,35 @@ fn step(made: Move, value: u32, event: Option<Event>) -> Stepped
     }
 }
 
-/// Prints a script's report and its trace.
+/// Prints a report, or that there is none.
+fn print_report(
+    rt: &HostRuntime,
+    script: &[Directive],
+    journal: &Journal,
+    shown: &ShownTexts,
+    traced: bool,
+) -> io::Result<()> {
+    match report(rt.alloc(), script, journal, shown, traced) {
+        Ok(text) => print!(rt; "{text}"),
+        Err(ReportEnd::TooLong) => println!(rt; "too long"),
+        Err(ReportEnd::NoMemory) => Err(io::Error::from(AllocError)),
+    }
+}
+
+/// Prints a script's report and its trace, with what was shown.
+fn show_with(
+    rt: &HostRuntime,
+    script: &[Directive],
+    journal: &Journal,
+    shown: &ShownTexts,
+) -> io::Result<()> {
+    print_report(rt, script, journal, shown, false)?;
+    print_report(rt, script, journal, shown, true)
+}
+
+/// Prints a script's report and its trace, where nothing was shown.
 fn show(rt: &HostRuntime, script: &[Directive], journal: &Journal) -> io::Result<()> {
-    let text = report(rt.alloc(), script, journal, false)?;
-    print!(rt; "{text}")?;
-    let text = report(rt.alloc(), script, journal, true)?;
-    print!(rt; "{text}")
+    show_with(rt, script, journal, &ShownTexts::new(rt.alloc()))
 }
 
 /// A call that acts, ticks, and a directive that is held.
@@ -68,7 +92,7 @@ fn calls(rt: &HostRuntime) -> io::Result<()> {
         words: Short::new(),
     });
     journal.stepped(2, 1, &last);
-    journal.ticked(3, 0, 30);
+    journal.happened(3, 0, &Order::Tick(30));
     journal.held(5, 0, Held::Empty);
     show(rt, script.as_slice(), &journal)
 }
@@ -160,6 +184,58 @@ fn answers(rt: &HostRuntime, head: Head) -> io::Result<()> {
     show(rt, script.as_slice(), &journal)
 }
 
+/// The text of the rows that a directive shows: each the directive's line, the row's name, and its values.
+fn rows_of(rt: &HostRuntime, rows: &[(u32, RowName, &[Value])]) -> io::Result<String> {
+    let mut text = String::new(rt.alloc());
+    for (line, name, values) in rows {
+        write_row(&mut text, *line, *name, values)?;
+    }
+    Ok(text)
+}
+
+/// Shows: of pins, one that is held, one that prints nothing, and one of each other kind of row.
+fn shows(rt: &HostRuntime) -> io::Result<()> {
+    let script = vec![in rt.alloc();
+        ask(1, Order::Show(Shown::Pins)),
+        ask(2, Order::Show(Shown::Ram)),
+        ask(3, Order::Show(Shown::Wire)),
+        ask(4, Order::Show(Shown::Buffers)),
+    ]?;
+    let mut journal = Journal::with_room(rt.alloc(), 10, 10)?;
+    journal.happened(1, 0, &Order::Show(Shown::Pins));
+    journal.held(2, 1, Held::Frames);
+    journal.happened(3, 0, &Order::Show(Shown::Wire));
+    journal.happened(4, 0, &Order::Show(Shown::Buffers));
+    let mut shown = ShownTexts::new(rt.alloc());
+    shown.push(rows_of(
+        rt,
+        &[
+            (1, RowName::Pin(0), &[Value::One(1)]),
+            (1, RowName::Pin(17), &[Value::One(0)]),
+        ],
+    )?)?;
+    shown.push(String::new(rt.alloc()))?;
+    shown.push(rows_of(
+        rt,
+        &[
+            (4, RowName::Ram(0), &[Value::One(7), Value::One(255)]),
+            (
+                4,
+                RowName::Wire(0),
+                &[Value::Pair(255, 17), Value::Pair(255, 65_536)],
+            ),
+            (4, RowName::Wire(1), &[]),
+            (4, RowName::Stamps(2), &[Value::One(4_294_967_295)]),
+            (4, RowName::Results(3, 1), &[Value::One(4_095)]),
+            (4, RowName::Source(0), &[Value::One(240)]),
+            (4, RowName::Destination(15), &[Value::One(0)]),
+            (4, RowName::Transmit(1), &[Value::One(1)]),
+            (4, RowName::Receive(1), &[Value::One(2)]),
+        ],
+    )?)?;
+    show_with(rt, script.as_slice(), &journal, &shown)
+}
+
 /// The names of some registers.
 fn registers(rt: &HostRuntime) -> io::Result<()> {
     for reg in [
@@ -186,5 +262,6 @@ fn main(rt: HostRuntime) -> io::Result<()> {
     answers(&rt, Head::Name(AnswerName::EOk))?;
     answers(&rt, Head::Numbers)?;
     answers(&rt, Head::ZeroNull)?;
+    shows(&rt)?;
     registers(&rt)
 }

@@ -1,5 +1,5 @@
 -- The items of a journal with their lists of words put back: what the definitions of a run speak of.
-use Rattle.std.specs.Prelude.{ℕ, ◌+◌, ◌≤◌, List, [], ◌∷◌, ◌++◌, take, drop, Option, Some, None}
+use Rattle.std.specs.Prelude.{ℕ, ◌+◌, ◌≤◌, Bool, true, false, List, [], ◌∷◌, ◌++◌, take, drop, Option, Some, None}
 use Rattle.irq_control.specs.declared.held.Held.{Held}
 use Rattle.mcal_base.specs.declared.answer.Answer.{Answer}
 use Rattle.mcal_base.specs.declared.directive.Order.{Order}
@@ -112,6 +112,24 @@ pub record Written : Type 0 where
 abbrev pub words_of_answer : Option Answer → List ℕ
 words_of_answer None = []
 words_of_answer (Some a) = a.words
+
+-- the words of an order that a journal keeps
+abbrev pub words_of_order : Order → List ℕ
+words_of_order (orders.Miso u ws) = ws
+words_of_order (orders.Fill c ws) = ws
+words_of_order _ = []
+
+-- the hardware moves by the order, or something is shown
+abbrev pub is_happening : Order → Bool
+is_happening (orders.Tick n) = true
+is_happening (orders.Level p v) = true
+is_happening (orders.Analog i v) = true
+is_happening (orders.Trigger i) = true
+is_happening (orders.Miso u ws) = true
+is_happening (orders.SpiFault u) = true
+is_happening (orders.Fill c ws) = true
+is_happening (orders.Show s) = true
+is_happening _ = false
 
 -- a journal with one more item, whose lists have these words
 abbrev pub written : Written → ℕ → ℕ → Said → List ℕ → Written

@@ -85,7 +85,7 @@ ThenComes g line reach made m s items More =
     (IsOne (after g m (Steps s)) line (entry.Resets Software (length (after g m (Steps s)).opens)) items)
     (MatchBool (is_some s.ended || is_reached reach (made + 1) s) (items ≡ []) More)
 
--- the item is a step, with which so many were made, and more comes after its deed; ticks for which the bus stalls a step will be a deed here too, and no step
+-- the item is a step, with which so many were made, and more comes after its deed
 abbrev pub IsStep : {State Call : Type 0} → Setting State Call → (line : ℕ) → Reach → (made : ℕ) → Moment State Call → entry.Entry → (items : List entry.Entry) → entry.Said → ((made : ℕ) → Deed Call → Type 0) → Type 0
 IsStep g line reach made m e items (entry.Steps s) More = (e.line ≡ line) × (e.depth ≡ length m.opens) × ThenComes g line reach made m s items (More (made + 1) (Steps s))
 IsStep g line reach made m e items (entry.Happens o) More = ⊥

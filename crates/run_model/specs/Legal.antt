@@ -194,7 +194,7 @@ pub record IsLegalStep {State Call : Type 0} (g : Setting State Call) (m : Momen
   pub sends : SendsRight m.chip (begun_by (outcome_at g.machine m.world m.state o s.made s.received s.event)) s.made
   -- a counter that was read in halves was read at the act, with the mask closed
   pub halves : let o1 = open_after g.machine m.world m.state o s.made s.received s.event in HalvesRight (halves_of g o.origin) o1.reads o1.acted_at
-  -- a call that finds an error leaves the chip alone
+  -- a call that finds an error writes no register and no word
   pub errors : let o1 = open_after g.machine m.world m.state o s.made s.received s.event in ErrorsRight o1.wrote o1.acted_at
   -- the mask, the notices and the report: a notice is owed before the step, a report also by it
   pub move : MoveRight o.inside o.owed (report_by g.machine o.origin o.report s.event (outcome_at g.machine m.world m.state o s.made s.received s.event)) s.made

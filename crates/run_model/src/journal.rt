@@ -1,10 +1,9 @@
-ghost use Rattle.std.specs.Prelude.{ℕ, List, ◌≡◌, ◌<◌, ◌≤◌, ◌+◌, ◌^◌, ◌++◌, [], ◌∷◌, length, IfOk, map};
-ghost use Rattle.mcal_base.specs.declared.directive.Order.TheVariants as orders;
-ghost use Rattle.run_model.specs.Entry.{Begins, Happens, Stays, Steps, Resets, written, said_at, answer_at, entries, words_of_answer, WhatFits, AnswerFits};
+ghost use Rattle.std.specs.Prelude.{ℕ, List, ◌≡◌, ◌<◌, ◌≤◌, ◌+◌, ◌^◌, ◌++◌, [], ◌∷◌, length, IfOk, map, true};
+ghost use Rattle.run_model.specs.Entry.{Begins, Happens, Stays, Steps, Resets, written, said_at, answer_at, order_at, entries, words_of_answer, words_of_order, is_happening, WhatFits, AnswerFits, HardwareFits};
 
 use crate::item::{Hardware, Item, Logged, LoggedAnswer, Span, Stepped, What};
 use irq_control::Held;
-use mcal_base::{Answer, Reason};
+use mcal_base::{Answer, Order, Reason};
 use std::alloc::{AllocError, Global};
 use std::marker::Model;
 use std::mem::size_of;
@@ -200,6 +199,27 @@ impl Journal {
         }
     }
 
+    /// Keeps the words of an order by which the hardware moves, or something is shown.
+    fn keep_order(&mut self, order: &Order) -> Hardware
+        requires happening { is_happening order.now ≡ true }
+        requires words { length self.old.words + length (words_of_order order.now) ≤ self.old.words_room }
+        ensures words { self.new ≡ record self.old { words = self.old.words ++ words_of_order order.now } }
+        ensures fits { HardwareFits (length self.new.words) result }
+        ensures same { order_at self.new.words result ≡ order.now }
+    {
+        match order {
+            Order::Tick(ticks) => Hardware::Tick(*ticks),
+            Order::Level(pin, level) => Hardware::Level(*pin, *level),
+            Order::Analog(input, value) => Hardware::Analog(*input, *value),
+            Order::Trigger(input) => Hardware::Trigger(*input),
+            Order::Miso(unit, words) => Hardware::Miso(*unit, self.keep(words.as_slice())),
+            Order::SpiFault(unit) => Hardware::SpiFault(*unit),
+            Order::Fill(channel, words) => Hardware::Fill(*channel, self.keep(words.as_slice())),
+            Order::Show(shown) => Hardware::Show(*shown),
+            _ => unreachable!(),
+        }
+    }
+
     /// Notes that a call or a handler began.
     pub fn begun(&mut self, line: u32, depth: u32)
         requires { length self.old.entries < self.old.room }
@@ -224,12 +244,15 @@ impl Journal {
         self.push(line, depth, What::Reset(reason, dropped));
     }
 
-    /// Notes ticks of the oscillator.
-    pub fn ticked(&mut self, line: u32, depth: u32, ticks: u32)
-        requires { length self.old.entries < self.old.room }
-        ensures { self.new ≡ written self.old line depth (Happens (orders.Tick ticks)) [] }
+    /// Notes that the hardware moved, or that something was shown.
+    pub fn happened(&mut self, line: u32, depth: u32, order: &Order)
+        requires happening { is_happening order.now ≡ true }
+        requires room { length self.old.entries < self.old.room }
+        requires words { length self.old.words + length (words_of_order order.now) ≤ self.old.words_room }
+        ensures { self.new ≡ written self.old line depth (Happens order.now) (words_of_order order.now) }
     {
-        self.push(line, depth, What::Happened(Hardware::Tick(ticks)));
+        let hardware = self.keep_order(order);
+        self.push(line, depth, What::Happened(hardware));
     }
 
     /// Notes a step.

@@ -1,4 +1,6 @@
 ghost use Rattle.std.specs.Prelude.{◌≡◌, true};
+ghost use Rattle.gpt_driver.specs.Requests.{has_service};
+ghost use Rattle.script_runner.specs.Scripts.{is_offered};
 ghost use Rattle.script_runner.specs.Standing.{is_built};
 
 use gpt_driver::GptDriver;
@@ -12,6 +14,7 @@ use std::test::Fail;
 fn init(line: u32) -> Directive
     ensures line { result.line ≡ line }
     ensures order { is_built result.order ≡ true }
+    ensures offered { is_offered has_service result.order ≡ true }
 {
     Directive {
         line,
@@ -28,13 +31,13 @@ fn init(line: u32) -> Directive
 /// Two calls of `Gpt_Init` take five and four steps; a run stops before the step that passes the limit.
 #[test]
 fn stops_at_the_limit_of_steps(rt: HostRuntime) -> Result<(), Fail> {
-    let config = default_board();
-    let driver = GptDriver::new(&config);
     for (limit, items, too_long) in [(4, 5, true), (5, 7, true), (6, 8, true), (9, 11, false)] {
         let first = init(1);
         let second = init(2);
         let script = [first, second];
-        let Ok(ran) = run_within(rt.alloc(), &driver, &config, &script, limit) else {
+        let config = default_board();
+        let driver = GptDriver::new(&config);
+        let Ok(ran) = run_within(rt.alloc(), driver, config, &script, limit) else {
             return Err(Fail::from(AllocError));
         };
         assert_eq!(rt; ran.too_long, too_long, "at {limit}");

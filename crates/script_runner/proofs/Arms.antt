@@ -93,7 +93,7 @@ module _ {State Call Frame : Type 0} (d : Driver State Call Frame) (first : Chip
   -- one that began, and was run up to a stop
   pub begins_to_stop : (most line : ℕ) (deed : Deed Call) (held : Moment State Call → Option Held) (chip : Chip) (k : Kept Frame) (before : Written) (k1 : Kept Frame) (between : Written) (chip2 : Chip) (k2 : Kept Frame) (after : Written) → IsStanding d first call_of script chip k.frames before.entries → Began d first call_of script line deed (held (moment_of d first call_of script before.entries)) chip k before k1 between → IsStuck d first call_of script most 0 k1 between chip2 k2 after (λ m items. GoesToStop d.setting line Whole 0 m items) → IsStuck d first call_of script most (bounds_of d.setting (deed ∷ [])) k before chip2 k2 after (λ m items. BeginsToStop d.setting line m deed (held m) items)
   begins_to_stop most line deed held chip k before k1 between chip2 k2 after stands h stuck =
-      let begun = no_step_counted line (length k.frames) Begins k.steps k1.steps before between refl h.steps h.written in
+      let begun = no_step_counted line (length k.frames) Begins [] k.steps k1.steps before between refl h.steps h.written in
       record {
         items = (record { line = line; depth = length k.frames; said = Begins }) ∷ stuck.items;
         is = begun_items line deed (held (moment_of d first call_of script before.entries)) chip k before k1 between after stuck.items h stuck.is;

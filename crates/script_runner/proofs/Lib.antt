@@ -1,6 +1,10 @@
 pub mod Arms
+pub mod Events
+pub mod Given
 pub mod Orders
+pub mod SameRuns
 pub mod Scripts
 pub mod Stops
 pub mod Taken
+pub mod UnderWay
 pub mod Walks

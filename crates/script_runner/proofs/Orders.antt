@@ -1,32 +1,30 @@
 -- What the parts of a directive make of it.
 use Rattle.std.proofs.Common.{◌≡◌, ℕ, suc, zero, ◌+◌, ◌*◌, ◌<◌, ◌≤◌, Bool, true, false, ◌&&◌, List, [], ◌∷◌, ◌++◌, length, Option, Some, None, Ok, Err, is_some, not, refl, sym, ◌∙◌, ap, subst, arith, append-nil, length-append}
 use Rattle.std.specs.Bool.{OnTrue, OnFalse}
-use Rattle.chip_model.specs.Chip.{Chip, now_of, happened, is_masked, is_pending}
+use Rattle.chip_model.specs.Chip.{Chip, is_masked, is_pending}
 use Rattle.irq_control.specs.declared.held.Held.{Held}
 use Rattle.irq_control.specs.declared.held.Held.TheVariants.{Empty}
 use Rattle.mcal_base.specs.declared.directive.Directive.{Directive}
 use Rattle.mcal_base.specs.declared.directive.Order.{Order}
-use Rattle.mcal_base.specs.declared.directive.Order.TheVariants as orders
 use Rattle.mcal_base.specs.declared.directive.Request.{Request}
 use Rattle.run_model.specs.declared.class.Tag.{Tag}
 use Rattle.run_model.specs.declared.reach.Reach.{Reach}
 use Rattle.run_model.specs.declared.reach.Reach.TheVariants.{Count, Until, Whole}
 use Rattle.run_model.specs.Causes.{call_cause, line_cause, first_cause, line_level_allows, is_full, tags_of, top_noted}
 use Rattle.run_model.specs.Entry as entry
-use Rattle.run_model.specs.Entry.{Entry, Begins, Stays, Happens, Written, written}
+use Rattle.run_model.specs.Entry.{Entry, Begins, Stays, Written, written}
 use Rattle.run_model.specs.Frame as frame
-use Rattle.run_model.specs.World.{World}
-use Rattle.run_model.specs.Follows.{Ticks, GoesOn, Goes, BeginsOnly, BeginsWhole, call_held, line_held}
+use Rattle.run_model.specs.Follows.{GoesOn, Goes, BeginsOnly, BeginsWhole, call_held, line_held}
 use Rattle.run_model.specs.Moment as moment
 use Rattle.run_model.specs.Moment.{Moment, Deed, line_tag}
 use Rattle.run_model.specs.Script.{deeds_of, beginnings_of, order_at}
 use Rattle.run_model.specs.Stops.{GoesToStop, StopsWithin, is_step}
 use Rattle.step_runner.specs.Driver.{Driver}
 use Rattle.step_runner.specs.Kept.{Kept, tags_under, top_is_noted, beginning, enter_by}
-use Rattle.step_runner.specs.Stands.{Stands, AreFramesOf, paired}
+use Rattle.step_runner.specs.Stands.{Stands, AreFramesOf}
 use Rattle.step_runner.specs.declared.stack.Under.{Under}
 use Rattle.step_runner.proofs.Runs.{served-last}
-use Rattle.script_runner.specs.Standing.{moment_of, IsStanding, IsFilled, WentFar, Began, StayedOff, ObeyedBy, Obeyed, IsStuck, makes_no_step, work_of, bound_of, bounds_of}
+use Rattle.script_runner.specs.Standing.{moment_of, IsStanding, IsFilled, WentFar, Began, StayedOff, ObeyedBy, IsStuck, makes_no_step, work_of, bound_of, bounds_of}
 use Rattle.script_runner.proofs.Stops.{stops_within, no_step_counted}
 use Rattle.script_runner.proofs.Arms.{depth_is, deeds_more, moment_more, begins_only, stays_off, begins_whole}
 
@@ -83,7 +81,7 @@ module _ {State Call Frame : Type 0} (d : Driver State Call Frame) (first : Chip
         leads = ap (λ w. moment_of d first call_of script w.entries) is ∙ moment_more d first call_of script before.entries e (deed ∷ []) at;
         stands = subst (λ w. IsStanding d first call_of script chip k1.frames w.entries) (sym is) (subst (λ h. Stands d first chip k1.frames h) (sym (deeds_more d first call_of script before.entries e (deed ∷ []) at)) stands);
         steps = ap (λ k. k.steps) k1_is;
-        counted = let c = no_step_counted line n Begins k.steps k.steps before after refl refl is in omega (arith, c);
+        counted = let c = no_step_counted line n Begins [] k.steps k.steps before after refl refl is in omega (arith, c);
         frame = subst (λ k. 0 < length k.frames) (sym k1_is) (omega arith);
         spent = subst (λ x. work_of d x ≤ work_of d k + bound_of d.setting deed) (sym k1_is) (omega (arith, fuel));
       }
@@ -135,18 +133,28 @@ module _ {State Call Frame : Type 0} (d : Driver State Call Frame) (first : Chip
       n_is (k1_is ∙ enter_held cause (d.handler_of irq) (line_tag d.setting irq) k) is stands
 
   -- the room after one item that is no step
-  one_filled : (most line n : ℕ) (said : entry.Said) (taken taken1 : ℕ) (before after : Written) → taken ≤ most → is_step said ≡ false → taken1 ≡ taken → after ≡ written before line n said [] → IsFilled most taken before 2 taken1 after
-  one_filled most line n said taken taken1 before after few other same is =
+  pub item_filled : (most line n : ℕ) (said : entry.Said) (ws : List ℕ) (taken taken1 : ℕ) (before after : Written) → taken ≤ most → is_step said ≡ false → taken1 ≡ taken → length ws ≤ 64 → after ≡ written before line n said ws → IsFilled most taken before 2 taken1 after
+  item_filled most line n said ws taken taken1 before after few other same short is =
       let e : Entry = record { line = line; depth = n; said = said } in
-      let words_are : after.words ≡ before.words = ap (λ x. x.words) is ∙ append-nil before.words in
       record {
         steps = omega arith;
-        counted = no_step_counted line n said taken taken1 before after other same is;
+        counted = no_step_counted line n said ws taken taken1 before after other same is;
         room = ap (λ x. x.room) is;
         words_room = ap (λ x. x.words_room) is;
         items = rw is (omega (arith, length-append before.entries (e ∷ []), same));
-        words = rw words_are (omega arith);
+        words = rw is (omega (arith, length-append before.words ws));
       }
+
+  -- and one without words
+  pub one_filled : (most line n : ℕ) (said : entry.Said) (taken taken1 : ℕ) (before after : Written) → taken ≤ most → is_step said ≡ false → taken1 ≡ taken → after ≡ written before line n said [] → IsFilled most taken before 2 taken1 after
+  one_filled most line n said taken taken1 before after few other same is = item_filled most line n said [] taken taken1 before after few other same (omega arith) is
+
+  -- the same chip under another name
+  pub on_same : (chip0 chip : Chip) (us : List (Under Frame)) (es : List Entry) → chip ≡ chip0 → IsStanding d first call_of script chip0 us es → IsStanding d first call_of script chip us es
+  on_same chip0 chip us es same h = subst (λ x. IsStanding d first call_of script x us es) (sym same) h
+
+  pub obeyed_same : (most : ℕ) (order : Order) (chip0 chip : Chip) (k : Kept Frame) (before : Written) (chip1 : Chip) (k1 : Kept Frame) (after : Written) (Right : Moment State Call → List Entry → Type 0) → chip ≡ chip0 → ObeyedBy d first call_of script most order chip k before chip1 k1 after Right → ObeyedBy d first call_of script most order chip0 k before chip1 k1 after Right
+  obeyed_same most order chip0 chip k before chip1 k1 after Right same h = subst (λ x. ObeyedBy d first call_of script most order x k before chip1 k1 after Right) same h
 
   pub alone : (most line : ℕ) (order : Order) (deed : Deed Call) (chip : Chip) (k : Kept Frame) (before : Written) (k1 : Kept Frame) (after : Written) (held : Moment State Call → Option Held) (b : Bool) → k.steps ≤ most → beginnings_of call_of (Some order) ≡ deed ∷ [] → IsStanding d first call_of script chip k.frames before.entries → OnTrue b (Began d first call_of script line deed (held (moment_of d first call_of script before.entries)) chip k before k1 after) → OnFalse b (StayedOff d first call_of script line (held (moment_of d first call_of script before.entries)) chip k before k1 after) → ObeyedBy d first call_of script most order chip k before chip k1 after (λ m items. BeginsOnly m line (held m) items)
   alone most line order deed chip k before k1 after held true few at stands on off =
@@ -156,6 +164,7 @@ module _ {State Call Frame : Type 0} (d : Driver State Call Frame) (first : Chip
         filled = one_filled most line (length k.frames) Begins k.steps k1.steps before after few refl on.steps on.written;
         osc = omega arith;
         now = omega arith;
+        given = λ u. omega arith;
         spent = subst (λ hs. work_of d k1 ≤ work_of d k + bounds_of d.setting hs) (sym at) (omega (arith, on.spent));
       }
   alone most line order deed chip k before k1 after held false few at stands on off =
@@ -165,6 +174,7 @@ module _ {State Call Frame : Type 0} (d : Driver State Call Frame) (first : Chip
         filled = one_filled most line (length k.frames) (Stays off.cause) k.steps k1.steps before after few refl off.steps off.written;
         osc = omega arith;
         now = omega arith;
+        given = λ u. omega arith;
         spent = omega (arith, off.spent);
       }
 
@@ -178,7 +188,7 @@ module _ {State Call Frame : Type 0} (d : Driver State Call Frame) (first : Chip
         adds = record { items = a.items; is = a.is; right = a.right; leads = a.leads; stands = a.stands };
         filled = record {
           steps = w.filled.steps;
-          counted = omega (arith, w.filled.counted, no_step_counted line (length k.frames) Begins k.steps k1.steps before between refl b.steps b.written);
+          counted = omega (arith, w.filled.counted, no_step_counted line (length k.frames) Begins [] k.steps k1.steps before between refl b.steps b.written);
           room = w.filled.room ∙ ap (λ x. x.room) b.written;
           words_room = w.filled.words_room ∙ ap (λ x. x.words_room) b.written;
           items = omega (arith, w.filled.items, n, b.steps);
@@ -186,6 +196,7 @@ module _ {State Call Frame : Type 0} (d : Driver State Call Frame) (first : Chip
         };
         osc = omega (arith, w.time.osc);
         now = omega (arith, w.time.now);
+        given = λ u. omega (arith, w.time.room u);
         spent = subst (λ hs. work_of d k2 ≤ work_of d k + bounds_of d.setting hs) (sym at) (omega (arith, b.spent, w.spent));
       }
 
@@ -197,12 +208,13 @@ module _ {State Call Frame : Type 0} (d : Driver State Call Frame) (first : Chip
         filled = one_filled most line (length k.frames) (Stays off.cause) k.steps k1.steps before after few refl off.steps off.written;
         osc = omega arith;
         now = omega arith;
+        given = λ u. omega arith;
         spent = omega (arith, off.spent);
       }
 
   -- ---- steps
 
-  no_opens : {A : Type 0} (xs : List A) → length xs ≡ 0 → xs ≡ []
+  pub no_opens : {A : Type 0} (xs : List A) → length xs ≡ 0 → xs ≡ []
   no_opens [] e = refl
   no_opens (x ∷ xs) e = absurd (omega arith)
 
@@ -222,10 +234,11 @@ module _ {State Call Frame : Type 0} (d : Driver State Call Frame) (first : Chip
         filled = one_filled most line n (Stays Empty) k.steps k.steps before after few refl refl is;
         osc = omega arith;
         now = omega arith;
+        given = λ u. omega arith;
         spent = omega arith;
       }
 
-  some_opens : {A B : Type 0} (us : List A) (os : List B) → length us ≡ length os → 0 < length us → (o : B) × (rest : List B) × (os ≡ o ∷ rest)
+  pub some_opens : {A B : Type 0} (us : List A) (os : List B) → length us ≡ length os → 0 < length us → (o : B) × (rest : List B) × (os ≡ o ∷ rest)
   some_opens us [] e h = absurd (omega arith)
   some_opens us (o ∷ os) e h = (o, os, refl)
 
@@ -244,6 +257,7 @@ module _ {State Call Frame : Type 0} (d : Driver State Call Frame) (first : Chip
         filled = record { steps = few; counted = refl; room = refl; words_room = refl; items = omega arith; words = omega arith };
         osc = omega arith;
         now = omega arith;
+        given = λ u. omega arith;
         spent = omega arith;
       }
 
@@ -263,6 +277,7 @@ module _ {State Call Frame : Type 0} (d : Driver State Call Frame) (first : Chip
         filled = record { steps = w.filled.steps; counted = w.filled.counted; room = w.filled.room; words_room = w.filled.words_room; items = omega (arith, w.filled.items); words = w.filled.words };
         osc = omega (arith, w.time.osc);
         now = omega (arith, w.time.now);
+        given = λ u. omega (arith, w.time.room u);
         spent = omega (arith, w.spent);
       }
 
@@ -290,32 +305,3 @@ module _ {State Call Frame : Type 0} (d : Driver State Call Frame) (first : Chip
   is_no_step (Count (suc n)) h = cc
   is_no_step (Until stop) h = cc
   is_no_step Whole h = cc
-
-  -- ---- ticks
-
-  pub slow_chip : (chip : Chip) (us : List (Under Frame)) (es : List Entry) → ((chip : Chip) (w : World) (ps : List (Frame × frame.Open Call)) (s : State) → d.relates chip w ps s → d.setting.machine.rate s ≤ 16) → IsStanding d first call_of script chip us es → chip.clock.rate ≤ 16
-  slow_chip chip us es slow h =
-      let m = moment_of d first call_of script es in
-      let e : chip.clock.rate ≡ d.setting.machine.rate m.state = ap (λ x. x.clock.rate) h.matches.chip_is ∙ h.matches.rate in
-      let k = slow m.chip m.world (paired us m.opens) m.state h.matches.relates in
-      omega (arith, e, k)
-
-  pub ticks : (most line n : ℕ) (k : ℕ) (chip : Chip) (kept : Kept Frame) (before : Written) (chip1 : Chip) (after : Written) → kept.steps ≤ most → n ≤ 1000000 → chip.clock.rate ≤ 16 → k ≡ length kept.frames → chip1 ≡ happened chip (orders.Tick n) → after ≡ written before line k (Happens (orders.Tick n)) [] → Stands d first chip1 kept.frames (deeds_of call_of script before.entries ++ moment.Happens (orders.Tick n) ∷ []) → IsStanding d first call_of script chip kept.frames before.entries → Obeyed d first call_of script most line (orders.Tick n) chip kept before chip1 kept after
-  ticks most line n k chip kept before chip1 after few small slow k_is chip_is is moved stands =
-      let e : Entry = record { line = line; depth = k; said = Happens (orders.Tick n) } in
-      let m = moment_of d first call_of script before.entries in
-      let few_ticks : n * chip.clock.rate ≤ 16000000 = grind (arith) in
-      record {
-        adds = record {
-          items = e ∷ [];
-          is = ap (λ w. w.entries) is;
-          right = subst (λ t. Ticks m line n t (e ∷ [])) (sym (stands.covers.unwatched m.world m.state))
-              (ap (λ x. let i : Entry = record { line = line; depth = x; said = Happens (orders.Tick n) } in i ∷ []) (k_is ∙ depth_is d first call_of script chip kept.frames before.entries stands));
-          leads = sym (moment_more d first call_of script before.entries e (moment.Happens (orders.Tick n) ∷ []) refl) ∙ ap (λ w. moment_of d first call_of script w.entries) (sym is);
-          stands = subst (λ w. IsStanding d first call_of script chip1 kept.frames w.entries) (sym is) (subst (λ h. Stands d first chip1 kept.frames h) (sym (deeds_more d first call_of script before.entries e (moment.Happens (orders.Tick n) ∷ []) refl)) moved);
-        };
-        filled = one_filled most line k (Happens (orders.Tick n)) kept.steps kept.steps before after few refl refl is;
-        osc = subst (λ x. x.clock.osc ≤ chip.clock.osc + 1000000) (sym chip_is) (omega arith);
-        now = subst (λ x. now_of x ≤ now_of chip + 16000000) (sym chip_is) (omega (arith, few_ticks));
-        spent = omega arith;
-      }

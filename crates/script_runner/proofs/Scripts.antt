@@ -1,15 +1,13 @@
 -- A script's directives, one after another.
-use Rattle.std.proofs.Common.{◌≡◌, ℕ, zero, suc, ◌+◌, ◌-◌, ◌*◌, ◌<◌, ◌≤◌, Bool, true, false, cond, Ok, Err, List, [], ◌∷◌, ◌++◌, length, take, drop, Some, sym, ◌∙◌, ap, subst, arith, add-one}
-use Rattle.std.specs.Prelude.{slice_get, slice_index_or, ◌==◌, min, IfOk, Result}
-use Rattle.std.specs.Bool.{OnTrue, OnFalse}
-use Rattle.std.proofs.Math.Nat.{min-le_left}
+use Rattle.std.proofs.Common.{◌≡◌, ℕ, zero, suc, ◌+◌, ◌-◌, ◌*◌, ◌<◌, ◌≤◌, Bool, true, false, cond, List, [], ◌∷◌, ◌++◌, length, take, drop, Some, sym, ◌∙◌, ap, subst, arith, add-one}
+use Rattle.std.specs.Prelude.{slice_get, slice_index_or, ◌==◌}
 use Rattle.std.proofs.lemmas.Bool.Decides.{nat_tests}
+use Rattle.std.proofs.lemmas.List.Sums.{sum_by-append}
 use Rattle.chip_model.specs.Chip.{Chip, now_of}
 use Rattle.mcal_base.specs.declared.directive.Directive.{Directive}
 use Rattle.mcal_base.specs.declared.directive.Request.{Request}
+use Rattle.mcal_base.specs.declared.service.Service.{Service}
 use Rattle.run_model.specs.Entry.{Entry, Written}
-use Rattle.run_model.specs.Follows.{Follows}
-use Rattle.run_model.specs.Legal.{IsLegal}
 use Rattle.run_model.specs.Moment.{Setting, start_moment}
 use Rattle.run_model.specs.Script.{deeds_of, order_at, beginnings_of}
 use Rattle.run_model.specs.Stops.{FollowsToStop, steps_in}
@@ -17,8 +15,9 @@ use Rattle.run_model.proofs.Following.{FollowsTo, Nothing_followed, follows_more
 use Rattle.step_runner.specs.Driver.{Driver}
 use Rattle.step_runner.specs.Kept.{Kept, kept_empty}
 use Rattle.step_runner.specs.Stands.{Stands}
-use Rattle.script_runner.specs.Scripts.{LinesRise, AllBuilt, script_bound, IsRun, IsStopped}
-use Rattle.script_runner.specs.Standing.{moment_of, IsStanding, Obeyed, Stuck, is_built, work_of, bounds_of}
+use Rattle.script_runner.specs.Scripts.{LinesRise, AllBuilt, AllOffered, is_offered, words_given, script_bound}
+use Rattle.script_runner.specs.Standing.{moment_of, IsStanding, Obeyed, Stuck, GivenFits, is_built, words_by, room_on, work_of, bounds_of}
+use Rattle.script_runner.specs.laws.Going.{Going}
 use Rattle.script_runner.proofs.Stops.{follows_to_stop}
 
 -- a directive further on has a greater line
@@ -47,6 +46,11 @@ built_at [] k d h e = cc
 built_at (x ∷ xs) zero d h e = let i : x ≡ d = cc in subst (λ y. is_built y.order ≡ true) i h.0
 built_at (x ∷ xs) (suc k) d h e = built_at xs k d h.1 e
 
+pub offered_at : (has : Service → Bool) (script : List Directive) (k : ℕ) (d : Directive) → AllOffered has script → slice_get script k ≡ Some d → is_offered has d.order ≡ true
+offered_at has [] k d h e = cc
+offered_at has (x ∷ xs) zero d h e = let i : x ≡ d = cc in subst (λ y. is_offered has y.order ≡ true) i h.0
+offered_at has (x ∷ xs) (suc k) d h e = offered_at has xs k d h.1 e
+
 -- what a loop over a script is at
 pub got : (script : List Directive) (k : ℕ) (d : Directive) → k < length script → d ≡ slice_index_or script k d → slice_get script k ≡ Some d
 got [] k d lt e = absurd (omega arith)
@@ -74,18 +78,17 @@ script_bound-take d call_of zero ds = omega arith
 script_bound-take d call_of (suc n) [] = omega arith
 script_bound-take d call_of (suc n) (x ∷ xs) = let h = script_bound-take d call_of n xs in omega (arith, h)
 
--- Some of a script was obeyed.
-pub record Going {State Call Frame : Type 0} (d : Driver State Call Frame) (first : Chip) (call_of : Request → Call) (script : List Directive) (most at : ℕ) (chip : Chip) (k : Kept Frame) (w : Written) : Type 0 where
-  pub follows : FollowsTo d.setting call_of (start_moment d.setting first) (take at script) w.entries (moment_of d first call_of script w.entries)
-  pub stands : IsStanding d first call_of script chip k.frames w.entries
-  pub steps : k.steps ≤ most
-  pub counted : steps_in w.entries ≡ k.steps
-  pub spent : work_of d k ≤ script_bound d.setting call_of (take at script)
-  pub room : w.room ≡ most + 2 * length script
-  pub items : length w.entries + (most - k.steps) + 2 * (length script - at) ≤ w.room
-  pub words : length w.words + 64 * (length script - at) ≤ w.words_room
-  pub osc : chip.clock.osc ≤ 1000000 * at
-  pub now : now_of chip ≤ 16000000 * at
+-- the words of a script by its first directive
+given_first : (d : Directive) (ds : List Directive) → words_given (d ∷ ds) ≡ words_by d.order + words_given ds
+given_first d ds = sum_by-append (λ x. words_by x.order) (d ∷ []) ds ∙ omega arith
+
+-- the words that are given before a directive, by it and behind it
+given_at : (script : List Directive) (k : ℕ) (d : Directive) → slice_get script k ≡ Some d → words_given script ≡ words_given (take k script) + words_by d.order + words_given (drop (k + 1) script)
+given_at script k d e = ap words_given (split_at script k d e) ∙ sum_by-append (λ x. words_by x.order) (take k script) (d ∷ drop (k + 1) script) ∙ omega (arith, given_first d (drop (k + 1) script))
+
+-- the words with one directive more
+pub given_more : (script : List Directive) (k : ℕ) (d : Directive) → slice_get script k ≡ Some d → words_given (take (k + 1) script) ≡ words_given (take k script) + words_by d.order
+given_more script k d e = ap words_given (take_more script k d e) ∙ sum_by-append (λ x. words_by x.order) (take k script) (d ∷ []) ∙ omega (arith, given_first d [])
 
 module _ {State Call Frame : Type 0} (d : Driver State Call Frame) (first : Chip) (call_of : Request → Call) (script : List Directive) where
   pub goes_on : (most at : ℕ) (directive : Directive) (chip : Chip) (k : Kept Frame) (before : Written) (chip1 : Chip) (k1 : Kept Frame) (after : Written) → at < length script → slice_get script at ≡ Some directive → Going d first call_of script most at chip k before → Obeyed d first call_of script most directive.line directive.order chip k before chip1 k1 after → Going d first call_of script most (at + 1) chip1 k1 after
@@ -98,11 +101,11 @@ module _ {State Call Frame : Type 0} (d : Driver State Call Frame) (first : Chip
         steps = o.filled.steps;
         counted = omega (arith, o.filled.counted, h.counted);
         spent = subst (λ ds. work_of d k1 ≤ script_bound d.setting call_of ds) (sym (take_more script at directive e)) (rw (script_bound-append d call_of (take at script) directive) (omega (arith, o.spent, h.spent)));
-        room = o.filled.room ∙ h.room;
         items = omega (arith, o.filled.items, o.filled.room, h.items);
         words = omega (arith, o.filled.words, o.filled.words_room, h.words);
         osc = omega (arith, o.osc, h.osc);
         now = omega (arith, o.now, h.now);
+        given = λ u lt. omega (arith, o.given u, h.given u lt, given_more script at directive e);
       }
 
   -- a run that would pass a number of steps has frames whose bounds pass it
@@ -123,8 +126,12 @@ module _ {State Call Frame : Type 0} (d : Driver State Call Frame) (first : Chip
   pub stops_counted : (most at : ℕ) (directive : Directive) (chip : Chip) (k : Kept Frame) (before : Written) (chip1 : Chip) (k1 : Kept Frame) (after : Written) → Going d first call_of script most at chip k before → Stuck d first call_of script most directive.line directive.order k before chip1 k1 after → steps_in after.entries ≡ most
   stops_counted most at directive chip k before chip1 k1 after h s = omega (arith, h.counted, s.counted, s.steps)
 
-  pub going_start : (most : ℕ) (chip : Chip) (k : Kept Frame) (w : Written) → chip ≡ first → first.clock.osc ≡ 0 → now_of first ≡ 0 → k ≡ kept_empty → w ≡ record { entries = []; room = most + 2 * length script; words = []; words_room = 64 * length script } → Stands d first first k.frames [] → Going d first call_of script most 0 chip k w
-  going_start most chip k w chip_is none_osc none_now k_is w_is stands =
+  -- there is room for the words of the next directive
+  pub given_fits : (most at : ℕ) (directive : Directive) (chip : Chip) (k : Kept Frame) (w : Written) → slice_get script at ≡ Some directive → Going d first call_of script most at chip k w → GivenFits directive.order chip
+  given_fits most at directive chip k w e h u lt = omega (arith, h.given u lt, given_at script at directive e)
+
+  pub going_start : (most : ℕ) (chip : Chip) (k : Kept Frame) (w : Written) → chip ≡ first → first.clock.osc ≡ 0 → now_of first ≡ 0 → ((u : ℕ) → u < 2 → room_on first u ≡ words_given script) → k ≡ kept_empty → w ≡ record { entries = []; room = most + 2 * length script; words = []; words_room = 64 * length script } → Stands d first first k.frames [] → Going d first call_of script most 0 chip k w
+  going_start most chip k w chip_is none_osc none_now roomy k_is w_is stands =
       let entries_are : w.entries ≡ [] = ap (λ x. x.entries) w_is in
       let e1 = ap (λ x. x.room) w_is in
       let e2 = ap (λ x. x.words_room) w_is in
@@ -137,32 +144,13 @@ module _ {State Call Frame : Type 0} (d : Driver State Call Frame) (first : Chip
         steps = omega (arith, e5);
         counted = ap (λ es. steps_in es) entries_are ∙ sym e5;
         spent = subst (λ x. work_of d x ≤ 0) (sym k_is) (omega arith);
-        room = e1;
         items = omega (arith, e1, e3);
         words = omega (arith, e2, e4);
         osc = subst (λ c. c.clock.osc ≤ 0) (sym chip_is) (omega (arith, none_osc));
         now = subst (λ c. now_of c ≤ 0) (sym chip_is) (omega (arith, none_now));
+        given = λ u lt. subst (λ c. words_given script ≤ room_on c u + words_given []) (sym chip_is) (omega (arith, roomy u lt));
       }
 
 -- the bounds with one directive more
 pub bound_more : {State Call Frame : Type 0} (d : Driver State Call Frame) (call_of : Request → Call) (script : List Directive) (at : ℕ) (directive : Directive) → slice_get script at ≡ Some directive → script_bound d.setting call_of (take (at + 1) script) ≡ script_bound d.setting call_of (take at script) + bounds_of d.setting (beginnings_of call_of (Some directive.order))
 bound_more d call_of script at directive e = ap (script_bound d.setting call_of) (take_more script at directive e) ∙ script_bound-append d call_of (take at script) directive
-
--- ---- a run within a limit
-
-pub if_ok_both : {T E : Type 0} (r : Result T E) (P Q : T → Type 0) → IfOk r P → IfOk r Q → IfOk r (λ x. P x × Q x)
-if_ok_both (Ok x) P Q p q = (p, q)
-if_ok_both (Err e) P Q p q = tt
-
-module _ {State Call : Type 0} (g : Setting State Call) (first : Chip) (call_of : Request → Call) (script : List Directive) where
-  -- a run that was not stopped
-  pub is_run : (stopped : Bool) (es : List Entry) → OnFalse stopped (Follows g call_of (start_moment g first) script es) → IsLegal g (start_moment g first) (deeds_of call_of script es) → OnFalse stopped (IsRun g first call_of script es)
-  is_run true es follows legal = tt
-  is_run false es follows legal = record { follows = follows; legal = legal }
-
-  -- one that was, which so made as many steps as the limit says, since that is below all bounds
-  pub is_stopped : (most limit bound : ℕ) (stopped : Bool) (es : List Entry) → most ≡ min limit bound → OnTrue stopped (FollowsToStop g call_of (start_moment g first) script es) → IsLegal g (start_moment g first) (deeds_of call_of script es) → OnTrue stopped (steps_in es ≡ most) → OnTrue stopped (most < bound) → OnTrue stopped (IsStopped g first call_of limit script es)
-  is_stopped most limit bound false es is follows legal steps below = tt
-  is_stopped most limit bound true es is follows legal steps below =
-      let all : most ≡ limit = grind (arith, nat_tests, min-le_left limit bound) in
-      record { follows = follows; legal = legal; steps = steps ∙ all }

@@ -37,8 +37,8 @@ steps_written w line depth said words =
     sum_by-append (λ x. cond (is_step x.said) 1 0) w.entries (e ∷ []) ∙ omega arith
 
 -- an item that is no step is not counted
-pub no_step_counted : (line n : ℕ) (said : Said) (taken taken1 : ℕ) (before after : Written) → is_step said ≡ false → taken1 ≡ taken → after ≡ written before line n said [] → IsCounted taken before taken1 after
-no_step_counted line n said taken taken1 before after other same is =
-    let more = ap (λ w. steps_in w.entries) is ∙ steps_written before line n said [] in
+pub no_step_counted : (line n : ℕ) (said : Said) (ws : List ℕ) (taken taken1 : ℕ) (before after : Written) → is_step said ≡ false → taken1 ≡ taken → after ≡ written before line n said ws → IsCounted taken before taken1 after
+no_step_counted line n said ws taken taken1 before after other same is =
+    let more = ap (λ w. steps_in w.entries) is ∙ steps_written before line n said ws in
     let none = ap {B = ℕ} (λ b. cond b 1 0) other in
     omega (arith, more, none, same)

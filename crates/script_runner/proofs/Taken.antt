@@ -23,10 +23,11 @@ use Rattle.step_runner.specs.Stands.{Stands, FuelFalls}
 use Rattle.step_runner.specs.declared.stack.Under.{Under}
 use Rattle.script_runner.specs.Standing.{IsStanding, SameTime, TookStep}
 use Rattle.script_runner.proofs.Arms.{deeds_more}
+use Rattle.script_runner.proofs.Given.{room_move}
 
--- no move takes time
+-- no move takes time, or gives a word to come in
 move_time : (chip : Chip) (made : Move) (received : ℕ) → SameTime chip (chip_after chip made received)
-move_time chip made received = record { osc = osc-move chip made received; now = now-move chip made received }
+move_time chip made received = record { osc = osc-move chip made received; now = now-move chip made received; room = room_move chip made received }
 
 -- a frame that goes on is still there
 top_there : {A : Type 0} (x : A) (ended : Option Answer) (rest : List A) → ended ≡ None → 0 < length (top_after x ended rest)

@@ -58,7 +58,7 @@ module _ {State Call Frame : Type 0} (d : Driver State Call Frame) (first : Chip
     count = omega arith;
     counted = omega arith;
     words = refl;
-    time = record { osc = refl; now = refl };
+    time = record { osc = refl; now = refl; room = λ u. refl };
     spent = omega arith;
   }
 
@@ -91,7 +91,7 @@ module _ {State Call Frame : Type 0} (d : Driver State Call Frame) (first : Chip
         count = ap (λ x. length x.entries) t.written ∙ omega (arith, length-append between.entries (e ∷ []), w.count);
         counted = omega (arith, step_counted between s (length k1.frames) after t.written, w.counted);
         words = words_same ∙ w.words;
-        time = record { osc = t.time.osc ∙ w.time.osc; now = t.time.now ∙ w.time.now };
+        time = record { osc = t.time.osc ∙ w.time.osc; now = t.time.now ∙ w.time.now; room = λ u. t.time.room u ∙ w.time.room u };
         spent = omega (arith, t.spent, w.spent);
       }
 
@@ -118,7 +118,7 @@ module _ {State Call Frame : Type 0} (d : Driver State Call Frame) (first : Chip
           items = rw t.written (omega (arith, length-append between.entries (e ∷ []), w.count, t.steps, w.taken, t.few));
           words = rw t.written (omega (arith, length-append between.words (words_of_answer s.ended), t.short, ap length w.words));
         };
-        time = record { osc = t.time.osc ∙ w.time.osc; now = t.time.now ∙ w.time.now };
+        time = record { osc = t.time.osc ∙ w.time.osc; now = t.time.now ∙ w.time.now; room = λ u. t.time.room u ∙ w.time.room u };
         spent = omega (arith, t.spent, w.spent);
       }
 
@@ -146,13 +146,13 @@ module _ {State Call Frame : Type 0} (d : Driver State Call Frame) (first : Chip
         };
         filled = record {
           steps = omega (arith, t.steps, t.few, steps);
-          counted = omega (arith, step_counted between s (length k1.frames) stepped t.written, no_step_counted line (length k2.frames) (Resets Software (length k2.frames)) k2.steps k3.steps stepped after refl steps is, w.counted, t.steps, w.taken, steps);
+          counted = omega (arith, step_counted between s (length k1.frames) stepped t.written, no_step_counted line (length k2.frames) (Resets Software (length k2.frames)) [] k2.steps k3.steps stepped after refl steps is, w.counted, t.steps, w.taken, steps);
           room = ap (λ x. x.room) is ∙ ap (λ x. x.room) t.written ∙ w.room;
           words_room = ap (λ x. x.words_room) is ∙ ap (λ x. x.words_room) t.written ∙ w.words_room;
           items = rw (is, t.written) (omega (arith, length-append between.entries (e ∷ []), length-append (between.entries ++ e ∷ []) (f ∷ []), w.count, t.steps, w.taken, t.few, steps));
           words = rw words_are (omega (arith, length-append between.words (words_of_answer s.ended), t.short, ap length w.words));
         };
-        time = record { osc = time.osc ∙ t.time.osc ∙ w.time.osc; now = time.now ∙ t.time.now ∙ w.time.now };
+        time = record { osc = time.osc ∙ t.time.osc ∙ w.time.osc; now = time.now ∙ t.time.now ∙ w.time.now; room = λ u. time.room u ∙ t.time.room u ∙ w.time.room u };
         spent = omega (arith, less, t.spent, w.spent);
       }
 

@@ -1,2 +1,4 @@
+pub mod Runs
 pub mod Scripts
 pub mod Standing
+pub mod laws

@@ -1,9 +1,10 @@
 -- What the parts of a run are to its journal, while a directive is obeyed.
-use Rattle.std.specs.Prelude.{◌≡◌, ℕ, zero, suc, ◌+◌, ◌-◌, ◌<◌, ◌≤◌, Bool, true, false, nat_le, List, [], ◌∷◌, ◌++◌, length, Option, Some, None}
-use Rattle.chip_model.specs.Chip.{Chip, now_of}
+use Rattle.std.specs.Prelude.{◌≡◌, ℕ, zero, suc, ◌+◌, ◌-◌, ◌<◌, ◌≤◌, Bool, true, false, nat_le, nat_lt, List, [], ◌∷◌, ◌++◌, length, Option, Some, None}
+use Rattle.chip_model.specs.Chip.{Chip, now_of, incoming_at}
 use Rattle.mcal_base.specs.declared.directive.Directive.{Directive}
 use Rattle.mcal_base.specs.declared.directive.Order.{Order}
 use Rattle.mcal_base.specs.declared.directive.Order.TheVariants as orders
+use Rattle.mcal_base.specs.declared.directive.Reason.TheVariants.{Software}
 use Rattle.mcal_base.specs.declared.directive.Request.{Request}
 use Rattle.irq_control.specs.declared.held.Held.{Held}
 use Rattle.run_model.specs.declared.item.Stepped.{Stepped}
@@ -54,10 +55,24 @@ pub record IsFilled (most taken : ℕ) (before : Written) (others : ℕ) (taken1
 abbrev pub work_of : {State Call Frame : Type 0} → Driver State Call Frame → Kept Frame → ℕ
 work_of d k = k.steps + total_fuel d.fuel k.frames
 
--- the time stood still
+-- the words that an order gives to come in on a serial unit
+abbrev pub words_by : Order → ℕ
+words_by (orders.Miso u ws) = length ws
+words_by _ = 0
+
+-- for how many more words that come in a serial unit has room
+abbrev pub room_on : Chip → (u : ℕ) → ℕ
+room_on chip u = (incoming_at chip u).room
+
+-- there is room for the words that an order gives
+abbrev pub GivenFits : Order → Chip → Type 0
+GivenFits order chip = (u : ℕ) → u < 2 → words_by order ≤ room_on chip u
+
+-- the time stood still, and no word was given to come in
 pub record SameTime (before after : Chip) : Type 0 where
   pub osc : after.clock.osc ≡ before.clock.osc
   pub now : now_of after ≡ now_of before
+  pub room : (u : ℕ) → room_on after u ≡ room_on before u
 
 -- Items were added to a journal, for which the chip and the frames stand.
 pub record Adds {State Call Frame : Type 0} (d : Driver State Call Frame) (first : Chip) (call_of : Request → Call) (script : List Directive) (order : Order) (before after : Written) (chip1 : Chip) (us1 : List (Under Frame)) (Right : Moment State Call → List Entry → Type 0) : Type 0 where
@@ -123,6 +138,7 @@ pub record ObeyedBy {State Call Frame : Type 0} (d : Driver State Call Frame) (f
   pub filled : IsFilled most k.steps before 2 k1.steps after
   pub osc : chip1.clock.osc ≤ chip.clock.osc + 1000000
   pub now : now_of chip1 ≤ now_of chip + 16000000
+  pub given : (u : ℕ) → room_on chip u ≤ room_on chip1 u + words_by order
   pub spent : work_of d k1 ≤ work_of d k + bounds_of d.setting (beginnings_of call_of (Some order))
 
 abbrev pub Obeyed : {State Call Frame : Type 0} → Driver State Call Frame → (first : Chip) → (Request → Call) → List Directive → (most line : ℕ) → Order → Chip → Kept Frame → Written → Chip → Kept Frame → Written → Type 0
@@ -135,17 +151,25 @@ makes_no_step (Count (suc n)) = false
 makes_no_step (Until stop) = false
 makes_no_step Whole = false
 
--- a directive that this stage obeys
+-- a directive that is obeyed: all but to fill a user's array
 abbrev pub is_built : Order → Bool
-is_built (orders.Call level r) = true
-is_built (orders.Do level r) = true
-is_built (orders.Enter l) = true
-is_built (orders.Serve l) = true
-is_built (orders.Run n) = true
-is_built (orders.Upto stop) = true
-is_built orders.Finish = true
+is_built (orders.Fill c ws) = false
 is_built (orders.Tick n) = nat_le n 1000000
-is_built _ = false
+is_built (orders.Miso u ws) = nat_lt u 2
+-- a script asks for no software reset
+is_built (orders.Reset Software) = false
+is_built _ = true
+
+-- a directive that moves the hardware
+abbrev pub is_hardware : Order → Bool
+is_hardware (orders.Tick n) = true
+is_hardware (orders.Level p v) = true
+is_hardware (orders.Analog i v) = true
+is_hardware (orders.Trigger i) = true
+is_hardware (orders.Miso u ws) = true
+is_hardware (orders.SpiFault u) = true
+is_hardware (orders.Fill c ws) = true
+is_hardware _ = false
 
 -- As many steps were taken as may be, and the directive wants one more: the items up to there are right, the run so far is legal, and the steps that were taken, with those that the frames had left and so many more, pass the most.
 pub record IsStuck {State Call Frame : Type 0} (d : Driver State Call Frame) (first : Chip) (call_of : Request → Call) (script : List Directive) (most more : ℕ) (k : Kept Frame) (before : Written) (chip1 : Chip) (k1 : Kept Frame) (after : Written) (Right : Moment State Call → List Entry → Type 0) : Type 0 where

@@ -1,14 +1,18 @@
 //! Obeys the directives of a script over any driver, and keeps the journal.
 #![tactic(auto)]
 
+mod beginnings;
 mod caller;
+mod engine;
+mod hardware;
 mod obeying;
-mod run;
+mod parts;
+mod sizes;
 mod steps;
 mod union;
 mod within;
 
 pub use caller::Caller;
-pub use run::{Ran, run_script};
+pub use engine::Engine;
 pub use steps::TooLong;
-pub use within::run_within;
+pub use within::{Ran, run_within};

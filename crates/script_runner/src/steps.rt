@@ -1,5 +1,5 @@
 ghost use Rattle.std.specs.Prelude.{ℕ, ◌≡◌, ◌<◌, ◌≤◌, ◌+◌, ◌∷◌, length, OnOk, OnErr, None, ◌||◌, is_some};
-ghost use Rattle.chip_model.specs.Chip.{power_on};
+ghost use Rattle.script_runner.specs.Scripts.{chip_for};
 ghost use Rattle.mcal_base.specs.declared.directive.Order.{Order};
 ghost use Rattle.run_model.specs.Entry as entry;
 ghost use Rattle.run_model.specs.Follows as follows;
@@ -9,10 +9,10 @@ ghost use Rattle.run_model.specs.Stops.{GoesToStop};
 ghost use Rattle.script_runner.specs.Standing.{IsStanding, HasRoom, TookStep, WentFar, IsStuck};
 
 use crate::caller::Caller;
-use chip_model::Bus;
-use mcal_base::{Config, Directive, Event, Move, Reason, Reg, Stop};
-use run_model::{Journal, Reach, Stepped};
-use step_runner::{Stack, reset, step_into};
+use crate::parts::{Course, Parts};
+use mcal_base::{Event, Move, Reason, Reg, Stop};
+use run_model::{Reach, Stepped};
+use step_runner::{reset, step_into};
 
 /// A step past the most of a run would be taken.
 #[derive(Clone, Copy, Debug, PartialEq, Eq)]
@@ -68,39 +68,35 @@ fn answer_is_short(stepped: &Stepped) -> usize
 /// Takes a step of the top frame, and notes it, unless so many were taken. The step is written to a place that holds
 /// no answer.
 pub(crate) fn take_step<M: Caller>(
-    driver: &M,
-    config: &Config,
-    script: &[Directive],
-    most: u32,
+    course: &Course<M>,
     line: u32,
-    stack: &mut Stack<M>,
-    bus: &mut Bus,
-    journal: &mut Journal,
+    parts: &mut Parts<M>,
     stepped: &mut Stepped,
 ) -> Result<(), TooLong>
-    requires fits { (M.spec driver.now).fits }
-    requires limit { most < 4294967295 }
-    requires frame { 0 < length stack.old.frames }
-    requires room { HasRoom most stack.old.steps 1 journal.old }
-    requires stands { let d = M.spec driver.now in let calls = M.call_of driver.now in
-        let first = power_on config.now 0 in
-        IsStanding d first calls script.now bus.old stack.old.frames journal.old.entries }
+    requires fits { (M.spec course.now.driver).fits }
+    requires limit { course.now.most < 4294967295 }
+    requires frame { 0 < length parts.old.stack.frames }
+    requires room { HasRoom course.now.most parts.old.stack.steps 1 parts.old.journal }
+    requires stands { let d = M.spec course.now.driver in let calls = M.call_of course.now.driver in
+        let first = chip_for course.now.config course.now.script.now in
+        IsStanding d first calls course.now.script.now parts.old.bus parts.old.stack.frames parts.old.journal.entries }
     requires free { stepped.old.ended ≡ None }
-    ensures took { let d = M.spec driver.now in let calls = M.call_of driver.now in
-        let first = power_on config.now 0 in
-        OnOk result (TookStep d first calls script.now most line bus.old stack.old journal.old stepped.new bus.new
-        stack.new journal.new) }
-    ensures too_long { OnErr result ((stack.new ≡ stack.old) × (bus.new ≡ bus.old) × (journal.new ≡ journal.old) × (stack.old.steps
-        ≡ most)) }
+    ensures took { let d = M.spec course.now.driver in let calls = M.call_of course.now.driver in
+        let first = chip_for course.now.config course.now.script.now in
+        OnOk result (TookStep d first calls course.now.script.now course.now.most line
+        parts.old.bus parts.old.stack parts.old.journal stepped.new parts.new.bus
+        parts.new.stack parts.new.journal) }
+    ensures too_long { OnErr result ((parts.new.stack ≡ parts.old.stack) × (parts.new.bus ≡ parts.old.bus) ×
+        (parts.new.journal ≡ parts.old.journal) × (parts.old.stack.steps ≡ course.now.most)) }
 {
-    if stack.steps() == most {
+    if parts.stack.steps() == course.most {
         return Err(TooLong);
     }
-    let depth = stack.depth();
-    match step_into(stack, bus, stepped) {
+    let depth = parts.stack.depth();
+    match step_into(&mut parts.stack, &mut parts.bus, stepped) {
         Ok(()) => {
             let _words = answer_is_short(stepped);
-            journal.stepped(line, depth, stepped);
+            parts.journal.stepped(line, depth, stepped);
             Ok(())
         }
         Err(_) => unreachable!(),
@@ -109,54 +105,40 @@ pub(crate) fn take_step<M: Caller>(
 
 /// Steps the top frame as far as a directive reaches, which is at least one step.
 pub(crate) fn run_steps<M: Caller>(
-    driver: &M,
-    config: &Config,
-    script: &[Directive],
-    most: u32,
+    course: &Course<M>,
     line: u32,
     reach: Reach,
-    stack: &mut Stack<M>,
-    bus: &mut Bus,
-    journal: &mut Journal,
+    parts: &mut Parts<M>,
 ) -> Result<(), TooLong>
-    requires fits { (M.spec driver.now).fits }
-    requires limit { most < 4294967295 }
-    requires frame { 0 < length stack.old.frames }
-    requires room { HasRoom most stack.old.steps 1 journal.old }
-    requires stands { let d = M.spec driver.now in let calls = M.call_of driver.now in
-        let first = power_on config.now 0 in
-        IsStanding d first calls script.now bus.old stack.old.frames journal.old.entries }
-    ensures went { let d = M.spec driver.now in let calls = M.call_of driver.now in
-        let first = power_on config.now 0 in
-        OnOk result (WentFar d first calls script.now most line reach bus.old
-        stack.old journal.old bus.new stack.new journal.new) }
-    ensures too_long { let d = M.spec driver.now in let calls = M.call_of driver.now in
-        let first = power_on config.now 0 in
-        OnErr result (IsStuck d first calls script.now most 0 stack.old journal.old bus.new stack.new journal.new
+    requires fits { (M.spec course.now.driver).fits }
+    requires limit { course.now.most < 4294967295 }
+    requires frame { 0 < length parts.old.stack.frames }
+    requires room { HasRoom course.now.most parts.old.stack.steps 1 parts.old.journal }
+    requires stands { let d = M.spec course.now.driver in let calls = M.call_of course.now.driver in
+        let first = chip_for course.now.config course.now.script.now in
+        IsStanding d first calls course.now.script.now parts.old.bus parts.old.stack.frames parts.old.journal.entries }
+    ensures went { let d = M.spec course.now.driver in let calls = M.call_of course.now.driver in
+        let first = chip_for course.now.config course.now.script.now in
+        OnOk result (WentFar d first calls course.now.script.now course.now.most line reach parts.old.bus
+        parts.old.stack parts.old.journal parts.new.bus parts.new.stack parts.new.journal) }
+    ensures too_long { let d = M.spec course.now.driver in let calls = M.call_of course.now.driver in
+        let first = chip_for course.now.config course.now.script.now in
+        OnErr result (IsStuck d first calls course.now.script.now course.now.most 0 parts.old.stack parts.old.journal
+        parts.new.bus parts.new.stack parts.new.journal
         (λ m items. GoesToStop d.setting line reach 0 m items)) }
 {
     let mut made = 0u32;
     let mut stepped = Stepped::blank();
     loop {
-        match take_step(
-            driver,
-            config,
-            script,
-            most,
-            line,
-            stack,
-            bus,
-            journal,
-            &mut stepped,
-        ) {
+        match take_step(course, line, parts, &mut stepped) {
             Ok(()) => {}
             Err(TooLong) => return Err(TooLong),
         }
         made += 1;
         if is_reset(&stepped.made) {
-            let depth = stack.depth();
-            let dropped = reset(stack, bus, Reason::Software);
-            journal.reset(line, depth, Reason::Software, dropped);
+            let depth = parts.stack.depth();
+            let dropped = reset(&mut parts.stack, &mut parts.bus, Reason::Software);
+            parts.journal.reset(line, depth, Reason::Software, dropped);
             return Ok(());
         }
         if stops_after(reach, made, &stepped) {

@@ -1,7 +1,7 @@
 -- What a step of a body is, plain answers, and what is owed for an error.
 use Rattle.std.specs.Prelude.{ℕ, List, [], ◌∷◌, Option, Some, None}
 use Rattle.mcal_base.specs.declared.answer.Answer.{Answer}
-use Rattle.mcal_base.specs.declared.answer.Head.TheVariants.{Name, Numbers}
+use Rattle.mcal_base.specs.declared.answer.Head.TheVariants.{Name, Numbers, ZeroNull}
 use Rattle.mcal_base.specs.declared.answer_name.AnswerName.{AnswerName}
 use Rattle.mcal_base.specs.declared.moves.Event.{Event}
 use Rattle.mcal_base.specs.declared.moves.Event.TheVariants.{Act}
@@ -28,6 +28,10 @@ numbers ns = record { head = Numbers; words = ns }
 -- the answer that is a number
 abbrev pub number : ℕ → Answer
 number n = numbers (n ∷ [])
+
+-- the answer that is a count of 0 and no pointer
+abbrev pub zero_null : Answer
+zero_null = record { head = ZeroNull; words = [] }
 
 -- it goes on
 abbrev pub goes : BodyTaken

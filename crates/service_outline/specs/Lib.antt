@@ -1,9 +1,11 @@
 pub mod Acts
 pub mod Both
+pub mod Carried
 pub mod Done
 pub mod Either
 pub mod Fuel
 pub mod Outline
+pub mod Owing
 pub mod Past
 pub mod Services
 pub mod Short

@@ -32,6 +32,7 @@ use Rattle.service_outline.specs.declared.body.Looked.{Looked}
 use Rattle.service_outline.specs.declared.body.Looked.TheVariants.{Refused, Goes}
 use Rattle.service_outline.specs.declared.short.Short.{Short}
 use Rattle.service_outline.specs.declared.short.Short.TheVariants.{Calling, Loading, Entering, Inside, Opening, Telling, Returning}
+use Rattle.service_outline.specs.Short.{ended_by}
 use Rattle.service_outline.specs.Acts.{Cleans, ActsRight, IsFresh, Behaves, LeavesRight}
 use Rattle.service_outline.specs.Fuel.{short_fuel, short_room, Shortens}
 use Rattle.service_outline.specs.Outline.{Ground, TellsAs, owes_nothing, notices_in, error_in}
@@ -128,9 +129,10 @@ pub record IsBasis {State Call : Type 0} (g : Basis State Call) : Type 0 where
   pub starts : (chip : Chip) (w : World) → g.wired chip → StandsIn chip w → g.agrees [] g.settled (reset_chip chip PowerOn) w g.setting.first
   pub moves : (held : List (Held Call g.Hold)) (chip : Chip) (w : World) (s : State) (order : Order) → MayCome g.setting held chip w s order → g.setting.machine.happens w s (Moves order) ≡ Some (outcome (g.later w s order) tells_nothing)
   pub resets : (held : List (Held Call g.Hold)) (gap : g.Gap) (chip : Chip) (w : World) (s : State) (reason : Reason) → g.agrees held gap chip w s → (out : Outcome State) × (g.setting.machine.happens w s (Restarts reason) ≡ Some out) × g.agrees [] g.settled (reset_chip chip reason) w out.state
-  pub agrees_later : (held : List (Held Call g.Hold)) (gap : g.Gap) (chip : Chip) (w : World) (s : State) (order : Order) → MayCome g.setting held chip w s order → g.agrees held gap chip w s → g.agrees held gap (happened chip order) (world_after w chip.clock.rate order) (g.later w s order)
-  pub agrees_apart : (held : List (Held Call g.Hold)) (gap : g.Gap) (chip : Chip) (w : World) (s : State) (made : Move) (received : ℕ) → Elsewhere g made → g.agrees held gap chip w s → g.agrees held gap (chip_after chip made received) w s
-  pub foot_apart : (chip : Chip) (made : Move) (received : ℕ) → Elsewhere g made → g.foot (chip_after chip made received) ≡ g.foot chip
+  -- with the mask open nothing is under work
+  pub agrees_later : (held : List (Held Call g.Hold)) (gap : g.Gap) (chip : Chip) (w : World) (s : State) (order : Order) → MayCome g.setting held chip w s order → (is_masked chip ≡ false → gap ≡ g.settled) → g.agrees held gap chip w s → g.agrees held gap (happened chip order) (world_after w chip.clock.rate order) (g.later w s order)
+  -- another module's frame moves while nothing is under work
+  pub agrees_apart : (held : List (Held Call g.Hold)) (chip : Chip) (w : World) (s : State) (made : Move) (received : ℕ) → Elsewhere g made → g.agrees held g.settled chip w s → g.agrees held g.settled (chip_after chip made received) w s
   -- what a frame may do names what is the driver's own, and that is a register or a word, which is there
   pub may_owns : (origin : Origin Call) (made : Move) → g.setting.may origin made ≡ true → g.owns origin made ≡ true
   pub owns_plain : (origin : Origin Call) (made : Move) → g.owns origin made ≡ true → is_shared made ≡ false
@@ -450,22 +452,36 @@ TurnsMask bound was is room later (Store n v) e left = KeepsMask was is room lat
 abbrev pub TurnsTo : {State Call Body : Type 0} {g : Basis State Call} → LongBodies g Body → ℕ → Body → Body × BodyTaken → Type 0
 TurnsTo b bound k p = TurnsMask bound (is_closed (b.spot k)) (is_closed (b.spot p.0)) (b.room k) (b.room p.0) (b.work_of k) p.1.event p.1.done
 
--- what bodies owe
-pub record AreLong {State Call Body : Type 0} (g : Basis State Call) (b : LongBodies g Body) : Type 0 where
+-- a body's step, where this is the answer with which it ends its frame itself: it ends so at the opening of the mask alone, holds
+-- nothing then, and owes nothing
+abbrev pub RightOr : {State Call Body : Type 0} (g : Basis State Call) → LongBodies g Body → List (Held Call g.Hold) → Chip → World → State → Body → Origin Call → (received : ℕ) → Past → (ℕ → Bool) → Option Answer → Type 0
+RightOr g b below chip w s k origin received past missed None = Right g b below chip w s k origin received past missed
+RightOr g b below chip w s k origin received past missed (Some a) = (b.work_of k ≡ Unmask) × g.agrees below g.settled (chip_after chip Unmask received) w s × MayStop g origin past (missed_after g.setting.machine w s missed) (owes_nothing a)
+
+-- what such a step ends its frame with, if it does
+abbrev pub ended_at : {State Call Body : Type 0} {g : Basis State Call} → LongBodies g Body → (Body → Option Answer) → Body → ℕ → Option Answer
+ended_at b ends_with k x = ended_by (ends_with (b.takes k x).0) (b.takes k x).1.done
+
+-- what bodies owe, some of which may end their frame themselves, with these answers
+pub record AreEnding {State Call Body : Type 0} (g : Basis State Call) (b : LongBodies g Body) (ends_with : Body → Option Answer) : Type 0 where
   -- a body's move is one that its frame may make
   pub own : (below : List (Held Call g.Hold)) (chip : Chip) (w : World) (s : State) (k : Body) (origin : Origin Call) (past : Past) → Stand g b below chip w s k origin past → is_shared (b.work_of k) || g.setting.may origin (b.work_of k) ≡ true
   pub turns : (below : List (Held Call g.Hold)) (chip : Chip) (w : World) (s : State) (k : Body) (origin : Origin Call) (past : Past) → Stand g b below chip w s k origin past → TurnsTo b (g.setting.window_of origin) k (b.takes k (value_of chip (b.work_of k)))
-  pub steps : (below : List (Held Call g.Hold)) (chip : Chip) (w : World) (s : State) (k : Body) (origin : Origin Call) (received : ℕ) (past : Past) (missed : ℕ → Bool) → ReceivedRight chip w (b.work_of k) received → g.count s < most_steps → Stand g b below chip w s k origin past → Right g b below chip w s k origin received past missed
-  pub later : (below : List (Held Call g.Hold)) (chip : Chip) (w : World) (s : State) (order : Order) (k : Body) (origin : Origin Call) (past : Past) → MayCome g.setting (with_holds origin past.acted (holds_at (b.spot k)) below) chip w s order → Stand g b below chip w s k origin past → place_at (b.spot k) below (g.foot (happened chip order)) (world_after w chip.clock.rate order) (g.later w s order) origin past
+  pub steps : (below : List (Held Call g.Hold)) (chip : Chip) (w : World) (s : State) (k : Body) (origin : Origin Call) (received : ℕ) (past : Past) (missed : ℕ → Bool) → ReceivedRight chip w (b.work_of k) received → g.count s < most_steps → Stand g b below chip w s k origin past → RightOr g b below chip w s k origin received past missed (ended_at b ends_with k (value_of chip (b.work_of k)))
+  pub later : (below : List (Held Call g.Hold)) (chip : Chip) (w : World) (s : State) (order : Order) (k : Body) (origin : Origin Call) (past : Past) → MayCome g.setting (with_holds origin past.acted (holds_at (b.spot k)) below) chip w s order → (is_masked chip ≡ false → is_closed (b.spot k) ≡ false) → Stand g b below chip w s k origin past → place_at (b.spot k) below (g.foot (happened chip order)) (world_after w chip.clock.rate order) (g.later w s order) origin past
   -- a move at which no event stands resets nothing, and begins no serial word
   pub calm : (below : List (Held Call g.Hold)) (chip : Chip) (w : World) (s : State) (k : Body) (origin : Origin Call) (past : Past) → Stand g b below chip w s k origin past → (b.takes k (value_of chip (b.work_of k))).1.event ≡ None → (resets_chip (b.work_of k) ≡ false) × (begins_word (b.work_of k) ≡ false)
   pub shortens : (k : Body) (x : ℕ) → Shortens b.fuel k (b.takes k x)
   pub cleans : (k : Body) (x : ℕ) → Cleans b.clean (b.work_of k) k (b.takes k x)
 
--- what a driver owes
-pub record AreServices {State Call Asked Body : Type 0} (d : Services State Call Asked Body) : Type 0 where
+-- where none does
+abbrev pub AreLong : {State Call Body : Type 0} (g : Basis State Call) → LongBodies g Body → Type 0
+AreLong g b = AreEnding g b (λ k. None)
+
+-- what a driver owes, some of whose bodies may end their frame themselves, with these answers
+pub record AreEndingServices {State Call Asked Body : Type 0} (d : Services State Call Asked Body) (ends_with : Body → Option Answer) : Type 0 where
   pub basis : IsBasis d.basis
-  pub bodies : AreLong d.basis d.bodies
+  pub bodies : AreEnding d.basis d.bodies ends_with
   -- the load of the state word, in the window, above what is held by those that let the call begin
   pub looks : (below : List (Held Call d.basis.Hold)) (chip : Chip) (w : World) (s : State) (c : Call) → d.can c → Beside d.basis.setting (Called c) below → d.basis.agrees below d.basis.settled chip w s → Decides d below chip w s c (d.looked (d.asked c) (value_of chip (Load d.word)))
   -- the state word is its own, and there
@@ -478,3 +494,7 @@ pub record AreServices {State Call Asked Body : Type 0} (d : Services State Call
   pub call_steps : (c : Call) → d.can c → 7 + d.most (d.asked c) ≤ d.basis.setting.steps_of (Called c)
   pub call_window : (c : Call) → d.can c → 3 + d.wide (d.asked c) ≤ d.basis.setting.window_of (Called c)
   pub line_steps : (line : ℕ) (k : Body) → d.body_of line ≡ Some k → 6 + d.bodies.fuel k ≤ d.basis.setting.steps_of (Entered line)
+
+-- where none does
+abbrev pub AreServices : {State Call Asked Body : Type 0} → Services State Call Asked Body → Type 0
+AreServices d = AreEndingServices d (λ k. None)

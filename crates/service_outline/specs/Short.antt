@@ -97,11 +97,25 @@ short_left looked takes (Opening n) x = left_open n.answer n.owed
 short_left looked takes (Telling n) x = left_told n.answer n.owed
 short_left looked takes (Returning a) x = Returning no_answer
 
+-- the answer of a body that ends its frame itself, where it isn't done with
+abbrev pub ended_by : Option Answer → Option Done → Option Answer
+ended_by None left = None
+ended_by (Some a) None = Some a
+ended_by (Some a) (Some n) = None
+
+abbrev pub gave_body : Option Event → Option Answer → Taken
+gave_body e a = record { event = e; ended = a }
+
+-- what a step gave, where bodies end their frame so
+abbrev pub ending_gave : {Call Body : Type 0} → (Call → ℕ → Looked Body) → (Body → ℕ → Body × BodyTaken) → (Body → Option Answer) → Short Call Body → ℕ → Taken
+ending_gave looked takes ends_with (Calling c) x = goes
+ending_gave looked takes ends_with (Loading c) x = gave_look (looked c x)
+ending_gave looked takes ends_with (Entering k) x = goes
+ending_gave looked takes ends_with (Inside k) x = gave_body (takes k x).1.event (ended_by (ends_with (takes k x).0) (takes k x).1.done)
+ending_gave looked takes ends_with (Opening n) x = gave_open n.answer n.owed
+ending_gave looked takes ends_with (Telling n) x = gave_told n.answer n.owed
+ending_gave looked takes ends_with (Returning a) x = ends a
+
+-- and where none does
 abbrev pub short_gave : {Call Body : Type 0} → (Call → ℕ → Looked Body) → (Body → ℕ → Body × BodyTaken) → Short Call Body → ℕ → Taken
-short_gave looked takes (Calling c) x = goes
-short_gave looked takes (Loading c) x = gave_look (looked c x)
-short_gave looked takes (Entering k) x = goes
-short_gave looked takes (Inside k) x = does (takes k x).1.event
-short_gave looked takes (Opening n) x = gave_open n.answer n.owed
-short_gave looked takes (Telling n) x = gave_told n.answer n.owed
-short_gave looked takes (Returning a) x = ends a
+short_gave looked takes = ending_gave looked takes (λ k. None)

@@ -1,10 +1,14 @@
 pub mod Acts
 pub mod Both
+pub mod Carried
 pub mod Either
+pub mod Ending
 pub mod Fuel
 pub mod Lawful
+pub mod Owing
 pub mod Reports
 pub mod ShortServices
+pub mod SimpleMoves
 pub mod StepKinds
 pub mod Steps
 pub mod Sweep

@@ -1,10 +1,11 @@
-ghost use Rattle.std.specs.Prelude.{◌≡◌, ℕ};
+ghost use Rattle.std.specs.Prelude.{◌≡◌, ℕ, Option, None};
+ghost use Rattle.mcal_base.specs.declared.answer.Answer.{Answer};
 ghost use Rattle.mcal_base.specs.declared.moves.Move.{Move};
 ghost use Rattle.service_outline.specs.declared.done.BodyTaken.{BodyTaken};
 ghost use Rattle.service_outline.specs.declared.body.Looked.{Looked};
 
 use crate::done::{BodyTaken, Done};
-use mcal_base::Move;
+use mcal_base::{Answer, Move};
 
 /// What a load of the state word decides for a call.
 #[derive(Drop)]
@@ -48,9 +49,19 @@ pub trait Service: Drop {
     /// What the state word and the arguments decide.
     ghost looked_of: { Self → ℕ → Looked Self.Body };
 
+    /// The answer with which a body has ended its frame itself, at its last opening of the mask: where an answer is too
+    /// long for a `Reply`, the body keeps its words.
+    ghost ends_with: { Self.Body → Option Answer } = { λ k. None };
+
     /// What the state word and the arguments decide.
     fn look(&self, value: u32) -> Looked<Self::Body>
         ensures { result ≡ looked_of self.now value };
+
+    /// Writes the answer of a body that has ended its frame itself, and nothing where it goes on. Each step of a body that
+    /// isn't done with asks for it.
+    fn finish(body: &Self::Body, ended: &mut Option<Answer>)
+        requires free { ended.old ≡ None }
+        ensures { ended.new ≡ ends_with body.now };
 }
 
 /// A body of either of two kinds.

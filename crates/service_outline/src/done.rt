@@ -7,22 +7,37 @@ use det_errors::reported;
 use mcal_base::{Answer, AnswerName, DevError, ErrorName, Event, Head, Notice, Service, Words};
 use std::marker::Model;
 
-/// An answer of at most one number, as a frame keeps it; contracts see the answer.
+/// The numbers that a reply carries.
+#[derive(Clone, Copy, Debug)]
+pub enum Carried {
+    /// None.
+    Nothing,
+    /// One number.
+    One(u32),
+    /// Two numbers.
+    Two(u32, u32),
+}
+
+/// An answer of at most two numbers, as a frame keeps it; contracts see the answer.
 #[derive(Clone, Copy, Debug)]
 pub struct Reply {
     head: Head,
-    number: Option<u32>,
+    numbers: Carried,
 }
 
 impl Model for Reply {
-    ghost use Rattle.std.specs.Prelude.{option_to_list, slice_get};
     ghost use Rattle.mcal_base.specs.declared.answer.Answer.{Answer};
+    ghost use Rattle.std.proofs.Common.{ap};
+    ghost use Rattle.service_outline.specs.Carried.{listed, first_two};
+    ghost use Rattle.service_outline.specs.laws.Carried.{back};
 
     ghost Value = { Answer };
 
-    ghost view = { λ r. record { head = r.head; words = option_to_list r.number } };
+    ghost view = { λ r. record { head = r.head; words = listed r.numbers } };
 
-    ghost inverse = { λ a. record { head = a.head; number = slice_get a.words 0 } };
+    ghost inverse = { λ a. record { head = a.head; numbers = first_two a.words } };
+
+    ghost inverse_ok = { λ a h. ap (λ n. record a { numbers = n }) (back a.numbers) };
 }
 
 impl Reply {
@@ -31,8 +46,13 @@ impl Reply {
         ensures { result ≡ self.now }
     {
         let mut words = Words::new();
-        if let Some(number) = self.number {
-            words.push(number);
+        match self.numbers {
+            Carried::Nothing => {}
+            Carried::One(number) => words.push(number),
+            Carried::Two(first, second) => {
+                words.push(first);
+                words.push(second);
+            }
         }
         Answer {
             head: self.head,
@@ -78,7 +98,7 @@ pub fn nothing() -> Reply
 {
     Reply {
         head: Head::Nothing,
-        number: None,
+        numbers: Carried::Nothing,
     }
 }
 
@@ -88,7 +108,7 @@ pub fn named(name: AnswerName) -> Reply
 {
     Reply {
         head: Head::Name(name),
-        number: None,
+        numbers: Carried::Nothing,
     }
 }
 
@@ -98,7 +118,27 @@ pub fn number(value: u32) -> Reply
 {
     Reply {
         head: Head::Numbers,
-        number: Some(value),
+        numbers: Carried::One(value),
+    }
+}
+
+/// The answer that is two numbers.
+pub fn numbers(first: u32, second: u32) -> Reply
+    ensures { result ≡ spec.numbers (first ∷ second ∷ []) }
+{
+    Reply {
+        head: Head::Numbers,
+        numbers: Carried::Two(first, second),
+    }
+}
+
+/// The answer that is a count of 0 and no pointer.
+pub fn zero_null() -> Reply
+    ensures { result ≡ spec.zero_null }
+{
+    Reply {
+        head: Head::ZeroNull,
+        numbers: Carried::Nothing,
     }
 }
 

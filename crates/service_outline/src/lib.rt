@@ -9,10 +9,13 @@ mod body;
 mod done;
 mod short;
 mod sweep;
+mod words;
 
 pub use body::{Body, Looked, Or, Service};
 pub use done::{
-    BodyTaken, Done, Owed, Reply, acts, acts_with, ends, error, goes, named, nothing, number,
+    BodyTaken, Carried, Done, Owed, Reply, acts, acts_with, ends, error, goes, named, nothing,
+    number, numbers, zero_null,
 };
 pub use short::Short;
 pub use sweep::{Objects, Place, Sweep};
+pub use words::copied;

@@ -27,13 +27,13 @@ pub enum Short<C, B> {
 }
 
 impl<C: Service> Routine for Short<C, C::Body> {
-    ghost use Rattle.service_outline.specs.Short.{short_move, short_left, short_gave};
+    ghost use Rattle.service_outline.specs.Short.{short_move, short_left, ending_gave};
 
     ghost move_of = { short_move C.WORD C.Body.work_of };
 
     ghost left = { short_left C.looked_of C.Body.takes };
 
-    ghost gave = { short_gave C.looked_of C.Body.takes };
+    ghost gave = { ending_gave C.looked_of C.Body.takes C.ends_with };
 
     fn next(&self) -> Move {
         match self {
@@ -59,8 +59,9 @@ impl<C: Service> Routine for Short<C, C::Body> {
         match self {
             Short::Inside(body) => {
                 let BodyTaken { event, done } = body.took(value);
-                if let Some(done) = done {
-                    *self = Short::Opening(done);
+                match done {
+                    Some(done) => *self = Short::Opening(done),
+                    None => C::finish(body, ended),
                 }
                 event
             }

@@ -23,7 +23,7 @@ use Rattle.shapes_on_chip.specs.OnChip.{HasWords, AreThere, LooksAt, Leaves, Ste
 
 -- ---- a move of own words
 
-value-same : (own : ℕ → Bool) (chip : Chip) (made : Move) → NamesOwn own made → value_of chip made ≡ given (word_of chip) made
+pub value-same : (own : ℕ → Bool) (chip : Chip) (made : Move) → NamesOwn own made → value_of chip made ≡ given (word_of chip) made
 value-same own chip (Load k) at = refl
 value-same own chip (Store k v) at = refl
 value-same own chip (Read r) at = absurd at
@@ -33,7 +33,7 @@ value-same own chip Unmask at = absurd at
 value-same own chip (Note x) at = absurd at
 value-same own chip (Report x) at = absurd at
 
-store_word : (chip : Chip) (k v received j : ℕ) → k < length chip.words → (j ≡ k) ⊎ (j ≢ k) → after (word_of chip) (Store k v) j ≡ word_of (chip_after chip (Store k v) received) j
+pub store_word : (chip : Chip) (k v received j : ℕ) → k < length chip.words → (j ≡ k) ⊎ (j ≢ k) → after (word_of chip) (Store k v) j ≡ word_of (chip_after chip (Store k v) received) j
 store_word chip k v received j lt (inl at) = stored-same (word_of chip) j k v at ∙ sym (ap (λ i. get_or (set chip.words k v) i 0) at ∙ get_or-set_same chip.words k v 0 lt)
 store_word chip k v received j lt (inr ne) = stored-other (word_of chip) j k v ne ∙ sym (get_or-set_other chip.words k j v 0 ne)
 

@@ -1,1 +1,2 @@
 pub mod OnChip
+pub mod Parts

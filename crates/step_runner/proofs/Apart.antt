@@ -19,7 +19,7 @@ by-line true p q made e f = e
 by-line false p q made e f = f
 
 -- what neither owns both as one don't own
-owns-neither : {C D : Type 0} (ours : ℕ → Bool) (p : Origin C → Move → Bool) (q : Origin D → Move → Bool) (o : Origin (Either C D)) (made : Move) → ((x : Origin C) → p x made ≡ false) → ((y : Origin D) → q y made ≡ false) → by_origin ours p q o made ≡ false
+pub owns-neither : {C D : Type 0} (ours : ℕ → Bool) (p : Origin C → Move → Bool) (q : Origin D → Move → Bool) (o : Origin (Either C D)) (made : Move) → ((x : Origin C) → p x made ≡ false) → ((y : Origin D) → q y made ≡ false) → by_origin ours p q o made ≡ false
 owns-neither ours p q (Called (Left c)) made e f = e (Called c)
 owns-neither ours p q (Called (Right d)) made e f = f (Called d)
 owns-neither ours p q (Entered l) made e f = by-line (ours l) (p (Entered l)) (q (Entered l)) made (e (Entered l)) (f (Entered l))
@@ -29,14 +29,14 @@ line-may true p q made h f g = f h
 line-may false p q made h f g = g h
 
 -- what both as one may do one of them may do
-may-either : {C D X : Type 0} (ours : ℕ → Bool) (p : Origin C → Move → Bool) (q : Origin D → Move → Bool) (o : Origin (Either C D)) (made : Move) → by_origin ours p q o made ≡ true → ((x : Origin C) → p x made ≡ true → X) → ((y : Origin D) → q y made ≡ true → X) → X
+pub may-either : {C D X : Type 0} (ours : ℕ → Bool) (p : Origin C → Move → Bool) (q : Origin D → Move → Bool) (o : Origin (Either C D)) (made : Move) → by_origin ours p q o made ≡ true → ((x : Origin C) → p x made ≡ true → X) → ((y : Origin D) → q y made ≡ true → X) → X
 may-either ours p q (Called (Left c)) made h f g = f (Called c) h
 may-either ours p q (Called (Right d)) made h f g = g (Called d) h
 may-either ours p q (Entered l) made h f g = line-may (ours l) (p (Entered l)) (q (Entered l)) made h (f (Entered l)) (g (Entered l))
 
 -- ---- what a member allows
 
-some-either : {S T X : Type 0} (s : S) (t : T) (x : Option (Outcome S)) (y : Option (Outcome T)) → IsSome (in_first s t x y) → (IsSome x → X) → (IsSome y → X) → X
+pub some-either : {S T X : Type 0} (s : S) (t : T) (x : Option (Outcome S)) (y : Option (Outcome T)) → IsSome (in_first s t x y) → (IsSome x → X) → (IsSome y → X) → X
 some-either s t (Some a) y h f g = f refl
 some-either s t None (Some b) h f g = g refl
 some-either s t None None h f g = cc
@@ -49,7 +49,7 @@ none-neither s t x y e f = rw (e, f)
 both-true : (a b : Bool) → a ≡ true → b ≡ true → a && b ≡ true
 both-true a b e f = rw (e, f)
 
-all-into : (p q : ℕ → Bool) (ls : List ℕ) → ((l : ℕ) → p l ≡ true → q l ≡ true) → list_all p ls ≡ true → list_all q ls ≡ true
+pub all-into : (p q : ℕ → Bool) (ls : List ℕ) → ((l : ℕ) → p l ≡ true → q l ≡ true) → list_all p ls ≡ true → list_all q ls ≡ true
 all-into p q [] into h = refl
 all-into p q (l ∷ ls) into h = both-true (q l) (list_all q ls) (into l (and-left (p l) (list_all p ls) h)) (all-into p q ls into (and-right (p l) (list_all p ls) h))
 
@@ -57,11 +57,11 @@ all-both : (p q r : ℕ → Bool) (ls : List ℕ) → ((l : ℕ) → p l ≡ tru
 all-both p q r [] into h k = refl
 all-both p q r (l ∷ ls) into h k = both-true (r l) (list_all r ls) (into l (and-left (p l) (list_all p ls) h) (and-left (q l) (list_all q ls) k)) (all-both p q r ls into (and-right (p l) (list_all p ls) h) (and-right (q l) (list_all q ls) k))
 
-handler-first : {F G : Type 0} (x : Option F) (y : Option G) → is_some x ≡ true → is_some (either_handler x y) ≡ true
+pub handler-first : {F G : Type 0} (x : Option F) (y : Option G) → is_some x ≡ true → is_some (either_handler x y) ≡ true
 handler-first (Some f) y h = refl
 handler-first None y h = cc
 
-handler-second : {F G : Type 0} (x : Option F) (y : Option G) → is_some y ≡ true → is_some (either_handler x y) ≡ true
+pub handler-second : {F G : Type 0} (x : Option F) (y : Option G) → is_some y ≡ true → is_some (either_handler x y) ≡ true
 handler-second (Some f) y h = refl
 handler-second None (Some g) h = refl
 handler-second None None h = cc

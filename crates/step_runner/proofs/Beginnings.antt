@@ -192,7 +192,7 @@ module _ {State Call Frame : Type 0} (d : Driver State Call Frame) (move_of : Fr
       let mm = st.matches in
       let can_here : CanHappen m.chip order = subst (λ c. CanHappen c order) mm.chip_is can in
       let may = subst (λ os. IsFree d.setting (is_masked m.chip) m.world m.state os order) (sym (origins-in d us m.opens mm.frames)) (free-of d st.covers m.chip (is_masked m.chip) m.world m.state (origins_of m.opens) order can_here free) in
-      let t = law.moves m.chip m.world (paired us m.opens) m.state order may mm.relates in
+      let t = law.moves m.chip m.world (paired us m.opens) m.state order may (λ e. outside-paired us m.opens (none-inside (is_masked m.chip) m.opens e mm.guarded)) mm.relates in
       stands-on d move_of left gave law first chip (happened chip order) us us h (Happens order) st (free, subst (λ o. IsSome o) (sym t.1) refl)
       (record {
         chip_is = ap (λ c. happened c order) mm.chip_is;

@@ -6,3 +6,4 @@ pub mod KeptLemmas
 pub mod Runs
 pub mod LastFrame
 pub mod PowerOn
+pub mod Whose

@@ -125,12 +125,12 @@ pub record IsLawful {State Call Frame : Type 0} (d : Driver State Call Frame) (m
   pub steps : (chip : Chip) (w : World) (f : Frame) (o : Open Call) (ps : List (Frame × Open Call)) (s : State) (received : ℕ) → ReceivedRight chip w (move_of f) received → d.count s < most_steps → is_masked chip ≡ o.inside → AllOutside ps → d.relates chip w ((f, o) ∷ ps) s → let made = move_of f in let value = value_of chip made in let taken = gave f value in KeepsStep d (record { chip = chip; world = w; state = s; opens = []; steps = 0 }) f o (left f value) (stepped made value received taken) (λ s1 o1. d.relates (chip_after chip made received) w (top_after (left f value, o1) taken.ended ps) s1)
   -- the register or the word of its move is there
   pub there : (chip : Chip) (w : World) (f : Frame) (o : Open Call) (ps : List (Frame × Open Call)) (s : State) → d.relates chip w ((f, o) ∷ ps) s → CanApply (move_of f)
-  -- the hardware may move where it is free to, and keeps it, at whatever rate
-  pub moves : (chip : Chip) (w : World) (ps : List (Frame × Open Call)) (s : State) (order : Order) → IsFree d.setting (is_masked chip) w s (origins_in ps) order → d.relates chip w ps s → (out : Outcome State) × (d.setting.machine.happens w s (Moves order) ≡ Some out) × d.relates (happened chip order) (world_after w chip.clock.rate order) ps out.state
+  -- the hardware may move where it is free to, and keeps it, at whatever rate; with the mask open no frame holds it closed
+  pub moves : (chip : Chip) (w : World) (ps : List (Frame × Open Call)) (s : State) (order : Order) → IsFree d.setting (is_masked chip) w s (origins_in ps) order → (is_masked chip ≡ false → AllOutside ps) → d.relates chip w ps s → (out : Outcome State) × (d.setting.machine.happens w s (Moves order) ≡ Some out) × d.relates (happened chip order) (world_after w chip.clock.rate order) ps out.state
   -- a reset may always come, and leaves the state of a start
   pub resets : (chip : Chip) (w : World) (ps : List (Frame × Open Call)) (s : State) (reason : Reason) → d.relates chip w ps s → (out : Outcome State) × (d.setting.machine.happens w s (Restarts reason) ≡ Some out) × d.relates (reset_chip chip reason) w [] out.state
-  -- a move that names nothing of the module's keeps it
-  pub undisturbed : (chip : Chip) (w : World) (ps : List (Frame × Open Call)) (s : State) (made : Move) (received : ℕ) → ((origin : Origin Call) → d.owns origin made ≡ false) → d.relates chip w ps s → d.relates (chip_after chip made received) w ps s
+  -- a move that names nothing of the module's keeps it, while none of the module's frames holds the mask closed
+  pub undisturbed : (chip : Chip) (w : World) (ps : List (Frame × Open Call)) (s : State) (made : Move) (received : ℕ) → ((origin : Origin Call) → d.owns origin made ≡ false) → AllOutside ps → d.relates chip w ps s → d.relates (chip_after chip made received) w ps s
   -- what a frame may do names what is its module's own
   pub may_owns : (origin : Origin Call) (made : Move) → d.setting.may origin made ≡ true → d.owns origin made ≡ true
   -- what is a module's own is a register or a word

@@ -4,3 +4,4 @@ pub mod Lifts
 pub mod Stands
 pub mod Union
 pub mod UnionLaws
+pub mod Whose

@@ -304,7 +304,7 @@ module _ {S T C D F G : Type 0} (d : Driver S C F) (e : Driver T D G) (move_a : 
       (λ s1 o2. d.relates (chip_after chip made received) w (top_after (left_a f value, o2) taken.ended fs1) s1)
       (λ s1 o2. URelates (chip_after chip made received) w (top_after (Left (left_a f value), o2) taken.ended qs) s1)
       (lies-left w s t) (λ z. refl) (λ z. refl) m all same
-      (λ s1 o2 missed1 is all1 same1 kept. grow-left (chip_after chip made received) w (left_a f value) o2 missed1 taken.ended qs fs1 gs1 s1 t (mine-same ours o1.origin o2.origin is m) all1 same1 sp kept (lb.undisturbed chip w gs1 t made received (not-second o1.origin made k.own) y))
+      (λ s1 o2 missed1 is all1 same1 kept. grow-left (chip_after chip made received) w (left_a f value) o2 missed1 taken.ended qs fs1 gs1 s1 t (mine-same ours o1.origin o2.origin is m) all1 same1 sp kept (lb.undisturbed chip w gs1 t made received (not-second o1.origin made k.own) (outside-split ours qs fs1 gs1 sp out).1 y))
       k
   step-split chip w u o ps s t fs gs (Right_open f o1 missed qs fs1 gs1 m all same sp) masked out x y received come few_a few_b =
       let made = move_b f in
@@ -315,7 +315,7 @@ module _ {S T C D F G : Type 0} (d : Driver S C F) (e : Driver T D G) (move_a : 
       (λ s1 o2. e.relates (chip_after chip made received) w (top_after (left_b f value, o2) taken.ended gs1) s1)
       (λ s1 o2. URelates (chip_after chip made received) w (top_after (Right (left_b f value), o2) taken.ended qs) s1)
       (lies-right w s t) (λ z. refl) (λ z. refl) m all same
-      (λ s1 o2 missed1 is all1 same1 kept. grow-right (chip_after chip made received) w (left_b f value) o2 missed1 taken.ended qs fs1 gs1 s s1 (mine-same (others ours) o1.origin o2.origin is m) all1 same1 sp (la.undisturbed chip w fs1 s made received (not-first o1.origin made k.own) x) kept)
+      (λ s1 o2 missed1 is all1 same1 kept. grow-right (chip_after chip made received) w (left_b f value) o2 missed1 taken.ended qs fs1 gs1 s s1 (mine-same (others ours) o1.origin o2.origin is m) all1 same1 sp (la.undisturbed chip w fs1 s made received (not-first o1.origin made k.own) (outside-split ours qs fs1 gs1 sp out).0 x) kept)
       k
 
   there-split : (chip : Chip) (w : World) (u : Either F G) (o : Open (Either C D)) (ps : List (Either F G × Open (Either C D))) (s : S) (t : T) (fs : List (F × Open C)) (gs : List (G × Open D)) → Splits ours ((u, o) ∷ ps) fs gs → d.relates chip w fs s → e.relates chip w gs t → CanApply (either move_a move_b u)
@@ -406,11 +406,11 @@ module _ {S T C D F G : Type 0} (d : Driver S C F) (e : Driver T D G) (move_a : 
   free-split masked w ps s t fs gs (orders.Tick n) sp h = ticks-split n (d.setting.machine.expires w s) (e.setting.machine.expires w t) h
   free-split masked w ps s t fs gs _ sp h = (tt, tt)
 
-  u-moves : (chip : Chip) (w : World) (ps : List (Either F G × Open (Either C D))) (s : S × T) (order : Order) → IsFree g (is_masked chip) w s (origins_in ps) order → URelates chip w ps s → (out : Outcome (S × T)) × (g.machine.happens w s (Moves order) ≡ Some out) × URelates (happened chip order) (world_after w chip.clock.rate order) ps out.state
-  u-moves chip w ps s order free h =
+  u-moves : (chip : Chip) (w : World) (ps : List (Either F G × Open (Either C D))) (s : S × T) (order : Order) → IsFree g (is_masked chip) w s (origins_in ps) order → (is_masked chip ≡ false → AllOutside ps) → URelates chip w ps s → (out : Outcome (S × T)) × (g.machine.happens w s (Moves order) ≡ Some out) × URelates (happened chip order) (world_after w chip.clock.rate order) ps out.state
+  u-moves chip w ps s order free out h =
       let frees = free-split (is_masked chip) w ps s.0 s.1 h.firsts h.seconds order h.splits free in
-      let x = la.moves chip w h.firsts s.0 order frees.0 h.first in
-      let y = lb.moves chip w h.seconds s.1 order frees.1 h.second in
+      let x = la.moves chip w h.firsts s.0 order frees.0 (λ e. (outside-split ours ps h.firsts h.seconds h.splits (out e)).0) h.first in
+      let y = lb.moves chip w h.seconds s.1 order frees.1 (λ e. (outside-split ours ps h.firsts h.seconds h.splits (out e)).1) h.second in
       (outcome (x.0.state, y.0.state) tells_nothing, both-some (d.setting.machine.happens w s.0 (Moves order)) (e.setting.machine.happens w s.1 (Moves order)) x.0 y.0 x.1 y.1, record { firsts = h.firsts; seconds = h.seconds; splits = h.splits; first = x.2; second = y.2 })
 
   u-resets : (chip : Chip) (w : World) (ps : List (Either F G × Open (Either C D))) (s : S × T) (reason : Reason) → URelates chip w ps s → (out : Outcome (S × T)) × (g.machine.happens w s (Restarts reason) ≡ Some out) × URelates (reset_chip chip reason) w [] out.state
@@ -560,7 +560,7 @@ module _ {S T C D F G : Type 0} (d : Driver S C F) (e : Driver T D G) (move_a : 
     there = λ chip w f o ps s h. there-split chip w f o ps s.0 s.1 h.firsts h.seconds h.splits h.first h.second;
     moves = u-moves;
     resets = u-resets;
-    undisturbed = λ chip w ps s made received none h. record { firsts = h.firsts; seconds = h.seconds; splits = h.splits; first = la.undisturbed chip w h.firsts s.0 made received (none-first made none) h.first; second = lb.undisturbed chip w h.seconds s.1 made received (none-second made none) h.second };
+    undisturbed = λ chip w ps s made received none out h. record { firsts = h.firsts; seconds = h.seconds; splits = h.splits; first = la.undisturbed chip w h.firsts s.0 made received (none-first made none) (outside-split ours ps h.firsts h.seconds h.splits out).0 h.first; second = lb.undisturbed chip w h.seconds s.1 made received (none-second made none) (outside-split ours ps h.firsts h.seconds h.splits out).1 h.second };
     may_owns = u-may;
     owns_plain = u-plain;
     owns_called = u-called;

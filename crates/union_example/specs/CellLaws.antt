@@ -142,9 +142,9 @@ module _ (word : ℕ) (fits : word < SOURCES) where
     enters = λ chip w ps s line f there shut pending out under h. cc;
     steps = λ chip w f o ps s received come few masked out h. steps_of chip w f o ps s received h.all h.value h.frames;
     there = λ chip w f o ps s h. there_of f o ps h.frames;
-    moves = λ chip w ps s order free h. let there = fills_there word (is_masked chip) w s (origins_in ps) order free in (outcome s tells_nothing, refl, record { all = all-step chip (Hardware order) there h.all; value = word_event chip word order fits h.all there ∙ h.value; frames = h.frames });
+    moves = λ chip w ps s order free out h. let there = fills_there word (is_masked chip) w s (origins_in ps) order free in (outcome s tells_nothing, refl, record { all = all-step chip (Hardware order) there h.all; value = word_event chip word order fits h.all there ∙ h.value; frames = h.frames });
     resets = λ chip w ps s reason h. (outcome 0 tells_nothing, refl, record { all = all-step chip (WasReset reason) tt h.all; value = slice_index-blank word; frames = No_frame });
-    undisturbed = λ chip w ps s made received none h. record { all = all-step chip (Made made received) tt h.all; value = word_left chip word made received (none (Called Get)) ∙ h.value; frames = h.frames };
+    undisturbed = λ chip w ps s made received none out h. record { all = all-step chip (Made made received) tt h.all; value = word_left chip word made received (none (Called Get)) ∙ h.value; frames = h.frames };
     may_owns = λ origin made h. h;
     owns_plain = λ origin made h. names_plain word made h;
     owns_called = λ line made h. (Get, h);

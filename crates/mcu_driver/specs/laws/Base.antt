@@ -69,7 +69,7 @@ module _ (d : McuDriver) where
       own = λ below chip w s k o t h. or_true (is_shared (work k)) (p.own w s k o t h.1);
       turns = λ below chip w s k o t h. let x = takes k (value_of chip (work k)) in plain_turns 32 true true (fuel k) (fuel x.0) (work k) x.1.event x.1.done (named w s k o t h.1) (stays_closed (fuel k) (fuel x.0) x.1.event x.1.done (p.shortens k (value_of chip (work k))));
       steps = λ below chip w s k o y t m come few h. let v = value_of chip (work k) in let x = takes k v in plain_makes (mcu_basis d) (plain work takes fuel clean holds) below chip (chip_after chip (work k) y) w s o (clean k) v y t (missed_after (mcu_setting d).machine w s m) x.0 x.1.event x.1.done (work k) (named w s k o t h.1) (p.steps below chip w s k o y t (missed_after (mcu_setting d).machine w s m) h.0 h.1);
-      later = λ below chip w s order k o t come h. p.later w (world_after w chip.clock.rate order) s k o t (osc_later w chip.clock.rate order) h.1;
+      later = λ below chip w s order k o t come shut h. p.later w (world_after w chip.clock.rate order) s k o t (osc_later w chip.clock.rate order) h.1;
       calm = λ below chip w s k o t h e. p.calm k (value_of chip (work k)) e;
       shortens = p.shortens;
       cleans = p.cleans;

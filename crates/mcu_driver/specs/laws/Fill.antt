@@ -154,7 +154,7 @@ module _ (d : McuDriver) (fits : FitsMcu d) where
     own = λ below chip w s k o t h. refl;
     turns = λ below chip w s k o t h. turns k (value_of chip (filled_work k));
     steps = λ below chip w s k o y t m come few h. filled_steps below chip w s k o y t m h;
-    later = λ below chip w s order k o t come h. stays below w (world_after w chip.clock.rate order) s k o t h.1;
+    later = λ below chip w s order k o t come shut h. stays below w (world_after w chip.clock.rate order) s k o t h.1;
     calm = λ below chip w s k o t h e. (refl, refl);
     shortens = λ k x. omega arith;
     cleans = λ k x. tt;

@@ -265,7 +265,7 @@ module _ (d : PortDriver) where
     own = λ below chip w s k o t h. or_true (is_shared (done_work k)) (may_dry o (done_work k) (own k) (dry k));
     turns = λ below chip w s k o t h. turns k (value_of chip (done_work k));
     steps = λ below chip w s k o y t m come few h. done_steps below chip w s k o y t m h;
-    later = λ below chip w s order k o t come h. stays below w (world_after w chip.clock.rate order) s k o t h.1;
+    later = λ below chip w s order k o t come shut h. stays below w (world_after w chip.clock.rate order) s k o t h.1;
     calm = λ below chip w s k o t h e. calm k;
     shortens = λ k x. omega arith;
     cleans = λ k x. tt;

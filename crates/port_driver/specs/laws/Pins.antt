@@ -168,7 +168,7 @@ module _ (d : PortDriver) where
     own = λ below chip w s k o t h. or_true (is_shared (pin_work k)) (may_dry o (pin_work k) (own k h.1.2) (dry k));
     turns = λ below chip w s k o t h. turns k (value_of chip (pin_work k));
     steps = λ below chip w s k o y t m come few h. steps below chip w s k o y t m h;
-    later = λ below chip w s order k o t come h. h.1;
+    later = λ below chip w s order k o t come shut h. h.1;
     calm = λ below chip w s k o t h e. let c = calm k in (c.still, c.silent);
     shortens = λ k x. omega arith;
     cleans = λ k x. never_clean (pin_work k) k (pin_takes k x);

@@ -166,7 +166,7 @@ module _ (d : PortDriver) where
     own = λ below chip w s k o t h. or_true (is_shared (refresh_work k)) (may_dry o (refresh_work k) (own below chip w s k o t h) (dry k));
     turns = λ below chip w s k o t h. turns k (value_of chip (refresh_work k));
     steps = λ below chip w s k o y t m come few h. steps below chip w s k o y t m h;
-    later = λ below chip w s order k o t come h. stays below w (world_after w chip.clock.rate order) s k o t h.1;
+    later = λ below chip w s order k o t come shut h. stays below w (world_after w chip.clock.rate order) s k o t h.1;
     calm = λ below chip w s k o t h e. let c = calm k in (c.still, c.silent);
     shortens = shortens;
     cleans = λ k x. never_clean (refresh_work k) k (refresh_takes k x);

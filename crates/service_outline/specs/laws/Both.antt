@@ -1,6 +1,7 @@
 -- Long bodies of either of two kinds owe no more.
 use Rattle.std.specs.Prelude.{◌≡◌, ℕ, ◌<◌, Bool, true, false, ◌||◌, List, Option, Some, None}
-use Rattle.chip_model.specs.Chip.{Chip, value_of, chip_after, happened}
+use Rattle.chip_model.specs.Chip.{Chip, value_of, chip_after, happened, is_masked}
+use Rattle.mcal_base.specs.declared.answer.Answer.{Answer}
 use Rattle.mcal_base.specs.declared.directive.Order.{Order}
 use Rattle.mcal_base.specs.declared.moves.Event.{Event}
 use Rattle.mcal_base.specs.declared.moves.Move.{Move}
@@ -16,7 +17,7 @@ use Rattle.service_outline.specs.Both.{both}
 use Rattle.service_outline.specs.Acts.{Cleans}
 use Rattle.service_outline.specs.Fuel.{Shortens}
 use Rattle.service_outline.specs.Past.{Past, past_wrote, past_after}
-use Rattle.service_outline.specs.Services.{Held, Basis, place_at, LongBodies, Stand, AreLong, Continues, Works, Makes, Right, TurnsTo, MayCome, with_holds, holds_at}
+use Rattle.service_outline.specs.Services.{Held, Basis, place_at, LongBodies, Stand, AreEnding, AreLong, Continues, Works, Makes, RightOr, ended_at, TurnsTo, MayCome, is_closed, with_holds, holds_at}
 
 module _ {State Call A B : Type 0} (g : Basis State Call) (v : LongBodies g A) (u : LongBodies g B) (lift : A → B) (below : List (Held Call g.Hold))
     (at : (chip : Chip) (w : World) (s : State) (k : A) (o : Origin Call) (t : Past) → Stand g v below chip w s k o t → Stand g u below chip w s (lift k) o t) where
@@ -38,7 +39,7 @@ module _ {State Call A B : Type 0} (g : Basis State Call) (v : LongBodies g A) (
   makes_lift before chip w s o (Load r) p x y t m k e n h = works_lift before chip w s o (Load r) p x y t m k e n h
   makes_lift before chip w s o (Store r v) p x y t m k e n h = works_lift before chip w s o (Store r v) p x y t m k e n h
 
-module _ {State Call A B : Type 0} (g : Basis State Call) (v : LongBodies g A) (u : LongBodies g B) (p : AreLong g v) (q : AreLong g u) where
+module _ {State Call A B : Type 0} (g : Basis State Call) (v : LongBodies g A) (u : LongBodies g B) (ends_with : Or A B → Option Answer) (p : AreEnding g v (λ k. ends_with (First k))) (q : AreEnding g u (λ k. ends_with (Second k))) where
   own : (below : List (Held Call g.Hold)) (chip : Chip) (w : World) (s : State) (k : Or A B) (o : Origin Call) (t : Past) → Stand g (both v u) below chip w s k o t → is_shared ((both v u).work_of k) || g.setting.may o ((both v u).work_of k) ≡ true
   own below chip w s (First k) o t h = p.own below chip w s k o t h
   own below chip w s (Second k) o t h = q.own below chip w s k o t h
@@ -47,19 +48,27 @@ module _ {State Call A B : Type 0} (g : Basis State Call) (v : LongBodies g A) (
   turns below chip w s (First k) o t h = p.turns below chip w s k o t h
   turns below chip w s (Second k) o t h = q.turns below chip w s k o t h
 
-  steps : (below : List (Held Call g.Hold)) (chip : Chip) (w : World) (s : State) (k : Or A B) (o : Origin Call) (received : ℕ) (t : Past) (m : ℕ → Bool) → ReceivedRight chip w ((both v u).work_of k) received → g.count s < most_steps → Stand g (both v u) below chip w s k o t → Right g (both v u) below chip w s k o received t m
-  steps below chip w s (First k) o received t m come few h =
+  first_by : (below : List (Held Call g.Hold)) (chip : Chip) (w : World) (s : State) (k : A) (o : Origin Call) (received : ℕ) (t : Past) (m : ℕ → Bool) (a : Option Answer) → RightOr g v below chip w s k o received t m a → RightOr g (both v u) below chip w s (First k) o received t m a
+  first_by below chip w s k o received t m None h =
       let y = value_of chip (v.work_of k) in
       let x = v.takes k y in
-      makes_lift g v (both v u) (λ i. First i) below (λ chip w s k o t h. h) chip (chip_after chip (v.work_of k) received) w s o (v.work_of k) (v.clean k) y received t (missed_after g.setting.machine w s m) x.0 x.1.event x.1.done (p.steps below chip w s k o received t m come few h)
-  steps below chip w s (Second k) o received t m come few h =
+      makes_lift g v (both v u) (λ i. First i) below (λ chip w s k o t h. h) chip (chip_after chip (v.work_of k) received) w s o (v.work_of k) (v.clean k) y received t (missed_after g.setting.machine w s m) x.0 x.1.event x.1.done h
+  first_by below chip w s k o received t m (Some a) h = h
+
+  second_by : (below : List (Held Call g.Hold)) (chip : Chip) (w : World) (s : State) (k : B) (o : Origin Call) (received : ℕ) (t : Past) (m : ℕ → Bool) (a : Option Answer) → RightOr g u below chip w s k o received t m a → RightOr g (both v u) below chip w s (Second k) o received t m a
+  second_by below chip w s k o received t m None h =
       let y = value_of chip (u.work_of k) in
       let x = u.takes k y in
-      makes_lift g u (both v u) (λ i. Second i) below (λ chip w s k o t h. h) chip (chip_after chip (u.work_of k) received) w s o (u.work_of k) (u.clean k) y received t (missed_after g.setting.machine w s m) x.0 x.1.event x.1.done (q.steps below chip w s k o received t m come few h)
+      makes_lift g u (both v u) (λ i. Second i) below (λ chip w s k o t h. h) chip (chip_after chip (u.work_of k) received) w s o (u.work_of k) (u.clean k) y received t (missed_after g.setting.machine w s m) x.0 x.1.event x.1.done h
+  second_by below chip w s k o received t m (Some a) h = h
 
-  later : (below : List (Held Call g.Hold)) (chip : Chip) (w : World) (s : State) (order : Order) (k : Or A B) (o : Origin Call) (t : Past) → MayCome g.setting (with_holds o t.acted (holds_at ((both v u).spot k)) below) chip w s order → Stand g (both v u) below chip w s k o t → place_at ((both v u).spot k) below (g.foot (happened chip order)) (world_after w chip.clock.rate order) (g.later w s order) o t
-  later below chip w s order (First k) o t free h = p.later below chip w s order k o t free h
-  later below chip w s order (Second k) o t free h = q.later below chip w s order k o t free h
+  steps : (below : List (Held Call g.Hold)) (chip : Chip) (w : World) (s : State) (k : Or A B) (o : Origin Call) (received : ℕ) (t : Past) (m : ℕ → Bool) → ReceivedRight chip w ((both v u).work_of k) received → g.count s < most_steps → Stand g (both v u) below chip w s k o t → RightOr g (both v u) below chip w s k o received t m (ended_at (both v u) ends_with k (value_of chip ((both v u).work_of k)))
+  steps below chip w s (First k) o received t m come few h = first_by below chip w s k o received t m (ended_at v (λ i. ends_with (First i)) k (value_of chip (v.work_of k))) (p.steps below chip w s k o received t m come few h)
+  steps below chip w s (Second k) o received t m come few h = second_by below chip w s k o received t m (ended_at u (λ i. ends_with (Second i)) k (value_of chip (u.work_of k))) (q.steps below chip w s k o received t m come few h)
+
+  later : (below : List (Held Call g.Hold)) (chip : Chip) (w : World) (s : State) (order : Order) (k : Or A B) (o : Origin Call) (t : Past) → MayCome g.setting (with_holds o t.acted (holds_at ((both v u).spot k)) below) chip w s order → (is_masked chip ≡ false → is_closed ((both v u).spot k) ≡ false) → Stand g (both v u) below chip w s k o t → place_at ((both v u).spot k) below (g.foot (happened chip order)) (world_after w chip.clock.rate order) (g.later w s order) o t
+  later below chip w s order (First k) o t free shut h = p.later below chip w s order k o t free shut h
+  later below chip w s order (Second k) o t free shut h = q.later below chip w s order k o t free shut h
 
   calm : (below : List (Held Call g.Hold)) (chip : Chip) (w : World) (s : State) (k : Or A B) (o : Origin Call) (t : Past) → Stand g (both v u) below chip w s k o t → ((both v u).takes k (value_of chip ((both v u).work_of k))).1.event ≡ None → (resets_chip ((both v u).work_of k) ≡ false) × (begins_word ((both v u).work_of k) ≡ false)
   calm below chip w s (First k) o t h e = p.calm below chip w s k o t h e
@@ -73,5 +82,8 @@ module _ {State Call A B : Type 0} (g : Basis State Call) (v : LongBodies g A) (
   cleans (First k) x = p.cleans k x
   cleans (Second k) x = q.cleans k x
 
-  pub both_right : AreLong g (both v u)
-  both_right = record { own = own; turns = turns; steps = steps; later = later; calm = calm; shortens = shortens; cleans = cleans }
+  pub both_ending : AreEnding g (both v u) ends_with
+  both_ending = record { own = own; turns = turns; steps = steps; later = later; calm = calm; shortens = shortens; cleans = cleans }
+
+pub both_right : {State Call A B : Type 0} (g : Basis State Call) (v : LongBodies g A) (u : LongBodies g B) → AreLong g v → AreLong g u → AreLong g (both v u)
+both_right g v u p q = both_ending g v u (λ k. None) p q

@@ -22,15 +22,15 @@ use Rattle.service_outline.specs.declared.done.Owed.{Owed}
 use Rattle.service_outline.specs.declared.done.Owed.TheVariants.{Nothing, Error, One, Two}
 use Rattle.service_outline.specs.declared.short.Short.{Short}
 use Rattle.service_outline.specs.declared.short.Short.TheVariants.{Calling, Loading, Entering, Inside, Opening, Telling, Returning}
-use Rattle.service_outline.specs.Short.{short_move, short_left, short_gave, tells}
-use Rattle.service_outline.specs.Services.{Held, MayCome, Rates, Steady, Agreed, owners, IsLower, AllLower, IsLeveled, is_closed, holds_at, gap_at, place_at, Elsewhere, AllLet, mark_of, Services, AreServices, Waits, AllWait, IsTop, Relates, with_holds, holds_by, holds_in, services_driver, entering}
+use Rattle.service_outline.specs.Short.{short_move, short_left, ending_gave, tells}
+use Rattle.service_outline.specs.Services.{Held, MayCome, Rates, Steady, Agreed, owners, IsLower, AllLower, IsLeveled, is_closed, holds_at, gap_at, Elsewhere, AllLet, mark_of, Services, AreEndingServices, Waits, AllWait, IsTop, Relates, with_holds, holds_by, holds_in, services_driver, entering}
 use Rattle.service_outline.specs.laws.Steps.{KeepsAt, short_steps, settled_at, stays_at}
 
 entering_same : (Asked : Type 0) {Body : Type 0} (q : Option Body) → is_some (entering {Asked = Asked} q) ≡ is_some q
 entering_same Asked None = refl
 entering_same Asked (Some k) = refl
 
-module _ {State Call Asked Body : Type 0} (d : Services State Call Asked Body) (law : AreServices d) where
+module _ {State Call Asked Body : Type 0} (d : Services State Call Asked Body) {ends_with : Body → Option Answer} (law : AreEndingServices d ends_with) where
   -- with all outside
   wait_at : (held : List (Held Call d.basis.Hold)) (chip : Chip) (w : World) (s : State) (f : Short Asked Body) (o : Open Call) → o.inside ≡ false → IsTop d held chip w s f o → d.basis.agrees (holds_by d f o held) d.basis.settled chip w s × Waits d held f o
   wait_at held chip w s (Calling c) o e h = (h.0, h.1)
@@ -140,36 +140,37 @@ module _ {State Call Asked Body : Type 0} (d : Services State Call Asked Body) (
   comes : (chip : Chip) (w : World) (s : State) (order : Order) (f : Short Asked Body) (o : Open Call) (ps : List (Short Asked Body × Open Call)) (held : List (Held Call d.basis.Hold)) → IsFree d.basis.setting (is_masked chip) w s (origins_in ((f, o) ∷ ps)) order → holds_by d f o (holds_in d ps) ≡ held → MayCome d.basis.setting held chip w s order
   comes chip w s order f o ps held free is = record { frames = origins_in ((f, o) ∷ ps); free = free; among = λ p h. subst (λ x. list_any p (owners x) ≡ false) is (none_in p ((f, o) ∷ ps) h) }
 
-  top_later : (ps : List (Short Asked Body × Open Call)) (chip : Chip) (w : World) (s : State) (order : Order) (f : Short Asked Body) (o : Open Call) → IsFree d.basis.setting (is_masked chip) w s (origins_in ((f, o) ∷ ps)) order → IsTop d (holds_in d ps) chip w s f o → IsTop d (holds_in d ps) (happened chip order) (world_after w chip.clock.rate order) (d.basis.later w s order) f o
-  top_later ps chip w s order (Inside k) o free h =
+  top_later : (ps : List (Short Asked Body × Open Call)) (chip : Chip) (w : World) (s : State) (order : Order) (f : Short Asked Body) (o : Open Call) → IsFree d.basis.setting (is_masked chip) w s (origins_in ((f, o) ∷ ps)) order → (is_masked chip ≡ false → o.inside ≡ false) → IsTop d (holds_in d ps) chip w s f o → IsTop d (holds_in d ps) (happened chip order) (world_after w chip.clock.rate order) (d.basis.later w s order) f o
+  top_later ps chip w s order (Inside k) o free shut h =
       let held = holds_in d ps in
+      let opened = λ (e : is_masked chip ≡ false). sym (ap (λ x. x.inside) h.form) ∙ shut e in
       let come = comes chip w s order (Inside k) o ps (with_holds o.origin h.past.acted (holds_at (d.bodies.spot k)) held) free (ap (λ x. with_holds o.origin x.acted (holds_at (d.bodies.spot k)) held) h.form) in
       record {
         past = h.past;
         form = h.form;
         behaves = h.behaves;
-        at = (law.basis.agrees_later (with_holds o.origin h.past.acted (holds_at (d.bodies.spot k)) held) (gap_at (d.bodies.spot k)) chip w s order come h.at.0, law.bodies.later held chip w s order k o.origin h.past come h.at);
+        at = (law.basis.agrees_later (with_holds o.origin h.past.acted (holds_at (d.bodies.spot k)) held) (gap_at (d.bodies.spot k)) chip w s order come (λ e. settled_at (d.bodies.spot k) (opened e)) h.at.0, law.bodies.later held chip w s order k o.origin h.past come opened h.at);
       }
-  top_later ps chip w s order (Calling c) o free h = (law.basis.agrees_later (holds_in d ps) d.basis.settled chip w s order (comes chip w s order (Calling c) o ps _ free refl) h.0, h.1)
-  top_later ps chip w s order (Loading c) o free h = (law.basis.agrees_later (holds_in d ps) d.basis.settled chip w s order (comes chip w s order (Loading c) o ps _ free refl) h.0, h.1)
-  top_later ps chip w s order (Entering c) o free h = (law.basis.agrees_later (holds_in d ps) d.basis.settled chip w s order (comes chip w s order (Entering c) o ps _ free refl) h.0, h.1)
-  top_later ps chip w s order (Opening c) o free h = (law.basis.agrees_later (holds_in d ps) d.basis.settled chip w s order (comes chip w s order (Opening c) o ps _ free refl) h.0, h.1)
-  top_later ps chip w s order (Telling c) o free h = (law.basis.agrees_later (holds_in d ps) d.basis.settled chip w s order (comes chip w s order (Telling c) o ps _ free refl) h.0, h.1)
-  top_later ps chip w s order (Returning c) o free h = (law.basis.agrees_later (holds_in d ps) d.basis.settled chip w s order (comes chip w s order (Returning c) o ps _ free refl) h.0, h.1)
+  top_later ps chip w s order (Calling c) o free shut h = (law.basis.agrees_later (holds_in d ps) d.basis.settled chip w s order (comes chip w s order (Calling c) o ps _ free refl) (λ e. refl) h.0, h.1)
+  top_later ps chip w s order (Loading c) o free shut h = (law.basis.agrees_later (holds_in d ps) d.basis.settled chip w s order (comes chip w s order (Loading c) o ps _ free refl) (λ e. refl) h.0, h.1)
+  top_later ps chip w s order (Entering c) o free shut h = (law.basis.agrees_later (holds_in d ps) d.basis.settled chip w s order (comes chip w s order (Entering c) o ps _ free refl) (λ e. refl) h.0, h.1)
+  top_later ps chip w s order (Opening c) o free shut h = (law.basis.agrees_later (holds_in d ps) d.basis.settled chip w s order (comes chip w s order (Opening c) o ps _ free refl) (λ e. refl) h.0, h.1)
+  top_later ps chip w s order (Telling c) o free shut h = (law.basis.agrees_later (holds_in d ps) d.basis.settled chip w s order (comes chip w s order (Telling c) o ps _ free refl) (λ e. refl) h.0, h.1)
+  top_later ps chip w s order (Returning c) o free shut h = (law.basis.agrees_later (holds_in d ps) d.basis.settled chip w s order (comes chip w s order (Returning c) o ps _ free refl) (λ e. refl) h.0, h.1)
 
   rests_free : (chip : Chip) (w : World) (s : State) (order : Order) → IsFree d.basis.setting (is_masked chip) w s [] order → MayCome {Hold = d.basis.Hold} d.basis.setting [] chip w s order
   rests_free chip w s order free = record { frames = []; free = free; among = λ p h. nothing_among p }
 
-  all_later : (chip : Chip) (w : World) (ps : List (Short Asked Body × Open Call)) (s : State) (order : Order) → IsFree d.basis.setting (is_masked chip) w s (origins_in ps) order → Relates d chip w ps s → Relates d (happened chip order) (world_after w chip.clock.rate order) ps (d.basis.later w s order)
-  all_later chip w [] s order free h = law.basis.agrees_later [] d.basis.settled chip w s order (rests_free chip w s order free) h
-  all_later chip w (p ∷ ps) s order free h = (top_later ps chip w s order p.0 p.1 free h.0, h.1, h.2)
+  all_later : (chip : Chip) (w : World) (ps : List (Short Asked Body × Open Call)) (s : State) (order : Order) → IsFree d.basis.setting (is_masked chip) w s (origins_in ps) order → (is_masked chip ≡ false → AllOutside ps) → Relates d chip w ps s → Relates d (happened chip order) (world_after w chip.clock.rate order) ps (d.basis.later w s order)
+  all_later chip w [] s order free out h = law.basis.agrees_later [] d.basis.settled chip w s order (rests_free chip w s order free) (λ e. refl) h
+  all_later chip w (p ∷ ps) s order free out h = (top_later ps chip w s order p.0 p.1 free (λ e. (out e).0) h.0, h.1, h.2)
 
   moved : (chip : Chip) (w : World) (ps : List (Short Asked Body × Open Call)) (s : State) (order : Order) → IsFree d.basis.setting (is_masked chip) w s (origins_in ps) order → d.basis.setting.machine.happens w s (Moves order) ≡ Some (outcome (d.basis.later w s order) tells_nothing)
   moved chip w [] s order free = law.basis.moves [] chip w s order (rests_free chip w s order free)
   moved chip w (p ∷ ps) s order free = law.basis.moves (holds_in d (p ∷ ps)) chip w s order (comes chip w s order p.0 p.1 ps _ free refl)
 
-  moves : (chip : Chip) (w : World) (ps : List (Short Asked Body × Open Call)) (s : State) (order : Order) → IsFree d.basis.setting (is_masked chip) w s (origins_in ps) order → Relates d chip w ps s → (out : Outcome State) × (d.basis.setting.machine.happens w s (Moves order) ≡ Some out) × Relates d (happened chip order) (world_after w chip.clock.rate order) ps out.state
-  moves chip w ps s order free h = (outcome (d.basis.later w s order) tells_nothing, moved chip w ps s order free, all_later chip w ps s order free h)
+  moves : (chip : Chip) (w : World) (ps : List (Short Asked Body × Open Call)) (s : State) (order : Order) → IsFree d.basis.setting (is_masked chip) w s (origins_in ps) order → (is_masked chip ≡ false → AllOutside ps) → Relates d chip w ps s → (out : Outcome State) × (d.basis.setting.machine.happens w s (Moves order) ≡ Some out) × Relates d (happened chip order) (world_after w chip.clock.rate order) ps out.state
+  moves chip w ps s order free out h = (outcome (d.basis.later w s order) tells_nothing, moved chip w ps s order free, all_later chip w ps s order free out h)
 
   -- a reset
   resets_top : (held : List (Held Call d.basis.Hold)) (chip : Chip) (w : World) (s : State) (reason : Reason) (f : Short Asked Body) (o : Open Call) → IsTop d held chip w s f o → (out : Outcome State) × (d.basis.setting.machine.happens w s (Restarts reason) ≡ Some out) × d.basis.agrees [] d.basis.settled (reset_chip chip reason) w out.state
@@ -186,18 +187,30 @@ module _ {State Call Asked Body : Type 0} (d : Services State Call Asked Body) (
   resets chip w (p ∷ ps) s reason h = resets_top (holds_in d ps) chip w s reason p.0 p.1 h.0
 
   -- a move elsewhere
-  top_apart : (held : List (Held Call d.basis.Hold)) (chip : Chip) (w : World) (s : State) (made : Move) (received : ℕ) → Elsewhere d.basis made → (f : Short Asked Body) (o : Open Call) → IsTop d held chip w s f o → IsTop d held (chip_after chip made received) w s f o
-  top_apart held chip w s made received e (Calling c) o h = (law.basis.agrees_apart held d.basis.settled chip w s made received e h.0, h.1)
-  top_apart held chip w s made received e (Loading c) o h = (law.basis.agrees_apart held d.basis.settled chip w s made received e h.0, h.1)
-  top_apart held chip w s made received e (Entering k) o h = (law.basis.agrees_apart held d.basis.settled chip w s made received e h.0, h.1)
-  top_apart held chip w s made received e (Inside k) o h = record { past = h.past; form = h.form; behaves = h.behaves; at = (law.basis.agrees_apart (with_holds o.origin h.past.acted (holds_at (d.bodies.spot k)) held) (gap_at (d.bodies.spot k)) chip w s made received e h.at.0, subst (λ x. place_at (d.bodies.spot k) held x w s o.origin h.past) (sym (law.basis.foot_apart chip made received e)) h.at.1) }
-  top_apart held chip w s made received e (Opening n) o h = (law.basis.agrees_apart held d.basis.settled chip w s made received e h.0, h.1)
-  top_apart held chip w s made received e (Telling n) o h = (law.basis.agrees_apart held d.basis.settled chip w s made received e h.0, h.1)
-  top_apart held chip w s made received e (Returning a) o h = (law.basis.agrees_apart held d.basis.settled chip w s made received e h.0, h.1)
+  top_apart : (held : List (Held Call d.basis.Hold)) (chip : Chip) (w : World) (s : State) (made : Move) (received : ℕ) → Elsewhere d.basis made → (f : Short Asked Body) (o : Open Call) → o.inside ≡ false → IsTop d held chip w s f o → IsTop d held (chip_after chip made received) w s f o
+  top_apart held chip w s made received e (Calling c) o out h = (law.basis.agrees_apart held chip w s made received e h.0, h.1)
+  top_apart held chip w s made received e (Loading c) o out h = (law.basis.agrees_apart held chip w s made received e h.0, h.1)
+  top_apart held chip w s made received e (Entering k) o out h = (law.basis.agrees_apart held chip w s made received e h.0, h.1)
+  top_apart held chip w s made received e (Inside k) o out h =
+      let outside : is_closed (d.bodies.spot k) ≡ false = sym (ap (λ x. x.inside) h.form) ∙ out in
+      let settled = sym (settled_at (d.bodies.spot k) outside) in
+      let all = with_holds o.origin h.past.acted (holds_at (d.bodies.spot k)) held in
+      record {
+        past = h.past;
+        form = h.form;
+        behaves = h.behaves;
+        at = (
+          subst (λ x. d.basis.agrees all x (chip_after chip made received) w s) settled (law.basis.agrees_apart all chip w s made received e (subst (λ x. d.basis.agrees all x chip w s) (sym settled) h.at.0)),
+          stays_at (d.bodies.spot k) held (d.basis.foot chip) (d.basis.foot (chip_after chip made received)) w w s s o.origin h.past outside h.at.1,
+        );
+      }
+  top_apart held chip w s made received e (Opening n) o out h = (law.basis.agrees_apart held chip w s made received e h.0, h.1)
+  top_apart held chip w s made received e (Telling n) o out h = (law.basis.agrees_apart held chip w s made received e h.0, h.1)
+  top_apart held chip w s made received e (Returning a) o out h = (law.basis.agrees_apart held chip w s made received e h.0, h.1)
 
-  undisturbed : (chip : Chip) (w : World) (ps : List (Short Asked Body × Open Call)) (s : State) (made : Move) (received : ℕ) → Elsewhere d.basis made → Relates d chip w ps s → Relates d (chip_after chip made received) w ps s
-  undisturbed chip w [] s made received e h = law.basis.agrees_apart [] d.basis.settled chip w s made received e h
-  undisturbed chip w (p ∷ ps) s made received e h = (top_apart (holds_in d ps) chip w s made received e p.0 p.1 h.0, h.1, h.2)
+  undisturbed : (chip : Chip) (w : World) (ps : List (Short Asked Body × Open Call)) (s : State) (made : Move) (received : ℕ) → Elsewhere d.basis made → AllOutside ps → Relates d chip w ps s → Relates d (chip_after chip made received) w ps s
+  undisturbed chip w [] s made received e out h = law.basis.agrees_apart [] chip w s made received e h
+  undisturbed chip w (p ∷ ps) s made received e out h = (top_apart (holds_in d ps) chip w s made received e p.0 p.1 out.0 h.0, h.1, h.2)
 
   -- the moves are there
   can_apply : (origin : Origin Call) (made : Move) → is_shared made || d.basis.setting.may origin made ≡ true → CanApply made
@@ -264,8 +277,8 @@ module _ {State Call Asked Body : Type 0} (d : Services State Call Asked Body) (
   agreed_all p chip w [] s h = p [] d.basis.settled chip w s h
   agreed_all p chip w (q ∷ ps) s h = agreed_top p (holds_in d ps) chip w s q.0 q.1 h.0
 
-  rate_by : Rates d.basis → (chip : Chip) (w : World) (received : ℕ) (f : Short Asked Body) (o : Open Call) (ps : List (Short Asked Body × Open Call)) (s : State) → KeepsAt d chip w received f o ps s → chip.clock.rate ≡ d.basis.setting.machine.rate s → let made = short_move d.word d.bodies.work_of f in (chip_after chip made received).clock.rate ≡ d.basis.setting.machine.rate (state_after d.basis.setting.machine w s o made received (short_gave d.looked d.bodies.takes f (value_of chip made)).event)
-  rate_by (Steady p q) chip w received f o ps s h e = let made = short_move d.word d.bodies.work_of f in steady_move p chip o.origin made received h.own ∙ (e ∙ sym (steady_state q w s (happening_at o.origin (brought_by w o.committed made received) (short_gave d.looked d.bodies.takes f (value_of chip made)).event)))
+  rate_by : Rates d.basis → (chip : Chip) (w : World) (received : ℕ) (f : Short Asked Body) (o : Open Call) (ps : List (Short Asked Body × Open Call)) (s : State) → KeepsAt d ends_with chip w received f o ps s → chip.clock.rate ≡ d.basis.setting.machine.rate s → let made = short_move d.word d.bodies.work_of f in (chip_after chip made received).clock.rate ≡ d.basis.setting.machine.rate (state_after d.basis.setting.machine w s o made received (ending_gave d.looked d.bodies.takes ends_with f (value_of chip made)).event)
+  rate_by (Steady p q) chip w received f o ps s h e = let made = short_move d.word d.bodies.work_of f in steady_move p chip o.origin made received h.own ∙ (e ∙ sym (steady_state q w s (happening_at o.origin (brought_by w o.committed made received) (ending_gave d.looked d.bodies.takes ends_with f (value_of chip made)).event)))
   rate_by (Agreed p) chip w received f o ps s h e = agreed_all p _ w _ _ h.kept
 
   -- the bounds of steps
@@ -278,7 +291,7 @@ module _ {State Call Asked Body : Type 0} (d : Services State Call Asked Body) (
       let agrees = (all_wait chip w ps s out h).0 in
       law.basis.pends (holds_in d ps) chip w s line (law.basis.used_lines line (law.basis.due_used (holds_in d ps) chip w s line agrees e)) agrees e
 
-  pub services_lawful : IsLawful (services_driver d) (short_move d.word d.bodies.work_of) (short_left d.looked d.bodies.takes) (short_gave d.looked d.bodies.takes)
+  pub services_lawful : IsLawful (services_driver d) (short_move d.word d.bodies.work_of) (short_left d.looked d.bodies.takes) (ending_gave d.looked d.bodies.takes ends_with)
   services_lawful = record {
     starts = law.basis.starts;
     begins = λ chip w ps s c level can unmasked out enter above h. begins chip w ps s c level can out enter h;

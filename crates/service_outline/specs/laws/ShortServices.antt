@@ -149,7 +149,7 @@ module _ {State Call Body : Type 0} (g : Basis State Call) (law : IsBasis g) (b 
     own = λ below chip w s k o t h. or_true (is_shared (b.work_of k)) ((p below).own chip w s k o h.1.told (h.0, h.1.at));
     turns = turns;
     steps = steps;
-    later = λ below chip w s order k o t come h. record { told = h.1.told; is = h.1.is; at = (p below).later chip w s order k o h.1.told (record { frames = come.frames; free = come.free }) (h.0, h.1.at) };
+    later = λ below chip w s order k o t come shut h. record { told = h.1.told; is = h.1.is; at = (p below).later chip w s order k o h.1.told (record { frames = come.frames; free = come.free }) (h.0, h.1.at) };
     calm = λ below chip w s k o t h e. let quiet = calm below chip w s k o h.1.told (h.0, h.1.at) in (quiet.still, quiet.silent);
     shortens = λ k x. (p []).shortens k x;
     cleans = λ k x. (p []).cleans k x;
@@ -167,9 +167,8 @@ unheld_right g law = record {
   starts = law.starts;
   moves = λ held chip w s order come. law.moves w s order;
   resets = λ held. law.resets;
-  agrees_later = λ held gap chip w s order come. law.agrees_later gap chip w s order (record { frames = come.frames; free = come.free });
-  agrees_apart = λ held. law.agrees_apart;
-  foot_apart = law.foot_apart;
+  agrees_later = λ held gap chip w s order come shut. law.agrees_later gap chip w s order (record { frames = come.frames; free = come.free });
+  agrees_apart = λ held. law.agrees_apart g.settled;
   may_owns = law.may_owns;
   owns_plain = law.owns_plain;
   may_there = law.may_there;

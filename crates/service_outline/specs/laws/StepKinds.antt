@@ -273,9 +273,9 @@ module _ {State Call Frame : Type 0} (d : Driver State Call Frame) (chip : Chip)
   unmask_step r (Entered l) acted served owed report value fuel room leaves k = record { event = tt; sends = tt; halves = leaves.0; errors = leaves.1; shows = tt; stays = λ e. refl; move = refl; ends = tt; own = refl; reset = refl; fuel = fuel; room = room; kept = k }
 
   -- the mask is opened, and the frame ends
-  pub leave_step : (r : Open Call) (origin : Origin Call) (acted : Option Answer) (served : List ℕ) (value : ℕ) (a : Answer) → MayEnd origin (form r origin acted served [] None true) a → 1 ≤ d.fuel f → 1 ≤ d.room f → LeavesRight d.setting origin (reads_after r.reads Unmask) (r.wrote || is_write Unmask) r.acted_at → Kept s (form (rest_after d.setting.machine w s (form r origin acted served [] None true) Unmask) origin acted served [] None false) → Keeps (form r origin acted served [] None true) Unmask value (ends a)
-  leave_step r (Called c) acted served value a m fuel room leaves k = record { event = tt; sends = tt; halves = leaves.0; errors = leaves.1; shows = tt; stays = λ e. absurd (cc); move = refl; ends = (may_more d.setting.machine w s (form r (Called c) acted served [] None true) Unmask (Called c) a m, refl, refl, refl, refl); own = refl; reset = refl; fuel = fuel; room = room; kept = k }
-  leave_step r (Entered l) acted served value a m fuel room leaves k = record { event = tt; sends = tt; halves = leaves.0; errors = leaves.1; shows = tt; stays = λ e. absurd (cc); move = refl; ends = (may_more d.setting.machine w s (form r (Entered l) acted served [] None true) Unmask (Entered l) a m, refl, refl, refl, refl); own = refl; reset = refl; fuel = fuel; room = room; kept = k }
+  pub leave_step : (r : Open Call) (origin : Origin Call) (acted : Option Answer) (served : List ℕ) (value : ℕ) (a : Answer) → MayEnd origin (rest_after d.setting.machine w s (form r origin acted served [] None true) Unmask) a → 1 ≤ d.fuel f → 1 ≤ d.room f → LeavesRight d.setting origin (reads_after r.reads Unmask) (r.wrote || is_write Unmask) r.acted_at → Kept s (form (rest_after d.setting.machine w s (form r origin acted served [] None true) Unmask) origin acted served [] None false) → Keeps (form r origin acted served [] None true) Unmask value (ends a)
+  leave_step r (Called c) acted served value a m fuel room leaves k = record { event = tt; sends = tt; halves = leaves.0; errors = leaves.1; shows = tt; stays = λ e. absurd (cc); move = refl; ends = (m, refl, refl, refl, refl); own = refl; reset = refl; fuel = fuel; room = room; kept = k }
+  leave_step r (Entered l) acted served value a m fuel room leaves k = record { event = tt; sends = tt; halves = leaves.0; errors = leaves.1; shows = tt; stays = λ e. absurd (cc); move = refl; ends = (m, refl, refl, refl, refl); own = refl; reset = refl; fuel = fuel; room = room; kept = k }
 
   -- a report, the last step of its frame
   pub report_step : (r : Open Call) (origin : Origin Call) (acted : Option Answer) (served : List ℕ) (value : ℕ) (a : Answer) (e : DevError) → MayEnd origin (form r origin acted served [] (Some e) false) a → 1 ≤ d.fuel f → LeavesRight d.setting origin (reads_after r.reads (Report e)) (r.wrote || is_write (Report e)) r.acted_at → Kept s (form (rest_after d.setting.machine w s (form r origin acted served [] (Some e) false) (Report e)) origin acted served [] None false) → Keeps (form r origin acted served [] (Some e) false) (Report e) value (ends a)

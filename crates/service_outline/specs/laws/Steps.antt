@@ -21,22 +21,22 @@ use Rattle.service_outline.specs.declared.body.Looked.{Looked}
 use Rattle.service_outline.specs.declared.body.Looked.TheVariants.{Refused, Goes}
 use Rattle.service_outline.specs.declared.short.Short.{Short}
 use Rattle.service_outline.specs.declared.short.Short.TheVariants.{Calling, Loading, Entering, Inside, Opening, Telling, Returning}
-use Rattle.service_outline.specs.Short.{short_move, short_left, short_gave, tells, goes, does, left_look, gave_look, left_body, left_open, gave_open, left_told, gave_told}
+use Rattle.service_outline.specs.Short.{short_move, short_left, ending_gave, gave_body, tells, goes, does, left_look, gave_look, left_body, left_open, gave_open, left_told, gave_told}
 use Rattle.service_outline.specs.Fuel.{short_fuel, ShortensTo}
 use Rattle.service_outline.specs.laws.Fuel.{look_fuel, look_room, body_fuel, body_room}
-use Rattle.service_outline.specs.Outline.{notices_in, error_in, form}
-use Rattle.service_outline.specs.Past.{Past, nothing_yet, with_past, having, past_wrote, past_after}
-use Rattle.service_outline.specs.Services.{Held, Basis, AreShown, MayStop, Spot, Within, Outside, is_closed, holds_at, gap_at, place_at, Elsewhere, Services, AreServices, IsDone, IsOver, Waits, AllWait, IsTop, Relates, Decides, Continues, Works, Notes, Makes, KeepsMask, TurnsMask, with_holds, holds_by, holds_in, services_driver}
+use Rattle.service_outline.specs.Outline.{notices_in, error_in, owes_nothing, form}
+use Rattle.service_outline.specs.Past.{Past, nothing_yet, with_past, having, past_wrote, past_after, MayAnswer}
+use Rattle.service_outline.specs.Services.{Held, Basis, AreShown, MayStop, Spot, Within, Outside, Stand, is_closed, holds_at, gap_at, place_at, Elsewhere, Services, AreEndingServices, RightOr, ended_at, IsDone, IsOver, Waits, AllWait, IsTop, Relates, Decides, Continues, Works, Notes, Makes, KeepsMask, TurnsMask, with_holds, holds_by, holds_in, services_driver}
 use Rattle.service_outline.specs.Acts.{KeepsClean, ActsRight, IsFresh, Behaves, LeavesRight}
 use Rattle.service_outline.specs.laws.Acts.{sound_leaves, leaves_on, fresh_leaves, fresh_on, fresh_behaves, goes_behaves, goes_sound, ends_leaves, refused_leaves}
 use Rattle.service_outline.specs.laws.StepKinds.{acted_then, rest_acted, Keeps, rest_after, plain_step, last_step, mask_step, unmask_step, leave_step, report_step, note_step, event_step, form_is, may_more}
 
 -- what the law says of a step
-abbrev pub KeepsAt : {State Call Asked Body : Type 0} → Services State Call Asked Body → Chip → World → (received : ℕ) → Short Asked Body → Open Call → List (Short Asked Body × Open Call) → State → Type 0
-KeepsAt d chip w received f o ps s =
+abbrev pub KeepsAt : {State Call Asked Body : Type 0} → Services State Call Asked Body → (Body → Option Answer) → Chip → World → (received : ℕ) → Short Asked Body → Open Call → List (Short Asked Body × Open Call) → State → Type 0
+KeepsAt d ends_with chip w received f o ps s =
     let made = short_move d.word d.bodies.work_of f in
     let value = value_of chip made in
-    let taken = short_gave d.looked d.bodies.takes f value in
+    let taken = ending_gave d.looked d.bodies.takes ends_with f value in
     KeepsStep (services_driver d) (record { chip = chip; world = w; state = s; opens = []; steps = 0 }) f o (short_left d.looked d.bodies.takes f value) (stepped made value received taken) (λ s1 o1. Relates d (chip_after chip made received) w (top_after (short_left d.looked d.bodies.takes f value, o1) taken.ended ps) s1)
 
 -- how the mask stands after a step of a body: as the next place has it, or closed, where it is done
@@ -61,7 +61,7 @@ pub stays_at : {State Call : Type 0} {g : Basis State Call} (x : Spot g) (below 
 stays_at (Within gap hs place) below f f1 w w1 s s1 origin past e h = absurd (cc)
 stays_at (Outside hs place) below f f1 w w1 s s1 origin past e h = h
 
-module _ {State Call Asked Body : Type 0} (d : Services State Call Asked Body) (law : AreServices d) where
+module _ {State Call Asked Body : Type 0} (d : Services State Call Asked Body) {ends_with : Body → Option Answer} (law : AreEndingServices d ends_with) where
   top_of_waits : (held : List (Held Call d.basis.Hold)) (chip : Chip) (w : World) (s : State) (f : Short Asked Body) (o : Open Call) → d.basis.agrees (holds_by d f o held) d.basis.settled chip w s → Waits d held f o → IsTop d held chip w s f o
   top_of_waits held chip w s (Calling c) o a h = (a, h)
   top_of_waits held chip w s (Loading c) o a h = absurd h
@@ -82,7 +82,7 @@ module _ {State Call Asked Body : Type 0} (d : Services State Call Asked Body) (
   below chip w s (p ∷ ps) a h = (top_of_waits (holds_in d ps) chip w s p.0 p.1 a h.0, h.1, h.2)
 
 -- a step of each kind, over frames that wait
-module _ {State Call Asked Body : Type 0} (d : Services State Call Asked Body) (law : AreServices d) (ps : List (Short Asked Body × Open Call)) (waits : AllWait d ps) (s : State) (w : World) (r : Open Call) (received : ℕ) where
+module _ {State Call Asked Body : Type 0} (d : Services State Call Asked Body) {ends_with : Body → Option Answer} (law : AreEndingServices d ends_with) (ps : List (Short Asked Body × Open Call)) (waits : AllWait d ps) (s : State) (w : World) (r : Open Call) (received : ℕ) where
   -- a frame that may end so is done
   stop_by : (rest : Open Call) (origin : Origin Call) (p : Past) (n : Done) → MayStop d.basis origin p rest.missed n → LeavesRight d.basis.setting origin rest.reads rest.wrote rest.acted_at → IsDone d.basis (having rest origin p true) n true
   stop_by rest (Called c) p n h leaves = record { may = h.may; served = h.served; owed = h.owed; shown = h.shown; report = h.report; leaves = leaves; inside = refl }
@@ -182,12 +182,25 @@ module _ {State Call Asked Body : Type 0} (d : Services State Call Asked Body) (
   body_by chip chip1 x origin past was (Load n) k k1 e left is over before cleans own calm fuel m h = works_by chip chip1 x origin past was (Load n) k k1 e left over before cleans refl calm own fuel m h
   body_by chip chip1 x origin past was (Store n v) k k1 e left is over before cleans own calm fuel m h = works_by chip chip1 x origin past was (Store n v) k k1 e left over before cleans refl calm own fuel m h
 
+  -- a body ends its frame itself, at the opening of the mask
+  stopped : (rest : Open Call) (origin : Origin Call) (past : Past) (owed : List Owing) (report : Option DevError) (inside : Bool) (a : Answer) → MayAnswer origin past (missed_after d.basis.setting.machine w s rest.missed) a → MayEnd origin (rest_after d.basis.setting.machine w s (form (with_past rest past) origin past.acted past.served owed report inside) Unmask) a
+  stopped rest (Called c) past owed report inside a h = h
+  stopped rest (Entered l) past owed report inside a h = h
+
+  leaves_by : (chip chip1 : Chip) (x : ℕ) (origin : Origin Call) (past : Past) (k : Body) (later : Short Asked Body) (owed : List Owing) (report : Option DevError) (a : Answer) → owed ≡ [] → report ≡ None → MayAnswer origin past missed_then a → Before origin past true k → d.basis.agrees (holds_in d ps) d.basis.settled chip1 w s → Keeps (services_driver d) chip w s received (Inside k) later (λ s1 o1. Relates d chip1 w ps s1) (form (with_past r past) origin past.acted past.served owed report true) Unmask x (gave_body None (Some a))
+  leaves_by chip chip1 x origin past k later owed report a e f may before agrees = subst (λ y. Keeps (services_driver d) chip w s received (Inside k) later (λ s1 o1. Relates d chip1 w ps s1) (form (with_past r past) origin past.acted past.served y report true) Unmask x (gave_body None (Some a))) (sym e) (subst (λ y. Keeps (services_driver d) chip w s received (Inside k) later (λ s1 o1. Relates d chip1 w ps s1) (form (with_past r past) origin past.acted past.served [] y true) Unmask x (gave_body None (Some a))) (sym f) (leave_step (services_driver d) chip w s received (Inside k) later _ (with_past r past) origin past.acted past.served x a (stopped r origin past [] None true a may) (omega arith) (omega arith) (leaves_plain origin past true k Unmask before) (below d law chip1 w s ps agrees waits)))
+
+  ends_by : (chip chip1 : Chip) (x : ℕ) (origin : Origin Call) (past : Past) (was : Bool) (k k1 : Body) (e : Option Event) (left : Option Done) (a : Answer) → Before origin past was k → (was ≡ true) × (is_closed (d.bodies.spot k1) ≡ false) × (e ≡ None) × (left ≡ None) → d.basis.agrees (holds_in d ps) d.basis.settled chip1 w s → MayStop d.basis origin past missed_then (owes_nothing a) → Keeps (services_driver d) chip w s received (Inside k) (left_body k1 left) (λ s1 o1. Relates d chip1 w ps s1) (having r origin past was) Unmask x (gave_body e (Some a))
+  ends_by chip chip1 x origin past false k k1 e left a before m agrees h = let i = m.0 in absurd (cc)
+  ends_by chip chip1 x origin past true k k1 (Some e) left a before m agrees h = let i = m.2 in absurd (cc)
+  ends_by chip chip1 x origin past true k k1 None left a before m agrees h = leaves_by chip chip1 x origin past k (left_body k1 left) past.owed past.report a h.owed h.report h.may before agrees
+
   more_done : (origin : Origin Call) (acted : Option Answer) (served : List ℕ) (owed owed1 : List Owing) (report report1 : Option DevError) (inside inside1 : Bool) (made : Move) (a : Answer) → MayEnd origin (form r origin acted served owed report inside) a → MayEnd origin (form (rest_after d.basis.setting.machine w s (form r origin acted served owed report inside) made) origin acted served owed1 report1 inside1) a
   more_done (Called c) acted served owed owed1 report report1 inside inside1 made a m = may_more d.basis.setting.machine w s (form r (Called c) acted served owed report inside) made (Called c) a m
   more_done (Entered l) acted served owed owed1 report report1 inside inside1 made a m = may_more d.basis.setting.machine w s (form r (Entered l) acted served owed report inside) made (Entered l) a m
 
   open_by : (chip chip1 : Chip) (x : ℕ) (origin : Origin Call) (a : Answer) (owed : Owed) (by : Bool) (acted : Option Answer) (served : List ℕ) → IsOver d origin r.tag (holds_in d ps) → LeavesRight d.basis.setting origin r.reads r.wrote r.acted_at → MayEnd origin (form r origin acted served (owing by (notices_in owed)) (error_in owed) true) a → (by ≡ true → AreShown d.basis origin (notices_in owed)) → d.basis.agrees (holds_in d ps) d.basis.settled chip1 w s → Keeps (services_driver d) chip w s received (Opening (record { answer = a; owed = owed })) (left_open a owed) (λ s1 o1. Relates d chip1 w (top_after (left_open a owed, o1) (gave_open a owed).ended ps) s1) (form r origin acted served (owing by (notices_in owed)) (error_in owed) true) Unmask x (gave_open a owed)
-  open_by chip chip1 x origin a Nothing by acted served over leaves m shown agrees = leave_step (services_driver d) chip w s received _ _ _ r origin acted served x a m (omega arith) (omega arith) (leaves_on d.basis.setting origin r.reads r.wrote r.acted_at leaves) (below d law chip1 w s ps agrees waits)
+  open_by chip chip1 x origin a Nothing by acted served over leaves m shown agrees = leave_step (services_driver d) chip w s received _ _ _ r origin acted served x a (may_more d.basis.setting.machine w s (form r origin acted served [] None true) Unmask origin a m) (omega arith) (omega arith) (leaves_on d.basis.setting origin r.reads r.wrote r.acted_at leaves) (below d law chip1 w s ps agrees waits)
   open_by chip chip1 x origin a (Error e) by acted served over leaves m shown agrees = unmask_step (services_driver d) chip w s received _ _ _ r origin acted served [] (Some e) x (omega arith) (omega arith) (leaves_on d.basis.setting origin r.reads r.wrote r.acted_at leaves) ((agrees, record { may = more_done origin acted served [] [] (Some e) (Some e) true false Unmask a m; served = by; owed = refl; shown = shown; report = refl; leaves = leaves_on d.basis.setting origin r.reads r.wrote r.acted_at leaves; inside = refl }), over, waits)
   open_by chip chip1 x origin a (One k) by acted served over leaves m shown agrees = unmask_step (services_driver d) chip w s received _ _ _ r origin acted served (owing by (k ∷ [])) None x (omega arith) (omega arith) (leaves_on d.basis.setting origin r.reads r.wrote r.acted_at leaves) ((agrees, record { may = more_done origin acted served (owing by (k ∷ [])) (owing by (k ∷ [])) None None true false Unmask a m; served = by; owed = refl; shown = shown; report = refl; leaves = leaves_on d.basis.setting origin r.reads r.wrote r.acted_at leaves; inside = refl }), over, waits)
   open_by chip chip1 x origin a (Two k j) by acted served over leaves m shown agrees = unmask_step (services_driver d) chip w s received _ _ _ r origin acted served (owing by (k ∷ j ∷ [])) None x (omega arith) (omega arith) (leaves_on d.basis.setting origin r.reads r.wrote r.acted_at leaves) ((agrees, record { may = more_done origin acted served (owing by (k ∷ j ∷ [])) (owing by (k ∷ j ∷ [])) None None true false Unmask a m; served = by; owed = refl; shown = shown; report = refl; leaves = leaves_on d.basis.setting origin r.reads r.wrote r.acted_at leaves; inside = refl }), over, waits)
@@ -198,10 +211,10 @@ module _ {State Call Asked Body : Type 0} (d : Services State Call Asked Body) (
   tell_by chip x origin a (One k) by acted served over leaves m shown agrees = note_step (services_driver d) chip w s received _ _ _ r origin acted served None k by [] x (omega arith) (λ e. (shown e).0 (holds_in d ps) chip w s agrees) (leaves_on d.basis.setting origin r.reads r.wrote r.acted_at leaves) ((agrees, record { may = more_done origin acted served (owing by (k ∷ [])) [] None None false false (Note k) a m; served = by; owed = refl; shown = λ e. tt; report = refl; leaves = leaves_on d.basis.setting origin r.reads r.wrote r.acted_at leaves; inside = refl }), over, waits)
   tell_by chip x origin a (Two k j) by acted served over leaves m shown agrees = note_step (services_driver d) chip w s received _ _ _ r origin acted served None k by (owing by (j ∷ [])) x (omega arith) (λ e. (shown e).0 (holds_in d ps) chip w s agrees) (leaves_on d.basis.setting origin r.reads r.wrote r.acted_at leaves) ((agrees, record { may = more_done origin acted served (owing by (k ∷ j ∷ [])) (owing by (j ∷ [])) None None false false (Note k) a m; served = by; owed = refl; shown = λ e. (shown e).1; report = refl; leaves = leaves_on d.basis.setting origin r.reads r.wrote r.acted_at leaves; inside = refl }), over, waits)
 
-  last_by : (chip : Chip) (x : ℕ) (origin : Origin Call) (a : Answer) (acted : Option Answer) (served : List ℕ) → LeavesRight d.basis.setting origin r.reads r.wrote r.acted_at → MayEnd origin (form r origin acted served [] None false) a → d.basis.agrees (holds_in d ps) d.basis.settled chip w s → KeepsAt d chip w received (Returning a) (form r origin acted served [] None false) ps s
+  last_by : (chip : Chip) (x : ℕ) (origin : Origin Call) (a : Answer) (acted : Option Answer) (served : List ℕ) → LeavesRight d.basis.setting origin r.reads r.wrote r.acted_at → MayEnd origin (form r origin acted served [] None false) a → d.basis.agrees (holds_in d ps) d.basis.settled chip w s → KeepsAt d ends_with chip w received (Returning a) (form r origin acted served [] None false) ps s
   last_by chip x origin a acted served leaves m agrees = last_step (services_driver d) chip w s received _ _ _ r origin acted served d.word (value_of chip (Load d.word)) a (law.own_word origin) m (omega arith) (leaves_on d.basis.setting origin r.reads r.wrote r.acted_at leaves) (below d law chip w s ps agrees waits)
 
-module _ {State Call Asked Body : Type 0} (d : Services State Call Asked Body) (law : AreServices d) where
+module _ {State Call Asked Body : Type 0} (d : Services State Call Asked Body) {ends_with : Body → Option Answer} (law : AreEndingServices d ends_with) where
   shared_by : (made : Move) → is_shared made ≡ true → (origin : Origin Call) (q : Bool) → d.basis.owns origin made ≡ q → d.basis.owns origin made ≡ false
   shared_by made f origin true e = let g : is_shared made ≡ false = law.basis.owns_plain origin made e in absurd (cc)
   shared_by made f origin false e = e
@@ -212,41 +225,52 @@ module _ {State Call Asked Body : Type 0} (d : Services State Call Asked Body) (
   unmask_shared : Elsewhere d.basis Unmask
   unmask_shared origin = shared_by Unmask refl origin (d.basis.owns origin Unmask) refl
 
-  calling : (chip : Chip) (w : World) (received : ℕ) (c : Call) (o : Open Call) (ps : List (Short Asked Body × Open Call)) (s : State) → IsFresh o → d.can c → d.basis.agrees (holds_in d ps) d.basis.settled chip w s → IsOver d (Called c) o.tag (holds_in d ps) → AllWait d ps → KeepsAt d chip w received (Calling (d.asked c)) (having o (Called c) nothing_yet false) ps s
-  calling chip w received c o ps s fresh can agrees over waits = mask_step (services_driver d) chip w s received (Calling (d.asked c)) (Loading (d.asked c)) _ (with_past o nothing_yet) (Called c) None [] [] None (value_of chip Mask) (omega arith) (let k = law.call_window c can in omega arith) (fresh_leaves d.basis.setting (Called c) o fresh) ((law.basis.agrees_apart (holds_in d ps) d.basis.settled chip w s Mask received mask_shared agrees, record { call = c; asks = refl; form = refl; fresh = record { wrote = (fresh_on o fresh).wrote; reads = fresh.reads; acted = fresh.acted }; can = can }), over, waits)
+  calling : (chip : Chip) (w : World) (received : ℕ) (c : Call) (o : Open Call) (ps : List (Short Asked Body × Open Call)) (s : State) → IsFresh o → d.can c → d.basis.agrees (holds_in d ps) d.basis.settled chip w s → IsOver d (Called c) o.tag (holds_in d ps) → AllWait d ps → KeepsAt d ends_with chip w received (Calling (d.asked c)) (having o (Called c) nothing_yet false) ps s
+  calling chip w received c o ps s fresh can agrees over waits = mask_step (services_driver d) chip w s received (Calling (d.asked c)) (Loading (d.asked c)) _ (with_past o nothing_yet) (Called c) None [] [] None (value_of chip Mask) (omega arith) (let k = law.call_window c can in omega arith) (fresh_leaves d.basis.setting (Called c) o fresh) ((law.basis.agrees_apart (holds_in d ps) chip w s Mask received mask_shared agrees, record { call = c; asks = refl; form = refl; fresh = record { wrote = (fresh_on o fresh).wrote; reads = fresh.reads; acted = fresh.acted }; can = can }), over, waits)
 
-  loading : (chip : Chip) (w : World) (received : ℕ) (c : Call) (o : Open Call) (ps : List (Short Asked Body × Open Call)) (s : State) → IsFresh o → d.can c → d.basis.agrees (holds_in d ps) d.basis.settled chip w s → IsOver d (Called c) o.tag (holds_in d ps) → AllWait d ps → KeepsAt d chip w received (Loading (d.asked c)) (having o (Called c) nothing_yet true) ps s
+  loading : (chip : Chip) (w : World) (received : ℕ) (c : Call) (o : Open Call) (ps : List (Short Asked Body × Open Call)) (s : State) → IsFresh o → d.can c → d.basis.agrees (holds_in d ps) d.basis.settled chip w s → IsOver d (Called c) o.tag (holds_in d ps) → AllWait d ps → KeepsAt d ends_with chip w received (Loading (d.asked c)) (having o (Called c) nothing_yet true) ps s
   loading chip w received c o ps s fresh can agrees over waits = let x = value_of chip (Load d.word) in load_by d law ps waits s w o received chip c x (d.looked (d.asked c) x) fresh over agrees (law.looks (holds_in d ps) chip w s c can over.beside agrees)
 
-  pub short_steps : (chip : Chip) (w : World) (received : ℕ) (f : Short Asked Body) (o : Open Call) (ps : List (Short Asked Body × Open Call)) (s : State) → ReceivedRight chip w (short_move d.word d.bodies.work_of f) received → d.basis.count s < most_steps → Relates d chip w ((f, o) ∷ ps) s → KeepsAt d chip w received f o ps s
-  short_steps chip w received (Calling a) o ps s come few h =
-      let k = h.0.1 in
-      let over = subst (λ x. IsOver d x o.tag (holds_in d ps)) (ap (λ x. x.origin) k.form) h.1 in
-      subst (λ x. KeepsAt d chip w received (Calling a) x ps s) (sym k.form) (subst (λ x. KeepsAt d chip w received (Calling x) (having o (Called k.call) nothing_yet false) ps s) (sym k.asks) (calling chip w received k.call o ps s k.fresh k.can h.0.0 over h.2))
-  short_steps chip w received (Loading a) o ps s come few h =
-      let k = h.0.1 in
-      let over = subst (λ x. IsOver d x o.tag (holds_in d ps)) (ap (λ x. x.origin) k.form) h.1 in
-      subst (λ x. KeepsAt d chip w received (Loading a) x ps s) (sym k.form) (subst (λ x. KeepsAt d chip w received (Loading x) (having o (Called k.call) nothing_yet true) ps s) (sym k.asks) (loading chip w received k.call o ps s k.fresh k.can h.0.0 over h.2))
-  short_steps chip w received (Entering k) o ps s come few h =
-      let i = h.0.1 in
-      let rest = rest_after d.basis.setting.machine w s (having o o.origin nothing_yet false) Mask in
-      subst (λ x. KeepsAt d chip w received (Entering k) x ps s) (sym i.form) (mask_step (services_driver d) chip w s received (Entering k) (Inside k) _ (with_past o nothing_yet) o.origin None [] [] None (value_of chip Mask) (omega arith) (let j = i.can.room in omega arith) (fresh_leaves d.basis.setting o.origin o i.fresh) (record { past = nothing_yet; form = ap (λ x. having rest o.origin nothing_yet x) (sym i.can.closed); behaves = fresh_behaves d.basis.setting (d.bodies.clean k) (having rest o.origin nothing_yet true) (record { wrote = (fresh_on o i.fresh).wrote; reads = i.fresh.reads; acted = i.fresh.acted }); at = i.can.at (holds_in d ps) (chip_after chip Mask received) w s h.1.beside (law.basis.agrees_apart (holds_in d ps) d.basis.settled chip w s Mask received mask_shared h.0.0) }, h.1, h.2))
-  short_steps chip w received (Inside k) o ps s come few h =
+  -- a step of a body, which may end its frame with this answer
+  inside : (chip : Chip) (w : World) (received : ℕ) (k : Body) (o : Open Call) (ps : List (Short Asked Body × Open Call)) (s : State) (past : Past) → IsOver d o.origin o.tag (holds_in d ps) → AllWait d ps → Behaves d.basis.setting (d.bodies.clean k) (having o o.origin past (is_closed (d.bodies.spot k))) → Stand d.basis d.bodies (holds_in d ps) chip w s k o.origin past → (q : Option Answer) → RightOr d.basis d.bodies (holds_in d ps) chip w s k o.origin received past o.missed q → let made = d.bodies.work_of k in let t = d.bodies.takes k (value_of chip made) in Keeps (services_driver d) chip w s received (Inside k) (left_body t.0 t.1.done) (λ s1 o1. Relates d (chip_after chip made received) w (top_after (left_body t.0 t.1.done, o1) q ps) s1) (having o o.origin past (is_closed (d.bodies.spot k))) made (value_of chip made) (gave_body t.1.event q)
+  inside chip w received k o ps s past over waits before at None h =
       let made = d.bodies.work_of k in
       let x = value_of chip made in
       let t = d.bodies.takes k x in
-      let i = h.0 in
       let held = holds_in d ps in
-      subst (λ y. KeepsAt d chip w received (Inside k) y ps s) (sym i.form) (body_by d law ps h.2 s w o received chip (chip_after chip made received) x o.origin i.past (is_closed (d.bodies.spot k)) made k t.0 t.1.event t.1.done refl h.1 (subst (λ x. Behaves d.basis.setting (d.bodies.clean k) x) i.form i.behaves) (law.bodies.cleans k x) (law.bodies.own held chip w s k o.origin i.past i.at) (law.bodies.calm held chip w s k o.origin i.past i.at) (body_fuel d.most d.bodies.fuel (d.bodies.fuel k) t.0 t.1.done (law.bodies.shortens k x)) (law.bodies.turns held chip w s k o.origin i.past i.at) (law.bodies.steps held chip w s k o.origin received i.past o.missed come few i.at))
+      body_by d law ps waits s w o received chip (chip_after chip made received) x o.origin past (is_closed (d.bodies.spot k)) made k t.0 t.1.event t.1.done refl over before (law.bodies.cleans k x) (law.bodies.own held chip w s k o.origin past at) (law.bodies.calm held chip w s k o.origin past at) (body_fuel d.most d.bodies.fuel (d.bodies.fuel k) t.0 t.1.done (law.bodies.shortens k x)) (law.bodies.turns held chip w s k o.origin past at) h
+  inside chip w received k o ps s past over waits before at (Some a) h =
+      let made = d.bodies.work_of k in
+      let x = value_of chip made in
+      let t = d.bodies.takes k x in
+      let was = is_closed (d.bodies.spot k) in
+      subst (λ m. TurnsMask (d.basis.setting.window_of o.origin) was (is_closed (d.bodies.spot t.0)) (d.bodies.room k) (d.bodies.room t.0) m t.1.event t.1.done → Keeps (services_driver d) chip w s received (Inside k) (left_body t.0 t.1.done) (λ s1 o1. Relates d (chip_after chip m received) w ps s1) (having o o.origin past was) m x (gave_body t.1.event (Some a))) (sym h.0) (λ turns. ends_by d law ps waits s w o received chip (chip_after chip Unmask received) x o.origin past was k t.0 t.1.event t.1.done a before turns h.1 h.2) (law.bodies.turns (holds_in d ps) chip w s k o.origin past at)
+
+  pub short_steps : (chip : Chip) (w : World) (received : ℕ) (f : Short Asked Body) (o : Open Call) (ps : List (Short Asked Body × Open Call)) (s : State) → ReceivedRight chip w (short_move d.word d.bodies.work_of f) received → d.basis.count s < most_steps → Relates d chip w ((f, o) ∷ ps) s → KeepsAt d ends_with chip w received f o ps s
+  short_steps chip w received (Calling a) o ps s come few h =
+      let k = h.0.1 in
+      let over = subst (λ x. IsOver d x o.tag (holds_in d ps)) (ap (λ x. x.origin) k.form) h.1 in
+      subst (λ x. KeepsAt d ends_with chip w received (Calling a) x ps s) (sym k.form) (subst (λ x. KeepsAt d ends_with chip w received (Calling x) (having o (Called k.call) nothing_yet false) ps s) (sym k.asks) (calling chip w received k.call o ps s k.fresh k.can h.0.0 over h.2))
+  short_steps chip w received (Loading a) o ps s come few h =
+      let k = h.0.1 in
+      let over = subst (λ x. IsOver d x o.tag (holds_in d ps)) (ap (λ x. x.origin) k.form) h.1 in
+      subst (λ x. KeepsAt d ends_with chip w received (Loading a) x ps s) (sym k.form) (subst (λ x. KeepsAt d ends_with chip w received (Loading x) (having o (Called k.call) nothing_yet true) ps s) (sym k.asks) (loading chip w received k.call o ps s k.fresh k.can h.0.0 over h.2))
+  short_steps chip w received (Entering k) o ps s come few h =
+      let i = h.0.1 in
+      let rest = rest_after d.basis.setting.machine w s (having o o.origin nothing_yet false) Mask in
+      subst (λ x. KeepsAt d ends_with chip w received (Entering k) x ps s) (sym i.form) (mask_step (services_driver d) chip w s received (Entering k) (Inside k) _ (with_past o nothing_yet) o.origin None [] [] None (value_of chip Mask) (omega arith) (let j = i.can.room in omega arith) (fresh_leaves d.basis.setting o.origin o i.fresh) (record { past = nothing_yet; form = ap (λ x. having rest o.origin nothing_yet x) (sym i.can.closed); behaves = fresh_behaves d.basis.setting (d.bodies.clean k) (having rest o.origin nothing_yet true) (record { wrote = (fresh_on o i.fresh).wrote; reads = i.fresh.reads; acted = i.fresh.acted }); at = i.can.at (holds_in d ps) (chip_after chip Mask received) w s h.1.beside (law.basis.agrees_apart (holds_in d ps) chip w s Mask received mask_shared h.0.0) }, h.1, h.2))
+  short_steps chip w received (Inside k) o ps s come few h =
+      let i = h.0 in
+      subst (λ y. KeepsAt d ends_with chip w received (Inside k) y ps s) (sym i.form) (inside chip w received k o ps s i.past h.1 h.2 (subst (λ x. Behaves d.basis.setting (d.bodies.clean k) x) i.form i.behaves) i.at (ended_at d.bodies ends_with k (value_of chip (d.bodies.work_of k))) (law.bodies.steps (holds_in d ps) chip w s k o.origin received i.past o.missed come few i.at))
   short_steps chip w received (Opening n) o ps s come few h =
       let k = h.0.1 in
       let e = form_is o (owing k.served (notices_in n.owed)) (error_in n.owed) true k.owed k.report k.inside in
-      subst (λ x. KeepsAt d chip w received (Opening n) x ps s) (sym e) (open_by d law ps h.2 s w o received chip (chip_after chip Unmask received) (value_of chip Unmask) o.origin n.answer n.owed k.served o.acted o.served h.1 k.leaves (subst (λ x. MayEnd o.origin x n.answer) e k.may) k.shown (law.basis.agrees_apart (holds_in d ps) d.basis.settled chip w s Unmask received unmask_shared h.0.0))
+      subst (λ x. KeepsAt d ends_with chip w received (Opening n) x ps s) (sym e) (open_by d law ps h.2 s w o received chip (chip_after chip Unmask received) (value_of chip Unmask) o.origin n.answer n.owed k.served o.acted o.served h.1 k.leaves (subst (λ x. MayEnd o.origin x n.answer) e k.may) k.shown (law.basis.agrees_apart (holds_in d ps) chip w s Unmask received unmask_shared h.0.0))
   short_steps chip w received (Telling n) o ps s come few h =
       let k = h.0.1 in
       let e = form_is o (owing k.served (notices_in n.owed)) (error_in n.owed) false k.owed k.report k.inside in
-      subst (λ x. KeepsAt d chip w received (Telling n) x ps s) (sym e) (tell_by d law ps h.2 s w o received chip (value_of chip (tells d.word n.owed)) o.origin n.answer n.owed k.served o.acted o.served h.1 k.leaves (subst (λ x. MayEnd o.origin x n.answer) e k.may) k.shown h.0.0)
+      subst (λ x. KeepsAt d ends_with chip w received (Telling n) x ps s) (sym e) (tell_by d law ps h.2 s w o received chip (value_of chip (tells d.word n.owed)) o.origin n.answer n.owed k.served o.acted o.served h.1 k.leaves (subst (λ x. MayEnd o.origin x n.answer) e k.may) k.shown h.0.0)
   short_steps chip w received (Returning a) o ps s come few h =
       let k = h.0.1 in
       let e = form_is o [] None false k.owed k.report k.inside in
-      subst (λ x. KeepsAt d chip w received (Returning a) x ps s) (sym e) (last_by d law ps h.2 s w o received chip 0 o.origin a o.acted o.served k.leaves (subst (λ x. MayEnd o.origin x a) e k.may) h.0.0)
+      subst (λ x. KeepsAt d ends_with chip w received (Returning a) x ps s) (sym e) (last_by d law ps h.2 s w o received chip 0 o.origin a o.acted o.served k.leaves (subst (λ x. MayEnd o.origin x a) e k.may) h.0.0)

@@ -1,7 +1,7 @@
 -- A sweep owes no more.
 use Rattle.std.proofs.Common.{◌≡◌, ℕ, ◌+◌, ◌-◌, ◌<◌, ◌≤◌, Bool, true, false, ◌||◌, nat_lt, List, None, refl, sym, subst, arith}
 use Rattle.std.specs.Prelude.{if◌then◌else◌}
-use Rattle.chip_model.specs.Chip.{Chip, value_of, chip_after, happened}
+use Rattle.chip_model.specs.Chip.{Chip, value_of, chip_after, happened, is_masked}
 use Rattle.mcal_base.specs.declared.directive.Order.{Order}
 use Rattle.mcal_base.specs.declared.moves.Move.{Move}
 use Rattle.mcal_base.specs.declared.moves.Move.TheVariants.{Mask, Unmask}
@@ -77,28 +77,28 @@ module _ {State Call S B : Type 0} (g : Basis State Call) (v : Sweeping g S B) (
   steps below chip w s k o received t m come few h = by k.objects k.place come h
     where
       by : (a : S) (p : Place B) → ReceivedRight chip w (Swept.work_of (at a p)) received → Stands below chip w s (at a p) o t → Right g Swept below chip w s (at a p) o received t m
-      by a Opens come h = next_stands below (chip_after chip Unmask received) w s a 0 o t (omega arith) h.1 (basis.agrees_apart _ g.settled chip w s Unmask received (apart Unmask refl) h.0)
+      by a Opens come h = next_stands below (chip_after chip Unmask received) w s a 0 o t (omega arith) h.1 (basis.agrees_apart _ chip w s Unmask received (apart Unmask refl) h.0)
       by a (At i) come h =
           let made = v.move a i in
           let lt = h.1.1 in
           let none = silent_received chip w made received (law.still a i).1 come in
           plain_makes g Swept below chip (chip_after chip made received) w s o false (value_of chip made) received t (missed_after g.setting.machine w s m) (at a (place_of (v.count a) (i + 1))) None None made (plain below a i o t lt h.1.0)
           (next_stands below (chip_after chip made received) w s a (i + 1) o (past_wrote w made t) (omega (arith, lt)) (law.stays a i below w o t h.1.0) (subst (λ n. g.agrees (with_holds o t.acted (v.hold a (i + 1)) below) g.settled (chip_after chip made n) w s) (sym none) (law.step a i below chip w s o t lt h.1.0 h.0)))
-      by a Closes come h = law.follows a below (chip_after chip Mask received) w s o t h.1 (basis.agrees_apart _ g.settled chip w s Mask received (apart Mask refl) h.0)
+      by a Closes come h = law.follows a below (chip_after chip Mask received) w s o t h.1 (basis.agrees_apart _ chip w s Mask received (apart Mask refl) h.0)
       by a (Follows j) come h =
           let y = value_of chip (b.work_of j) in
           let x = b.takes j y in
           makes_lift g b Swept (λ i. at a (Follows i)) below (λ chip w s k o t h. h) chip (chip_after chip (b.work_of j) received) w s o (b.work_of j) false y received t (missed_after g.setting.machine w s m) x.0 x.1.event x.1.done
           (subst (λ q. Makes g b below chip (chip_after chip (b.work_of j) received) w s o (b.work_of j) q y received t (missed_after g.setting.machine w s m) x.0 x.1.event x.1.done) (law.unclean j) (right.steps below chip w s j o received t m come few h))
 
-  later : (below : List (Held Call g.Hold)) (chip : Chip) (w : World) (s : State) (order : Order) (k : Sweep S B) (o : Origin Call) (t : Past) → MayCome g.setting (with_holds o t.acted (holds_at (Swept.spot k)) below) chip w s order → Stands below chip w s k o t → place_at (Swept.spot k) below (g.foot (happened chip order)) (world_after w chip.clock.rate order) (g.later w s order) o t
-  later below chip w s order k o t come h = by k.objects k.place come h
+  later : (below : List (Held Call g.Hold)) (chip : Chip) (w : World) (s : State) (order : Order) (k : Sweep S B) (o : Origin Call) (t : Past) → MayCome g.setting (with_holds o t.acted (holds_at (Swept.spot k)) below) chip w s order → (is_masked chip ≡ false → is_closed (Swept.spot k) ≡ false) → Stands below chip w s k o t → place_at (Swept.spot k) below (g.foot (happened chip order)) (world_after w chip.clock.rate order) (g.later w s order) o t
+  later below chip w s order k o t come shut h = by k.objects k.place come shut h
     where
-      by : (a : S) (p : Place B) → MayCome g.setting (with_holds o t.acted (holds_at (Swept.spot (at a p))) below) chip w s order → Stands below chip w s (at a p) o t → place_at (Swept.spot (at a p)) below (g.foot (happened chip order)) (world_after w chip.clock.rate order) (g.later w s order) o t
-      by a Opens come h = h.1
-      by a (At i) come h = h.1
-      by a Closes come h = h.1
-      by a (Follows j) come h = right.later below chip w s order j o t come h
+      by : (a : S) (p : Place B) → MayCome g.setting (with_holds o t.acted (holds_at (Swept.spot (at a p))) below) chip w s order → (is_masked chip ≡ false → is_closed (Swept.spot (at a p)) ≡ false) → Stands below chip w s (at a p) o t → place_at (Swept.spot (at a p)) below (g.foot (happened chip order)) (world_after w chip.clock.rate order) (g.later w s order) o t
+      by a Opens come shut h = h.1
+      by a (At i) come shut h = h.1
+      by a Closes come shut h = h.1
+      by a (Follows j) come shut h = right.later below chip w s order j o t come shut h
 
   calm : (below : List (Held Call g.Hold)) (chip : Chip) (w : World) (s : State) (k : Sweep S B) (o : Origin Call) (t : Past) → Stands below chip w s k o t → (Swept.takes k (value_of chip (Swept.work_of k))).1.event ≡ None → (resets_chip (Swept.work_of k) ≡ false) × (begins_word (Swept.work_of k) ≡ false)
   calm below chip w s k o t h e = by k.objects k.place h e

@@ -1,7 +1,17 @@
-use Rattle.std.proofs.Common.{arith}
-use Rattle.std.proofs.lemmas.Grind.{common_steps}
-use Rattle.bench_report.proofs.Pages.{report_is}
+use Rattle.std.proofs.Common.{◌≡◌, ◌∙◌, ap}
+use Rattle.std.specs.Prelude.{string_bytes}
+use Rattle.std.proofs.lemmas.Result.{IfOk-weaker}
+use Rattle.run_model.specs.Entry.{entries}
+use Rattle.bench_report.specs.Pages.{script_put, beginning}
+use Rattle.bench_report.proofs.Ends.{is_report, is_longer, shown_is_longer}
 use Rattle.bench_report.proofs.whole.report.Goals as goal
 
-pub returns : goal.returns
-returns c = grind (arith, common_steps, report_is c.args.traced c.args.script.now c.args.journal.now.entries)
+pub returns-in_default-clause-too_long : goal.returns-in_default-clause-too_long
+returns-in_default-clause-too_long c = λ shows k all e. shown_is_longer c.args.traced c.args.script.now c.args.journal.now.entries shows c.args.shown.now k c.in_default.ensures all
+
+pub returns-in-Ok-clause-text : goal.returns-in-Ok-clause-text
+returns-in-Ok-clause-text c = λ shows k.
+    IfOk-weaker c.end.result _ _ (λ t e. is_report c.args.traced c.args.script.now c.args.journal.now.entries shows c.args.shown.now _ c.in-Ok.course (string_bytes t) k c.in-Some.ensures (rw (← c.items.ensures, ← c.words.ensures) c.in-Ok.ensures) e) c.end.ensures.text
+
+pub returns-in-Ok-clause-too_long : goal.returns-in-Ok-clause-too_long
+returns-in-Ok-clause-too_long c = λ shows k all e. is_longer c.args.traced c.args.script.now c.args.journal.now.entries shows c.args.shown.now _ c.in-Ok.course k c.in-Some.ensures (rw (← c.items.ensures, ← c.words.ensures) c.in-Ok.ensures) (c.end.ensures.too_long e)

@@ -1,30 +1,29 @@
-use Rattle.std.proofs.Common.{subst}
-use Rattle.chip_model.specs.Chip.{power_on}
-use Rattle.gpt_driver.specs.Ground.{gpt_setting}
-use Rattle.gpt_driver.specs.laws.Lawful.{covers_timers}
-use Rattle.gpt_driver.specs.Requests.{call_of}
-use Rattle.script_runner.specs.Scripts.{IsRun, IsStopped, script_bound}
-use Rattle.std.specs.Prelude.{◌<◌}
-use Rattle.bench_top.specs.Runs.{most_steps}
-use Rattle.bench_top.proofs.Board.{fits_driver}
-use Rattle.bench_top.proofs.Limits.{within_limits}
-use Rattle.bench_top.proofs.Running.{both_ok, on_false, on_true}
+use Rattle.std.proofs.Common.{◌≡◌, ◌+◌, ◌∙◌, ap, sym, arith, length}
+use Rattle.bench_top.proofs.Keeping.{whole_run, stopped_run, shown_of, at_err, at_ok}
 use Rattle.bench_top.proofs.run.run.Goals as goal
 
-pub run_within-requires-clause-fits : goal.run_within-requires-clause-fits
-run_within-requires-clause-fits c = fits_driver c.args.config.now.gpt c.new-driver.result c.requires.valid.gpt c.new-driver.ensures
+pub returns-then-is_err-clause-stopped : goal.returns-then-is_err-clause-stopped
+returns-then-is_err-clause-stopped c =
+    stopped_run c.obey.new.self c.args.config c.args.script.now c.into_journal.result.entries (c.obey.ensures.same.config ∙ c.loop-at.invariant.config) (c.obey.ensures.same.script ∙ c.loop-at.invariant.script)
+    (at_err c.obey.result c.is_err.result c.is_err.ensures.value c.if-is_err.true c.obey.ensures.stopped).0 c.into_journal.ensures.stopped c.into_journal.ensures.within
 
-pub run_within-requires-clause-covers : goal.run_within-requires-clause-covers
-run_within-requires-clause-covers c = covers_timers c.new-driver.result
-
-pub run_within-requires-clause-config : goal.run_within-requires-clause-config
-run_within-requires-clause-config c = within_limits c.args.config.now c.requires.valid
-
-pub run_within-requires-clause-wired : goal.run_within-requires-clause-wired
-run_within-requires-clause-wired c = tt
+pub loop-at-preserved : goal.loop-at-preserved
+loop-at-preserved c =
+    let went = at_ok c.obey.result c.is_err.result c.is_err.ensures.value c.if-is_err.false c.obey.ensures.obeyed in
+    let adds = at_ok c.obey.result c.is_err.result c.is_err.ensures.value c.if-is_err.false c.obey.ensures.adds in
+    record {
+      goes = went.0;
+      obeyed = went.1 ∙ ap (λ n. n + 1) c.loop-at.invariant.obeyed;
+      config = c.obey.ensures.same.config ∙ c.loop-at.invariant.config;
+      script = c.obey.ensures.same.script ∙ c.loop-at.invariant.script;
+      kept = at_ok c.keep_shown.result c.is_err-in-loop-at.result c.is_err-in-loop-at.ensures.value c.if-is_err-2.false (c.keep_shown.ensures c.loop-at.system c.obey.ensures.same adds c.loop-at.invariant.kept);
+    }
 
 pub returns-clause-whole : goal.returns-clause-whole
-returns-clause-whole c = both_ok c.run_within.result (λ ran w f. on_false ran.too_long (λ r. record { run = subst (λ d. IsRun (gpt_setting d) (power_on c.args.config.now 0) call_of c.args.script.now ran.journal.entries) c.new-driver.ensures r; steps = f }) w) c.run_within.ensures.whole c.run_within.ensures.few
+returns-clause-whole c =
+    let end : c.loop-at.system.obeyed ≡ length c.loop-at.system.script = c.loop-at.invariant.obeyed ∙ (let e : c.loop-at.at ≡ length c.args.script.now = omega (arith, c.loop-at.auto.at-end, c.loop-at-test.false) in e) ∙ ap (λ ss. length ss) (sym c.loop-at.invariant.script) in
+    whole_run c.loop-at.system c.args.config c.args.script.now c.into_journal-2.result.entries c.loop-at.invariant.config c.loop-at.invariant.script (c.into_journal-2.ensures.whole c.loop-at.invariant.goes end) c.into_journal-2.ensures.few
 
-pub returns-clause-stopped : goal.returns-clause-stopped
-returns-clause-stopped c = both_ok c.run_within.result (λ ran w f. on_true ran.too_long (λ r q. record { run = subst (λ d. IsStopped (gpt_setting d) (power_on c.args.config.now 0) call_of most_steps c.args.script.now ran.journal.entries) c.new-driver.ensures r; bound = subst (λ d. most_steps < script_bound (gpt_setting d) call_of c.args.script.now) c.new-driver.ensures q }) w f) c.run_within.ensures.stopped c.run_within.ensures.within
+pub returns-clause-shown : goal.returns-clause-shown
+returns-clause-shown c =
+    shown_of c.loop-at.system c.args.config c.args.script.now c.into_journal-2.result.entries c.loop-at.shown c.loop-at.invariant.config c.loop-at.invariant.script (ap (λ w. w.entries) c.into_journal-2.ensures.journal) c.loop-at.invariant.kept

@@ -1,12 +1,12 @@
 use Rattle.std.proofs.Common.{◌∙◌, Err, ap, sym, arith}
-use Rattle.bench_top.proofs.Judging.{exact_of, front_of, checks_of, complete_of, file_after, file_judged, usage_judged, too_many_judged}
+use Rattle.bench_top.proofs.Judging.{exact_of, front_of, checks_of, complete_of, file_after, file_judged, usage_judged, too_many_judged, printed_front}
 use Rattle.bench_top.proofs.top.bench.Goals as goal
 
 pub returns-in_default-clause-front : goal.returns-in_default-clause-front
 returns-in_default-clause-front g c = λ s. front_of _ _ _ _ _ _ _ _ _ _ (usage_judged _ _ (sym c.form_of.ensures ∙ c.in_default.is)) c.print.ensures.concludes s
 
 pub returns-in-Ok-clause-read : goal.returns-in-Ok-clause-read
-returns-in-Ok-clause-read g c = λ s. absurd ((file_after _ _ _ _ (c.conclude.ensures.ends (λ e. absurd (omega (arith, s, e))) (λ e. absurd (omega (arith, s, e))))).1 s)
+returns-in-Ok-clause-read g c = λ s. let e = c.conclude.ensures.ends (λ e. absurd (omega (arith, s, e))) (λ e. absurd (omega (arith, s, e))) in absurd ((file_after _ _ _ _ e.ends).1 (sym e.status_is ∙ s))
 
 pub returns-in-Ok-clause-checks : goal.returns-in-Ok-clause-checks
 returns-in-Ok-clause-checks g c = λ source sink. checks_of _ _ _ _ _ _ _ _ _ (file_judged _ _ _ _ c.deref.result.now (sym c.form_of.ensures ∙ c.in-Some.is) (rw c.deref.ensures.value c.in-Ok.ensures.all.0) c.in-Ok.ensures.all.1 (omega (arith, c.in-Ok.ensures.limit, c.deref.ensures.len))) c.conclude.ensures sink
@@ -19,3 +19,6 @@ returns-in-Err-TooLong-clause-exact g c = λ f s m. exact_of _ _ _ _ _ _ _ _ _ (
 
 pub returns-in-Err-TooLong-clause-front : goal.returns-in-Err-TooLong-clause-front
 returns-in-Err-TooLong-clause-front g c = λ s. front_of _ _ _ _ _ _ _ _ _ _ (too_many_judged _ _ _ (sym c.form_of.ensures ∙ c.in-Some.is) (c.read_all.ensures.long (c.in-Err-TooLong.is ∙ ap (λ e. Err e) c.in-Err-TooLong.field-0-is))) c.print-in-Err-TooLong.ensures.concludes s
+
+pub returns-in-Err-Fault-clause-read_front : goal.returns-in-Err-Fault-clause-read_front
+returns-in-Err-Fault-clause-read_front g c = λ s n. printed_front _ _ _ _ (c.print-in-Err-Fault.ensures.concludes.front s)

@@ -1,4 +1,4 @@
-use Rattle.pwm_driver.proofs.ChangeLaws.{times_of, of_times}
+use Rattle.pwm_driver.specs.laws.Changes.{times_of, of_times}
 use Rattle.pwm_driver.proofs.laws.changes_by_times.Goals as goal
 
 pub returns : goal.returns

@@ -1,11 +1,13 @@
-use Rattle.std.proofs.Common.{arith}
-use Rattle.bench_top.proofs.Board.{fits_driver}
-use Rattle.bench_top.proofs.Limits.{within_limits}
+use Rattle.std.proofs.Common.{arith, subst, sym}
+use Rattle.gpt_driver.specs.Fits.{fits_of}
+use Rattle.gpt_driver.specs.Table.{FitsGpt}
+use Rattle.mcal_system.proofs.Limits.{within_limits}
+use Rattle.mcal_system.proofs.Sound.{sound_timers}
 use Rattle.gpt_driver.specs.laws.Lawful.{covers_timers}
 use Rattle.run_tests.proofs.limit_of_steps.stops_at_the_limit_of_steps.Goals as goal
 
 pub run_within-requires-clause-fits : goal.run_within-requires-clause-fits
-run_within-requires-clause-fits g c = fits_driver c.default_board-config.result.gpt c.new-driver.result c.default_board-config.ensures.valid.gpt c.new-driver.ensures
+run_within-requires-clause-fits g c = subst FitsGpt (sym c.new-driver.ensures) (fits_of c.default_board-config.result.gpt (sound_timers c.default_board-config.result.gpt c.default_board-config.ensures.valid.gpt))
 
 pub run_within-requires-clause-script : goal.run_within-requires-clause-script
 run_within-requires-clause-script g c = record { lines = (omega (arith, c.init-first.ensures.line), (omega (arith, c.init-first.ensures.line, c.init-second.ensures.line), tt)); built = (c.init-first.ensures.order, (c.init-second.ensures.order, tt)); few = omega arith }
@@ -18,3 +20,6 @@ run_within-requires-clause-config g c = within_limits c.default_board-config.res
 
 pub run_within-requires-clause-wired : goal.run_within-requires-clause-wired
 run_within-requires-clause-wired g c = tt
+
+pub run_within-requires-clause-offered : goal.run_within-requires-clause-offered
+run_within-requires-clause-offered g c = (c.init-first.ensures.offered, (c.init-second.ensures.offered, tt))

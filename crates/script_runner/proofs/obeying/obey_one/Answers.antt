@@ -2,44 +2,41 @@ use Rattle.std.proofs.Common.{refl, sym, subst}
 use Rattle.std.proofs.lemmas.Result.{on_ok_weaker, on_err_weaker}
 use Rattle.mcal_base.specs.declared.directive.Order.TheVariants as orders
 use Rattle.script_runner.specs.Standing.{Obeyed, Stuck}
-use Rattle.chip_model.specs.Chip.{power_on}
+use Rattle.script_runner.specs.Scripts.{chip_for}
 use Rattle.script_runner.proofs.obeying.obey_one.Goals as goal
 
 pub returns-in-Call-clause-obeyed : goal.returns-in-Call-clause-obeyed
-returns-in-Call-clause-obeyed g c = subst (λ o. Obeyed (g.M.Module.spec c.args.driver.now) (power_on c.args.config.now 0) (g.M.Caller.call_of c.args.driver.now) c.args.script.now c.args.most c.args.directive.now.line o c.args.bus.now c.args.stack.now c.args.journal.now c.args.bus.now c.obey_call_alone.new.stack c.obey_call_alone.new.journal) (sym c.in-Call.is) (c.obey_call_alone.ensures (orders.Call c.in-Call.level c.in-Call.request) refl)
+returns-in-Call-clause-obeyed g c = subst (λ o. Obeyed (g.M.Module.spec c.args.course.now.driver) (chip_for c.args.course.now.config c.args.course.now.script.now) (g.M.Caller.call_of c.args.course.now.driver) c.args.course.now.script.now c.args.course.now.most c.args.directive.now.line o c.args.parts.now.bus c.args.parts.now.stack c.args.parts.now.journal c.obey_call_alone.new.parts.bus c.obey_call_alone.new.parts.stack c.obey_call_alone.new.parts.journal) (sym c.in-Call.is) (c.obey_call_alone.ensures (orders.Call c.in-Call.level c.in-Call.request) refl)
 
 pub returns-in-Do-clause-obeyed : goal.returns-in-Do-clause-obeyed
-returns-in-Do-clause-obeyed g c = on_ok_weaker c.obey_call_whole.result (λ w. subst (λ o. Obeyed (g.M.Module.spec c.args.driver.now) (power_on c.args.config.now 0) (g.M.Caller.call_of c.args.driver.now) c.args.script.now c.args.most c.args.directive.now.line o c.args.bus.now c.args.stack.now c.args.journal.now c.obey_call_whole.new.bus c.obey_call_whole.new.stack c.obey_call_whole.new.journal) (sym c.in-Do.is) (w (orders.Do c.in-Do.level c.in-Do.request) refl)) c.obey_call_whole.ensures.obeyed
+returns-in-Do-clause-obeyed g c = on_ok_weaker c.obey_call_whole.result (λ w. subst (λ o. Obeyed (g.M.Module.spec c.args.course.now.driver) (chip_for c.args.course.now.config c.args.course.now.script.now) (g.M.Caller.call_of c.args.course.now.driver) c.args.course.now.script.now c.args.course.now.most c.args.directive.now.line o c.args.parts.now.bus c.args.parts.now.stack c.args.parts.now.journal c.obey_call_whole.new.parts.bus c.obey_call_whole.new.parts.stack c.obey_call_whole.new.parts.journal) (sym c.in-Do.is) (w (orders.Do c.in-Do.level c.in-Do.request) refl)) c.obey_call_whole.ensures.obeyed
 
 pub returns-in-Enter-clause-obeyed : goal.returns-in-Enter-clause-obeyed
-returns-in-Enter-clause-obeyed g c = subst (λ o. Obeyed (g.M.Module.spec c.args.driver.now) (power_on c.args.config.now 0) (g.M.Caller.call_of c.args.driver.now) c.args.script.now c.args.most c.args.directive.now.line o c.args.bus.now c.args.stack.now c.args.journal.now c.args.bus.now c.obey_enter_alone.new.stack c.obey_enter_alone.new.journal) (sym c.in-Enter.is) (c.obey_enter_alone.ensures (orders.Enter c.in-Enter.irq) refl)
+returns-in-Enter-clause-obeyed g c = subst (λ o. Obeyed (g.M.Module.spec c.args.course.now.driver) (chip_for c.args.course.now.config c.args.course.now.script.now) (g.M.Caller.call_of c.args.course.now.driver) c.args.course.now.script.now c.args.course.now.most c.args.directive.now.line o c.args.parts.now.bus c.args.parts.now.stack c.args.parts.now.journal c.obey_enter_alone.new.parts.bus c.obey_enter_alone.new.parts.stack c.obey_enter_alone.new.parts.journal) (sym c.in-Enter.is) (c.obey_enter_alone.ensures (orders.Enter c.in-Enter.irq) refl)
 
 pub returns-in-Serve-clause-obeyed : goal.returns-in-Serve-clause-obeyed
-returns-in-Serve-clause-obeyed g c = on_ok_weaker c.obey_enter_whole.result (λ w. subst (λ o. Obeyed (g.M.Module.spec c.args.driver.now) (power_on c.args.config.now 0) (g.M.Caller.call_of c.args.driver.now) c.args.script.now c.args.most c.args.directive.now.line o c.args.bus.now c.args.stack.now c.args.journal.now c.obey_enter_whole.new.bus c.obey_enter_whole.new.stack c.obey_enter_whole.new.journal) (sym c.in-Serve.is) (w (orders.Serve c.in-Serve.irq) refl)) c.obey_enter_whole.ensures.obeyed
+returns-in-Serve-clause-obeyed g c = on_ok_weaker c.obey_enter_whole.result (λ w. subst (λ o. Obeyed (g.M.Module.spec c.args.course.now.driver) (chip_for c.args.course.now.config c.args.course.now.script.now) (g.M.Caller.call_of c.args.course.now.driver) c.args.course.now.script.now c.args.course.now.most c.args.directive.now.line o c.args.parts.now.bus c.args.parts.now.stack c.args.parts.now.journal c.obey_enter_whole.new.parts.bus c.obey_enter_whole.new.parts.stack c.obey_enter_whole.new.parts.journal) (sym c.in-Serve.is) (w (orders.Serve c.in-Serve.irq) refl)) c.obey_enter_whole.ensures.obeyed
 
 pub returns-in-Run-clause-obeyed : goal.returns-in-Run-clause-obeyed
-returns-in-Run-clause-obeyed g c = on_ok_weaker c.obey_steps.result (λ w. subst (λ o. Obeyed (g.M.Module.spec c.args.driver.now) (power_on c.args.config.now 0) (g.M.Caller.call_of c.args.driver.now) c.args.script.now c.args.most c.args.directive.now.line o c.args.bus.now c.args.stack.now c.args.journal.now c.obey_steps.new.bus c.obey_steps.new.stack c.obey_steps.new.journal) (sym c.in-Run.is) (w (orders.Run c.in-Run.count))) c.obey_steps.ensures.obeyed
+returns-in-Run-clause-obeyed g c = on_ok_weaker c.obey_steps.result (λ w. subst (λ o. Obeyed (g.M.Module.spec c.args.course.now.driver) (chip_for c.args.course.now.config c.args.course.now.script.now) (g.M.Caller.call_of c.args.course.now.driver) c.args.course.now.script.now c.args.course.now.most c.args.directive.now.line o c.args.parts.now.bus c.args.parts.now.stack c.args.parts.now.journal c.obey_steps.new.parts.bus c.obey_steps.new.parts.stack c.obey_steps.new.parts.journal) (sym c.in-Run.is) (w (orders.Run c.in-Run.count))) c.obey_steps.ensures.obeyed
 
 pub returns-in-Upto-clause-obeyed : goal.returns-in-Upto-clause-obeyed
-returns-in-Upto-clause-obeyed g c = on_ok_weaker c.obey_steps-in-Upto.result (λ w. subst (λ o. Obeyed (g.M.Module.spec c.args.driver.now) (power_on c.args.config.now 0) (g.M.Caller.call_of c.args.driver.now) c.args.script.now c.args.most c.args.directive.now.line o c.args.bus.now c.args.stack.now c.args.journal.now c.obey_steps-in-Upto.new.bus c.obey_steps-in-Upto.new.stack c.obey_steps-in-Upto.new.journal) (sym c.in-Upto.is) (w (orders.Upto c.in-Upto.stop))) c.obey_steps-in-Upto.ensures.obeyed
+returns-in-Upto-clause-obeyed g c = on_ok_weaker c.obey_steps-in-Upto.result (λ w. subst (λ o. Obeyed (g.M.Module.spec c.args.course.now.driver) (chip_for c.args.course.now.config c.args.course.now.script.now) (g.M.Caller.call_of c.args.course.now.driver) c.args.course.now.script.now c.args.course.now.most c.args.directive.now.line o c.args.parts.now.bus c.args.parts.now.stack c.args.parts.now.journal c.obey_steps-in-Upto.new.parts.bus c.obey_steps-in-Upto.new.parts.stack c.obey_steps-in-Upto.new.parts.journal) (sym c.in-Upto.is) (w (orders.Upto c.in-Upto.stop))) c.obey_steps-in-Upto.ensures.obeyed
 
 pub returns-in-Finish-clause-obeyed : goal.returns-in-Finish-clause-obeyed
-returns-in-Finish-clause-obeyed g c = on_ok_weaker c.obey_steps-in-Finish.result (λ w. subst (λ o. Obeyed (g.M.Module.spec c.args.driver.now) (power_on c.args.config.now 0) (g.M.Caller.call_of c.args.driver.now) c.args.script.now c.args.most c.args.directive.now.line o c.args.bus.now c.args.stack.now c.args.journal.now c.obey_steps-in-Finish.new.bus c.obey_steps-in-Finish.new.stack c.obey_steps-in-Finish.new.journal) (sym c.in-Finish.is) (w orders.Finish)) c.obey_steps-in-Finish.ensures.obeyed
-
-pub returns-in-Tick-clause-obeyed : goal.returns-in-Tick-clause-obeyed
-returns-in-Tick-clause-obeyed g c = subst (λ o. Obeyed (g.M.Module.spec c.args.driver.now) (power_on c.args.config.now 0) (g.M.Caller.call_of c.args.driver.now) c.args.script.now c.args.most c.args.directive.now.line o c.args.bus.now c.args.stack.now c.args.journal.now c.obey_tick.new.bus c.args.stack.now c.obey_tick.new.journal) (sym c.in-Tick.is) c.obey_tick.ensures
+returns-in-Finish-clause-obeyed g c = on_ok_weaker c.obey_steps-in-Finish.result (λ w. subst (λ o. Obeyed (g.M.Module.spec c.args.course.now.driver) (chip_for c.args.course.now.config c.args.course.now.script.now) (g.M.Caller.call_of c.args.course.now.driver) c.args.course.now.script.now c.args.course.now.most c.args.directive.now.line o c.args.parts.now.bus c.args.parts.now.stack c.args.parts.now.journal c.obey_steps-in-Finish.new.parts.bus c.obey_steps-in-Finish.new.parts.stack c.obey_steps-in-Finish.new.parts.journal) (sym c.in-Finish.is) (w orders.Finish)) c.obey_steps-in-Finish.ensures.obeyed
 
 pub returns-in-Do-clause-too_long : goal.returns-in-Do-clause-too_long
-returns-in-Do-clause-too_long g c = on_err_weaker c.obey_call_whole.result (λ w. subst (λ o. Stuck (g.M.Module.spec c.args.driver.now) (power_on c.args.config.now 0) (g.M.Caller.call_of c.args.driver.now) c.args.script.now c.args.most c.args.directive.now.line o c.args.stack.now c.args.journal.now c.obey_call_whole.new.bus c.obey_call_whole.new.stack c.obey_call_whole.new.journal) (sym c.in-Do.is) w) c.obey_call_whole.ensures.too_long
+returns-in-Do-clause-too_long g c = on_err_weaker c.obey_call_whole.result (λ w. subst (λ o. Stuck (g.M.Module.spec c.args.course.now.driver) (chip_for c.args.course.now.config c.args.course.now.script.now) (g.M.Caller.call_of c.args.course.now.driver) c.args.course.now.script.now c.args.course.now.most c.args.directive.now.line o c.args.parts.now.stack c.args.parts.now.journal c.obey_call_whole.new.parts.bus c.obey_call_whole.new.parts.stack c.obey_call_whole.new.parts.journal) (sym c.in-Do.is) w) c.obey_call_whole.ensures.too_long
 
 pub returns-in-Serve-clause-too_long : goal.returns-in-Serve-clause-too_long
-returns-in-Serve-clause-too_long g c = on_err_weaker c.obey_enter_whole.result (λ w. subst (λ o. Stuck (g.M.Module.spec c.args.driver.now) (power_on c.args.config.now 0) (g.M.Caller.call_of c.args.driver.now) c.args.script.now c.args.most c.args.directive.now.line o c.args.stack.now c.args.journal.now c.obey_enter_whole.new.bus c.obey_enter_whole.new.stack c.obey_enter_whole.new.journal) (sym c.in-Serve.is) w) c.obey_enter_whole.ensures.too_long
+returns-in-Serve-clause-too_long g c = on_err_weaker c.obey_enter_whole.result (λ w. subst (λ o. Stuck (g.M.Module.spec c.args.course.now.driver) (chip_for c.args.course.now.config c.args.course.now.script.now) (g.M.Caller.call_of c.args.course.now.driver) c.args.course.now.script.now c.args.course.now.most c.args.directive.now.line o c.args.parts.now.stack c.args.parts.now.journal c.obey_enter_whole.new.parts.bus c.obey_enter_whole.new.parts.stack c.obey_enter_whole.new.parts.journal) (sym c.in-Serve.is) w) c.obey_enter_whole.ensures.too_long
 
 pub returns-in-Run-clause-too_long : goal.returns-in-Run-clause-too_long
-returns-in-Run-clause-too_long g c = on_err_weaker c.obey_steps.result (λ w. subst (λ o. Stuck (g.M.Module.spec c.args.driver.now) (power_on c.args.config.now 0) (g.M.Caller.call_of c.args.driver.now) c.args.script.now c.args.most c.args.directive.now.line o c.args.stack.now c.args.journal.now c.obey_steps.new.bus c.obey_steps.new.stack c.obey_steps.new.journal) (sym c.in-Run.is) w) c.obey_steps.ensures.too_long
+returns-in-Run-clause-too_long g c = on_err_weaker c.obey_steps.result (λ w. subst (λ o. Stuck (g.M.Module.spec c.args.course.now.driver) (chip_for c.args.course.now.config c.args.course.now.script.now) (g.M.Caller.call_of c.args.course.now.driver) c.args.course.now.script.now c.args.course.now.most c.args.directive.now.line o c.args.parts.now.stack c.args.parts.now.journal c.obey_steps.new.parts.bus c.obey_steps.new.parts.stack c.obey_steps.new.parts.journal) (sym c.in-Run.is) w) c.obey_steps.ensures.too_long
 
 pub returns-in-Upto-clause-too_long : goal.returns-in-Upto-clause-too_long
-returns-in-Upto-clause-too_long g c = on_err_weaker c.obey_steps-in-Upto.result (λ w. subst (λ o. Stuck (g.M.Module.spec c.args.driver.now) (power_on c.args.config.now 0) (g.M.Caller.call_of c.args.driver.now) c.args.script.now c.args.most c.args.directive.now.line o c.args.stack.now c.args.journal.now c.obey_steps-in-Upto.new.bus c.obey_steps-in-Upto.new.stack c.obey_steps-in-Upto.new.journal) (sym c.in-Upto.is) w) c.obey_steps-in-Upto.ensures.too_long
+returns-in-Upto-clause-too_long g c = on_err_weaker c.obey_steps-in-Upto.result (λ w. subst (λ o. Stuck (g.M.Module.spec c.args.course.now.driver) (chip_for c.args.course.now.config c.args.course.now.script.now) (g.M.Caller.call_of c.args.course.now.driver) c.args.course.now.script.now c.args.course.now.most c.args.directive.now.line o c.args.parts.now.stack c.args.parts.now.journal c.obey_steps-in-Upto.new.parts.bus c.obey_steps-in-Upto.new.parts.stack c.obey_steps-in-Upto.new.parts.journal) (sym c.in-Upto.is) w) c.obey_steps-in-Upto.ensures.too_long
 
 pub returns-in-Finish-clause-too_long : goal.returns-in-Finish-clause-too_long
-returns-in-Finish-clause-too_long g c = on_err_weaker c.obey_steps-in-Finish.result (λ w. subst (λ o. Stuck (g.M.Module.spec c.args.driver.now) (power_on c.args.config.now 0) (g.M.Caller.call_of c.args.driver.now) c.args.script.now c.args.most c.args.directive.now.line o c.args.stack.now c.args.journal.now c.obey_steps-in-Finish.new.bus c.obey_steps-in-Finish.new.stack c.obey_steps-in-Finish.new.journal) (sym c.in-Finish.is) w) c.obey_steps-in-Finish.ensures.too_long
+returns-in-Finish-clause-too_long g c = on_err_weaker c.obey_steps-in-Finish.result (λ w. subst (λ o. Stuck (g.M.Module.spec c.args.course.now.driver) (chip_for c.args.course.now.config c.args.course.now.script.now) (g.M.Caller.call_of c.args.course.now.driver) c.args.course.now.script.now c.args.course.now.most c.args.directive.now.line o c.args.parts.now.stack c.args.parts.now.journal c.obey_steps-in-Finish.new.parts.bus c.obey_steps-in-Finish.new.parts.stack c.obey_steps-in-Finish.new.parts.journal) (sym c.in-Finish.is) w) c.obey_steps-in-Finish.ensures.too_long

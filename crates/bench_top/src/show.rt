@@ -1,0 +1,240 @@
+ghost use Rattle.std.specs.Prelude.{◌≡◌, ◌+◌, ◌<◌, ◌≤◌, ◌++◌, ◌∷◌, [], IfOk, OnOk, Some, length, slice_get, string_bytes};
+ghost use Rattle.config_facts.specs.Valid.{IsValid};
+ghost use Rattle.mcal_base.specs.Layout.{length_of};
+ghost use Rattle.mcal_base.specs.declared.layout.Array.TheVariants.{Stamps};
+ghost use Rattle.bench_report.specs.Shown.{rows_text};
+ghost use Rattle.mcal_system.specs.Runs.{moment_of};
+ghost use Rattle.mcal_system.specs.Shows.{size_at};
+ghost use Rattle.bench_top.specs.Shows as spec;
+
+use bench_report::{RowName, Value, write_row};
+use mcal_base::{Config, McuRamSection, Shown};
+use mcal_system::System;
+use std::alloc::{AllocError, Global};
+
+/// The number of pins.
+const PINS: u32 = 64;
+
+/// The number of capture channels.
+const CAPTURES: u32 = 8;
+
+/// Whether a pin is configured.
+fn has_pin(config: &Config, pin: u32) -> bool
+    ensures { result ≡ spec.has_pin config.now pin }
+{
+    config
+        .port
+        .pins
+        .as_slice()
+        .iter()
+        .any(|other| other.id == pin)
+}
+
+/// A level as it is printed.
+fn level_value(high: bool) -> u32
+    ensures { result ≡ spec.level_value high }
+{
+    if high { 1 } else { 0 }
+}
+
+/// Writes the row of a configured pin.
+#[tactic(auto, using(crate::proofs::Rows::row_alone))]
+fn write_level(
+    text: &mut String,
+    system: &System<'_>,
+    line: u32,
+    pin: u32,
+) -> Result<(), AllocError>
+    requires rest { (moment_of system.now).opens ≡ [] }
+    requires there { pin < 64 }
+    ensures { let m = moment_of system.now in
+        OnOk result (string_bytes text.new ≡ string_bytes text.old ++ rows_text line (spec.level_row system.now.config m.world m.state pin ∷ [])) }
+{
+    let level = level_value(system.pin(pin));
+    write_row(text, line, RowName::Pin(pin), &[Value::One(level)])
+}
+
+/// Writes the row of a pin, where it is configured.
+#[tactic(auto, using(crate::proofs::Rows::no_rows))]
+fn write_pin(text: &mut String, system: &System<'_>, line: u32, pin: u32) -> Result<(), AllocError>
+    requires rest { (moment_of system.now).opens ≡ [] }
+    requires there { pin < 64 }
+    ensures { let m = moment_of system.now in
+        OnOk result (string_bytes text.new ≡ string_bytes text.old ++ rows_text line (spec.pin_row system.now.config m.world m.state pin)) }
+{
+    if has_pin(system.config(), pin) {
+        write_level(text, system, line, pin)
+    } else {
+        Ok(())
+    }
+}
+
+/// The lines of the pins.
+fn pins_text(alloc: Global, system: &System<'_>, line: u32) -> Result<String, AllocError>
+    requires rest { (moment_of system.now).opens ≡ [] }
+    ensures { let m = moment_of system.now in
+        IfOk result (λ text. string_bytes text ≡ rows_text line (spec.pin_rows system.now.config m.world m.state)) }
+{
+    let mut text = String::new(alloc);
+    for pin in 0..PINS {
+        write_pin(&mut text, system, line, pin)?;
+    }
+    Ok(text)
+}
+
+/// The words of a RAM section.
+fn words_of(
+    alloc: Global,
+    system: &System<'_>,
+    first: u32,
+    size: u32,
+) -> Result<Vec<Value>, AllocError>
+    requires rest { (moment_of system.now).opens ≡ [] }
+    requires inside { first + size ≤ 512 }
+    ensures { IfOk result (λ values. values.items ≡ spec.words (moment_of system.now).state first size) }
+{
+    let mut values = Vec::new(alloc);
+    for number in 0..size {
+        values.push(Value::One(system.ram(first + number)))?;
+    }
+    Ok(values)
+}
+
+/// Writes the row of a RAM section.
+#[tactic(auto, using(crate::proofs::Rows::row_alone))]
+fn write_section(
+    alloc: Global,
+    text: &mut String,
+    system: &System<'_>,
+    line: u32,
+    number: u32,
+    section: &McuRamSection,
+) -> Result<(), AllocError>
+    requires rest { (moment_of system.now).opens ≡ [] }
+    requires inside { section.now.base_address + section.now.size ≤ 512 }
+    ensures { OnOk result (string_bytes text.new ≡ string_bytes text.old ++ rows_text line (spec.section_row (moment_of system.now).state number section.now ∷ [])) }
+{
+    let values = words_of(alloc, system, section.base_address, section.size)?;
+    write_row(text, line, RowName::Ram(number), &values)
+}
+
+/// The RAM section of a number.
+fn section_at(sections: &[McuRamSection], number: u32) -> &McuRamSection
+    requires there { number < length sections.now }
+    requires inside { spec.AreInside sections.now }
+    ensures section { slice_get sections.now number ≡ Some result.now }
+    ensures inside { result.now.base_address + result.now.size ≤ 512 }
+{
+    &sections[number as usize]
+}
+
+/// The lines of the RAM sections.
+fn sections_text(
+    alloc: Global,
+    system: &System<'_>,
+    line: u32,
+    sections: &[McuRamSection],
+) -> Result<String, AllocError>
+    requires rest { (moment_of system.now).opens ≡ [] }
+    requires inside { spec.AreInside sections.now }
+    requires few { length sections.now ≤ 8 }
+    ensures { IfOk result (λ text. string_bytes text ≡ rows_text line (spec.section_rows (moment_of system.now).state 0 sections.now)) }
+{
+    let mut text = String::new(alloc);
+    for number in 0..sections.len() as u32 {
+        let section = section_at(sections, number);
+        write_section(alloc, &mut text, system, line, number, section)?;
+    }
+    Ok(text)
+}
+
+/// The first places of a capture channel's stamps.
+fn stamps_of(
+    alloc: Global,
+    system: &System<'_>,
+    channel: u32,
+    size: u32,
+) -> Result<Vec<Value>, AllocError>
+    requires rest { (moment_of system.now).opens ≡ [] }
+    requires inside { size ≤ length_of system.now.config (Stamps channel) }
+    ensures { IfOk result (λ values. values.items ≡ spec.stamps (moment_of system.now).state channel size) }
+{
+    let mut values = Vec::new(alloc);
+    for place in 0..size {
+        values.push(Value::One(system.stamp(channel, place)))?;
+    }
+    Ok(values)
+}
+
+/// Writes the row of so many places of a capture channel's stamps.
+#[tactic(auto, using(crate::proofs::Rows::row_alone))]
+fn write_stamps(
+    alloc: Global,
+    text: &mut String,
+    system: &System<'_>,
+    line: u32,
+    channel: u32,
+    size: u32,
+) -> Result<(), AllocError>
+    requires rest { (moment_of system.now).opens ≡ [] }
+    requires inside { size ≤ length_of system.now.config (Stamps channel) }
+    ensures { OnOk result (string_bytes text.new ≡ string_bytes text.old ++ rows_text line (spec.stamps_row (moment_of system.now).state channel (Some size))) }
+{
+    let values = stamps_of(alloc, system, channel, size)?;
+    write_row(text, line, RowName::Stamps(channel), &values)
+}
+
+/// Writes the row of a capture channel's stamps, where it was started since the last reset.
+#[tactic(auto, using(crate::proofs::Rows::no_rows))]
+fn write_capture(
+    alloc: Global,
+    text: &mut String,
+    system: &System<'_>,
+    line: u32,
+    channel: u32,
+) -> Result<(), AllocError>
+    requires rest { (moment_of system.now).opens ≡ [] }
+    requires there { channel < 8 }
+    ensures { let s = (moment_of system.now).state in
+        OnOk result (string_bytes text.new ≡ string_bytes text.old ++ rows_text line (spec.stamps_row s channel (size_at s channel))) }
+{
+    match system.stamps(channel) {
+        Some(size) => write_stamps(alloc, text, system, line, channel, size),
+        None => Ok(()),
+    }
+}
+
+/// The lines of the buffers: those of the capture channels' stamps.
+fn buffers_text(alloc: Global, system: &System<'_>, line: u32) -> Result<String, AllocError>
+    requires rest { (moment_of system.now).opens ≡ [] }
+    ensures { IfOk result (λ text. string_bytes text ≡ rows_text line (spec.stamps_rows (moment_of system.now).state)) }
+{
+    let mut text = String::new(alloc);
+    for channel in 0..CAPTURES {
+        write_capture(alloc, &mut text, system, line, channel)?;
+    }
+    Ok(text)
+}
+
+/// The lines that a show prints at a script line.
+pub(crate) fn shown_text(
+    alloc: Global,
+    system: &System<'_>,
+    line: u32,
+    shown: Shown,
+) -> Result<String, AllocError>
+    requires rest { (moment_of system.now).opens ≡ [] }
+    requires valid { IsValid system.now.config }
+    ensures { let m = moment_of system.now in
+        IfOk result (λ text. string_bytes text ≡ rows_text line (spec.show_rows system.now.config m.world m.state shown)) }
+{
+    match shown {
+        Shown::Pins => pins_text(alloc, system, line),
+        Shown::Ram => {
+            let sections = system.config().mcu.ram_sections.as_slice();
+            sections_text(alloc, system, line, sections)
+        }
+        Shown::Buffers => buffers_text(alloc, system, line),
+        Shown::Wire => Ok(String::new(alloc)),
+    }
+}

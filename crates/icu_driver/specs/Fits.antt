@@ -1,0 +1,46 @@
+-- A driver that was made of a sound configuration is as it has to be.
+use Rattle.std.proofs.Common.{◌≡◌, ℕ, suc, ◌<◌, Bool, true, false, ◌==◌, List, [], ◌∷◌, Some, refl, ap, subst, arith}
+use Rattle.std.specs.Prelude.{All, if◌then◌else◌, is_some}
+use Rattle.mcal_base.specs.declared.config.icu.IcuChannel.{IcuChannel}
+use Rattle.mcal_base.specs.declared.config.icu.IcuConfig.{IcuConfig}
+use Rattle.icu_driver.specs.Ground.{FitsIcu}
+use Rattle.icu_driver.specs.Table.{channel_in, driver_of, channel_of, taken, is_measurement}
+use Rattle.icu_driver.specs.declared.driver.Channel.{Channel}
+use Rattle.icu_driver.specs.laws.Ground.{within}
+use Rattle.icu_driver.specs.laws.Tables.{by_eight}
+
+-- the channel's pin is there, and a measurement has a property
+pub record IsSound (x : IcuChannel) : Type 0 where
+  pub pin : x.pin < 64
+  pub property : is_measurement x.measurement_mode ≡ true → is_some x.signal_measurement_property ≡ true
+
+-- what is known of a channel that was found
+pub record IsFound (c : ℕ) (k : Channel) : Type 0 where
+  pub number : k.number ≡ c
+  pub pin : k.pin < 64
+  pub property : is_measurement k.mode ≡ true → is_some k.measured ≡ true
+
+found_by : (x : IcuChannel) (xs : List IcuChannel) (c : ℕ) (k : Channel) (q : Bool) → IsSound x → (channel_in xs c ≡ Some k → IsFound c k) → (if q then Some (taken x c) else channel_in xs c) ≡ Some k → IsFound c k
+found_by x xs c k true sound more e =
+    let at : taken x c ≡ k = cc in
+    subst (λ y. IsFound c y) at (record { number = refl; pin = sound.pin; property = sound.property })
+found_by x xs c k false sound more e = more e
+
+found : (xs : List IcuChannel) (c : ℕ) (k : Channel) → All IsSound xs → channel_in xs c ≡ Some k → IsFound c k
+found [] c k sound e = absurd (cc)
+found (x ∷ xs) c k sound e = found_by x xs c k (x.id == c) (sound 0 x (omega arith)) (λ f. found xs c k (λ i y lt. sound (suc i) y (omega arith)) f) e
+
+-- a channel of the driver is one that was found
+in_table : (g : IcuConfig) (k : Channel) (c : ℕ) → c < 8 → channel_of (driver_of g) c ≡ Some k → channel_in g.channels c ≡ Some k
+in_table g k = by_eight (λ c. channel_of (driver_of g) c ≡ Some k → channel_in g.channels c ≡ Some k) (λ e. e) (λ e. e) (λ e. e) (λ e. e) (λ e. e) (λ e. e) (λ e. e) (λ e. e)
+
+table_of : (g : IcuConfig) (c : ℕ) (k : Channel) → channel_of (driver_of g) c ≡ Some k → channel_in g.channels c ≡ Some k
+table_of g c k e = in_table g k c (within (driver_of g) c (ap (λ x. is_some x) e)) e
+
+-- the driver of a configuration with sound channels
+pub fits_of : (g : IcuConfig) → All IsSound g.channels → FitsIcu (driver_of g)
+fits_of g sound = record {
+  number = λ c k e. (found g.channels c k sound (table_of g c k e)).number;
+  pin = λ c k e. (found g.channels c k sound (table_of g c k e)).pin;
+  property = λ c k e. (found g.channels c k sound (table_of g c k e)).property;
+}

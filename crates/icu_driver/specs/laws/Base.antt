@@ -1,0 +1,23 @@
+-- What all laws speak of, passed on.
+pub use Rattle.std.proofs.lemmas.Bool.Decides.{nat_tests}
+pub use Rattle.mcal_base.specs.Bits.{has_bit}
+pub use Rattle.mcal_base.specs.declared.moves.Event.TheVariants.{Act, Serve}
+pub use Rattle.mcal_base.specs.declared.moves.Move.{Move}
+pub use Rattle.run_model.specs.Machine.{Told, no_answer, tells_nothing, outcome}
+pub use Rattle.service_outline.specs.declared.done.Owed.{Owed}
+pub use Rattle.service_outline.specs.declared.done.Owed.TheVariants.{Nothing, One}
+pub use Rattle.service_outline.specs.declared.done.BodyTaken.{BodyTaken}
+pub use Rattle.service_outline.specs.Done.{goes, acts as acts_on, ends, number, numbers, named}
+pub use Rattle.service_outline.specs.Fuel.{Shortens}
+pub use Rattle.icu_driver.specs.Words.{word, line, bit, joined, condition_of, first_condition, mode_of}
+pub use Rattle.icu_driver.specs.declared.driver.Channel.{Channel}
+pub use Rattle.icu_driver.specs.declared.driver.IcuDriver.{IcuDriver}
+pub use Rattle.icu_driver.specs.declared.words.TheConstants.{STATE, SWITCHES, MARKS, SIZES, INTERVALS, PLACES, VALUES, TIMES, LINES, CHANNELS}
+use Rattle.std.proofs.Common.{ℕ, Bool, true, false}
+use Rattle.std.specs.Prelude.{if◌then◌else◌}
+
+-- ---- families of bodies
+
+pub shortens_if : {Body : Type 0} (fuel : Body → ℕ) (k : Body) (q : Bool) (a b : Body × BodyTaken) → Shortens fuel k a → Shortens fuel k b → Shortens fuel k (if q then a else b)
+shortens_if fuel k true a b h i = h
+shortens_if fuel k false a b h i = i

@@ -1,0 +1,51 @@
+-- Each body as one of the driver's bodies.
+use Rattle.service_outline.specs.declared.body.Or.{Or}
+use Rattle.service_outline.specs.declared.body.Or.TheVariants.{First, Second}
+use Rattle.icu_driver.specs.declared.service.change.ChangeBody.{ChangeBody}
+use Rattle.icu_driver.specs.declared.service.count.CountBody.{CountBody}
+use Rattle.icu_driver.specs.declared.service.deinit.DeInitBody.{DeInitBody}
+use Rattle.icu_driver.specs.declared.service.detect.DetectBody.{DetectBody}
+use Rattle.icu_driver.specs.declared.service.duty.DutyBody.{DutyBody}
+use Rattle.icu_driver.specs.declared.service.gate.GateBody.{GateBody}
+use Rattle.icu_driver.specs.declared.service.init.InitBody.{InitBody}
+use Rattle.icu_driver.specs.declared.service.keep.KeepBody.{KeepBody}
+use Rattle.icu_driver.specs.declared.service.measure.MeasureBody.{MeasureBody}
+use Rattle.icu_driver.specs.declared.service.sample.SampleBody.{SampleBody}
+use Rattle.icu_driver.specs.declared.service.stamp.StampBody.{StampBody}
+
+-- a place in any body of the driver
+abbrev pub IcuBody : Type 0
+IcuBody = Or (Or (Or InitBody DeInitBody) (Or DetectBody (Or KeepBody SampleBody))) (Or (Or ChangeBody (Or CountBody GateBody)) (Or StampBody (Or MeasureBody DutyBody)))
+
+abbrev pub init_body : InitBody → IcuBody
+init_body k = First (First (First k))
+
+abbrev pub deinit_body : DeInitBody → IcuBody
+deinit_body k = First (First (Second k))
+
+abbrev pub detect_body : DetectBody → IcuBody
+detect_body k = First (Second (First k))
+
+abbrev pub keep_body : KeepBody → IcuBody
+keep_body k = First (Second (Second (First k)))
+
+abbrev pub sample_body : SampleBody → IcuBody
+sample_body k = First (Second (Second (Second k)))
+
+abbrev pub change_body : ChangeBody → IcuBody
+change_body k = Second (First (First k))
+
+abbrev pub count_body : CountBody → IcuBody
+count_body k = Second (First (Second (First k)))
+
+abbrev pub gate_body : GateBody → IcuBody
+gate_body k = Second (First (Second (Second k)))
+
+abbrev pub stamp_body : StampBody → IcuBody
+stamp_body k = Second (Second (First k))
+
+abbrev pub measure_body : MeasureBody → IcuBody
+measure_body k = Second (Second (Second (First k)))
+
+abbrev pub duty_body : DutyBody → IcuBody
+duty_body k = Second (Second (Second (Second k)))

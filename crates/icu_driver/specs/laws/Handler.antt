@@ -1,0 +1,45 @@
+-- The bodies of the handlers, by what a channel is for.
+use Rattle.std.specs.Prelude.{Bool, true, false, Option, Some, None}
+use Rattle.mcal_base.specs.declared.config.icu.IcuMeasurementMode.{IcuMeasurementMode}
+use Rattle.mcal_base.specs.declared.config.icu.IcuMeasurementMode.TheVariants.{SignalEdgeDetect, EdgeCounter, Timestamp, SignalMeasurement}
+use Rattle.mcal_base.specs.declared.config.icu.IcuSignalMeasurementProperty.{IcuSignalMeasurementProperty}
+use Rattle.mcal_base.specs.declared.config.icu.IcuSignalMeasurementProperty.TheVariants.{PeriodTime, DutyCycle}
+use Rattle.icu_driver.specs.Ground.{first_of}
+use Rattle.icu_driver.specs.Table.{is_linear, is_duty_cycle}
+use Rattle.icu_driver.specs.declared.driver.Channel.{Channel}
+use Rattle.icu_driver.specs.declared.service.detect.DetectBody.TheVariants as detects
+use Rattle.icu_driver.specs.declared.service.keep.Kept.{Kept}
+use Rattle.icu_driver.specs.declared.service.keep.KeepBody.TheVariants as keeps
+use Rattle.icu_driver.specs.declared.service.sample.Sampled.{Sampled}
+use Rattle.icu_driver.specs.declared.service.sample.SampleBody.TheVariants as samples
+use Rattle.icu_driver.specs.laws.Bodies.{IcuBody, detect_body, keep_body, sample_body}
+
+-- a measure begins at a rising edge; it ends at the next edge at which one begins
+abbrev pub begins : Option IcuSignalMeasurementProperty → Channel → Bool
+begins p k = first_of p k
+
+abbrev pub is_whole : Option IcuSignalMeasurementProperty → Bool
+is_whole (Some PeriodTime) = true
+is_whole (Some DutyCycle) = true
+is_whole _ = false
+
+-- what the handlers know at first
+abbrev pub keeping : Channel → Kept
+keeping k = record { channel = k.number; linear = is_linear k.buffer; time = 0; size = 0; index = 0; left = 0; interval = 0; notified = false }
+
+abbrev pub sampling : Channel → Sampled
+sampling k = record { channel = k.number; first = begins k.measured k; whole = is_whole k.measured; duty = is_duty_cycle k.measured; rising = false; gap = false; time = 0; seen = 0; start = 0; opposite = 0 }
+
+abbrev pub handler_by : IcuMeasurementMode → Channel → IcuBody
+handler_by SignalEdgeDetect k = detect_body (detects.Look k.number)
+handler_by EdgeCounter k = detect_body (detects.Look k.number)
+handler_by Timestamp k = keep_body (keeps.Look (keeping k))
+handler_by SignalMeasurement k = sample_body (samples.Look (sampling k))
+
+abbrev pub handler_of : Channel → IcuBody
+handler_of k = handler_by k.mode k
+
+-- the handler of the line of a configured channel
+abbrev pub body_by : Option Channel → Option IcuBody
+body_by None = None
+body_by (Some k) = Some (handler_of k)

@@ -1,0 +1,197 @@
+-- The load of the state word: what it decides for each call, and what a call shows that goes on.
+use Rattle.std.proofs.Common.{◌≡◌, ℕ, ◌<◌, ◌≤◌, Bool, true, false, ◌||◌, ◌==◌, nat_lt, not, length, cond, List, [], ◌∷◌, Option, Some, None, refl, ◌∙◌, ap, arith}
+use Rattle.std.specs.Prelude.{if◌then◌else◌, is_some, slice_index_or}
+use Rattle.std.specs.Option.{option_or}
+use Rattle.std.proofs.lemmas.Bool.Decides.{nat_tests}
+use Rattle.det_errors.proofs.RowLaws.{none_holds, last_at}
+use Rattle.det_errors.specs.Rows.{errors_of}
+use Rattle.mcal_base.specs.declared.error_name.ErrorName.{ErrorName}
+use Rattle.mcal_base.specs.declared.error_name.ErrorName.TheVariants.{IcuNotStarted}
+use Rattle.mcal_base.specs.declared.service.Service.TheVariants as services
+use Rattle.service_outline.specs.Done.{owed_error}
+use Rattle.service_outline.specs.declared.done.Done.{Done}
+use Rattle.service_outline.specs.declared.body.Looked.{Looked}
+use Rattle.service_outline.specs.declared.body.Looked.TheVariants.{Refused, Goes}
+use Rattle.icu_driver.specs.Checks.{facts_by, error_by, service_of, channel_service, answer_refused, allows, reporting}
+use Rattle.icu_driver.specs.Ground.{state_word}
+use Rattle.icu_driver.specs.Machine.{IcuState}
+use Rattle.icu_driver.specs.Table.{channel_of, is_detection}
+use Rattle.icu_driver.specs.declared.asked.Asked.{Asked}
+use Rattle.icu_driver.specs.declared.call.Call.{Call}
+use Rattle.icu_driver.specs.declared.call.Call.TheVariants.{Init, DeInit}
+use Rattle.icu_driver.specs.declared.call.Call.TheVariants as calls
+use Rattle.icu_driver.specs.declared.call.ChannelCall.{ChannelCall}
+use Rattle.icu_driver.specs.declared.call.ChannelCall.TheVariants.{SetActivationCondition, EnableNotification, DisableNotification, GetInputState, EnableEdgeDetection, DisableEdgeDetection, ResetEdgeCount, EnableEdgeCount, DisableEdgeCount, GetEdgeNumbers, StartTimestamp, StopTimestamp, GetTimestampIndex, StartSignalMeasurement, StopSignalMeasurement, GetTimeElapsed, GetDutyCycleValues}
+use Rattle.icu_driver.specs.declared.driver.Channel as configured
+use Rattle.icu_driver.specs.declared.driver.IcuDriver.{IcuDriver}
+use Rattle.icu_driver.specs.declared.service.change.ChangeBody.TheVariants as changes
+use Rattle.icu_driver.specs.declared.service.count.CountBody.TheVariants as counts
+use Rattle.icu_driver.specs.declared.service.deinit.DeInitBody.TheVariants as deinits
+use Rattle.icu_driver.specs.declared.service.duty.DutyBody.TheVariants as duties
+use Rattle.icu_driver.specs.declared.service.gate.GateBody.TheVariants as gates
+use Rattle.icu_driver.specs.declared.service.init.InitBody.TheVariants as inits
+use Rattle.icu_driver.specs.declared.service.measure.MeasureBody.TheVariants as measures
+use Rattle.icu_driver.specs.declared.service.stamp.StampBody.TheVariants as stamps
+use Rattle.icu_driver.specs.laws.Base.{no_answer, Nothing}
+use Rattle.icu_driver.specs.laws.Bodies.{IcuBody, init_body, deinit_body, change_body, count_body, gate_body, stamp_body, measure_body, duty_body}
+
+-- ---- what it decides
+
+-- whether a call's own arguments are wrong, in their order
+abbrev pub wrong : ChannelCall → Bool × Bool
+wrong (SetActivationCondition edge) = (not (is_some edge), false)
+wrong (StartTimestamp size interval) = (size == 0 || nat_lt 64 size, interval == 0)
+wrong _ = (false, false)
+
+-- stamping is taken to be under way
+abbrev pub facts_of : Asked → ℕ → List Bool
+facts_of q word = facts_by q.driver q.call (word == 0) true
+
+abbrev pub refusal_of : Asked → ErrorName → Done
+refusal_of q e = record { answer = answer_refused q.call; owed = owed_error (reporting q.driver) (service_of q.call) e }
+
+abbrev pub let_be : Looked IcuBody
+let_be = Refused (record { answer = no_answer; owed = Nothing })
+
+-- the body of a call about a configured channel
+abbrev pub goes_with : IcuDriver → (number : ℕ) → ChannelCall → IcuBody
+goes_with d c (SetActivationCondition edge) = change_body (changes.Ask c)
+goes_with d c EnableNotification = change_body (changes.Notify c true)
+goes_with d c DisableNotification = change_body (changes.Notify c false)
+goes_with d c GetInputState = change_body (changes.Ask c)
+goes_with d c EnableEdgeDetection = gate_body (gates.Open c)
+goes_with d c DisableEdgeDetection = gate_body (gates.Close c)
+goes_with d c ResetEdgeCount = count_body (counts.Zero c)
+goes_with d c EnableEdgeCount = count_body (counts.Open c)
+goes_with d c DisableEdgeCount = count_body (counts.Close c)
+goes_with d c GetEdgeNumbers = count_body (counts.Low c)
+goes_with d c (StartTimestamp size interval) = stamp_body (stamps.Open (record { channel = c; size = size; interval = interval }))
+goes_with d c StopTimestamp = stamp_body (stamps.Look c (owed_error (reporting d) services.IcuStopTimestamp IcuNotStarted))
+goes_with d c GetTimestampIndex = stamp_body (stamps.Started c)
+goes_with d c StartSignalMeasurement = measure_body (measures.Open c)
+goes_with d c StopSignalMeasurement = gate_body (gates.Close c)
+goes_with d c GetTimeElapsed = measure_body (measures.Waits c)
+goes_with d c GetDutyCycleValues = duty_body (duties.Waits c)
+
+abbrev pub begun_with : IcuDriver → configured.Channel → ChannelCall → Looked IcuBody
+begun_with d k (SetActivationCondition None) = let_be
+begun_with d k (SetActivationCondition (Some edge)) = Goes (change_body (changes.Choose k.number edge (is_detection k.mode)))
+begun_with d k call = Goes (goes_with d k.number call)
+
+abbrev pub begun_on : IcuDriver → ChannelCall → Option configured.Channel → Looked IcuBody
+begun_on d call None = let_be
+begun_on d call (Some k) = begun_with d k call
+
+-- what a call without an error so far goes on with
+abbrev pub begins : IcuDriver → Call → Looked IcuBody
+begins d Init = Goes (init_body (inits.Condition d 0))
+begins d DeInit = Goes (deinit_body (deinits.Store d))
+begins d (calls.Channel c call) = begun_on d call (channel_of d c)
+
+abbrev pub begun_of : Asked → Looked IcuBody
+begun_of q = begins q.driver q.call
+
+abbrev pub looked_by : Asked → Option ErrorName → Looked IcuBody
+looked_by q None = begun_of q
+looked_by q (Some e) = Refused (refusal_of q e)
+
+abbrev pub icu_looked : Asked → ℕ → Looked IcuBody
+icu_looked q word = looked_by q (error_by q.driver q.call (word == 0) true)
+
+-- ---- what a call shows that goes on
+
+-- it shows no error before it looks at a channel
+abbrev pub Passed : IcuDriver → IcuState → Call → Type 0
+Passed d s call = error_by d call (not s.initialised) true ≡ None
+
+-- a condition of its row doesn't hold
+no_error : (d : IcuDriver) (s : IcuState) (call : Call) → Passed d s call → (k : ℕ) → k < length (errors_of (service_of call)) → slice_index_or (facts_by d call (not s.initialised) true) k false ≡ false
+no_error d s call pass k lt = none_holds (errors_of (service_of call)) (facts_by d call (not s.initialised) true) pass k lt
+
+yes : (b : Bool) → not b ≡ false → b ≡ true
+yes true e = refl
+yes false e = absurd (cc)
+
+no : (b : Bool) → not (not b) ≡ false → b ≡ false
+no true e = absurd (cc)
+no false e = refl
+
+pub off_of : (d : IcuDriver) (s : IcuState) → Passed d s Init → s.initialised ≡ false
+off_of d s pass = no s.initialised (no_error d s Init pass 0 (omega arith))
+
+-- the first two conditions of a call about a channel
+two_there : (call : ChannelCall) → 1 < length (errors_of (channel_service call))
+two_there (SetActivationCondition edge) = omega arith
+two_there (StartTimestamp size interval) = omega arith
+two_there StopTimestamp = omega arith
+two_there EnableNotification = omega arith
+two_there DisableNotification = omega arith
+two_there GetInputState = omega arith
+two_there EnableEdgeDetection = omega arith
+two_there DisableEdgeDetection = omega arith
+two_there ResetEdgeCount = omega arith
+two_there EnableEdgeCount = omega arith
+two_there DisableEdgeCount = omega arith
+two_there GetEdgeNumbers = omega arith
+two_there GetTimestampIndex = omega arith
+two_there StartSignalMeasurement = omega arith
+two_there StopSignalMeasurement = omega arith
+two_there GetTimeElapsed = omega arith
+two_there GetDutyCycleValues = omega arith
+
+pub on_of : (d : IcuDriver) (s : IcuState) (c : ℕ) (call : ChannelCall) → Passed d s (calls.Channel c call) → s.initialised ≡ true
+on_of d s c call pass = let two = two_there call in yes s.initialised (no_error d s (calls.Channel c call) pass 0 (omega (arith, two)))
+
+pub deinit_on : (d : IcuDriver) (s : IcuState) → Passed d s DeInit → s.initialised ≡ true
+deinit_on d s pass = yes s.initialised (no_error d s DeInit pass 0 (omega arith))
+
+pub allowed : (d : IcuDriver) (s : IcuState) (c : ℕ) (call : ChannelCall) → Passed d s (calls.Channel c call) → allows call (channel_of d c) ≡ true
+allowed d s c call pass = yes (allows call (channel_of d c)) (no_error d s (calls.Channel c call) pass 1 (two_there call))
+
+-- the arguments of a start are right
+pub sizes_of : (d : IcuDriver) (s : IcuState) (c size interval : ℕ) → Passed d s (calls.Channel c (StartTimestamp size interval)) → (0 < size) × (size ≤ 64) × (0 < interval)
+sizes_of d s c size interval pass = (positive size (no_error d s (calls.Channel c (StartTimestamp size interval)) pass 2 (omega arith)), few size (no_error d s (calls.Channel c (StartTimestamp size interval)) pass 2 (omega arith)), some interval (no_error d s (calls.Channel c (StartTimestamp size interval)) pass 3 (omega arith)))
+  where
+    positive : (n : ℕ) → n == 0 || nat_lt 64 n ≡ false → 0 < n
+    positive n e = grind (arith, nat_tests)
+
+    few : (n : ℕ) → n == 0 || nat_lt 64 n ≡ false → n ≤ 64
+    few n e = grind (arith, nat_tests)
+
+    some : (n : ℕ) → (n == 0) ≡ false → 0 < n
+    some n e = grind (arith, nat_tests)
+
+-- some edges are chosen
+pub edges_of : (d : IcuDriver) (s : IcuState) (c : ℕ) → Passed d s (calls.Channel c (SetActivationCondition None)) → ⊥
+edges_of d s c pass = let e = no_error d s (calls.Channel c (SetActivationCondition None)) pass 2 (omega arith) in cc
+
+-- ---- whether stamping is under way counts for a stop alone, where nothing stands before it
+
+abbrev pub is_stop : ChannelCall → Bool
+is_stop StopTimestamp = true
+is_stop _ = false
+
+pub unhindered : (d : IcuDriver) (c : ℕ) (call : ChannelCall) (u a b : Bool) → is_stop call ≡ false → error_by d (calls.Channel c call) u a ≡ error_by d (calls.Channel c call) u b
+unhindered d c StopTimestamp u a b e = absurd (cc)
+unhindered d c _ u a b e = refl
+
+cond_is : (b : Bool) → ◌≡◌ {A = Option ErrorName} (cond (not b) (Some IcuNotStarted) None) (if b then None else Some IcuNotStarted)
+cond_is true = refl
+cond_is false = refl
+
+stop_by : (d : IcuDriver) (c : ℕ) (u b : Bool) (o : Option ErrorName) → error_by d (calls.Channel c StopTimestamp) u true ≡ o → error_by d (calls.Channel c StopTimestamp) u b ≡ option_or o (cond (not b) (Some IcuNotStarted) None)
+stop_by d c u b o h = last_at (errors_of services.IcuStopTimestamp) (u ∷ not (allows StopTimestamp (channel_of d c)) ∷ false ∷ false ∷ false ∷ false ∷ []) 2 (not b) refl (omega arith) ∙ ap (λ x. option_or x (cond (not b) (Some IcuNotStarted) None)) h
+
+pub stop_unhindered : (d : IcuDriver) (c : ℕ) (u : Bool) → error_by d (calls.Channel c StopTimestamp) u true ≡ None → (b : Bool) → error_by d (calls.Channel c StopTimestamp) u b ≡ (if b then None else Some IcuNotStarted)
+stop_unhindered d c u h b = stop_by d c u b None h ∙ cond_is b
+
+-- an error that the look names stands whatever is under way
+pub early : (d : IcuDriver) (call : Call) (u b : Bool) (e : ErrorName) → error_by d call u true ≡ Some e → error_by d call u b ≡ Some e
+early d Init u b e h = h
+early d DeInit u b e h = h
+early d (calls.Channel c StopTimestamp) u b e h = stop_by d c u b (Some e) h
+early d (calls.Channel c call) u b e h = unhindered d c call u b true refl ∙ h
+
+pub asked_word : (d : IcuDriver) (call : Call) (on : Bool) → icu_looked (record { call = call; driver = d }) (state_word on) ≡ looked_by (record { call = call; driver = d }) (error_by d call (not on) true)
+asked_word d call true = refl
+asked_word d call false = refl

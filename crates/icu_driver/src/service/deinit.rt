@@ -1,0 +1,89 @@
+ghost use Rattle.std.specs.Prelude.{◌≡◌};
+ghost use Rattle.icu_driver.specs.laws.DeInit as spec;
+
+use crate::driver::IcuDriver;
+use crate::words::{CHANNELS, LINES, MARKS, STATE, SWITCHES, word};
+use mcal_base::{IcuMeasurementMode, Move, Reg};
+use service_outline::{Body, BodyTaken, Owed, acts, ends, goes, nothing};
+
+/// `Icu_DeInit`, from the load of the state word on.
+#[derive(Clone, Copy, Debug)]
+pub enum DeInitBody {
+    /// It acts, and the module is uninitialised.
+    Store(IcuDriver),
+    /// It disables the lines.
+    Disable(IcuDriver),
+    /// It closes all gates.
+    Close(IcuDriver),
+    /// It makes the count of this channel 0.
+    Zero(IcuDriver, u8),
+    /// It drops the edges of this channel,
+    Flush(IcuDriver, u8),
+    /// the first of its words,
+    Switch(IcuDriver, u8),
+    /// and the second one.
+    Mark(IcuDriver, u8),
+}
+
+impl Body for DeInitBody {
+    ghost use Rattle.icu_driver.specs.laws.DeInit.{deinit_work, deinit_takes};
+
+    ghost work_of = { deinit_work };
+
+    ghost takes = { deinit_takes };
+
+    fn next(&self) -> Move {
+        match *self {
+            DeInitBody::Store(_) => Move::Store(STATE, 0),
+            DeInitBody::Disable(_) => Move::Write(Reg::EnableClear, LINES),
+            DeInitBody::Close(_) => Move::Write(Reg::CaptureGateClear, CHANNELS),
+            DeInitBody::Zero(_, number) => Move::Write(Reg::CaptureZero(u32::from(number)), 0),
+            DeInitBody::Flush(_, number) => Move::Write(Reg::CaptureFlush(u32::from(number)), 0),
+            DeInitBody::Switch(_, number) => Move::Store(word(SWITCHES, number), 0),
+            DeInitBody::Mark(_, number) => Move::Store(word(MARKS, number), 0),
+        }
+    }
+
+    fn took(&mut self, _value: u32) -> BodyTaken {
+        let (after, taken) = match *self {
+            DeInitBody::Store(driver) => (DeInitBody::Disable(driver), acts()),
+            DeInitBody::Disable(driver) => (DeInitBody::Close(driver), goes()),
+            DeInitBody::Close(driver) => (at(driver, 0), goes()),
+            DeInitBody::Flush(driver, number) => (DeInitBody::Switch(driver, number), goes()),
+            DeInitBody::Switch(driver, number) => (DeInitBody::Mark(driver, number), goes()),
+            DeInitBody::Zero(driver, number) | DeInitBody::Mark(driver, number) if number < 7 => {
+                (at(driver, number + 1), goes())
+            }
+            DeInitBody::Zero(..) | DeInitBody::Mark(..) => (
+                *self,
+                ends(None, nothing(), Owed::Nothing),
+            ),
+        };
+        *self = after;
+        taken
+    }
+}
+
+/// Where the work on a channel begins.
+fn at(driver: IcuDriver, number: u8) -> DeInitBody
+    ensures { result ≡ spec.deinit_at driver number }
+{
+    if counts(driver, number) {
+        DeInitBody::Zero(driver, number)
+    } else {
+        DeInitBody::Flush(driver, number)
+    }
+}
+
+/// Whether the channel is an edge counter.
+fn counts(driver: IcuDriver, number: u8) -> bool
+    ensures { result ≡ spec.counts driver number }
+{
+    match driver.channel(u32::from(number)) {
+        Some(channel) => match channel.mode {
+            IcuMeasurementMode::EdgeCounter => true,
+            _ => false,
+        },
+        None => false,
+    }
+}

@@ -1,0 +1,188 @@
+-- What an engine over the drivers of a configuration says, said of the modules' setting.
+use Rattle.std.proofs.Common.{◌≡◌, ℕ, ◌<◌, ◌≤◌, Bool, true, false, List, [], length, take, Option, Some, None, refl, ◌∙◌, ap, subst}
+use Rattle.std.specs.Prelude.{◌||◌, Result, Ok, Err, OnOk, is_some, slice_index}
+use Rattle.std.specs.Option.{IfSome}
+use Rattle.std.specs.Bool.{OnTrue, OnFalse}
+use Rattle.std.proofs.Math.Path.{fun_ext}
+use Rattle.chip_model.specs.Chip.{Chip, pin_of, word_of}
+use Rattle.config_facts.specs.Valid.{IsPwm, IsIcu}
+use Rattle.mcal_base.specs.Layout.{length_of, place_of}
+use Rattle.mcal_base.specs.declared.config.whole.Config.{Config}
+use Rattle.mcal_base.specs.declared.directive.Directive.{Directive}
+use Rattle.mcal_base.specs.declared.layout.Array.TheVariants.{Stamps}
+use Rattle.run_model.specs.Entry.{Entry}
+use Rattle.run_model.specs.Follows.{Gives, Follows}
+use Rattle.run_model.specs.Legal.{IsLegal}
+use Rattle.run_model.specs.Moment.{Setting, Moment, Deed, start_moment, after_all}
+use Rattle.run_model.specs.Script.{deeds_of}
+use Rattle.run_model.specs.Stops.{FollowsToStop}
+use Rattle.run_model.specs.World.{World}
+use Rattle.script_runner.specs.Runs as engine
+use Rattle.script_runner.specs.Scripts.{IsRun, IsStopped, chip_for, script_bound, words_given}
+use Rattle.service_outline.specs.Services.{entering, services_driver}
+use Rattle.service_outline.specs.ShortServices as short
+use Rattle.step_runner.specs.Driver.{Driver}
+use Rattle.step_runner.specs.Union.{either_handler, has_handler, union_setting, union_of}
+use Rattle.gpt_driver.specs.Table as timer_table
+use Rattle.gpt_driver.specs.declared.asked.Asked as timer_asked
+use Rattle.gpt_driver.specs.declared.driver.Channel as timer_channels
+use Rattle.gpt_driver.specs.laws.Lawful as timer_laws
+use Rattle.gpt_driver.specs.laws.Lawful.{gpt}
+use Rattle.mcu_driver.specs.laws.Lawful.{mcu}
+use Rattle.port_driver.specs.laws.Lawful.{port}
+use Rattle.pwm_driver.specs.laws.Lawful.{pwm}
+use Rattle.icu_driver.specs.laws.Lawful.{icu}
+use Rattle.pwm_driver.specs.Table as pulse_table
+use Rattle.pwm_driver.specs.declared.asked.Asked as pulse_asked
+use Rattle.pwm_driver.specs.declared.driver.Channel as pulse_channels
+use Rattle.pwm_driver.specs.laws.Lawful as pulse_laws
+use Rattle.icu_driver.specs.Ground.{settled, IcuAgrees}
+use Rattle.mcal_system.specs.Drivers.{SystemFrame, clock, pins, timers, pulses, captures, drivers_of, as_one}
+use Rattle.mcal_system.specs.Runs.{SystemRun, most_steps, bound_of, run_start, moment_of, AddsItems}
+use Rattle.mcal_system.specs.Setting.{SystemState, SystemCall, clock_setting, pin_setting, timer_setting, pulse_setting, capture_setting, joined, system_setting, call_of}
+use Rattle.mcal_system.specs.Shows.{level_at, ram_at, size_at, stamp_at}
+use Rattle.mcal_system.specs.declared.drivers.Drivers.{Drivers}
+use Rattle.mcal_system.proofs.Stamps.{size_few}
+use Rattle.mcal_system.proofs.Levels.{pin_level, ram_word, stamp_word}
+use Rattle.mcal_system.proofs.Resting.{Rests, rests, related, last_of, opens-some}
+
+abbrev pub Inner : Type 0
+Inner = engine.Run Drivers SystemFrame
+
+-- the run that is seen from outside
+abbrev pub seen : Inner → SystemRun
+seen e = record { config = e.config; script = e.script; obeyed = e.obeyed; too_long = e.too_long; journal = e.journal }
+
+-- ---- the setting
+
+-- a line has a handler exactly where a configured channel uses it
+timer_line : (k : Option timer_channels.Channel) → is_some (entering {Asked = timer_asked.Asked} (timer_laws.body_by k)) ≡ is_some k
+timer_line None = refl
+timer_line (Some k) = refl
+
+timer_lines : (c : Config) → has_handler (timers c) ≡ (timer_setting c).used
+timer_lines c = fun_ext (λ l. timer_line (timer_table.channel_of (timer_table.driver_of c.gpt) l))
+
+pulse_line : (k : Option pulse_channels.Channel) → is_some (entering {Asked = pulse_asked.Asked} (pulse_laws.body_by k)) ≡ is_some k
+pulse_line None = refl
+pulse_line (Some k) = refl
+
+pulse_lines : (c : Config) → has_handler (pulses c) ≡ (pulse_setting c).used
+pulse_lines c = fun_ext (λ l. pulse_line (pulse_table.channel_of_line (pulse_table.driver_of c.pwm) l))
+
+-- of two as one
+has_either : {F G : Type 0} (x : Option F) (y : Option G) → is_some (either_handler x y) ≡ is_some x || is_some y
+has_either (Some f) y = refl
+has_either None (Some g) = refl
+has_either None None = refl
+
+lines_of : {S T C D F G : Type 0} (d : Driver S C F) (e : Driver T D G) (g : Setting S C) (h : Setting T D) → has_handler d ≡ g.used → has_handler e ≡ h.used → has_handler (union_of d e) ≡ (joined g h).used
+lines_of d e g h first second = fun_ext (λ l. has_either (d.handler_of l) (e.handler_of l) ∙ ap (λ (ours : ℕ → Bool). ours l || is_some (e.handler_of l)) first ∙ ap (λ (theirs : ℕ → Bool). g.used l || theirs l) second)
+
+joined_of : {S T C D F G : Type 0} (d : Driver S C F) (e : Driver T D G) (g : Setting S C) (h : Setting T D) → has_handler d ≡ g.used → d.setting ≡ g → e.setting ≡ h → (union_of d e).setting ≡ joined g h
+joined_of d e g h lines first second = ap (λ (ours : ℕ → Bool). union_setting ours d.setting e.setting) lines ∙ ap (λ x. union_setting g.used x e.setting) first ∙ ap (λ x. joined g x) second
+
+-- the drivers' setting is the modules'
+same_setting : (c : Config) → (as_one (drivers_of c)).setting ≡ system_setting c
+unfolding as_one system_setting
+same_setting c =
+    let timed = joined (pin_setting c) (timer_setting c) in
+    let firsts = joined (clock_setting c) timed in
+    let timed_lines = lines_of (pins c) (timers c) (pin_setting c) (timer_setting c) refl (timer_lines c) in
+    let first_lines = lines_of (clock c) (union_of (pins c) (timers c)) (clock_setting c) timed refl timed_lines in
+    let timed_on = joined_of (pins c) (timers c) (pin_setting c) (timer_setting c) refl refl refl in
+    let firsts_on = joined_of (clock c) (union_of (pins c) (timers c)) (clock_setting c) timed refl refl timed_on in
+    let seconds_on = joined_of (pulses c) (captures c) (pulse_setting c) (capture_setting c) (pulse_lines c) refl refl in
+    joined_of (union_of (clock c) (union_of (pins c) (timers c))) (union_of (pulses c) (captures c)) firsts (joined (pulse_setting c) (capture_setting c)) first_lines firsts_on seconds_on
+
+pub carry : (P : Setting SystemState SystemCall → Type 0) (c : Config) (u : Drivers) → u ≡ drivers_of c → P (as_one u).setting → P (system_setting c)
+carry P c u e h = subst P (same_setting c) (subst (λ x. P (as_one x).setting) e h)
+
+-- where no frame is under way the capture driver agrees with its machine
+captures_related : (u : Drivers) (chip : Chip) (w : World) (s : SystemState) → (as_one u).relates chip w [] s → IcuAgrees u.captures settled chip w s.1.1
+unfolding as_one
+captures_related u chip w s h = last_of (union_of (services_driver (mcu u.clock)) (union_of (services_driver (port u.pins)) (short.driver_of (gpt u.timers)))) (services_driver (pwm u.pulses)) (short.driver_of (icu u.captures)) chip w s h
+
+-- ---- answers
+
+pub on_ok_map : {A E P Q : Type 0} (r : Result A E) → (P → Q) → OnOk r P → OnOk r Q
+on_ok_map (Ok a) f h = f h
+on_ok_map (Err e) f h = tt
+
+pub on_true_map : {P Q : Type 0} (b : Bool) → (P → Q) → OnTrue b P → OnTrue b Q
+on_true_map true f h = f h
+on_true_map false f h = tt
+
+pub on_false_map : {P Q : Type 0} (b : Bool) → (P → Q) → OnFalse b P → OnFalse b Q
+on_false_map true f h = tt
+on_false_map false f h = f h
+
+-- before the first directive
+pub starts : (c : Config) (script : List Directive) (u : Drivers) (e : Inner) → u ≡ drivers_of c → e ≡ engine.run_start u (as_one u).setting call_of c script 1000000 → seen e ≡ run_start c script
+starts c script u e made begins = carry (λ g. seen e ≡ seen (engine.run_start u g call_of c script 1000000)) c u made (ap seen begins)
+
+-- what a run of the modules is: its moment, and the start of one
+abbrev Starts : Setting SystemState SystemCall → SystemRun → Moment SystemState SystemCall
+Starts g r = start_moment g (chip_for r.config r.script)
+
+abbrev Comes : Setting SystemState SystemCall → SystemRun → Moment SystemState SystemCall
+Comes g r = after_all g (Starts g r) (deeds_of call_of r.script r.journal.entries)
+
+module _ (e : Inner) (made : e.driver ≡ drivers_of e.config) (r : SystemRun) (is : seen e ≡ r) where
+  -- what is so of the setting of the engine's drivers is so of the modules'
+  there : (P : Setting SystemState SystemCall → SystemRun → Type 0) → P (as_one e.driver).setting (seen e) → P (system_setting r.config) r
+  there P h = subst (λ (x : SystemRun). P (system_setting x.config) x) is (carry (λ g. P g (seen e)) e.config e.driver made h)
+
+  pub follows : (xs : List Entry) → OnFalse e.too_long (Follows (as_one e.driver).setting call_of (Starts (as_one e.driver).setting (seen e)) (take e.obeyed e.script) xs) → OnFalse r.too_long (Follows (system_setting r.config) call_of (Starts (system_setting r.config) r) (take r.obeyed r.script) xs)
+  follows xs h = there (λ g x. OnFalse x.too_long (Follows g call_of (Starts g x) (take x.obeyed x.script) xs)) h
+
+  pub stops : (xs : List Entry) → OnTrue e.too_long (FollowsToStop (as_one e.driver).setting call_of (Starts (as_one e.driver).setting (seen e)) e.script xs) → OnTrue r.too_long (FollowsToStop (system_setting r.config) call_of (Starts (system_setting r.config) r) r.script xs)
+  stops xs h = there (λ g x. OnTrue x.too_long (FollowsToStop g call_of (Starts g x) x.script xs)) h
+
+  pub legal : (xs : List Entry) → IsLegal (as_one e.driver).setting (Starts (as_one e.driver).setting (seen e)) (deeds_of call_of e.script xs) → IsLegal (system_setting r.config) (Starts (system_setting r.config) r) (deeds_of call_of r.script xs)
+  legal xs h = there (λ g x. IsLegal g (Starts g x) (deeds_of call_of x.script xs)) h
+
+  pub whole : (xs : List Entry) → (e.too_long ≡ false → e.obeyed ≡ length e.script → IsRun (as_one e.driver).setting (chip_for e.config e.script) call_of e.script xs) → r.too_long ≡ false → r.obeyed ≡ length r.script → IsRun (system_setting r.config) (chip_for r.config r.script) call_of r.script xs
+  whole xs h = there (λ g x. x.too_long ≡ false → x.obeyed ≡ length x.script → IsRun g (chip_for x.config x.script) call_of x.script xs) h
+
+  pub stopped : (xs : List Entry) → e.limit ≡ most_steps → OnTrue e.too_long (IsStopped (as_one e.driver).setting (chip_for e.config e.script) call_of e.limit e.script xs) → OnTrue r.too_long (IsStopped (system_setting r.config) (chip_for r.config r.script) call_of most_steps r.script xs)
+  stopped xs limited h = subst (λ n. OnTrue r.too_long (IsStopped (system_setting r.config) (chip_for r.config r.script) call_of n r.script xs)) limited (there (λ g x. OnTrue x.too_long (IsStopped g (chip_for x.config x.script) call_of e.limit x.script xs)) h)
+
+  pub within : e.limit ≡ most_steps → OnTrue e.too_long (e.limit < script_bound (as_one e.driver).setting call_of e.script) → OnTrue r.too_long (most_steps < bound_of r.config r.script)
+  within limited h = subst (λ n. OnTrue r.too_long (n < bound_of r.config r.script)) limited (there (λ g x. OnTrue x.too_long (e.limit < script_bound g call_of x.script)) h)
+
+  pub alone : (result : Bool) → OnTrue result (engine.IsAtRest (as_one e.driver) call_of e) → OnTrue result ((moment_of r).opens ≡ [])
+  alone result h = there (λ g x. OnTrue result ((Comes g x).opens ≡ [])) (on_true_map result (λ k. k.alone) h)
+
+  pub adds : (directive : Directive) (e1 : Inner) → engine.AddsItems (as_one e.driver) call_of directive e e1 → AddsItems directive r (seen e1)
+  adds directive e1 h = subst (λ (x : SystemRun). AddsItems directive x (seen e1)) is (record {
+    items = h.items;
+    is = h.is;
+    gives = carry (λ g. Gives g call_of (Comes g (seen e)) directive.line directive.order h.items) e.config e.driver made h.gives;
+  })
+
+  module _ (stands : engine.StandsThere (as_one e.driver) call_of e) where
+    abbrev Deeds : List (Deed SystemCall)
+    Deeds = deeds_of call_of e.script e.journal.entries
+
+    pub some : (result : Bool) → OnFalse result (0 < length e.frames) → OnFalse result (0 < length (moment_of r).opens)
+    some result h = there (λ g x. OnFalse result (0 < length (Comes g x).opens)) (on_false_map result (λ k. opens-some (as_one e.driver) (chip_for e.config e.script) e.chip e.frames Deeds stands k) h)
+
+    at_rest : (moment_of r).opens ≡ [] → Rests (system_setting r.config) (chip_for r.config r.script) e.chip (moment_of r)
+    at_rest = there (λ g x. (Comes g x).opens ≡ [] → Rests g (chip_for x.config x.script) e.chip (Comes g x)) (rests (as_one e.driver) (chip_for e.config e.script) e.chip e.frames Deeds stands)
+
+    pub pin_there : (p : ℕ) → p < 64 → (moment_of r).opens ≡ [] → IsPwm e.config.pwm → pin_of e.chip p ≡ level_at r.config (moment_of r).world (moment_of r).state p
+    pin_there p lt rest valid = pin_level r.config (words_given r.script) e.chip (moment_of r) (at_rest rest) p lt (subst (λ (x : SystemRun). IsPwm x.config.pwm) is valid)
+
+    pub ram_there : (k : ℕ) → k < 512 → (moment_of r).opens ≡ [] → slice_index e.chip.ram k ≡ ram_at (moment_of r).state k
+    ram_there k lt rest = ram_word r.config (words_given r.script) e.chip (moment_of r) (at_rest rest) k lt
+
+    pub stamp_there : (c i : ℕ) → i < length_of r.config (Stamps c) → (moment_of r).opens ≡ [] → IsIcu e.config.icu → word_of e.chip (place_of (Stamps c) i) ≡ stamp_at (moment_of r).state c i
+    stamp_there c i lt rest valid = stamp_word r.config (words_given r.script) e.chip (moment_of r) (at_rest rest) c i (subst (λ (x : SystemRun). IsIcu x.config.icu) is valid) lt
+
+    -- the capture driver's words and registers agree with its machine
+    pub captures_there : (moment_of r).opens ≡ [] → IcuAgrees e.driver.captures settled e.chip (moment_of r).world (moment_of r).state.1.1
+    captures_there = there (λ g x. (Comes g x).opens ≡ [] → IcuAgrees e.driver.captures settled e.chip (Comes g x).world (Comes g x).state.1.1) (λ none. captures_related e.driver e.chip (Comes (as_one e.driver).setting (seen e)).world (Comes (as_one e.driver).setting (seen e)).state (related (as_one e.driver) (chip_for e.config e.script) e.chip e.frames Deeds stands none))
+
+    pub size_there : (c : ℕ) → c < 8 → (moment_of r).opens ≡ [] → IfSome (size_at (moment_of r).state c) (λ n. n ≤ length_of r.config (Stamps c))
+    size_there c lt rest = subst (λ (x : SystemRun). IfSome (size_at (moment_of r).state c) (λ n. n ≤ length_of x.config (Stamps c))) is (size_few e.driver.captures e.chip (moment_of r).world (moment_of r).state.1.1 (captures_there rest) c lt e.config (ap (λ (u : Drivers). u.captures) made))

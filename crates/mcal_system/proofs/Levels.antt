@@ -1,0 +1,57 @@
+-- At rest the pins' levels and the RAM words of the chip are the machine's.
+use Rattle.std.proofs.Common.{◌≡◌, ℕ, ◌<◌, Bool, Option, Some, None, refl, ◌∙◌, ap}
+use Rattle.std.specs.Prelude.{slice_index, option_map}
+use Rattle.chip_model.specs.Chip.{Chip, word_of, power_on, channel_from, output_at, outside_at, pin_of}
+use Rattle.chip_model.specs.declared.wiring.Wiring.{Wiring}
+use Rattle.chip_pulses.specs.Pulses as outputs
+use Rattle.config_facts.specs.Valid.{IsPwm, IsIcu}
+use Rattle.mcal_base.specs.Layout.{length_of, place_of}
+use Rattle.mcal_base.specs.declared.config.pwm.PwmChannel.{PwmChannel}
+use Rattle.mcal_base.specs.declared.config.whole.Config.{Config}
+use Rattle.mcal_base.specs.declared.layout.Array.TheVariants.{Stamps}
+use Rattle.run_model.specs.Moment.{Moment}
+use Rattle.port_driver.specs.Machine as pins
+use Rattle.port_driver.specs.laws.Levels.{level_stands}
+use Rattle.pwm_driver.specs.Bounds.{OutputsAgree}
+use Rattle.pwm_driver.specs.Machine as pulses
+use Rattle.pwm_driver.specs.Table as pulse_table
+use Rattle.mcal_system.specs.Setting.{SystemState, SystemCall, system_setting}
+use Rattle.mcal_system.specs.Shows.{channel_on, pulse_at, level_at, ram_at, stamp_at}
+use Rattle.mcal_system.proofs.Named.{few, named}
+use Rattle.mcal_system.proofs.Stamps.{has_channel, stamps_few}
+use Rattle.mcal_system.proofs.Resting.{Rests}
+
+module _ (c : Config) (room : ℕ) (chip : Chip) (m : Moment SystemState SystemCall) (rests : Rests (system_setting c) (power_on c room) chip m) where
+  -- the outputs of all pulse units are the machine's
+  outputs_agree : OutputsAgree (pulse_table.driver_of c.pwm) m.chip.pulses m.world m.state.1.0
+  unfolding system_setting
+  outputs_agree = (rests.served.outputs rests.unmasked).1.0
+
+  abbrev level : ℕ → Bool
+  level k = outputs.level_at m.chip.pulses k
+
+  -- and so is the one that is seen at a pin
+  seen : (p : ℕ) → IsPwm c.pwm → output_at m.chip p ≡ pulse_at c m.world m.state p
+  seen p v =
+      ap (λ (w : Wiring). option_map level (channel_from 0 w.outputs p)) rests.wiring
+      ∙ (ap (λ o. option_map level o) (named c p v)
+      ∙ by (channel_on c p) (few c p v))
+    where
+      by : (q : Option PwmChannel) → ((x : PwmChannel) → q ≡ Some x → x.id < 8) → option_map level (option_map (λ (x : PwmChannel). x.id) q) ≡ option_map (λ (x : PwmChannel). pulses.level_at (pulse_table.driver_of c.pwm) m.world m.state.1.0 x.id) q
+      by None few = refl
+      by (Some x) few = ap (λ b. Some b) (outputs_agree x.id (few x refl))
+
+  pub pin_level : (p : ℕ) → p < 64 → IsPwm c.pwm → pin_of chip p ≡ level_at c m.world m.state p
+  unfolding system_setting
+  pin_level p lt v =
+      ap (λ (x : Chip). pin_of x p) rests.chip_is
+      ∙ (level_stands m.chip.pins m.world m.state.0.1.0 p (outside_at m.chip p) (output_at m.chip p) rests.quiet.rest.0.1.0 lt (rests.outside.levels p lt)
+      ∙ ap (λ o. pins.level_at m.world m.state.0.1.0 p o) (seen p v))
+
+  pub ram_word : (k : ℕ) → k < 512 → slice_index chip.ram k ≡ ram_at m.state k
+  unfolding system_setting
+  ram_word k lt = ap (λ (x : Chip). slice_index x.ram k) rests.chip_is ∙ rests.quiet.rest.0.0 k lt
+
+  pub stamp_word : (i k : ℕ) → IsIcu c.icu → k < length_of c (Stamps i) → word_of chip (place_of (Stamps i) k) ≡ stamp_at m.state i k
+  unfolding system_setting
+  stamp_word i k v lt = ap (λ (x : Chip). word_of x (place_of (Stamps i) k)) rests.chip_is ∙ rests.quiet.rest.1.1 i (has_channel c i k lt v) k (stamps_few c i k lt)

@@ -1,0 +1,8 @@
+mod Carried
+mod Joining
+mod Levels
+pub mod Limits
+mod Named
+mod Resting
+pub mod Sound
+mod Stamps

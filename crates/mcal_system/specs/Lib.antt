@@ -1,0 +1,5 @@
+pub mod Drivers
+pub mod Laws
+pub mod Runs
+pub mod Setting
+pub mod Shows

@@ -1,0 +1,77 @@
+-- What a run of all modules as one is over, and which call a request asks for.
+use Rattle.std.specs.Prelude.{Bool, ◌||◌, cond}
+use Rattle.mcal_base.specs.declared.config.whole.Config.{Config}
+use Rattle.mcal_base.specs.declared.directive.Request.{Request}
+use Rattle.mcal_base.specs.declared.service.Service.{Service}
+use Rattle.run_model.specs.Moment.{Setting}
+use Rattle.step_runner.specs.Union.{union_setting}
+use Rattle.step_runner.specs.declared.either.Either.{Either}
+use Rattle.step_runner.specs.declared.either.Either.TheVariants.{Left, Right}
+use Rattle.mcu_driver.specs.Bounds.{mcu_setting}
+use Rattle.mcu_driver.specs.Machine.{McuState}
+use Rattle.mcu_driver.specs.Requests as clock_requests
+use Rattle.mcu_driver.specs.Table as clock_table
+use Rattle.mcu_driver.specs.declared.call.Call as clock_calls
+use Rattle.port_driver.specs.Bounds.{port_setting}
+use Rattle.port_driver.specs.Machine.{PortState}
+use Rattle.port_driver.specs.Requests as pin_requests
+use Rattle.port_driver.specs.Table as pin_table
+use Rattle.port_driver.specs.declared.call.Call as pin_calls
+use Rattle.gpt_driver.specs.Ground.{gpt_setting}
+use Rattle.gpt_driver.specs.Machine.{GptState}
+use Rattle.gpt_driver.specs.Requests as timer_requests
+use Rattle.gpt_driver.specs.Table as timer_table
+use Rattle.gpt_driver.specs.declared.call.Call as timer_calls
+use Rattle.pwm_driver.specs.Bounds.{pwm_setting}
+use Rattle.pwm_driver.specs.Machine.{PwmState}
+use Rattle.pwm_driver.specs.Requests as pulse_requests
+use Rattle.pwm_driver.specs.Table as pulse_table
+use Rattle.pwm_driver.specs.declared.call.Call as pulse_calls
+use Rattle.icu_driver.specs.Bounds.{icu_setting}
+use Rattle.icu_driver.specs.Machine.{IcuState}
+use Rattle.icu_driver.specs.Requests as capture_requests
+use Rattle.icu_driver.specs.Table as capture_table
+use Rattle.icu_driver.specs.declared.call.Call as capture_calls
+
+-- the modules' states and calls, in the order of the configuration
+abbrev pub SystemState : Type 0
+SystemState = (McuState × (PortState × GptState)) × (PwmState × IcuState)
+
+abbrev pub SystemCall : Type 0
+SystemCall = Either (Either clock_calls.Call (Either pin_calls.Call timer_calls.Call)) (Either pulse_calls.Call capture_calls.Call)
+
+-- ---- the setting
+
+-- each module's under a configuration
+abbrev pub clock_setting : Config → Setting McuState clock_calls.Call
+clock_setting c = mcu_setting (clock_table.driver_of c.mcu)
+
+abbrev pub pin_setting : Config → Setting PortState pin_calls.Call
+pin_setting c = port_setting (pin_table.driver_of c.port)
+
+abbrev pub timer_setting : Config → Setting GptState timer_calls.Call
+timer_setting c = gpt_setting (timer_table.driver_of c.gpt)
+
+abbrev pub pulse_setting : Config → Setting PwmState pulse_calls.Call
+pulse_setting c = pwm_setting (pulse_table.driver_of c.pwm)
+
+abbrev pub capture_setting : Config → Setting IcuState capture_calls.Call
+capture_setting c = icu_setting (capture_table.driver_of c.icu)
+
+-- the product of two: a line is the first's where an object of the first uses it, and the first sets the rate
+abbrev pub joined : {S T C D : Type 0} → Setting S C → Setting T D → Setting (S × T) (Either C D)
+joined g h = union_setting g.used g h
+
+-- all modules as one
+unfoldable pub system_setting : Config → Setting SystemState SystemCall
+system_setting c = joined (joined (clock_setting c) (joined (pin_setting c) (timer_setting c))) (joined (pulse_setting c) (capture_setting c))
+
+-- ---- requests
+
+-- the service is one of a module that is there
+unfoldable pub has_service : Service → Bool
+has_service s = clock_requests.has_service s || (pin_requests.has_service s || (timer_requests.has_service s || (pulse_requests.has_service s || capture_requests.has_service s)))
+
+-- the call that a request asks for, of the module that has its service
+unfoldable pub call_of : Request → SystemCall
+call_of r = cond (clock_requests.has_service r.service) (Left (Left (clock_requests.asked_for r))) (cond (pin_requests.has_service r.service) (Left (Right (Left (pin_requests.asked_for r)))) (cond (timer_requests.has_service r.service) (Left (Right (Right (timer_requests.call_of r)))) (cond (pulse_requests.has_service r.service) (Right (Left (pulse_requests.asked_call r))) (Right (Right (capture_requests.asked_for r))))))

@@ -1,0 +1,40 @@
+-- What pins and RAM words are in the modules' state.
+use Rattle.std.specs.Prelude.{ℕ, ◌==◌, Bool, false, Option, Some, None, option_map}
+use Rattle.std.specs.List.{find}
+use Rattle.mcal_base.specs.declared.config.pwm.PwmChannel.{PwmChannel}
+use Rattle.mcal_base.specs.declared.config.whole.Config.{Config}
+use Rattle.run_model.specs.World.{World}
+use Rattle.mcu_driver.specs.Machine as clock
+use Rattle.port_driver.specs.Machine as pins
+use Rattle.pwm_driver.specs.Machine as pulses
+use Rattle.pwm_driver.specs.Table as pulse_table
+use Rattle.icu_driver.specs.Bounds as captures
+use Rattle.mcal_system.specs.Setting.{SystemState}
+
+-- the pin is this one
+abbrev pub is_pin : Option ℕ → (pin : ℕ) → Bool
+is_pin None p = false
+is_pin (Some q) p = q == p
+
+-- the configured pulse channel that names a pin
+abbrev pub channel_on : Config → (pin : ℕ) → Option PwmChannel
+channel_on c p = find (λ (x : PwmChannel). is_pin x.pin p) c.pwm.channels
+
+-- the output of the pulse channel that names a pin
+abbrev pub pulse_at : Config → World → SystemState → (pin : ℕ) → Option Bool
+pulse_at c w s p = option_map (λ (x : PwmChannel). pulses.level_at (pulse_table.driver_of c.pwm) w s.1.0 x.id) (channel_on c p)
+
+-- the level of a pin
+abbrev pub level_at : Config → World → SystemState → (pin : ℕ) → Bool
+level_at c w s p = pins.level_at w s.0.1.0 p (pulse_at c w s p)
+
+-- a RAM word
+abbrev pub ram_at : SystemState → (number : ℕ) → ℕ
+ram_at s k = clock.ram_at s.0.0 k
+
+-- how many places of a capture channel's stamps are shown, and the time at a place
+abbrev pub size_at : SystemState → (channel : ℕ) → Option ℕ
+size_at s c = captures.size_of s.1.1 c
+
+abbrev pub stamp_at : SystemState → (channel place : ℕ) → ℕ
+stamp_at s c i = captures.stamp_at s.1.1 c i

@@ -1,0 +1,220 @@
+ghost use Rattle.std.specs.Prelude.{◌≡◌, ℕ};
+ghost use Rattle.chip_model.specs.Chip.{power_on};
+ghost use Rattle.config_facts.specs.Valid.{IsValid};
+ghost use Rattle.step_runner.specs.Driver.{Covers};
+ghost use Rattle.mcal_system.specs.Drivers.{drivers_of, system};
+
+use gpt_driver::GptDriver;
+use icu_driver::IcuDriver;
+use mcal_base::{Config, ModuleName, Request, Service};
+use mcu_driver::McuDriver;
+use port_driver::PortDriver;
+use pwm_driver::PwmDriver;
+use run_model::Class;
+use script_runner::Caller;
+use step_runner::{Either, Module};
+
+/// The drivers of all modules as one. The clock's comes first, since the first alone may set the rate.
+#[derive(Drop)]
+pub struct Drivers {
+    clock: McuDriver,
+    pins: PortDriver,
+    timers: GptDriver,
+    pulses: PwmDriver,
+    captures: IcuDriver,
+}
+
+impl Drivers {
+    /// The drivers under a configuration. They take no memory.
+    pub fn new(config: &Config) -> Drivers
+        requires valid { IsValid config.now }
+        ensures is { result ≡ drivers_of config.now }
+        ensures fits { (system config.now).fits }
+        ensures covers { Covers (system config.now) }
+        ensures wired { (room : ℕ) → (system config.now).wired (power_on config.now room) }
+    {
+        Drivers {
+            clock: McuDriver::new(config),
+            pins: PortDriver::new(config),
+            timers: GptDriver::new(config),
+            pulses: PwmDriver::new(config),
+            captures: IcuDriver::new(config),
+        }
+    }
+
+    /// The driver of the capture inputs.
+    pub fn captures(&self) -> &IcuDriver
+        ensures { result.now ≡ self.now.captures }
+    {
+        &self.captures
+    }
+}
+
+/// The calls of a module.
+type CallOf<M> = <M as Module>::Call;
+
+/// The frames of a module.
+type FrameOf<M> = <M as Module>::Frame;
+
+/// The states of a module's machine.
+type StateOf<M> = <M as Module>::State;
+
+/// A call of one of the modules, in their order.
+type Call = Either<
+    Either<CallOf<McuDriver>, Either<CallOf<PortDriver>, CallOf<GptDriver>>>,
+    Either<CallOf<PwmDriver>, CallOf<IcuDriver>>,
+>;
+
+/// A call or a handler of one of the modules, under way.
+type Frame = Either<
+    Either<FrameOf<McuDriver>, Either<FrameOf<PortDriver>, FrameOf<GptDriver>>>,
+    Either<FrameOf<PwmDriver>, FrameOf<IcuDriver>>,
+>;
+
+/// The states of their machines.
+type States = (
+    (
+        StateOf<McuDriver>,
+        (StateOf<PortDriver>, StateOf<GptDriver>),
+    ),
+    (StateOf<PwmDriver>, StateOf<IcuDriver>),
+);
+
+impl Module for Drivers {
+    type Call = Call;
+
+    type Frame = Frame;
+
+    type State = States;
+
+    ghost use Rattle.mcal_system.specs.Drivers.{as_one};
+    ghost use Rattle.mcal_system.specs.Laws.{lawful_system};
+
+    ghost spec = { as_one };
+
+    #[tactic(auto, unfolding(crate::specs::Drivers::as_one))]
+    fn frame(&self, call: &Call) -> Frame {
+        match call {
+            Either::Left(Either::Left(call)) => Either::Left(Either::Left(self.clock.frame(call))),
+            Either::Left(Either::Right(Either::Left(call))) => Either::Left(Either::Right(
+                Either::Left(self.pins.frame(call)),
+            )),
+            Either::Left(Either::Right(Either::Right(call))) => Either::Left(Either::Right(
+                Either::Right(self.timers.frame(call)),
+            )),
+            Either::Right(Either::Left(call)) => Either::Right(Either::Left(
+                self.pulses.frame(call),
+            )),
+            Either::Right(Either::Right(call)) => Either::Right(Either::Right(
+                self.captures.frame(call),
+            )),
+        }
+    }
+
+    /// Clock and pins have no lines.
+    #[tactic(auto, unfolding(crate::specs::Drivers::as_one))]
+    fn handler(&self, line: u32) -> Option<Frame> {
+        match self.timers.handler(line) {
+            Some(frame) => Some(Either::Left(Either::Right(Either::Right(frame)))),
+            None => match self.pulses.handler(line) {
+                Some(frame) => Some(Either::Right(Either::Left(frame))),
+                None => match self.captures.handler(line) {
+                    Some(frame) => Some(Either::Right(Either::Right(frame))),
+                    None => None,
+                },
+            },
+        }
+    }
+
+    #[tactic(auto, unfolding(crate::specs::Drivers::as_one))]
+    fn class(&self, call: &Call) -> Class {
+        match call {
+            Either::Left(Either::Left(call)) => self.clock.class(call),
+            Either::Left(Either::Right(Either::Left(call))) => self.pins.class(call),
+            Either::Left(Either::Right(Either::Right(call))) => self.timers.class(call),
+            Either::Right(Either::Left(call)) => self.pulses.class(call),
+            Either::Right(Either::Right(call)) => self.captures.class(call),
+        }
+    }
+
+    #[tactic(auto, unfolding(crate::specs::Drivers::as_one))]
+    fn level(&self, line: u32) -> u32 {
+        match self.timers.handler(line) {
+            Some(_) => self.timers.level(line),
+            None => match self.pulses.handler(line) {
+                Some(_) => self.pulses.level(line),
+                None => self.captures.level(line),
+            },
+        }
+    }
+
+    #[tactic(auto, unfolding(crate::specs::Drivers::as_one))]
+    fn owner(&self, line: u32) -> ModuleName {
+        match self.timers.handler(line) {
+            Some(_) => self.timers.owner(line),
+            None => match self.pulses.handler(line) {
+                Some(_) => self.pulses.owner(line),
+                None => self.captures.owner(line),
+            },
+        }
+    }
+
+    ghost laws = { lawful_system };
+}
+
+impl Caller for Drivers {
+    ghost use Rattle.mcal_system.specs.Laws.{slow_system};
+    ghost use Rattle.mcal_system.specs.Setting.{has_service, call_of};
+
+    ghost has_service = { λ _. has_service };
+
+    ghost call_of = { λ _. call_of };
+
+    #[tactic(auto, unfolding(crate::specs::Setting::has_service))]
+    fn has(&self, service: Service) -> bool {
+        matches!(
+            service.module(),
+            ModuleName::Mcu | ModuleName::Port | ModuleName::Gpt | ModuleName::Pwm | ModuleName::Icu
+        )
+    }
+
+    #[tactic(auto, unfolding(crate::specs::Drivers::as_one, crate::specs::Setting::has_service, crate::specs::Setting::call_of))]
+    fn call(&self, request: &Request) -> Call {
+        let service = request.service;
+        if self.clock.has(service) {
+            Either::Left(Either::Left(self.clock.call(request)))
+        } else if self.pins.has(service) {
+            Either::Left(Either::Right(Either::Left(self.pins.call(request))))
+        } else if self.timers.has(service) {
+            Either::Left(Either::Right(Either::Right(self.timers.call(request))))
+        } else if self.pulses.has(service) {
+            Either::Right(Either::Left(self.pulses.call(request)))
+        } else {
+            Either::Right(Either::Right(self.captures.call(request)))
+        }
+    }
+
+    #[tactic(auto, unfolding(crate::specs::Drivers::as_one))]
+    fn call_steps(&self, call: &Call) -> u32 {
+        match call {
+            Either::Left(Either::Left(call)) => self.clock.call_steps(call),
+            Either::Left(Either::Right(Either::Left(call))) => self.pins.call_steps(call),
+            Either::Left(Either::Right(Either::Right(call))) => self.timers.call_steps(call),
+            Either::Right(Either::Left(call)) => self.pulses.call_steps(call),
+            Either::Right(Either::Right(call)) => self.captures.call_steps(call),
+        }
+    }
+
+    #[tactic(auto, unfolding(crate::specs::Drivers::as_one))]
+    fn line_steps(&self, line: u32) -> u32 {
+        match self.timers.handler(line) {
+            Some(_) => self.timers.line_steps(line),
+            None => match self.pulses.handler(line) {
+                Some(_) => self.pulses.line_steps(line),
+                None => self.captures.line_steps(line),
+            },
+        }
+    }
+
+    ghost slow = { slow_system };
+}

@@ -1,0 +1,163 @@
+ghost use Rattle.std.specs.Prelude.{◌≡◌, ◌<◌, ◌≤◌, ◌+◌, [], length, take, true, false, IfOk, OnOk, OnErr, Some, slice_get};
+ghost use Rattle.std.specs.Option.{IfSome};
+ghost use Rattle.std.specs.Bool.{OnFalse, OnTrue};
+ghost use Rattle.config_facts.specs.Valid.{IsValid};
+ghost use Rattle.mcal_base.specs.Layout.{length_of};
+ghost use Rattle.mcal_base.specs.declared.layout.Array.TheVariants.{Stamps};
+ghost use Rattle.run_model.specs.Follows.{Follows};
+ghost use Rattle.run_model.specs.Legal.{IsLegal};
+ghost use Rattle.run_model.specs.Moment.{start_moment};
+ghost use Rattle.run_model.specs.Script.{deeds_of};
+ghost use Rattle.run_model.specs.Stops.{FollowsToStop, steps_in};
+ghost use Rattle.script_runner.specs.Scripts.{IsScript, IsRun, IsStopped, AllOffered, chip_for};
+ghost use Rattle.mcal_system.specs.Runs.{most_steps, bound_of, run_start, moment_of, IsSameRun, AddsItems};
+ghost use Rattle.mcal_system.specs.Setting.{system_setting, call_of, has_service};
+ghost use Rattle.mcal_system.specs.Shows.{level_at, ram_at, size_at, stamp_at};
+
+use crate::drivers::Drivers;
+use mcal_base::{Array, Config, Directive, NoMemory};
+use run_model::Journal;
+use script_runner::{Engine, TooLong};
+use std::alloc::Global;
+use std::marker::Model;
+
+/// The most steps of a run.
+pub const MOST_STEPS: u32 = 1_000_000;
+
+/// A run of a script over all modules of a configuration, from power on. It obeys one directive after another, and
+/// keeps the journal. All memory is taken before the first.
+#[derive(Drop)]
+pub struct System<'s> {
+    engine: Engine<'s, Drivers>,
+}
+
+impl<'s> Model for System<'s> {
+    ghost use Rattle.mcal_system.specs.Runs.{SystemRun};
+    ghost use Rattle.mcal_system.specs.Drivers.{IsOver};
+
+    ghost Value = { SystemRun };
+
+    ghost view = { λ s. record { config = s.engine.config; script = s.engine.script; obeyed = s.engine.obeyed; too_long = s.engine.too_long; journal = s.engine.journal } };
+
+    ghost invariant = { λ s. IsOver s.engine.config s.engine.driver s.engine.limit };
+}
+
+impl<'s> System<'s> {
+    /// A run before its first directive.
+    pub fn new(
+        alloc: Global,
+        config: Config,
+        script: &'s [Directive],
+    ) -> Result<System<'s>, NoMemory>
+        requires valid { IsValid config }
+        requires script { IsScript script.now }
+        requires offered { AllOffered has_service script.now }
+        ensures { IfOk result (λ run. run ≡ run_start config script.now) }
+    {
+        let drivers = Drivers::new(&config);
+        let engine = Engine::new(alloc, drivers, config, script, MOST_STEPS)?;
+        Ok(System { engine })
+    }
+
+    /// Obeys the next directive of the script, unless one more step than the most would be taken: then the run is over.
+    /// It takes no memory.
+    pub fn obey(&mut self, directive: &Directive) -> Result<(), TooLong>
+        requires goes { self.old.too_long ≡ false }
+        requires next { slice_get self.old.script self.old.obeyed ≡ Some directive.now }
+        ensures same { IsSameRun self.old self.new }
+        ensures obeyed { OnOk result ((self.new.too_long ≡ false) × (self.new.obeyed ≡ self.old.obeyed + 1)) }
+        ensures stopped { OnErr result ((self.new.too_long ≡ true) × (self.new.obeyed ≡ self.old.obeyed)) }
+        ensures adds { OnOk result (AddsItems directive.now self.old self.new) }
+    {
+        self.engine.obey(directive)
+    }
+
+    /// What was done: what the directives so far ask for, and all of it legal.
+    pub fn journal(&self) -> &Journal
+        ensures journal { result.now ≡ self.now.journal }
+        ensures follows { let setting = system_setting self.now.config in
+            let start = start_moment setting (chip_for self.now.config self.now.script) in
+            let so_far = take self.now.obeyed self.now.script in
+            OnFalse self.now.too_long (Follows setting call_of start so_far result.now.entries) }
+        ensures stops { let setting = system_setting self.now.config in
+            let start = start_moment setting (chip_for self.now.config self.now.script) in
+            OnTrue self.now.too_long (FollowsToStop setting call_of start self.now.script result.now.entries) }
+        ensures legal { let setting = system_setting self.now.config in
+            let start = start_moment setting (chip_for self.now.config self.now.script) in
+            IsLegal setting start (deeds_of call_of self.now.script result.now.entries) }
+        ensures few { steps_in result.now.entries ≤ most_steps }
+    {
+        self.engine.journal()
+    }
+
+    /// The journal, where no more is obeyed: that of a whole run, or of one that stopped.
+    pub fn into_journal(self) -> Journal
+        ensures journal { result ≡ self.entry.journal }
+        ensures whole { let run = self.entry in let first = chip_for run.config run.script in
+            run.too_long ≡ false → run.obeyed ≡ length run.script →
+            IsRun (system_setting run.config) first call_of run.script result.entries }
+        ensures stopped { let run = self.entry in let first = chip_for run.config run.script in
+            OnTrue run.too_long (IsStopped (system_setting run.config) first call_of most_steps run.script result.entries) }
+        ensures few { steps_in result.entries ≤ most_steps }
+        // The limit is met only where the bounds of all frames that may begin pass it.
+        ensures within { OnTrue self.entry.too_long (most_steps < bound_of self.entry.config self.entry.script) }
+    {
+        self.engine.into_journal()
+    }
+
+    /// Whether no frame is under way.
+    pub fn is_at_rest(&self) -> bool
+        ensures rest { OnTrue result ((moment_of self.now).opens ≡ []) }
+        ensures frames { OnFalse result (0 < length (moment_of self.now).opens) }
+    {
+        self.engine.bus();
+        self.engine.is_at_rest()
+    }
+
+    /// The level of a pin, while no frame is under way.
+    pub fn pin(&self, pin: u32) -> bool
+        requires rest { (moment_of self.now).opens ≡ [] }
+        requires there { pin < 64 }
+        ensures { let m = moment_of self.now in result ≡ level_at self.now.config m.world m.state pin }
+    {
+        self.engine.bus().pin(pin)
+    }
+
+    /// A RAM word, while no frame is under way.
+    pub fn ram(&self, number: u32) -> u32
+        requires rest { (moment_of self.now).opens ≡ [] }
+        requires there { number < 512 }
+        ensures { result ≡ ram_at (moment_of self.now).state number }
+    {
+        self.engine.bus().ram(number)
+    }
+
+    /// How many places of a capture channel's stamps are shown: the size of its last start, none without one since the
+    /// last reset. No frame is under way.
+    pub fn stamps(&self, channel: u32) -> Option<u32>
+        requires rest { (moment_of self.now).opens ≡ [] }
+        requires there { channel < 8 }
+        ensures size { result ≡ size_at (moment_of self.now).state channel }
+        ensures few { IfSome result (λ n. n ≤ length_of self.now.config (Stamps channel)) }
+    {
+        let captures = self.engine.driver().captures();
+        captures.stamps(self.engine.bus(), channel)
+    }
+
+    /// The time at a place of a configured capture channel's stamps, while no frame is under way.
+    pub fn stamp(&self, channel: u32, place: u32) -> u32
+        requires rest { (moment_of self.now).opens ≡ [] }
+        requires there { place < length_of self.now.config (Stamps channel) }
+        ensures { result ≡ stamp_at (moment_of self.now).state channel place }
+    {
+        let word = mcal_base::place(self.engine.config(), Array::Stamps(channel), place);
+        self.engine.bus().word(word)
+    }
+
+    /// The configuration.
+    pub fn config(&self) -> &Config
+        ensures { result.now ≡ self.now.config }
+    {
+        self.engine.config()
+    }
+}

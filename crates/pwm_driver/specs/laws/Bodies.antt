@@ -1,0 +1,34 @@
+-- Each body as one of the driver's bodies.
+use Rattle.service_outline.specs.declared.body.Or.{Or}
+use Rattle.service_outline.specs.declared.body.Or.TheVariants.{First, Second}
+use Rattle.service_outline.specs.declared.sweep.Place.TheVariants.{Opens}
+use Rattle.service_outline.specs.declared.sweep.Sweep.{Sweep}
+use Rattle.pwm_driver.specs.declared.service.deinit.DeInitBody.{DeInitBody}
+use Rattle.pwm_driver.specs.declared.service.init.InitBody.{InitBody}
+use Rattle.pwm_driver.specs.declared.service.init.Setup.{Setup}
+use Rattle.pwm_driver.specs.declared.service.notify.NotifyBody.{NotifyBody}
+use Rattle.pwm_driver.specs.declared.service.output.OutputBody.{OutputBody}
+use Rattle.pwm_driver.specs.declared.service.rest.RestBody.{RestBody}
+use Rattle.pwm_driver.specs.declared.service.serve.ServeBody.{ServeBody}
+
+-- a place in any body of the driver
+abbrev pub PwmBody : Type 0
+PwmBody = Or (Or (Sweep Setup InitBody) DeInitBody) (Or (Or OutputBody (Or RestBody NotifyBody)) ServeBody)
+
+abbrev pub init_body : Setup → PwmBody
+init_body r = First (First (record { objects = r; place = Opens }))
+
+abbrev pub deinit_body : DeInitBody → PwmBody
+deinit_body k = First (Second k)
+
+abbrev pub output_body : OutputBody → PwmBody
+output_body k = Second (First (First k))
+
+abbrev pub rest_body : RestBody → PwmBody
+rest_body k = Second (First (Second (First k)))
+
+abbrev pub notify_body : NotifyBody → PwmBody
+notify_body k = Second (First (Second (Second k)))
+
+abbrev pub serve_body : ServeBody → PwmBody
+serve_body k = Second (Second k)

@@ -1,0 +1,189 @@
+-- Pwm_Init: its steps, and what holds at each.
+use Rattle.std.proofs.Common.{◌≡◌, ℕ, zero, suc, ◌+◌, ◌-◌, ◌/◌, ◌%◌, ◌<◌, ◌≤◌, Bool, true, false, ◌&&◌, nat_lt, List, [], ◌∷◌, Option, Some, None, refl, ◌∙◌, ap, arith}
+use Rattle.std.specs.Prelude.{if◌then◌else◌, is_some}
+use Rattle.chip_pulses.specs.Pulses as pulses
+use Rattle.chip_pulses.specs.Pulses.{Pulses}
+use Rattle.chip_pulses.specs.declared.pulse.Output.TheVariants as units
+use Rattle.mcal_base.specs.declared.moves.Event.TheVariants.{Act}
+use Rattle.mcal_base.specs.declared.moves.Move.{Move}
+use Rattle.mcal_base.specs.declared.moves.Move.TheVariants.{Write, Load, Store as Stores}
+use Rattle.mcal_base.specs.declared.register.Reg.TheVariants.{PulsePeriod, PulseDuty, PulsePolarity, PulseCommit, EnableSet}
+use Rattle.run_model.specs.Machine.{no_answer}
+use Rattle.run_model.specs.Frame.{Origin, Called, resets_chip, begins_word, committed_after}
+use Rattle.run_model.specs.World.{World}
+use Rattle.service_outline.specs.Done.{goes, ends}
+use Rattle.service_outline.specs.declared.done.BodyTaken.{BodyTaken}
+use Rattle.service_outline.specs.declared.done.Owed.TheVariants.{Nothing}
+use Rattle.service_outline.specs.Past.{Past, nothing_yet, Being}
+use Rattle.service_outline.specs.Services.{Spot, Within, LongBodies}
+use Rattle.service_outline.specs.Sweeping.{Sweeping, sweep}
+use Rattle.service_outline.specs.declared.sweep.Sweep.{Sweep}
+use Rattle.pwm_driver.specs.Bounds.{pwm_may}
+use Rattle.pwm_driver.specs.Ground.{Gap, Part, Holds, settled, pwm_basis}
+use Rattle.pwm_driver.specs.Machine.{PwmState}
+use Rattle.pwm_driver.specs.declared.call.Call.{Call}
+use Rattle.pwm_driver.specs.declared.call.Call.TheVariants as calls
+use Rattle.pwm_driver.specs.Output.{absolute}
+use Rattle.pwm_driver.specs.Table.{channel_of}
+use Rattle.pwm_driver.specs.Words.{period_word, level}
+use Rattle.pwm_driver.specs.declared.driver.Channel.{Channel}
+use Rattle.pwm_driver.specs.declared.driver.PwmDriver.{PwmDriver}
+use Rattle.pwm_driver.specs.declared.service.init.InitBody.{InitBody}
+use Rattle.pwm_driver.specs.declared.service.init.InitBody.TheVariants.{Commit, Enable, Store}
+use Rattle.pwm_driver.specs.declared.service.init.Setup.{Setup}
+use Rattle.pwm_driver.specs.declared.words.TheConstants.{STATE, LINES}
+use Rattle.pwm_driver.specs.laws.Parts.{Own, by_eight, below_test}
+
+-- ---- the defaults, with the mask open
+
+-- period, duty and polarity of a channel, 0 and low where it isn't configured
+abbrev pub defaults : Option Channel → ℕ × ℕ × Bool
+defaults None = (0, 0, false)
+defaults (Some k) = (k.period_ticks, k.duty_cycle_default, k.polarity_high)
+
+abbrev pub part_by : ℕ → ℕ → ℕ × ℕ × Bool → Move
+part_by zero c v = Stores (period_word c) v.0
+part_by (suc zero) c v = Write (PulsePeriod c) v.0
+part_by (suc (suc zero)) c v = Write (PulseDuty c) (absolute v.0 v.1)
+part_by _ c v = Write (PulsePolarity c) (level v.2)
+
+abbrev pub part : ℕ → ℕ → Option Channel → Move
+part at c k = part_by at c (defaults k)
+
+abbrev pub setup_count : Setup → ℕ
+setup_count r = 32
+
+abbrev pub setup_move : Setup → ℕ → Move
+setup_move r i = if nat_lt (i / 4) 8 then part (i % 4) (i / 4) (channel_of r.driver (i / 4)) else Load STATE
+
+abbrev pub setup_after : Setup → InitBody
+setup_after r = Commit r.driver 0
+
+-- ---- the commits and the act, in a window
+
+abbrev pub commit_of : ℕ → Option Channel → Move
+commit_of c None = Load STATE
+commit_of c (Some k) = Write (PulseCommit c) 1
+
+abbrev pub commit : PwmDriver → ℕ → Move
+commit d c = commit_of c (channel_of d c)
+
+abbrev pub init_work : InitBody → Move
+init_work (Commit d c) = commit d c
+init_work Enable = Write EnableSet LINES
+init_work Store = Stores STATE 1
+
+abbrev pub init_takes : InitBody → ℕ → InitBody × BodyTaken
+init_takes (Commit d c) x = if nat_lt c 7 then (Commit d (c + 1), goes) else (Enable, goes)
+init_takes Enable x = (Store, goes)
+init_takes Store x = (Store, ends (Some Act) no_answer Nothing)
+
+abbrev pub init_left : InitBody → ℕ
+init_left (Commit d c) = 3 + (7 - c)
+init_left Enable = 2
+init_left Store = 1
+
+-- ---- what holds at each place
+
+-- so many defaults are written
+abbrev pub written : ℕ → List Part
+written i = record { upto = i } ∷ []
+
+-- it runs above nothing that is held, since beside it no call of the module begins
+pub data Alone : Holds → Type 0 where
+  Is_alone : Alone []
+
+-- the defaults are this driver's
+pub data IsSetup (d : PwmDriver) : Setup → Type 0 where
+  Is_setup : IsSetup d (record { driver = d })
+
+-- a call that has done nothing yet but write defaults
+abbrev pub IsSetting : PwmDriver → Setup → Holds → Origin Call → Past → Type 0
+IsSetting d r below o t = Being (Called calls.Init) nothing_yet o t × Alone below × IsSetup d r
+
+abbrev pub setting_up : (d : PwmDriver) → Sweeping (pwm_basis d) Setup InitBody
+setting_up d = record { count = setup_count; move = setup_move; after = setup_after; hold = λ r i. written i; place = λ r below o t. IsSetting d r below o t }
+
+-- a configured channel runs by its defaults, from the time of its commit
+pub record Runs (k : Channel) (now : ℕ) (time : Option ℕ) (f : Pulses) (c : ℕ) : Type 0 where
+  pub start : ℕ
+  pub is : time ≡ Some start
+  pub past : start ≤ now
+  pub output : (pulses.pulse_at f c).output ≡ units.Runs (record { start = start; wave = record { period = k.period_ticks; duty = absolute k.period_ticks k.duty_cycle_default; high = k.polarity_high } })
+
+-- the channels below this one do
+abbrev pub HaveBegun : PwmDriver → ℕ → Pulses → ℕ → (ℕ → Option ℕ) → Type 0
+HaveBegun d upto f now times = (c : ℕ) (k : Channel) → c < 8 → c < upto → channel_of d c ≡ Some k → Runs k now (times c) f c
+
+-- the past of the call with these commits
+abbrev pub with_commits : (ℕ → Option ℕ) → Past
+with_commits times = record nothing_yet { committed = times }
+
+-- a call that has made the commits below this channel
+abbrev pub IsBeginning : PwmDriver → ℕ → Holds → Pulses → ℕ → PwmState → Origin Call → Past → Type 0
+IsBeginning d upto below f now s o t = (times : ℕ → Option ℕ) × Being (Called calls.Init) (with_commits times) o t × Alone below × (s.initialised ≡ false) × HaveBegun d upto f now times
+
+-- the units of configured channels below this one run already
+abbrev pub begun_below : PwmDriver → ℕ → Gap
+begun_below d upto = record settled { units = λ k. is_some (channel_of d k) && nat_lt k upto }
+
+abbrev pub init_spot : (d : PwmDriver) → InitBody → Spot (pwm_basis d)
+init_spot d (Commit e c) = Within (begun_below d c) (written 32) (λ below f w s o t. IsBeginning d c below f w.now s o t × Own d e × (c < 8))
+init_spot d Enable = Within (begun_below d 8) (written 32) (λ below f w s o t. IsBeginning d 8 below f w.now s o t)
+init_spot d Store = Within (record (begun_below d 8) { lines = Some true }) (written 32) (λ below f w s o t. IsBeginning d 8 below f w.now s o t)
+
+abbrev pub init_bodies : (d : PwmDriver) → LongBodies (pwm_basis d) InitBody
+init_bodies d = record { work_of = init_work; takes = init_takes; fuel = init_left; room = init_left; clean = λ k. false; spot = init_spot d }
+
+abbrev pub begin_bodies : (d : PwmDriver) → LongBodies (pwm_basis d) (Sweep Setup InitBody)
+begin_bodies d = sweep (setting_up d) (init_bodies d)
+
+-- ---- the writes of defaults: they may be made, reset and commit nothing, and begin no serial word
+
+abbrev pub IsPlain : Move → Type 0
+IsPlain made = (resets_chip made ≡ false) × (begins_word made ≡ false)
+
+part_plain : (at c : ℕ) (v : ℕ × ℕ × Bool) → IsPlain (part_by at c v)
+part_plain zero c v = (refl, refl)
+part_plain (suc zero) c v = (refl, refl)
+part_plain (suc (suc zero)) c v = (refl, refl)
+part_plain (suc (suc (suc n))) c v = (refl, refl)
+
+part_commits : (at c : ℕ) (v : ℕ × ℕ × Bool) (w : World) (times : ℕ → Option ℕ) → committed_after w times (part_by at c v) ≡ times
+part_commits zero c v w times = refl
+part_commits (suc zero) c v w times = refl
+part_commits (suc (suc zero)) c v w times = refl
+part_commits (suc (suc (suc n))) c v w times = refl
+
+word_may : (c x : ℕ) → c < 8 → pwm_may (Stores (period_word c) x) ≡ true
+word_may c x lt = by_eight (λ i. pwm_may (Stores (period_word i) x) ≡ true) refl refl refl refl refl refl refl refl c lt
+
+part_may : (at c : ℕ) (v : ℕ × ℕ × Bool) → c < 8 → pwm_may (part_by at c v) ≡ true
+part_may zero c v lt = word_may c v.0 lt
+part_may (suc zero) c v lt = below_test c lt
+part_may (suc (suc zero)) c v lt = below_test c lt
+part_may (suc (suc (suc n))) c v lt = below_test c lt
+
+-- one of the 32 is a channel's
+pub setup_is : (r : Setup) (i : ℕ) → i < 32 → setup_move r i ≡ part (i % 4) (i / 4) (channel_of r.driver (i / 4))
+setup_is r i lt = ap (λ q. if q then part (i % 4) (i / 4) (channel_of r.driver (i / 4)) else Load STATE) (few i lt)
+  where
+    few : (i : ℕ) → i < 32 → nat_lt (i / 4) 8 ≡ true
+    few i lt = let less : i / 4 < 8 = omega (arith, lt) in below_test (i / 4) less
+
+pub setup_may : (r : Setup) (i : ℕ) → i < 32 → pwm_may (setup_move r i) ≡ true
+setup_may r i lt = let less : i / 4 < 8 = omega (arith, lt) in ap pwm_may (setup_is r i lt) ∙ part_may (i % 4) (i / 4) (defaults (channel_of r.driver (i / 4))) less
+
+plain_if : (q : Bool) (made : Move) → IsPlain made → IsPlain (if q then made else Load STATE)
+plain_if true made h = h
+plain_if false made h = (refl, refl)
+
+pub setup_plain : (r : Setup) (i : ℕ) → IsPlain (setup_move r i)
+setup_plain r i = plain_if (nat_lt (i / 4) 8) _ (part_plain (i % 4) (i / 4) (defaults (channel_of r.driver (i / 4))))
+
+commits_if : (q : Bool) (made : Move) (w : World) (times : ℕ → Option ℕ) → committed_after w times made ≡ times → committed_after w times (if q then made else Load STATE) ≡ times
+commits_if true made w times h = h
+commits_if false made w times h = refl
+
+pub setup_commits : (r : Setup) (i : ℕ) (w : World) (times : ℕ → Option ℕ) → committed_after w times (setup_move r i) ≡ times
+setup_commits r i w times = commits_if (nat_lt (i / 4) 8) _ w times (part_commits (i % 4) (i / 4) (defaults (channel_of r.driver (i / 4))) w times)

@@ -1,0 +1,120 @@
+-- A write of the defaults of Pwm_Init, of those that are held.
+use Rattle.std.proofs.Common.{◌≡◌, ◌≢◌, ℕ, zero, suc, ◌+◌, ◌*◌, ◌/◌, ◌<◌, not, ◌==◌, [], ◌∷◌, Option, Some, None, refl, sym, ◌∙◌, subst, arith}
+use Rattle.chip_model.specs.Chip.{Chip, chip_after, word_of}
+use Rattle.chip_pulses.specs.Pulses as pulses
+use Rattle.chip_pulses.specs.declared.pulse.Pulse as unit
+use Rattle.chip_pulses.specs.declared.regime.Wave.{Wave}
+use Rattle.chip_pulses.proofs.PulseLaws.{pulse_at-same, pulse_at-other}
+use Rattle.mcal_base.specs.declared.moves.Move.TheVariants.{Write, Store as Stores}
+use Rattle.mcal_base.specs.declared.register.Reg.TheVariants.{PulsePeriod, PulseDuty, PulsePolarity}
+use Rattle.run_model.specs.Frame.{Called}
+use Rattle.run_model.specs.Outside.{StandsIn}
+use Rattle.run_model.specs.World.{World}
+use Rattle.run_model.proofs.OutsideLaws.{stands-move}
+use Rattle.service_outline.specs.laws.Sweep.{each_but}
+use Rattle.service_outline.specs.laws.Words.{stored_same, stored_other}
+use Rattle.pwm_driver.specs.Ground.{settled, none, Holds, period_in, duty_in, IsSetUp, PwmAgrees}
+use Rattle.pwm_driver.specs.Machine.{PwmState, pulse_at}
+use Rattle.pwm_driver.specs.Output.{absolute}
+use Rattle.pwm_driver.specs.Table.{channel_of, polarity_of}
+use Rattle.pwm_driver.specs.Words.{period_word, level}
+use Rattle.pwm_driver.specs.declared.call.Call.TheVariants as calls
+use Rattle.pwm_driver.specs.declared.driver.Channel.{Channel}
+use Rattle.pwm_driver.specs.declared.driver.PwmDriver.{PwmDriver}
+use Rattle.pwm_driver.specs.declared.words.TheConstants.{STATE, KINDS}
+use Rattle.pwm_driver.specs.laws.Init.{defaults, part}
+use Rattle.pwm_driver.specs.laws.Output.{level_set}
+use Rattle.pwm_driver.specs.laws.Units.{chip_with, never, off_lines, off_set, period_below, period_not_kinds, period_not_state, period_other, waved}
+
+-- ---- one more default is written
+
+pub less : (a i : ℕ) → a < i + 1 → a ≢ i → a < i
+less a i lt ne = grind arith
+
+-- of another channel
+further : (k : Option Channel) (i c j word : ℕ) (v : Wave) → i / 4 ≡ c → j ≢ c → IsSetUp k i j word v → IsSetUp k (i + 1) j word v
+further k i c j word v at ne h = record {
+  kept = λ l. h.kept (less (4 * j) i l (λ e. ne (omega (arith, at, e))));
+  period = λ l. h.period (less (4 * j + 1) i l (λ e. ne (omega (arith, at, e))));
+  duty = λ l. h.duty (less (4 * j + 2) i l (λ e. ne (omega (arith, at, e))));
+  high = λ l. h.high (less (4 * j + 3) i l (λ e. ne (omega (arith, at, e))));
+}
+
+default_period : (k : Option Channel) → (defaults k).0 ≡ period_in k
+default_period None = refl
+default_period (Some k) = refl
+
+default_duty : (k : Option Channel) → absolute (defaults k).0 (defaults k).1 ≡ absolute (period_in k) (duty_in k)
+default_duty None = refl
+default_duty (Some k) = refl
+
+default_high : (k : Option Channel) → not (level (defaults k).2 == 0) ≡ polarity_of k
+default_high None = refl
+default_high (Some k) = level_set k.polarity_high
+
+-- of this one
+module _ (k : Option Channel) (i c word : ℕ) (v : Wave) (h : IsSetUp k i c word v) where
+  one_kept : i ≡ 4 * c → IsSetUp k (i + 1) c (defaults k).0 v
+  one_kept e = record { kept = λ l. default_period k; period = λ l. absurd (omega (arith, e, l)); duty = λ l. absurd (omega (arith, e, l)); high = λ l. absurd (omega (arith, e, l)) }
+
+  one_period : i ≡ 4 * c + 1 → IsSetUp k (i + 1) c word (record v { period = (defaults k).0 })
+  one_period e = record { kept = λ l. h.kept (omega (arith, e)); period = λ l. default_period k; duty = λ l. absurd (omega (arith, e, l)); high = λ l. absurd (omega (arith, e, l)) }
+
+  one_duty : i ≡ 4 * c + 2 → IsSetUp k (i + 1) c word (record v { duty = absolute (defaults k).0 (defaults k).1 })
+  one_duty e = record { kept = λ l. h.kept (omega (arith, e)); period = λ l. h.period (omega (arith, e)); duty = λ l. default_duty k; high = λ l. absurd (omega (arith, e, l)) }
+
+  one_high : i ≡ 4 * c + 3 → IsSetUp k (i + 1) c word (record v { high = not (level (defaults k).2 == 0) })
+  one_high e = record { kept = λ l. h.kept (omega (arith, e)); period = λ l. h.period (omega (arith, e)); duty = λ l. h.duty (omega (arith, e)); high = λ l. default_high k }
+
+-- so many are held as written
+abbrev pub one : ℕ → Holds
+one i = record { by = Called calls.Init; what = record { upto = i }; acted = None } ∷ []
+
+module _ (d : PwmDriver) where
+  module _ (i c : ℕ) (chip : Chip) (w : World) (s : PwmState) (at : i / 4 ≡ c) (lt : c < 8) (h : PwmAgrees d (one i) settled chip w s) where
+    abbrev p : unit.Pulse
+    p = pulses.pulse_at chip.pulses c
+
+    word_written : (x received : ℕ) → IsSetUp (channel_of d c) (i + 1) c x p.wave → PwmAgrees d (one (i + 1)) settled (chip_after chip (Stores (period_word c) x) received) w s
+    word_written x received new = record {
+      right = (refl, h.right.1, tt);
+      setup = (
+        λ j l. each_but (λ n. n < 8 → IsSetUp (channel_of d n) (i + 1) n (word_of (chip_after chip (Stores (period_word c) x) received) (period_word n)) (pulses.pulse_at chip.pulses n).wave) c
+            (λ n. subst (λ y. IsSetUp (channel_of d c) (i + 1) c y p.wave) (sym (stored_same chip (period_word c) x received (period_below c lt) h.outside.all.words)) new) j
+            (λ ne n. subst (λ y. IsSetUp (channel_of d j) (i + 1) j y (pulses.pulse_at chip.pulses j).wave) (sym (stored_other chip (period_word c) x received (period_word j) (period_other c j ne))) (further (channel_of d j) i c j (word_of chip (period_word j)) (pulses.pulse_at chip.pulses j).wave at ne (h.setup.0 j n))) l,
+        tt,
+      );
+      outside = stands-move chip w (Stores (period_word c) x) received h.outside;
+      size = h.size;
+      units = h.units;
+      kinds = h.kinds;
+      words = record {
+        state = λ g. stored_other chip (period_word c) x received STATE (period_not_state c) ∙ h.words.state refl;
+        kinds = λ g. stored_other chip (period_word c) x received KINDS (period_not_kinds c) ∙ h.words.kinds refl;
+        periods = λ on. never s.initialised h.right.1 on;
+      };
+      lines = off_lines s.initialised _ h.right.1;
+      clean = h.clean;
+      unused = h.unused;
+    }
+
+    wave_written : (v : Wave) → StandsIn (chip_with chip c (record p { wave = v })) w → IsSetUp (channel_of d c) (i + 1) c (word_of chip (period_word c)) v → PwmAgrees d (one (i + 1)) settled (chip_with chip c (record p { wave = v })) w s
+    wave_written v outside new = off_set d (one i) (one (i + 1)) chip w s c (record p { wave = v }) none none lt h.right.1 (refl, h.right.1, tt) (
+      λ j l. each_but (λ n. n < 8 → IsSetUp (channel_of d n) (i + 1) n (word_of chip (period_word n)) (pulses.pulse_at (pulses.with_pulse chip.pulses c (record p { wave = v })) n).wave) c
+          (λ n. subst (λ y. IsSetUp (channel_of d c) (i + 1) c (word_of chip (period_word c)) y.wave) (sym (pulse_at-same chip.pulses c (record p { wave = v }) (record { all = h.size; within = lt }))) new) j
+          (λ ne n. subst (λ y. IsSetUp (channel_of d j) (i + 1) j (word_of chip (period_word j)) y.wave) (sym (pulse_at-other chip.pulses c j (record p { wave = v }) ne)) (further (channel_of d j) i c j (word_of chip (period_word j)) (pulses.pulse_at chip.pulses j).wave at ne (h.setup.0 j n))) l,
+      tt,
+    )
+        outside (λ g. waved (polarity_of (channel_of d c)) w.now p (pulse_at s c) v (h.units c lt refl)) (λ k ne g. refl) h
+
+    pub step_by : (n received : ℕ) → n < 4 → i ≡ 4 * c + n → PwmAgrees d (one (i + 1)) settled (chip_after chip (part n c (channel_of d c)) received) w s
+    step_by zero received few e = word_written (defaults (channel_of d c)).0 received (one_kept (channel_of d c) i c (word_of chip (period_word c)) p.wave (h.setup.0 c lt) (omega (arith, e)))
+    step_by (suc zero) received few e =
+        let x = (defaults (channel_of d c)).0 in
+        wave_written (record (p.wave) { period = x }) (stands-move chip w (Write (PulsePeriod c) x) received h.outside) (one_period (channel_of d c) i c (word_of chip (period_word c)) p.wave (h.setup.0 c lt) (omega (arith, e)))
+    step_by (suc (suc zero)) received few e =
+        let x = absolute (defaults (channel_of d c)).0 (defaults (channel_of d c)).1 in
+        wave_written (record (p.wave) { duty = x }) (stands-move chip w (Write (PulseDuty c) x) received h.outside) (one_duty (channel_of d c) i c (word_of chip (period_word c)) p.wave (h.setup.0 c lt) (omega (arith, e)))
+    step_by (suc (suc (suc n))) received few e =
+        let x = level (defaults (channel_of d c)).2 in
+        wave_written (record (p.wave) { high = not (x == 0) }) (stands-move chip w (Write (PulsePolarity c) x) received h.outside) (one_high (channel_of d c) i c (word_of chip (period_word c)) p.wave (h.setup.0 c lt) (omega (arith, few, e)))

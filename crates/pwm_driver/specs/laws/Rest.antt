@@ -1,0 +1,117 @@
+-- Pwm_SetOutputToIdle and Pwm_GetOutputState: their step, and that it is right.
+use Rattle.std.proofs.Common.{◌≡◌, ℕ, ◌<◌, ◌≤◌, Bool, true, false, ◌==◌, Option, Some, None, refl, sym, ◌∙◌, ap, subst, arith}
+use Rattle.chip_model.specs.Chip.{Chip, chip_after}
+use Rattle.chip_pulses.specs.Pulses as pulses
+use Rattle.chip_pulses.specs.Pulses.{Pulses}
+use Rattle.chip_pulses.specs.declared.pulse.Output.TheVariants as units
+use Rattle.mcal_base.specs.Bits.{bit_of}
+use Rattle.mcal_base.specs.declared.moves.Event.TheVariants.{Act}
+use Rattle.mcal_base.specs.declared.moves.Move.{Move}
+use Rattle.mcal_base.specs.declared.moves.Move.TheVariants.{Read, Write}
+use Rattle.mcal_base.specs.declared.register.Reg.TheVariants.{PulseIdle, PulseOut}
+use Rattle.run_model.specs.Machine.{Told, no_answer, tells_nothing, outcome}
+use Rattle.run_model.specs.Frame.{Origin, Called, missed_after}
+use Rattle.run_model.specs.Outside.{StandsIn}
+use Rattle.run_model.specs.World.{World}
+use Rattle.run_model.proofs.OutsideLaws.{stands-move}
+use Rattle.service_outline.specs.Done.{ends, answers}
+use Rattle.service_outline.specs.Fuel.{Shortens}
+use Rattle.service_outline.specs.Outline.{Before, Is_before, StepsTo}
+use Rattle.service_outline.specs.Services.{LongBodies, AreLong, over}
+use Rattle.service_outline.specs.declared.done.BodyTaken.{BodyTaken}
+use Rattle.service_outline.specs.declared.done.Owed.TheVariants.{Nothing}
+use Rattle.pwm_driver.specs.Checks.{level_answer}
+use Rattle.pwm_driver.specs.Ground.{Gap, settled, none, Holds, UnitAgrees, PwmAgrees, pwm_basis}
+use Rattle.pwm_driver.specs.Machine.{PwmState, pulse_at, with_pulse, put_out, level_at, channel_work, acts_by, pwm_machine}
+use Rattle.pwm_driver.specs.Output.{Idle}
+use Rattle.pwm_driver.specs.Table.{channel_of, polarity_of}
+use Rattle.pwm_driver.specs.Words.{level}
+use Rattle.pwm_driver.specs.declared.call.Call.{Call}
+use Rattle.pwm_driver.specs.declared.call.Call.TheVariants as calls
+use Rattle.pwm_driver.specs.declared.call.ChannelCall.TheVariants.{SetOutputToIdle}
+use Rattle.pwm_driver.specs.declared.driver.Channel.{Channel}
+use Rattle.pwm_driver.specs.declared.driver.PwmDriver.{PwmDriver}
+use Rattle.pwm_driver.specs.declared.service.rest.RestBody.{RestBody}
+use Rattle.pwm_driver.specs.declared.service.rest.RestBody.TheVariants.{Rest, Ask}
+use Rattle.pwm_driver.specs.laws.Base.{AllGood, steady_above, family, family_right}
+use Rattle.pwm_driver.specs.laws.Ground.{outputs_same}
+use Rattle.pwm_driver.specs.laws.Look.{Passed, MayAct}
+use Rattle.pwm_driver.specs.laws.Parts.{below_test, some_is}
+use Rattle.pwm_driver.specs.laws.Units.{both_set, put_agrees, idle_written}
+
+abbrev pub rest_work : RestBody → Move
+rest_work (Rest c high) = Write (PulseIdle c) (level high)
+rest_work (Ask c) = Read (PulseOut c)
+
+abbrev pub rest_takes : RestBody → ℕ → RestBody × BodyTaken
+rest_takes (Rest c high) x = (Rest c high, ends (Some Act) no_answer Nothing)
+rest_takes (Ask c) x = (Ask c, ends (Some Act) (level_answer (x == 1)) Nothing)
+
+abbrev pub rest_left : RestBody → ℕ
+rest_left k = 1
+
+abbrev pub rest_gap : RestBody → Gap
+rest_gap k = settled
+
+abbrev pub rest_call : ℕ → Call
+rest_call c = calls.Channel c SetOutputToIdle
+
+abbrev pub rest_holds : PwmDriver → Pulses → ℕ → PwmState → RestBody → Origin Call → Option Told → Type 0
+rest_holds d f now s (Rest c high) o t = Before (rest_call c) o t × (k : Channel) × MayAct d s c (rest_call c) k × (high ≡ k.idle_high)
+rest_holds d f now s (Ask c) o t = Before (calls.GetOutputState c) o t × Passed d s (calls.GetOutputState c) × (c < 8)
+
+abbrev pub rest_bodies : (d : PwmDriver) → LongBodies (pwm_basis d) RestBody
+rest_bodies d = family d rest_work rest_takes rest_left rest_gap (rest_holds d)
+
+-- ---- the write, and the read
+
+level_read : (b : Bool) → (bit_of b == 1) ≡ b
+level_read true = refl
+level_read false = refl
+
+module _ (d : PwmDriver) where
+  rested : (below : Holds) (chip : Chip) (w : World) (s : PwmState) (c : ℕ) (k : Channel) → MayAct d s c (rest_call c) k → PwmAgrees d below settled chip w s → PwmAgrees d below settled (chip_after chip (Write (PulseIdle c) (level k.idle_high)) 0) w (with_pulse s c (put_out (Some k) w.now (Idle k.idle_high) (pulse_at s c)))
+  rested below chip w s c k i h =
+      let x = pulse_at s c in
+      let p = pulses.pulse_at chip.pulses c in
+      let e = idle_written chip c k.idle_high in
+      let o = stands-move chip w (Write (PulseIdle c) (level k.idle_high)) 0 h.outside in
+      let here = subst (λ z. UnitAgrees (polarity_of z) w.now p x) i.known (h.units c i.lt refl) in
+      let put = put_agrees (Some k) w.now p x (Idle k.idle_high) here tt in
+      let timed = subst (λ t. UnitAgrees k.polarity_high w.now (pulses.put_out (units.Idle k.idle_high) t p) (put_out (Some k) w.now (Idle k.idle_high) x)) (sym (h.outside.together.pulses ∙ h.outside.now)) put in
+      subst (λ z. PwmAgrees d below settled z w (with_pulse s c (put_out (Some k) w.now (Idle k.idle_high) x))) (sym e) (both_set d below chip w s c i.lt i.on (some_is (channel_of d c) k i.known) (pulses.put_out (units.Idle k.idle_high) chip.pulses.time p) (put_out (Some k) w.now (Idle k.idle_high) x) none (λ g. refl) refl (subst (λ z. StandsIn z w) e o) (subst (λ z. UnitAgrees (polarity_of z) w.now (pulses.put_out (units.Idle k.idle_high) chip.pulses.time p) (put_out (Some k) w.now (Idle k.idle_high) x)) (sym i.known) timed) h)
+
+  steps : AllGood d (steady_above d rest_work rest_takes rest_left rest_gap (rest_holds d))
+  steps below chip w s (Rest c high) o t m (h, (Is_before, k, i, e)) = (
+    below_test c i.lt,
+    record {
+      own = tt;
+      state = with_pulse s c (put_out (Some k) w.now (Idle k.idle_high) (pulse_at s c));
+      told = tells_nothing;
+      is = λ b. ap (λ z. Some (acts_by d w s (rest_call c) b.committed z)) i.pass ∙ ap (λ z. Some (outcome (with_pulse s c (channel_work z w.now SetOutputToIdle (pulse_at s c))) tells_nothing)) i.known;
+      acts = tt;
+      next = (subst (λ q. PwmAgrees d below settled (chip_after chip (Write (PulseIdle c) (level q)) 0) w (with_pulse s c (put_out (Some k) w.now (Idle k.idle_high) (pulse_at s c)))) (sym e) (rested below chip w s c k i h), (refl, refl, refl));
+    },
+  )
+  steps below chip w s (Ask c) o t m (h, (Is_before, pass, lt)) = (
+    below_test c lt,
+    subst (λ a. StepsTo (over (pwm_basis d) below) (steady_above d rest_work rest_takes rest_left rest_gap (rest_holds d) below) chip w s (Called (calls.GetOutputState c)) (Read (PulseOut c)) false None (missed_after (pwm_machine d) w s m) (Ask c, ends (Some Act) a Nothing)) (sym (ap level_answer (level_read (pulses.level_at chip.pulses c) ∙ outputs_same d below chip w s c lt h))) (record {
+      own = tt;
+      state = s;
+      told = answers (level_answer (level_at d w s c));
+      is = λ b. ap (λ z. Some (acts_by d w s (calls.GetOutputState c) b.committed z)) pass;
+      acts = tt;
+      next = (h, (refl, refl, refl));
+    }),
+  )
+
+  later : (f : Pulses) (now now1 : ℕ) (s : PwmState) (k : RestBody) (o : Origin Call) (t : Option Told) → now ≤ now1 → rest_holds d f now s k o t → rest_holds d f now1 s k o t
+  later f now now1 s (Rest c high) o t le h = h
+  later f now now1 s (Ask c) o t le h = h
+
+  shortens : (k : RestBody) (x : ℕ) → Shortens rest_left k (rest_takes k x)
+  shortens (Rest c high) x = omega arith
+  shortens (Ask c) x = omega arith
+
+  pub rest_right : AreLong (pwm_basis d) (rest_bodies d)
+  rest_right = family_right d rest_work rest_takes rest_left rest_gap (rest_holds d) shortens later steps

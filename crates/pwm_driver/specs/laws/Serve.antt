@@ -1,0 +1,137 @@
+-- The handler of a channel's line: its steps, what holds at each, and that they are right.
+use Rattle.std.proofs.Common.{◌≡◌, ℕ, ◌+◌, ◌-◌, ◌<◌, ◌≤◌, Bool, true, false, ◌&&◌, not, nat_lt, Option, Some, None, refl, sym, ◌∙◌, ap, subst, arith}
+use Rattle.std.specs.Prelude.{if◌then◌else◌, is_some}
+use Rattle.std.proofs.lemmas.Bool.Decides.{nat_tests}
+use Rattle.chip_model.specs.Chip.{Chip}
+use Rattle.chip_model.proofs.PinLaws.{line-pulse}
+use Rattle.chip_pulses.specs.Pulses as pulses
+use Rattle.chip_pulses.specs.Pulses.{Pulses, flags_of}
+use Rattle.mcal_base.specs.Bits.{has_bit}
+use Rattle.mcal_base.specs.declared.moves.Event.TheVariants.{Serve}
+use Rattle.mcal_base.specs.declared.moves.Move.{Move}
+use Rattle.mcal_base.specs.declared.moves.Move.TheVariants.{Read, Write, Load}
+use Rattle.mcal_base.specs.declared.notice.NoticeKind.TheVariants.{PwmNotification}
+use Rattle.mcal_base.specs.declared.register.Reg.TheVariants.{PulseFlags}
+use Rattle.run_model.specs.Machine.{Told, no_answer}
+use Rattle.run_model.specs.Frame.{Origin, Entered, missed_after}
+use Rattle.run_model.specs.World.{World}
+use Rattle.service_outline.specs.Done.{goes, ends}
+use Rattle.service_outline.specs.Fuel.{Shortens}
+use Rattle.service_outline.specs.Outline.{Serving, Is_serving, StepsTo}
+use Rattle.service_outline.specs.Services.{LongBodies, AreLong, over}
+use Rattle.service_outline.specs.declared.done.BodyTaken.{BodyTaken}
+use Rattle.service_outline.specs.laws.StepKinds.{or_true}
+use Rattle.service_outline.specs.declared.done.Owed.TheVariants.{Nothing, One}
+use Rattle.pwm_driver.specs.Ground.{Gap, settled, none, Holds, PwmAgrees, pwm_basis}
+use Rattle.pwm_driver.specs.Machine.{PwmState, pulse_at, with_pulse, forgotten, is_marked_by, notes, ready_by, ready, served, pwm_machine}
+use Rattle.pwm_driver.specs.Table.{channel_of, channel_number, polarity_of}
+use Rattle.pwm_driver.specs.Words.{both, stands}
+use Rattle.pwm_driver.specs.declared.call.Call.{Call}
+use Rattle.pwm_driver.specs.declared.driver.Channel.{Channel}
+use Rattle.pwm_driver.specs.declared.driver.PwmDriver.{PwmDriver}
+use Rattle.pwm_driver.specs.declared.service.serve.ServeBody.{ServeBody}
+use Rattle.pwm_driver.specs.declared.service.serve.ServeBody.TheVariants as places
+use Rattle.pwm_driver.specs.declared.words.TheConstants.{KINDS}
+use Rattle.pwm_driver.specs.laws.Base.{AllGood, steady_above, family, family_right}
+use Rattle.pwm_driver.specs.laws.Flags.{stands_due, unflagged_agrees, flags_cleared, marked_later}
+use Rattle.pwm_driver.specs.laws.Ground.{due_here, due_line, quiet_none}
+
+abbrev pub serve_work : ServeBody → Move
+serve_work (places.Kinds c) = Load KINDS
+serve_work (places.Look c k) = Read PulseFlags
+serve_work (places.Clear c) = Write PulseFlags (both c)
+
+abbrev pub serve_takes : ServeBody → ℕ → ServeBody × BodyTaken
+serve_takes (places.Kinds c) x = (places.Look c x, goes)
+serve_takes (places.Look c k) x = if stands k x c then (places.Clear c, goes) else (places.Look c k, ends None no_answer Nothing)
+serve_takes (places.Clear c) x = (places.Clear c, ends (Some (Serve (c + 8))) no_answer (One (record { kind = PwmNotification; id = c })))
+
+abbrev pub serve_left : ServeBody → ℕ
+serve_left (places.Kinds c) = 3
+serve_left (places.Look c k) = 2
+serve_left (places.Clear c) = 1
+
+abbrev pub serve_gap : ServeBody → Gap
+serve_gap k = settled
+
+-- it is the handler of a configured channel
+abbrev pub IsHandler : PwmDriver → ℕ → Origin Call → Option Told → Type 0
+IsHandler d c o t = Serving (c + 8) o t × (c < 8) × (k : Channel) × (channel_of d c ≡ Some k)
+
+-- from the look to the serving the mark stands
+abbrev pub serve_holds : PwmDriver → Pulses → ℕ → PwmState → ServeBody → Origin Call → Option Told → Type 0
+serve_holds d f now s (places.Kinds c) o t = IsHandler d c o t
+serve_holds d f now s (places.Look c k) o t = IsHandler d c o t × (k ≡ f.edges)
+serve_holds d f now s (places.Clear c) o t = IsHandler d c o t × (is_marked_by (pulse_at s c).notified (polarity_of (channel_of d c)) now (pulse_at s c) ≡ true)
+
+abbrev pub serve_bodies : (d : PwmDriver) → LongBodies (pwm_basis d) ServeBody
+serve_bodies d = family d serve_work serve_takes serve_left serve_gap (serve_holds d)
+
+number_back : (c : ℕ) → c + 8 - 8 ≡ c
+number_back c = omega arith
+
+not_low : (c : ℕ) → nat_lt (c + 8) 8 ≡ false
+not_low c = grind (arith, nat_tests)
+
+module _ (d : PwmDriver) where
+  -- a marked channel is one of an initialised module
+  ready_on : (below : Holds) (chip : Chip) (w : World) (s : PwmState) (c : ℕ) → c < 8 → PwmAgrees d below settled chip w s → is_marked_by (pulse_at s c).notified (polarity_of (channel_of d c)) w.now (pulse_at s c) ≡ true → s.initialised ≡ true
+  ready_on below chip w s c lt h r = by s.initialised refl
+    where
+      by : (q : Bool) → s.initialised ≡ q → s.initialised ≡ true
+      by true e = e
+      by false e = absurd (let f = quiet_none d w s c (h.clean e c lt) in cc)
+
+  ready_at : (w : World) (s : PwmState) (c : ℕ) (k : Channel) → channel_of d c ≡ Some k → s.initialised ≡ true → is_marked_by (pulse_at s c).notified (polarity_of (channel_of d c)) w.now (pulse_at s c) ≡ true → ready d w s (c + 8) ≡ true
+  ready_at w s c k known on r =
+      ap (λ q. ready_by (if q then None else channel_of d (c + 8 - 8)) w s (c + 8 - 8)) (not_low c)
+      ∙ (ap (λ n. ready_by (channel_of d n) w s n) (number_back c)
+      ∙ (ap (λ o. ready_by o w s c) known
+      ∙ (ap (λ q. q && is_marked_by (pulse_at s c).notified k.polarity_high w.now (pulse_at s c)) on
+      ∙ (sym (ap (λ o. is_marked_by (pulse_at s c).notified (polarity_of o) w.now (pulse_at s c)) known) ∙ r))))
+
+  unready : (below : Holds) (chip : Chip) (w : World) (s : PwmState) (c : ℕ) → c < 8 → PwmAgrees d below settled chip w s → pulses.is_due chip.pulses c ≡ false → ready d w s (c + 8) ≡ false
+  unready below chip w s c lt h e =
+      sym (due_line d below chip w s (c + 8) (omega arith) (omega (arith, lt)) h)
+      ∙ (line-pulse chip (c + 8) (omega arith) (omega (arith, lt))
+      ∙ (ap (λ n. pulses.is_due chip.pulses n && has_bit chip.control.enabled (c + 8)) (number_back c) ∙ ap (λ q. q && has_bit chip.control.enabled (c + 8)) e))
+
+  look_by : (below : Holds) (chip : Chip) (w : World) (s : PwmState) (m : ℕ → Bool) (c k : ℕ) (x : Channel) → c < 8 → channel_of d c ≡ Some x → PwmAgrees d below settled chip w s → (q : Bool) → pulses.is_due chip.pulses c ≡ q → StepsTo (over (pwm_basis d) below) (steady_above d serve_work serve_takes serve_left serve_gap (serve_holds d) below) chip w s (Entered (c + 8)) (Read PulseFlags) false None (missed_after (pwm_machine d) w s m) (if q then (places.Clear c, goes) else (places.Look c k, ends None no_answer Nothing))
+  look_by below chip w s m c k x lt known h true e = (h, ((Is_serving, lt, x, known), sym (due_here d below chip w s c lt h) ∙ e))
+  look_by below chip w s m c k x lt known h false e = (h, or_true (m (c + 8)) (ap not (unready below chip w s c lt h e)), refl)
+
+  steps : AllGood d (steady_above d serve_work serve_takes serve_left serve_gap (serve_holds d))
+  steps below chip w s (places.Kinds c) o t m (h, (Is_serving, lt, x, known)) = (refl, (h, ((Is_serving, lt, x, known), h.words.kinds refl)))
+  steps below chip w s (places.Look c k) o t m (h, ((Is_serving, lt, x, known), is)) =
+      let due = ap (λ e. stands e (flags_of chip.pulses) c) is ∙ stands_due chip.pulses c lt in
+      (refl, subst (λ q. StepsTo (over (pwm_basis d) below) (steady_above d serve_work serve_takes serve_left serve_gap (serve_holds d) below) chip w s (Entered (c + 8)) (Read PulseFlags) false None (missed_after (pwm_machine d) w s m) (if q then (places.Clear c, goes) else (places.Look c k, ends None no_answer Nothing))) (sym due) (look_by below chip w s m c k x lt known h (pulses.is_due chip.pulses c) refl))
+  steps below chip w s (places.Clear c) o t m (h, ((Is_serving, lt, k, known), r)) =
+      let x = pulse_at s c in
+      let on = ready_on below chip w s c lt h r in (
+        refl,
+        record {
+          own = refl;
+          state = with_pulse s c (forgotten w.now x);
+          told = notes c;
+          is = λ b. ap (λ q. if q then Some (served w s (channel_number (c + 8))) else None) (ready_at w s c k known on r) ∙ ap (λ n. Some (served w s n)) (number_back c);
+          acts = tt;
+          next = (flags_cleared d below chip w s c (forgotten w.now x) none none lt on (ap (λ z. is_some z) known) refl (λ i ne. refl) (h.kinds c lt refl) (unflagged_agrees (polarity_of (channel_of d c)) w.now chip.pulses.time (pulses.pulse_at chip.pulses c) x x.notified (h.outside.together.pulses ∙ h.outside.now) (h.units c lt refl)) h, (refl, refl, refl));
+        },
+      )
+
+  later : (f : Pulses) (now now1 : ℕ) (s : PwmState) (k : ServeBody) (o : Origin Call) (t : Option Told) → now ≤ now1 → serve_holds d f now s k o t → serve_holds d f now1 s k o t
+  later f now now1 s (places.Kinds c) o t le h = h
+  later f now now1 s (places.Look c k) o t le h = h
+  later f now now1 s (places.Clear c) o t le h = (h.0, marked_later (pulse_at s c).notified (polarity_of (channel_of d c)) (pulse_at s c) now now1 le h.1)
+
+  look_shortens : (c k : ℕ) (q : Bool) → Shortens serve_left (places.Look c k) (if q then (places.Clear c, goes) else (places.Look c k, ends None no_answer Nothing))
+  look_shortens c k true = omega arith
+  look_shortens c k false = omega arith
+
+  shortens : (k : ServeBody) (x : ℕ) → Shortens serve_left k (serve_takes k x)
+  shortens (places.Kinds c) x = omega arith
+  shortens (places.Look c k) x = look_shortens c k (stands k x c)
+  shortens (places.Clear c) x = omega arith
+
+  pub serve_right : AreLong (pwm_basis d) (serve_bodies d)
+  serve_right = family_right d serve_work serve_takes serve_left serve_gap (serve_holds d) shortens later steps

@@ -1,0 +1,218 @@
+-- Directives that move the hardware, show something or reset the chip.
+use Rattle.std.proofs.Common.{◌≡◌, ◌≢◌, ℕ, ◌+◌, ◌*◌, ◌<◌, ◌≤◌, ◌^◌, Bool, true, false, List, [], ◌∷◌, ◌++◌, length, Option, None, refl, sym, ◌∙◌, ap, subst, arith, append-nil}
+use Rattle.std.specs.Prelude.{nat_le, nat_lt}
+use Rattle.std.proofs.lemmas.Bool.Decides.{nat_tests}
+use Rattle.chip_model.specs.Chip.{Chip, now_of, happened, reset_chip, CanHappen}
+use Rattle.chip_model.proofs.HistoryLaws.{level_leaves}
+use Rattle.irq_control.specs.declared.held.Held.{Held}
+use Rattle.irq_control.specs.declared.held.Held.TheVariants.{Frames}
+use Rattle.mcal_base.specs.declared.directive.Directive.{Directive}
+use Rattle.mcal_base.specs.declared.directive.Order.{Order}
+use Rattle.mcal_base.specs.declared.directive.Order.TheVariants as orders
+use Rattle.mcal_base.specs.declared.directive.Reason.{Reason}
+use Rattle.mcal_base.specs.declared.directive.Reason.TheVariants.{PowerOn, Watchdog, Software}
+use Rattle.mcal_base.specs.declared.directive.Request.{Request}
+use Rattle.mcal_base.specs.declared.directive.Shown.{Shown}
+use Rattle.run_model.specs.Entry.{Entry, Stays, Happens, Resets, Written, written, words_of_order, is_happening}
+use Rattle.run_model.specs.Frame as frame
+use Rattle.run_model.specs.Follows.{Gives, Ticks, IsOne, Shows}
+use Rattle.run_model.specs.Legal.{hardware_held}
+use Rattle.run_model.specs.Moment as moment
+use Rattle.run_model.specs.Moment.{Setting, Moment, Deed}
+use Rattle.run_model.specs.Script.{deeds_of, moved_by}
+use Rattle.run_model.specs.World.{World}
+use Rattle.step_runner.specs.Driver.{Driver}
+use Rattle.step_runner.specs.Kept.{Kept}
+use Rattle.step_runner.specs.Stands.{Stands, paired}
+use Rattle.step_runner.specs.declared.stack.Under.{Under}
+use Rattle.script_runner.specs.Standing.{moment_of, IsStanding, Obeyed, GivenFits, is_built, is_hardware, words_by, room_on, work_of}
+use Rattle.script_runner.proofs.Arms.{depth_is, deeds_more, moment_more}
+use Rattle.script_runner.proofs.Given.{room_event}
+use Rattle.script_runner.proofs.Orders.{item_filled, one_filled, no_opens, some_opens}
+
+-- ---- the orders that move the hardware
+
+pub is_noted : (order : Order) → is_hardware order ≡ true → is_happening order ≡ true
+is_noted (orders.Tick n) h = refl
+is_noted (orders.Level p v) h = refl
+is_noted (orders.Analog i v) h = refl
+is_noted (orders.Trigger i) h = refl
+is_noted (orders.Miso u ws) h = refl
+is_noted (orders.SpiFault u) h = refl
+is_noted (orders.Fill c ws) h = refl
+is_noted _ h = cc
+
+-- the words that it brings are those that it gives to come in
+pub words_are : (order : Order) → is_built order ≡ true → length (words_of_order order) ≡ words_by order
+words_are (orders.Miso u ws) h = refl
+words_are (orders.Fill c ws) h = cc
+words_are _ h = refl
+
+moves_by : {Call : Type 0} (order : Order) → is_hardware order ≡ true → moved_by {Call = Call} order ≡ moment.Happens order ∷ []
+moves_by (orders.Tick n) h = refl
+moves_by (orders.Level p v) h = refl
+moves_by (orders.Analog i v) h = refl
+moves_by (orders.Trigger i) h = refl
+moves_by (orders.Miso u ws) h = refl
+moves_by (orders.SpiFault u) h = refl
+moves_by (orders.Fill c ws) h = refl
+moves_by _ h = cc
+
+-- none of them is held
+pub none_held : {State Call : Type 0} (g : Setting State Call) (m : Moment State Call) (order : Order) → is_built order ≡ true → hardware_held g m order ≡ None
+none_held g m (orders.Fill c ws) h = cc
+none_held g m _ h = refl
+
+few_ticks : (n : ℕ) → nat_le n 1000000 ≡ true → n ≤ 1000000
+few_ticks n h = grind (arith, nat_tests)
+
+is_unit : (u : ℕ) → nat_lt u 2 ≡ true → u < 2
+is_unit u h = grind (arith, nat_tests)
+
+-- so many peripheral ticks
+product : (n rate : ℕ) → n ≤ 1000000 → rate ≤ 16 → n * rate ≤ 16000000
+product n rate few slow = grind arith
+
+pub may_happen : (c : Chip) (order : Order) → is_built order ≡ true → c.clock.rate ≤ 16 → c.clock.osc + 1000000 < 2 ^ 64 → now_of c + 16000000 < 2 ^ 64 → GivenFits order c → CanHappen c order
+may_happen c (orders.Tick n) built slow time late given =
+    let few = few_ticks n built in
+    let ticks = product n c.clock.rate few slow in
+    (omega (arith, few, time), omega (arith, ticks, late))
+may_happen c (orders.Miso u ws) built slow time late given = let lt = is_unit u built in (lt, given u lt)
+may_happen c (orders.Fill k ws) built slow time late given = cc
+may_happen c _ built slow time late given = tt
+
+osc_same : (c : Chip) (order : Order) → is_built order ≡ true → (happened c order).clock.osc ≤ c.clock.osc + 1000000
+osc_same c (orders.Tick n) built = let few = few_ticks n built in omega (arith, few)
+osc_same c (orders.Level p v) built = let e = level_leaves (λ d. d.clock.osc) c p v refl in omega (arith, e)
+osc_same c (orders.Analog i v) built = omega arith
+osc_same c (orders.Trigger i) built = omega arith
+osc_same c (orders.Miso u ws) built = omega arith
+osc_same c (orders.SpiFault u) built = omega arith
+osc_same c (orders.Fill k ws) built = omega arith
+osc_same c _ built = omega arith
+
+now_same : (c : Chip) (order : Order) → is_built order ≡ true → c.clock.rate ≤ 16 → now_of (happened c order) ≤ now_of c + 16000000
+now_same c (orders.Tick n) built slow =
+    let few = few_ticks n built in
+    let ticks = product n c.clock.rate few slow in
+    omega (arith, ticks)
+now_same c (orders.Level p v) built slow = let e = level_leaves now_of c p v refl in omega (arith, e)
+now_same c (orders.Analog i v) built slow = omega arith
+now_same c (orders.Trigger i) built slow = omega arith
+now_same c (orders.Miso u ws) built slow = omega arith
+now_same c (orders.SpiFault u) built slow = omega arith
+now_same c (orders.Fill k ws) built slow = omega arith
+now_same c _ built slow = omega arith
+
+-- what one of them gives, on a chip without a watchdog
+gives_one : {State Call : Type 0} (g : Setting State Call) (call_of : Request → Call) (m : Moment State Call) (line : ℕ) (order : Order) (items : List Entry) → is_hardware order ≡ true → is_built order ≡ true → g.machine.expires m.world m.state ≡ None → IsOne m line (Happens order) items → Gives g call_of m line order items
+gives_one g call_of m line (orders.Tick n) items h b none one = subst (λ t. Ticks m line n t items) (sym none) one
+gives_one g call_of m line (orders.Level p v) items h b none one = one
+gives_one g call_of m line (orders.Analog i v) items h b none one = one
+gives_one g call_of m line (orders.Trigger i) items h b none one = one
+gives_one g call_of m line (orders.Miso u ws) items h b none one = one
+gives_one g call_of m line (orders.SpiFault u) items h b none one = one
+gives_one g call_of m line (orders.Fill c ws) items h b none one = cc
+gives_one g call_of m line _ items h b none one = cc
+
+gives_reset : {State Call : Type 0} (g : Setting State Call) (call_of : Request → Call) (m : Moment State Call) (line : ℕ) (reason : Reason) (items : List Entry) → reason ≢ Software → IsOne m line (Resets reason (length m.opens)) items → Gives g call_of m line (orders.Reset reason) items
+gives_reset g call_of m line PowerOn items h one = one
+gives_reset g call_of m line Watchdog items h one = one
+gives_reset g call_of m line Software items h one = absurd (h refl)
+
+module _ {State Call Frame : Type 0} (d : Driver State Call Frame) (first : Chip) (call_of : Request → Call) (script : List Directive) where
+  pub slow_chip : (chip : Chip) (us : List (Under Frame)) (es : List Entry) → ((chip : Chip) (w : World) (ps : List (Frame × frame.Open Call)) (s : State) → d.relates chip w ps s → d.setting.machine.rate s ≤ 16) → IsStanding d first call_of script chip us es → chip.clock.rate ≤ 16
+  slow_chip chip us es slow h =
+      let m = moment_of d first call_of script es in
+      let e : chip.clock.rate ≡ d.setting.machine.rate m.state = ap (λ x. x.clock.rate) h.matches.chip_is ∙ h.matches.rate in
+      let k = slow m.chip m.world (paired us m.opens) m.state h.matches.relates in
+      omega (arith, e, k)
+
+  -- the hardware moved
+  pub moves : (most line n : ℕ) (order : Order) (chip : Chip) (kept : Kept Frame) (before : Written) (chip1 : Chip) (after : Written) → kept.steps ≤ most → is_hardware order ≡ true → is_built order ≡ true → words_by order ≤ 64 → chip.clock.rate ≤ 16 → n ≡ length kept.frames → chip1 ≡ happened chip order → after ≡ written before line n (Happens order) (words_of_order order) → Stands d first chip1 kept.frames (deeds_of call_of script before.entries ++ moment.Happens order ∷ []) → IsStanding d first call_of script chip kept.frames before.entries → Obeyed d first call_of script most line order chip kept before chip1 kept after
+  moves most line n order chip kept before chip1 after few hard built short slow n_is chip_is is moved stands =
+      let e : Entry = record { line = line; depth = n; said = Happens order } in
+      let m = moment_of d first call_of script before.entries in
+      record {
+        adds = record {
+          items = e ∷ [];
+          is = ap (λ w. w.entries) is;
+          right = gives_one d.setting call_of m line order (e ∷ []) hard built (stands.covers.unwatched m.world m.state)
+              (ap (λ x. let i : Entry = record { line = line; depth = x; said = Happens order } in i ∷ []) (n_is ∙ depth_is d first call_of script chip kept.frames before.entries stands));
+          leads = sym (moment_more d first call_of script before.entries e (moved_by order) refl ∙ ap (λ ds. moment.after_all d.setting m ds) (sym (append-nil (moved_by order)))) ∙ ap (λ w. moment_of d first call_of script w.entries) (sym is);
+          stands = subst (λ w. IsStanding d first call_of script chip1 kept.frames w.entries) (sym is) (subst (λ h. Stands d first chip1 kept.frames h) (sym (deeds_more d first call_of script before.entries e (moment.Happens order ∷ []) (moves_by order hard))) moved);
+        };
+        filled = item_filled d first call_of script most line n (Happens order) (words_of_order order) kept.steps kept.steps before after few refl refl (omega (arith, words_are order built, short)) is;
+        osc = subst (λ x. x.clock.osc ≤ chip.clock.osc + 1000000) (sym chip_is) (osc_same chip order built);
+        now = subst (λ x. now_of x ≤ now_of chip + 16000000) (sym chip_is) (now_same chip order built slow);
+        given = λ u. subst (λ x. room_on chip u ≤ room_on x u + words_by order) (sym chip_is) (room_event chip order u);
+        spent = omega arith;
+      }
+
+  -- something was shown
+  pub shows : (most line n : ℕ) (shown : Shown) (chip : Chip) (kept : Kept Frame) (before after : Written) → kept.steps ≤ most → length kept.frames ≡ 0 → n ≡ length kept.frames → after ≡ written before line n (Happens (orders.Show shown)) [] → IsStanding d first call_of script chip kept.frames before.entries → Obeyed d first call_of script most line (orders.Show shown) chip kept before chip kept after
+  shows most line n shown chip kept before after few none n_is is stands =
+      let e : Entry = record { line = line; depth = n; said = Happens (orders.Show shown) } in
+      let m = moment_of d first call_of script before.entries in
+      let depth = depth_is d first call_of script chip kept.frames before.entries stands in
+      let opens : m.opens ≡ [] = no_opens d first call_of script m.opens (sym depth ∙ none) in
+      record {
+        adds = record {
+          items = e ∷ [];
+          is = ap (λ w. w.entries) is;
+          right = subst (λ os. Shows m line (orders.Show shown) os (e ∷ [])) (sym opens) (ap (λ x. let i : Entry = record { line = line; depth = x; said = Happens (orders.Show shown) } in i ∷ []) (n_is ∙ depth));
+          leads = sym (moment_more d first call_of script before.entries e [] refl) ∙ ap (λ w. moment_of d first call_of script w.entries) (sym is);
+          stands = subst (λ w. IsStanding d first call_of script chip kept.frames w.entries) (sym is) (subst (λ h. Stands d first chip kept.frames h) (sym (deeds_more d first call_of script before.entries e [] refl ∙ append-nil (deeds_of call_of script before.entries))) stands);
+        };
+        filled = one_filled d first call_of script most line n (Happens (orders.Show shown)) kept.steps kept.steps before after few refl refl is;
+        osc = omega arith;
+        now = omega arith;
+        given = λ u. omega arith;
+        spent = omega arith;
+      }
+
+  -- a frame is under way, so that nothing is shown
+  pub shows_not : (most line n : ℕ) (shown : Shown) (chip : Chip) (kept : Kept Frame) (before after : Written) → kept.steps ≤ most → 0 < length kept.frames → n ≡ length kept.frames → after ≡ written before line n (Stays Frames) [] → IsStanding d first call_of script chip kept.frames before.entries → Obeyed d first call_of script most line (orders.Show shown) chip kept before chip kept after
+  shows_not most line n shown chip kept before after few some n_is is stands =
+      let e : Entry = record { line = line; depth = n; said = Stays Frames } in
+      let m = moment_of d first call_of script before.entries in
+      let depth = depth_is d first call_of script chip kept.frames before.entries stands in
+      let o = some_opens d first call_of script kept.frames m.opens depth some in
+      record {
+        adds = record {
+          items = e ∷ [];
+          is = ap (λ w. w.entries) is;
+          right = subst (λ os. Shows m line (orders.Show shown) os (e ∷ [])) (sym o.2) (ap (λ x. let i : Entry = record { line = line; depth = x; said = Stays Frames } in i ∷ []) (n_is ∙ depth));
+          leads = sym (moment_more d first call_of script before.entries e [] refl) ∙ ap (λ w. moment_of d first call_of script w.entries) (sym is);
+          stands = subst (λ w. IsStanding d first call_of script chip kept.frames w.entries) (sym is) (subst (λ h. Stands d first chip kept.frames h) (sym (deeds_more d first call_of script before.entries e [] refl ∙ append-nil (deeds_of call_of script before.entries))) stands);
+        };
+        filled = one_filled d first call_of script most line n (Stays Frames) kept.steps kept.steps before after few refl refl is;
+        osc = omega arith;
+        now = omega arith;
+        given = λ u. omega arith;
+        spent = omega arith;
+      }
+
+  -- the chip was reset
+  pub resets : (most line n dropped : ℕ) (reason : Reason) (chip : Chip) (kept : Kept Frame) (before : Written) (chip1 : Chip) (k1 : Kept Frame) (after : Written) → kept.steps ≤ most → reason ≢ Software → n ≡ length kept.frames → dropped ≡ length kept.frames → chip1 ≡ reset_chip chip reason → k1 ≡ record kept { frames = [] } → after ≡ written before line n (Resets reason dropped) [] → Stands d first chip1 k1.frames (deeds_of call_of script before.entries ++ moment.Resets reason ∷ []) → IsStanding d first call_of script chip kept.frames before.entries → Obeyed d first call_of script most line (orders.Reset reason) chip kept before chip1 k1 after
+  resets most line n dropped reason chip kept before chip1 k1 after few asked n_is dropped_is chip_is k1_is is moved stands =
+      let e : Entry = record { line = line; depth = n; said = Resets reason dropped } in
+      let m = moment_of d first call_of script before.entries in
+      let depth = depth_is d first call_of script chip kept.frames before.entries stands in
+      let steps : k1.steps ≡ kept.steps = ap (λ k. k.steps) k1_is in
+      record {
+        adds = record {
+          items = e ∷ [];
+          is = ap (λ w. w.entries) is;
+          right = gives_reset d.setting call_of m line reason (e ∷ []) asked
+              (ap (λ x. let i : Entry = record { line = line; depth = x; said = Resets reason dropped } in i ∷ []) (n_is ∙ depth) ∙ ap (λ x. let i : Entry = record { line = line; depth = length m.opens; said = Resets reason x } in i ∷ []) (dropped_is ∙ depth));
+          leads = sym (moment_more d first call_of script before.entries e (moment.Resets reason ∷ []) refl) ∙ ap (λ w. moment_of d first call_of script w.entries) (sym is);
+          stands = subst (λ w. IsStanding d first call_of script chip1 k1.frames w.entries) (sym is) (subst (λ h. Stands d first chip1 k1.frames h) (sym (deeds_more d first call_of script before.entries e (moment.Resets reason ∷ []) refl)) moved);
+        };
+        filled = one_filled d first call_of script most line n (Resets reason dropped) kept.steps k1.steps before after few refl steps is;
+        osc = subst (λ x. x.clock.osc ≤ chip.clock.osc + 1000000) (sym chip_is) (omega arith);
+        now = subst (λ x. now_of x ≤ now_of chip + 16000000) (sym chip_is) (omega arith);
+        given = λ u. subst (λ x. room_on chip u ≤ room_on x u + 0) (sym chip_is) (omega arith);
+        spent = subst (λ k. work_of d k ≤ work_of d kept + 0) (sym k1_is) (omega arith);
+      }

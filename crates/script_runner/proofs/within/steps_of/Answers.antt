@@ -1,8 +1,0 @@
-use Rattle.std.proofs.Common.{arith}
-use Rattle.script_runner.proofs.Scripts.{got, bound_more}
-use Rattle.script_runner.proofs.within.steps_of.Goals as goal
-
-pub loop-directive-preserved : goal.loop-directive-preserved
-loop-directive-preserved g c =
-    let k = bound_more (g.M.Module.spec c.args.driver.now) (g.M.Caller.call_of c.args.driver.now) c.args.script.now c.loop-directive.directive-index c.directive-item.result (got c.args.script.now c.loop-directive.directive-index c.directive-item.result (omega arith) c.directive-item.is) in
-    (omega (arith, k, c.from-most.ensures, c.steps_by.ensures.bound, c.loop-directive.invariant.0), omega (arith, c.from-most.ensures, c.steps_by.ensures.few, c.loop-directive.invariant.1))

@@ -1,0 +1,75 @@
+-- A run under way, as those see it who have its script obeyed.
+use Rattle.std.specs.Prelude.{◌≡◌, ℕ, ◌+◌, ◌*◌, min, Bool, false, List, [], ◌++◌, length}
+use Rattle.chip_model.specs.Chip.{Chip}
+use Rattle.mcal_base.specs.declared.config.whole.Config.{Config}
+use Rattle.mcal_base.specs.declared.directive.Directive.{Directive}
+use Rattle.mcal_base.specs.declared.directive.Request.{Request}
+use Rattle.run_model.specs.Entry.{Entry, Written}
+use Rattle.run_model.specs.Follows.{Gives}
+use Rattle.run_model.specs.Legal.{IsQuiet}
+use Rattle.run_model.specs.Moment.{Moment, Setting}
+use Rattle.step_runner.specs.Driver.{Driver}
+use Rattle.step_runner.specs.declared.stack.Under.{Under}
+use Rattle.script_runner.specs.Scripts.{chip_for, script_bound}
+use Rattle.script_runner.specs.Standing.{moment_of, IsStanding}
+
+-- A run under way of a driver over a script.
+pub record Run (M Frame : Type 0) : Type 0 where
+  pub driver : M
+  pub config : Config
+  pub script : List Directive
+  -- the most steps
+  pub limit : ℕ
+  -- how many directives were obeyed, and whether the next one stopped for want of a step
+  pub obeyed : ℕ
+  pub too_long : Bool
+  -- what was done, and the chip and the frames that stand for it, the newest first
+  pub journal : Written
+  pub chip : Chip
+  pub frames : List (Under Frame)
+
+-- the chip at power on
+abbrev pub first_of : {M Frame : Type 0} → Run M Frame → Chip
+first_of r = chip_for r.config r.script
+
+-- a run before its first directive, with room for the steps that it may take, two other items of each directive, and 64 words of each
+abbrev pub run_start : {M State Call Frame : Type 0} → (driver : M) → Setting State Call → (Request → Call) → Config → List Directive → (limit : ℕ) → Run M Frame
+run_start driver setting calls config script limit = record {
+  driver = driver;
+  config = config;
+  script = script;
+  limit = limit;
+  obeyed = 0;
+  too_long = false;
+  journal = record { entries = []; room = min limit (script_bound setting calls script) + 2 * length script; words = []; words_room = 64 * length script };
+  chip = chip_for config script;
+  frames = [];
+}
+
+-- what a directive leaves of a run
+pub record IsSameRun {M Frame : Type 0} (before after : Run M Frame) : Type 0 where
+  pub driver : after.driver ≡ before.driver
+  pub config : after.config ≡ before.config
+  pub script : after.script ≡ before.script
+  pub limit : after.limit ≡ before.limit
+  pub room : after.journal.room ≡ before.journal.room
+
+-- the moment to which a run has come
+abbrev pub moment_in : {M State Call Frame : Type 0} → Driver State Call Frame → (Request → Call) → Run M Frame → Moment State Call
+moment_in d calls r = moment_of d (first_of r) calls r.script r.journal.entries
+
+-- the chip and the frames of a run stand for its journal
+abbrev pub StandsThere : {M State Call Frame : Type 0} → Driver State Call Frame → (Request → Call) → Run M Frame → Type 0
+StandsThere d calls r = IsStanding d (first_of r) calls r.script r.chip r.frames r.journal.entries
+
+-- Items were added to the journal: those that the directive gives.
+pub record AddsItems {M State Call Frame : Type 0} (d : Driver State Call Frame) (calls : Request → Call) (directive : Directive) (before after : Run M Frame) : Type 0 where
+  pub items : List Entry
+  pub is : after.journal.entries ≡ before.journal.entries ++ items
+  pub gives : Gives d.setting calls (moment_in d calls before) directive.line directive.order items
+
+-- The run has come to rest: no frame is there, and the chip is the machine's in all that may be seen.
+pub record IsAtRest {M State Call Frame : Type 0} (d : Driver State Call Frame) (calls : Request → Call) (r : Run M Frame) : Type 0 where
+  pub alone : (moment_in d calls r).opens ≡ []
+  pub chip : r.chip ≡ (moment_in d calls r).chip
+  pub quiet : IsQuiet d.setting (moment_in d calls r)

@@ -1,0 +1,217 @@
+//! Directives that begin a frame.
+
+ghost use Rattle.std.specs.Prelude.{◌≡◌, ◌<◌, ◌∷◌, [], length, OnOk, OnErr, Some, true};
+ghost use Rattle.std.specs.Bool.{OnTrue, OnFalse};
+ghost use Rattle.mcal_base.specs.declared.directive.Order.{Order};
+ghost use Rattle.run_model.specs.Follows.{call_held, line_held, BeginsOnly, BeginsWhole};
+ghost use Rattle.run_model.specs.Moment.{Begins, Enters};
+ghost use Rattle.run_model.specs.Script.{order_at, beginnings_of};
+ghost use Rattle.run_model.specs.Stops.{BeginsToStop};
+ghost use Rattle.script_runner.specs.Scripts.{chip_for};
+ghost use Rattle.script_runner.specs.Standing.{moment_of, IsStanding, HasRoom, Began, StayedOff, ObeyedBy, IsStuck, bounds_of};
+
+use crate::caller::Caller;
+use crate::parts::{Course, Parts};
+use crate::steps::{TooLong, run_steps};
+use mcal_base::Request;
+use run_model::Reach;
+use step_runner::{begin, enter};
+
+/// Begins a call, or notes why it is held; tells whether it began.
+fn obey_call<M: Caller>(
+    course: &Course<M>,
+    line: u32,
+    level: u32,
+    request: &Request,
+    parts: &mut Parts<M>,
+) -> bool
+    requires fits { (M.spec course.now.driver).fits }
+    requires has { M.has_service course.now.driver request.now.service ≡ true }
+    requires at { let calls = M.call_of course.now.driver in
+        beginnings_of calls (order_at course.now.script.now line) ≡ Begins (calls request.now) level ∷ [] }
+    requires room { length parts.old.journal.entries < parts.old.journal.room }
+    requires stands { let d = M.spec course.now.driver in let calls = M.call_of course.now.driver in
+        let first = chip_for course.now.config course.now.script.now in
+        IsStanding d first calls course.now.script.now parts.old.bus parts.old.stack.frames parts.old.journal.entries }
+    ensures bus { parts.new.bus ≡ parts.old.bus }
+    ensures began { let d = M.spec course.now.driver in let calls = M.call_of course.now.driver in
+        let first = chip_for course.now.config course.now.script.now in
+        let m = moment_of d first calls course.now.script.now parts.old.journal.entries in
+        let held = call_held d.setting m (calls request.now) level in
+        let deed = Begins (calls request.now) level in
+        OnTrue result (Began d first calls course.now.script.now line deed held parts.new.bus
+        parts.old.stack parts.old.journal parts.new.stack parts.new.journal) }
+    ensures held { let d = M.spec course.now.driver in let calls = M.call_of course.now.driver in
+        let first = chip_for course.now.config course.now.script.now in
+        let m = moment_of d first calls course.now.script.now parts.old.journal.entries in
+        let held = call_held d.setting m (calls request.now) level in
+        OnFalse result (StayedOff d first calls course.now.script.now line held parts.new.bus
+        parts.old.stack parts.old.journal parts.new.stack parts.new.journal) }
+{
+    let depth = parts.stack.depth();
+    let call = course.driver.call(request);
+    match begin(&mut parts.stack, &course.driver, &parts.bus, call, level) {
+        Ok(()) => {
+            parts.journal.begun(line, depth);
+            true
+        }
+        Err(cause) => {
+            parts.journal.held(line, depth, cause);
+            false
+        }
+    }
+}
+
+/// Begins the handler of a line, or notes why it is held; tells whether it began.
+fn obey_enter<M: Caller>(course: &Course<M>, line: u32, irq: u32, parts: &mut Parts<M>) -> bool
+    requires fits { (M.spec course.now.driver).fits }
+    requires at { beginnings_of (M.call_of course.now.driver) (order_at course.now.script.now line) ≡ Enters irq ∷ [] }
+    requires room { length parts.old.journal.entries < parts.old.journal.room }
+    requires stands { let d = M.spec course.now.driver in let calls = M.call_of course.now.driver in
+        let first = chip_for course.now.config course.now.script.now in
+        IsStanding d first calls course.now.script.now parts.old.bus parts.old.stack.frames parts.old.journal.entries }
+    ensures bus { parts.new.bus ≡ parts.old.bus }
+    ensures began { let d = M.spec course.now.driver in let calls = M.call_of course.now.driver in
+        let first = chip_for course.now.config course.now.script.now in
+        let held = line_held d.setting (moment_of d first calls course.now.script.now parts.old.journal.entries) irq in
+        OnTrue result (Began d first calls course.now.script.now line (Enters irq) held parts.new.bus
+        parts.old.stack parts.old.journal parts.new.stack parts.new.journal) }
+    ensures held { let d = M.spec course.now.driver in let calls = M.call_of course.now.driver in
+        let first = chip_for course.now.config course.now.script.now in
+        let held = line_held d.setting (moment_of d first calls course.now.script.now parts.old.journal.entries) irq in
+        OnFalse result (StayedOff d first calls course.now.script.now line held parts.new.bus
+        parts.old.stack parts.old.journal parts.new.stack parts.new.journal) }
+{
+    let depth = parts.stack.depth();
+    match enter(&mut parts.stack, &course.driver, &parts.bus, irq) {
+        Ok(()) => {
+            parts.journal.begun(line, depth);
+            true
+        }
+        Err(cause) => {
+            parts.journal.held(line, depth, cause);
+            false
+        }
+    }
+}
+
+/// A directive that begins a call, and no more.
+pub(crate) fn obey_call_alone<M: Caller>(
+    course: &Course<M>,
+    line: u32,
+    level: u32,
+    request: &Request,
+    parts: &mut Parts<M>,
+)
+    requires fits { (M.spec course.now.driver).fits }
+    requires has { M.has_service course.now.driver request.now.service ≡ true }
+    requires at { let calls = M.call_of course.now.driver in
+        beginnings_of calls (order_at course.now.script.now line) ≡ Begins (calls request.now) level ∷ [] }
+    requires room { HasRoom course.now.most parts.old.stack.steps 2 parts.old.journal }
+    requires stands { let d = M.spec course.now.driver in let calls = M.call_of course.now.driver in
+        let first = chip_for course.now.config course.now.script.now in
+        IsStanding d first calls course.now.script.now parts.old.bus parts.old.stack.frames parts.old.journal.entries }
+    ensures { let d = M.spec course.now.driver in let calls = M.call_of course.now.driver in
+        let first = chip_for course.now.config course.now.script.now in
+        (order : Order) → beginnings_of calls (Some order) ≡ Begins (calls request.now) level ∷ [] →
+        ObeyedBy d first calls course.now.script.now course.now.most order
+        parts.old.bus parts.old.stack parts.old.journal parts.new.bus parts.new.stack parts.new.journal
+        (λ m items. BeginsOnly m line (call_held d.setting m (calls request.now) level) items) }
+{
+    let _began = obey_call(course, line, level, request, parts);
+}
+
+/// A directive that begins a call and runs it to its end.
+pub(crate) fn obey_call_whole<M: Caller>(
+    course: &Course<M>,
+    line: u32,
+    level: u32,
+    request: &Request,
+    parts: &mut Parts<M>,
+) -> Result<(), TooLong>
+    requires fits { (M.spec course.now.driver).fits }
+    requires has { M.has_service course.now.driver request.now.service ≡ true }
+    requires limit { course.now.most < 4294967295 }
+    requires at { let calls = M.call_of course.now.driver in
+        beginnings_of calls (order_at course.now.script.now line) ≡ Begins (calls request.now) level ∷ [] }
+    requires room { HasRoom course.now.most parts.old.stack.steps 2 parts.old.journal }
+    requires stands { let d = M.spec course.now.driver in let calls = M.call_of course.now.driver in
+        let first = chip_for course.now.config course.now.script.now in
+        IsStanding d first calls course.now.script.now parts.old.bus parts.old.stack.frames parts.old.journal.entries }
+    ensures obeyed { let d = M.spec course.now.driver in let calls = M.call_of course.now.driver in
+        let first = chip_for course.now.config course.now.script.now in
+        let deed = Begins (calls request.now) level in
+        OnOk result ((order : Order) → beginnings_of calls (Some order) ≡ deed ∷ [] →
+        ObeyedBy d first calls course.now.script.now course.now.most order
+        parts.old.bus parts.old.stack parts.old.journal parts.new.bus parts.new.stack parts.new.journal
+        (λ m items. BeginsWhole d.setting m line deed (call_held d.setting m (calls request.now) level) items)) }
+    ensures too_long { let d = M.spec course.now.driver in let calls = M.call_of course.now.driver in
+        let first = chip_for course.now.config course.now.script.now in
+        let deed = Begins (calls request.now) level in
+        OnErr result (IsStuck d first calls course.now.script.now course.now.most (bounds_of d.setting (deed ∷ []))
+        parts.old.stack parts.old.journal parts.new.bus parts.new.stack parts.new.journal
+        (λ m items. BeginsToStop d.setting line m deed (call_held d.setting m (calls request.now) level) items)) }
+{
+    if obey_call(course, line, level, request, parts) {
+        run_steps(course, line, Reach::Whole, parts)
+    } else {
+        Ok(())
+    }
+}
+
+/// A directive that begins the handler of a line, and no more.
+pub(crate) fn obey_enter_alone<M: Caller>(
+    course: &Course<M>,
+    line: u32,
+    irq: u32,
+    parts: &mut Parts<M>,
+)
+    requires fits { (M.spec course.now.driver).fits }
+    requires at { beginnings_of (M.call_of course.now.driver) (order_at course.now.script.now line) ≡ Enters irq ∷ [] }
+    requires room { HasRoom course.now.most parts.old.stack.steps 2 parts.old.journal }
+    requires stands { let d = M.spec course.now.driver in let calls = M.call_of course.now.driver in
+        let first = chip_for course.now.config course.now.script.now in
+        IsStanding d first calls course.now.script.now parts.old.bus parts.old.stack.frames parts.old.journal.entries }
+    ensures { let d = M.spec course.now.driver in let calls = M.call_of course.now.driver in
+        let first = chip_for course.now.config course.now.script.now in
+        (order : Order) → beginnings_of calls (Some order) ≡ Enters irq ∷ [] →
+        ObeyedBy d first calls course.now.script.now course.now.most order
+        parts.old.bus parts.old.stack parts.old.journal parts.new.bus parts.new.stack parts.new.journal
+        (λ m items. BeginsOnly m line (line_held d.setting m irq) items) }
+{
+    let _began = obey_enter(course, line, irq, parts);
+}
+
+/// A directive that begins the handler of a line and runs it to its end.
+pub(crate) fn obey_enter_whole<M: Caller>(
+    course: &Course<M>,
+    line: u32,
+    irq: u32,
+    parts: &mut Parts<M>,
+) -> Result<(), TooLong>
+    requires fits { (M.spec course.now.driver).fits }
+    requires limit { course.now.most < 4294967295 }
+    requires at { beginnings_of (M.call_of course.now.driver) (order_at course.now.script.now line) ≡ Enters irq ∷ [] }
+    requires room { HasRoom course.now.most parts.old.stack.steps 2 parts.old.journal }
+    requires stands { let d = M.spec course.now.driver in let calls = M.call_of course.now.driver in
+        let first = chip_for course.now.config course.now.script.now in
+        IsStanding d first calls course.now.script.now parts.old.bus parts.old.stack.frames parts.old.journal.entries }
+    ensures obeyed { let d = M.spec course.now.driver in let calls = M.call_of course.now.driver in
+        let first = chip_for course.now.config course.now.script.now in
+        OnOk result ((order : Order) → beginnings_of calls (Some order) ≡ Enters irq ∷ [] →
+        ObeyedBy d first calls course.now.script.now course.now.most order
+        parts.old.bus parts.old.stack parts.old.journal parts.new.bus parts.new.stack parts.new.journal
+        (λ m items. BeginsWhole d.setting m line (Enters irq) (line_held d.setting m irq) items)) }
+    ensures too_long { let d = M.spec course.now.driver in let calls = M.call_of course.now.driver in
+        let first = chip_for course.now.config course.now.script.now in
+        OnErr result (IsStuck d first calls course.now.script.now course.now.most
+        (bounds_of d.setting (Enters irq ∷ []))
+        parts.old.stack parts.old.journal parts.new.bus parts.new.stack parts.new.journal
+        (λ m items. BeginsToStop d.setting line m (Enters irq) (line_held d.setting m irq) items)) }
+{
+    if obey_enter(course, line, irq, parts) {
+        run_steps(course, line, Reach::Whole, parts)
+    } else {
+        Ok(())
+    }
+}

@@ -1,0 +1,98 @@
+//! Directives that move the hardware, show something or reset the chip.
+
+ghost use Rattle.std.specs.Prelude.{◌≡◌, ◌<◌, ◌≤◌, ◌+◌, ◌^◌, ◌≢◌, ℕ, length, true};
+ghost use Rattle.chip_model.specs.Chip.{now_of, incoming_at};
+ghost use Rattle.mcal_base.specs.declared.directive.Order.{Order};
+ghost use Rattle.mcal_base.specs.declared.directive.Reason.TheVariants.{Software};
+ghost use Rattle.run_model.specs.Entry.{words_of_order};
+ghost use Rattle.script_runner.specs.Scripts.{chip_for};
+ghost use Rattle.script_runner.specs.Standing.{IsStanding, HasRoom, Obeyed, is_built, is_hardware, GivenFits};
+
+use crate::caller::Caller;
+use crate::parts::{Course, Parts};
+use crate::sizes::words_by;
+use irq_control::Held;
+use mcal_base::{Directive, Reason, Shown};
+use step_runner::{hardware, reset};
+
+/// Moves the hardware.
+pub(crate) fn obey_hardware<M: Caller>(
+    course: &Course<M>,
+    directive: &Directive,
+    parts: &mut Parts<M>,
+)
+    requires fits { (M.spec course.now.driver).fits }
+    requires hardware { is_hardware directive.now.order ≡ true }
+    requires built { is_built directive.now.order ≡ true }
+    requires time { parts.old.bus.clock.osc + 1000000 < 2 ^ 64 }
+    requires late { now_of parts.old.bus + 16000000 < 2 ^ 64 }
+    requires given { GivenFits directive.now.order parts.old.bus }
+    requires room { HasRoom course.now.most parts.old.stack.steps 2 parts.old.journal }
+    requires stands { let d = M.spec course.now.driver in let calls = M.call_of course.now.driver in
+        let first = chip_for course.now.config course.now.script.now in
+        IsStanding d first calls course.now.script.now parts.old.bus parts.old.stack.frames parts.old.journal.entries }
+    ensures { let d = M.spec course.now.driver in let calls = M.call_of course.now.driver in
+        let first = chip_for course.now.config course.now.script.now in
+        Obeyed d first calls course.now.script.now course.now.most directive.now.line directive.now.order
+        parts.old.bus parts.old.stack parts.old.journal parts.new.bus parts.new.stack parts.new.journal }
+{
+    let _words = words_by(&directive.order);
+    let depth = parts.stack.depth();
+    hardware(&parts.stack, &mut parts.bus, directive);
+    parts
+        .journal
+        .happened(directive.line, depth, &directive.order);
+}
+
+/// Notes that something is shown, which needs that no frame is under way.
+pub(crate) fn obey_show<M: Caller>(
+    course: &Course<M>,
+    directive: &Directive,
+    shown: Shown,
+    parts: &mut Parts<M>,
+)
+    requires fits { (M.spec course.now.driver).fits }
+    requires show { directive.now.order ≡ Order.Show shown }
+    requires room { HasRoom course.now.most parts.old.stack.steps 2 parts.old.journal }
+    requires stands { let d = M.spec course.now.driver in let calls = M.call_of course.now.driver in
+        let first = chip_for course.now.config course.now.script.now in
+        IsStanding d first calls course.now.script.now parts.old.bus parts.old.stack.frames parts.old.journal.entries }
+    ensures { let d = M.spec course.now.driver in let calls = M.call_of course.now.driver in
+        let first = chip_for course.now.config course.now.script.now in
+        Obeyed d first calls course.now.script.now course.now.most directive.now.line directive.now.order
+        parts.old.bus parts.old.stack parts.old.journal parts.new.bus parts.new.stack parts.new.journal }
+{
+    let _shown = shown;
+    let depth = parts.stack.depth();
+    if depth == 0 {
+        parts
+            .journal
+            .happened(directive.line, depth, &directive.order);
+    } else {
+        parts.journal.held(directive.line, depth, Held::Frames);
+    }
+}
+
+/// Resets the chip, and drops every frame.
+pub(crate) fn obey_reset<M: Caller>(
+    course: &Course<M>,
+    directive: &Directive,
+    reason: Reason,
+    parts: &mut Parts<M>,
+)
+    requires fits { (M.spec course.now.driver).fits }
+    requires reset { directive.now.order ≡ Order.Reset reason }
+    requires asked { reason ≢ Software }
+    requires room { HasRoom course.now.most parts.old.stack.steps 2 parts.old.journal }
+    requires stands { let d = M.spec course.now.driver in let calls = M.call_of course.now.driver in
+        let first = chip_for course.now.config course.now.script.now in
+        IsStanding d first calls course.now.script.now parts.old.bus parts.old.stack.frames parts.old.journal.entries }
+    ensures { let d = M.spec course.now.driver in let calls = M.call_of course.now.driver in
+        let first = chip_for course.now.config course.now.script.now in
+        Obeyed d first calls course.now.script.now course.now.most directive.now.line directive.now.order
+        parts.old.bus parts.old.stack parts.old.journal parts.new.bus parts.new.stack parts.new.journal }
+{
+    let depth = parts.stack.depth();
+    let dropped = reset(&mut parts.stack, &mut parts.bus, reason);
+    parts.journal.reset(directive.line, depth, reason, dropped);
+}

@@ -1,0 +1,80 @@
+//! How much room a run needs.
+
+ghost use Rattle.std.specs.Prelude.{◌≡◌, ◌≤◌, ◌*◌, ◌+◌, [], length, IfOk, Some, true};
+ghost use Rattle.run_model.specs.Entry.{words_of_order};
+ghost use Rattle.run_model.specs.Script.{beginnings_of};
+ghost use Rattle.script_runner.specs.Scripts as spec;
+ghost use Rattle.script_runner.specs.Scripts.{AllOffered, is_offered, script_bound};
+ghost use Rattle.script_runner.specs.Standing.{bounds_of, words_by};
+
+use crate::caller::Caller;
+use mcal_base::{Directive, NoMemory, Order};
+use run_model::Journal;
+use std::alloc::Global;
+
+/// The most steps of the frame that an order may begin, 0 where it begins none.
+fn steps_by<M: Caller>(driver: &M, order: &Order) -> u32
+    requires fits { (M.spec driver.now).fits }
+    requires offered { is_offered (M.has_service driver.now) order.now ≡ true }
+    ensures bound { let d = M.spec driver.now in let calls = M.call_of driver.now in
+        result ≡ bounds_of d.setting (beginnings_of calls (Some order.now)) }
+    ensures few { result ≤ 10176 }
+{
+    match order {
+        Order::Call(_, request) | Order::Do(_, request) => {
+            driver.call_steps(&driver.call(request))
+        }
+        Order::Enter(line) | Order::Serve(line) => driver.line_steps(*line),
+        _ => 0,
+    }
+}
+
+/// The most steps of all frames that a script may begin.
+pub(crate) fn steps_of<M: Caller>(driver: &M, script: &[Directive]) -> u64
+    requires fits { (M.spec driver.now).fits }
+    requires offered { AllOffered (M.has_service driver.now) script.now }
+    requires few { length script.now ≤ 1100000 }
+    ensures bound { result ≡ script_bound (M.spec driver.now).setting (M.call_of driver.now) script.now }
+    ensures few { result ≤ 10176 * length script.now }
+{
+    let mut most = 0;
+    for directive in script {
+        most += u64::from(steps_by(driver, &directive.order));
+    }
+    most
+}
+
+/// How many words an order brings, at most 64: those that it gives to come in.
+pub(crate) fn words_by(order: &Order) -> usize
+    ensures given { result ≡ words_by order.now }
+    ensures few { result ≤ 64 }
+{
+    match order {
+        Order::Miso(_, words) => words.len(),
+        _ => 0,
+    }
+}
+
+/// The words that a script gives to come in on serial units.
+pub(crate) fn words_given(script: &[Directive]) -> usize
+    requires { length script.now ≤ 1100000 }
+    ensures given { result ≡ spec.words_given script.now }
+    ensures few { result ≤ 64 * length script.now }
+{
+    let mut given = 0;
+    for directive in script {
+        given += words_by(&directive.order);
+    }
+    given
+}
+
+/// A journal with room for a run of so many directives, of at most so many steps.
+pub(crate) fn journal_for(alloc: Global, most: u32, directives: usize) -> Result<Journal, NoMemory>
+    requires { directives ≤ 1100000 }
+    ensures { IfOk result (λ j. j ≡ record { entries = []; room = most + 2 * directives; words = []; words_room = 64 * directives }) }
+{
+    match Journal::with_room(alloc, most as usize + 2 * directives, 64 * directives) {
+        Ok(journal) => Ok(journal),
+        Err(_) => Err(NoMemory),
+    }
+}
