@@ -1,0 +1,12 @@
+pub mod EndsOnce
+pub mod GroupServes
+pub mod GroupSteps
+pub mod JobOrder
+pub mod JournalRuns
+pub mod MemberRuns
+pub mod OneTurn
+pub mod Promises
+pub mod RoundStates
+pub mod SequenceSteps
+pub mod TurnSteps
+pub mod WholeRounds

@@ -1,0 +1,10 @@
+-- The laws are proved over the definitions.
+use Rattle.adc_groups.specs.Bounds.{adc_setting}
+use Rattle.whole_runs.proofs.Promises.{converter_keeps, journal_says}
+use Rattle.whole_runs.proofs.journals.converter_journals.Goals as goal
+
+pub returns-clause-rounds : goal.returns-clause-rounds
+returns-clause-rounds c = converter_keeps
+
+pub returns-clause-frames : goal.returns-clause-frames
+returns-clause-frames c d = journal_says (adc_setting d)

@@ -1,0 +1,38 @@
+-- One end for each request of a sequence.
+use Rattle.std.specs.Prelude.{◌≡◌, ℕ, ◌≤◌, true, false, ◌&&◌, cond, List, [], ◌∷◌, ◌++◌, Contains, count_by}
+use Rattle.mcal_base.specs.declared.answer_name.AnswerName.TheVariants.{SpiSeqOk, SpiSeqPending, SpiSeqFailed, SpiSeqCanceled}
+use Rattle.spi_sequences.specs.Laws.{names_end}
+use Rattle.spi_sequences.specs.Table.{sequence_of, notifies_sequence}
+use Rattle.spi_sequences.specs.declared.driver.SpiDriver.{SpiDriver}
+use Rattle.whole_runs.specs.Runs.{NoneOf}
+use Rattle.whole_runs.specs.SequenceRuns.{Seen, accepts, initialises, is_reset, is_pending, is_end}
+
+-- What an event does to the result of a sequence.
+pub data ResultGoes (q : ℕ) (e : Seen) : Type 0 where
+  Stays : accepts q e ≡ false → e.has q ≡ e.had q → ResultGoes q e
+  -- an accepted request makes it pending, which it wasn't
+  Becomes : accepts q e ≡ true → is_pending (e.had q) ≡ false → e.has q ≡ SpiSeqPending → ResultGoes q e
+  -- an end gives it one result
+  Ends : accepts q e ≡ false → is_end q e ≡ true → Contains (SpiSeqOk ∷ SpiSeqFailed ∷ SpiSeqCanceled ∷ []) (e.has q) → ResultGoes q e
+  -- Spi_Init, which finds no sequence pending, and a reset make it OK
+  Begins : initialises e ≡ true → is_pending (e.had q) ≡ false → e.has q ≡ SpiSeqOk → ResultGoes q e
+  Reset : is_reset e ≡ true → e.has q ≡ SpiSeqOk → ResultGoes q e
+
+-- where a notice is configured an end tells it once, and no other event tells it
+abbrev pub TellsEnd : SpiDriver → ℕ → Seen → Type 0
+TellsEnd d q e = count_by (names_end q) e.told.notices ≡ cond (is_end q e && notifies_sequence (sequence_of d q)) 1 0
+
+pub record IsEnded (d : SpiDriver) (e : Seen) : Type 0 where
+  pub results : (q : ℕ) → ResultGoes q e
+  pub told : (q : ℕ) → TellsEnd d q e
+
+abbrev pub AreEnded : SpiDriver → List Seen → Type 0
+AreEnded d [] = Unit {0}
+AreEnded d (e ∷ past) = IsEnded d e × AreEnded d past
+
+-- Between an accepted request of a sequence and the next one of it, with no reset between, there is exactly one end; and whether a reset comes or the run stops first, at most one.
+pub record HasOneEnd (q : ℕ) (log : List Seen) : Type 0 where
+  pub one : (later between before : List Seen) (second first : Seen) → log ≡ later ++ second ∷ (between ++ first ∷ before) → accepts q second ≡ true → accepts q first ≡ true
+      → NoneOf (accepts q) between → NoneOf is_reset between → count_by (is_end q) between ≡ 1
+  pub most : (later between before : List Seen) (first : Seen) → log ≡ later ++ (between ++ first ∷ before) → accepts q first ≡ true
+      → NoneOf (accepts q) between → count_by (is_end q) between ≤ 1

@@ -1,0 +1,9 @@
+pub mod Ends
+pub mod GroupRuns
+pub mod Journals
+pub mod Members
+pub mod Order
+pub mod Promises
+pub mod Rounds
+pub mod Runs
+pub mod SequenceRuns
