@@ -1,4 +1,5 @@
 use crate::oddity::Oddity;
+use crate::turn::Turn;
 use bench_top::bench;
 use mcal_base::{ListSink, ListSource};
 use std::alloc::{AllocError, Global};
@@ -15,7 +16,7 @@ pub struct Call {
 }
 
 /// How a call ended.
-#[derive(Drop)]
+#[derive(Drop, PartialEq)]
 pub struct Ended {
     /// Its status.
     pub status: u8,
@@ -52,10 +53,24 @@ impl Call {
         &self.first_line
     }
 
-    /// Makes the call.
-    pub fn made(&self, alloc: Global) -> Result<Ended, AllocError> {
-        let first = str::from_utf8(&self.first_line).unwrap_or("");
-        let mut parts = first.split(';');
+    /// How many bytes the input has.
+    pub fn input_len(&self) -> usize {
+        self.input.len()
+    }
+
+    /// The parts of the first line: its words, and what is out of the ordinary.
+    fn parts(&self) -> str::Split<'_, char> {
+        str::from_utf8(&self.first_line).unwrap_or("").split(';')
+    }
+
+    /// What goes wrong in turn, if the call is to be made more than once.
+    pub fn turn(&self) -> Option<Turn> {
+        self.parts().skip(1).find_map(Turn::read)
+    }
+
+    /// Makes the call, with one more thing out of the ordinary, where there is one.
+    pub fn made(&self, alloc: Global, more: Option<Oddity>) -> Result<Ended, AllocError> {
+        let mut parts = self.parts();
         let mut words = Vec::new(alloc);
         for word in parts.next().unwrap_or("").split_ascii_whitespace() {
             words.push(String::from_str(alloc, word)?)?;
@@ -65,6 +80,9 @@ impl Call {
             if let Some(oddity) = Oddity::read(alloc, part)? {
                 ends.make(alloc, oddity)?;
             }
+        }
+        if let Some(oddity) = more {
+            ends.make(alloc, oddity)?;
         }
         let mut source = ListSource::new(ends.input, ends.most_read.max(1), ends.failing_reads);
         let Ok(mut sink) = ListSink::new(alloc, ends.most_written.max(1), ROOM, ends.failing_writes)
@@ -111,6 +129,8 @@ impl Ends {
             Oddity::Cut => {
                 self.input.pop();
             }
+            Oddity::Bytes(count) => self.input.truncate(count),
+            Oddity::Bad => self.input.extend_from_slice(b"bad\n")?,
         }
         Ok(())
     }

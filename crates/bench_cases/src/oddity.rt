@@ -13,6 +13,10 @@ pub enum Oddity {
     Spaces(usize),
     /// `cut`: the input ends without its last line feed.
     Cut,
+    /// `bytes N`: only the first N bytes of the input come.
+    Bytes(usize),
+    /// `bad`: one more line stands behind the input, a word that is no directive's.
+    Bad,
 }
 
 impl Oddity {
@@ -34,6 +38,8 @@ impl Oddity {
             Some("times") => Some(Oddity::Times(first)),
             Some("spaces") => Some(Oddity::Spaces(first)),
             Some("cut") => Some(Oddity::Cut),
+            Some("bytes") => Some(Oddity::Bytes(first)),
+            Some("bad") => Some(Oddity::Bad),
             _ => None,
         })
     }

@@ -7,7 +7,7 @@ use std::marker::Model;
 
 /// What a frame was begun for.
 #[derive(Clone, Copy)]
-pub(crate) enum Purpose {
+pub enum Purpose {
     /// A call of a service.
     Call(Service),
     /// The handler of a line.
@@ -15,7 +15,7 @@ pub(crate) enum Purpose {
 }
 
 /// What a directive begins a frame for.
-pub(crate) fn purpose_of(order: &Order) -> Option<Purpose>
+pub fn purpose_of(order: &Order) -> Option<Purpose>
     ensures { result ≡ spec.purpose_of order.now }
 {
     match order {

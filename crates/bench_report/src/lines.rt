@@ -8,7 +8,7 @@ use std::fmt;
 
 /// What a line of a report says, behind the number of its script line.
 #[derive(Clone, Copy)]
-pub(crate) enum Line<'a> {
+pub enum Line<'a> {
     /// A directive was held.
     Holds(Held),
     /// A step: the frames there, its move, the value that this gave, the word that came in, and its event.

@@ -69,7 +69,7 @@ impl fmt::Display for Value {
 
 /// The values of a row.
 #[derive(Clone, Copy)]
-struct Values<'a>(&'a [Value]);
+pub struct Values<'a>(pub &'a [Value]);
 
 impl fmt::Display for Values<'_> {
     ghost output = { λ v. Some (spec.values_text v.0.now) };

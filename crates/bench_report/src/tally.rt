@@ -5,17 +5,17 @@ use std::fmt;
 
 /// How many lines of a report there are of each kind that its last line counts.
 #[derive(Clone, Copy, Default)]
-pub(crate) struct Tally {
+pub struct Tally {
     /// Returned calls.
-    pub(crate) calls: u64,
+    pub calls: u64,
     /// Ended handlers.
-    pub(crate) handlers: u64,
+    pub handlers: u64,
     /// Held directives.
-    pub(crate) held: u64,
+    pub held: u64,
     /// Error reports.
-    pub(crate) errors: u64,
+    pub errors: u64,
     /// Notices.
-    pub(crate) notes: u64,
+    pub notes: u64,
 }
 
 /// The last line of a report.

@@ -6,7 +6,7 @@ use mcal_base::{DevError, Event, Head, Move, Notice, Reason, Reg};
 use std::fmt;
 
 /// How the reason of a reset is spelled.
-pub(crate) fn reason_text(reason: Reason) -> &'static str
+pub fn reason_text(reason: Reason) -> &'static str
     ensures { result.now ≡ spec.reason_text reason }
 {
     match reason {
@@ -74,11 +74,11 @@ impl fmt::Display for Found {
 
 /// A move with the value that it gave.
 #[derive(Clone, Copy)]
-pub(crate) struct MoveMade {
+pub struct MoveMade {
     /// The move.
-    pub(crate) made: Move,
+    pub made: Move,
     /// What a read or a load gave.
-    pub(crate) value: u32,
+    pub value: u32,
 }
 
 impl fmt::Display for MoveMade {

@@ -1,10 +1,14 @@
 pub mod Choices
 pub mod Cuts
+pub mod Fronts
+pub mod Keywords
+pub mod Line
 pub mod Parsed
 pub mod Parts
 pub mod Readings
 pub mod Requests
 pub mod Rest
 pub mod Scanned
+pub mod Table
 pub mod Values
 pub mod Whole

@@ -1,5 +1,5 @@
 -- The arguments of a service, in the grammar and as they are read.
-use Rattle.std.proofs.Common.{◌≡◌, ℕ, List, [], ◌∷◌, length, Option, Some, None, Bool, true, false, refl, sym, ◌∙◌, ap, subst, inl, inr, arith, codes, cond, eq-eqb, eqb-true, le-leb, ◌≤◌, get_or}
+use Rattle.std.proofs.Common.{◌≡◌, ℕ, List, [], ◌∷◌, length, Option, Some, None, Bool, true, false, refl, sym, ◌∙◌, ap, subst, inl, inr, arith, codes, cond, eq-eqb, eqb-true, le-leb}
 use Rattle.std.specs.Prelude.{Ok, Err, bytes_eq, nat_le, ◌==◌}
 use Rattle.std.proofs.lemmas.Bool.{leb-true}
 use Rattle.std.proofs.lemmas.Slice.Eq.{bytes_eq-Decides}
@@ -122,8 +122,3 @@ pub request_again : (level : ℕ) (r : Request) (words : List (List ℕ)) → Is
 request_again level r words h =
     let count = eq-eqb _ _ (arguments_count (arguments_of r.service) r.arguments h.others h.arguments_are) in
     ap request h.spelled ∙ rw (service_again r.service) (rw (count, number_again 7 level h.first h.level_is, arguments_again (arguments_of r.service) r.arguments h.others h.arguments_are) refl)
-
--- services that are found under the first letter of a word are found by the word
-pub under : (some : List Service) (word : List ℕ) → 1 ≤ length word → ((rest : List ℕ) → named service_text some (get_or word 0 0 ∷ rest) ≡ named service_text all_services (get_or word 0 0 ∷ rest)) → named service_text some word ≡ named service_text all_services word
-under some [] n h = absurd (omega (arith, n))
-under some (b ∷ bs) n h = h bs

@@ -144,7 +144,7 @@ unfolding words_in
 empty_part None = refl
 empty_part (Some ps) = refl
 
-blank_more : (x : ℕ) (xs : List ℕ) → is_blank x ≡ true → line_words (x ∷ xs) ≡ line_words xs
+pub blank_more : (x : ℕ) (xs : List ℕ) → is_blank x ≡ true → line_words (x ∷ xs) ≡ line_words xs
 blank_more x xs h =
     let t = blank_is x h in
     words_are (x ∷ xs) ∙ (ap (option_map words_in) (parts_more x xs t.feed t.return t.comment t.plain ∙ onto_option x true (parts xs) h) ∙ (empty_part (parts xs) ∙ sym (words_are xs)))

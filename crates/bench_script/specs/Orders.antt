@@ -1,5 +1,5 @@
 -- What the words of a line are read as, and why they are refused.
-use Rattle.std.specs.Prelude.{ℕ, ◌==◌, ◌&&◌, nat_le, Bool, true, false, List, [], ◌∷◌, length, Option, Some, None, Result, Ok, Err, if◌then◌else◌}
+use Rattle.std.specs.Prelude.{ℕ, ◌==◌, ◌&&◌, nat_le, List, [], ◌∷◌, length, Option, Some, None, Result, Ok, Err, if◌then◌else◌}
 use Rattle.mcal_base.specs.Names.{service_text}
 use Rattle.mcal_base.specs.declared.service.Service.{Service}
 use Rattle.mcal_base.specs.declared.directive.Request.{Request}
@@ -14,20 +14,6 @@ use Rattle.bench_script.specs.declared.fault.LineFault.{LineFault}
 use Rattle.bench_script.specs.declared.fault.LineFault.TheVariants.{Word, Count}
 use Rattle.bench_script.specs.declared.words.Keyword.{Keyword}
 use Rattle.bench_script.specs.declared.words.Keyword.TheVariants as keywords
-
--- what a function gives that writes its answer to a place
-abbrev pub put : {X A : Type 0} → Result A LineFault → X → Result X LineFault
-put (Ok a) x = Ok x
-put (Err fault) x = Err fault
-
--- the same, where it tells whether there is one
-abbrev pub there_if : {X : Type 0} → Bool → X → Option X
-there_if true x = Some x
-there_if false x = None
-
-abbrev pub put_if : {X F : Type 0} → Result Bool F → X → Result (Option X) F
-put_if (Ok b) x = Ok (there_if b x)
-put_if (Err fault) x = Err fault
 
 -- a word that must be known
 abbrev pub known : {T : Type 0} → Option T → Result T LineFault
@@ -153,15 +139,37 @@ order_by_keyword keywords.Show words = do
   s ← one_of shown_text all_shown words
   Ok (Show s)
 
+-- the keyword of an order
+abbrev pub keyword_of : Order → Keyword
+keyword_of (Call level request) = keywords.Call
+keyword_of (Do level request) = keywords.Do
+keyword_of (Enter line) = keywords.Enter
+keyword_of (Serve line) = keywords.Serve
+keyword_of (Run steps) = keywords.Run
+keyword_of (Upto stop) = keywords.Upto
+keyword_of Finish = keywords.Finish
+keyword_of (Tick ticks) = keywords.Tick
+keyword_of (Level pin level) = keywords.Level
+keyword_of (Analog input value) = keywords.Analog
+keyword_of (Trigger input) = keywords.Trigger
+keyword_of (Miso unit words) = keywords.Miso
+keyword_of (SpiFault unit) = keywords.SpiFault
+keyword_of (Fill channel words) = keywords.Fill
+keyword_of (Reset reason) = keywords.Reset
+keyword_of (Show shown) = keywords.Show
+
 -- what stands in a line
 abbrev pub order_by_word : List ℕ → List (List ℕ) → Result Order LineFault
 order_by_word word words = do
   keyword ← choice keyword_text all_keywords word
   order_by_keyword keyword words
 
--- a line without words is no directive
+-- a line with words is a directive, and one without is none
+abbrev pub some_order : Result Order LineFault → Result (Option Order) LineFault
+some_order read = do
+  order ← read
+  Ok (Some order)
+
 abbrev pub order_of : List (List ℕ) → Result (Option Order) LineFault
 order_of [] = Ok None
-order_of (word ∷ words) = do
-  order ← order_by_word word words
-  Ok (Some order)
+order_of (word ∷ words) = some_order (order_by_word word words)

@@ -1,5 +1,5 @@
 -- The first line of a text, byte by byte, as the reader of lines takes it.
-use Rattle.std.specs.Prelude.{ℕ, ◌==◌, ◌&&◌, not, nat_le, List, [], ◌∷◌, Bool, false, Option, Some, None, option_map, if◌then◌else◌}
+use Rattle.std.specs.Prelude.{ℕ, ◌+◌, ◌==◌, ◌&&◌, not, nat_le, List, [], ◌∷◌, Bool, true, false, Option, Some, None, option_map, if◌then◌else◌}
 use Rattle.bench_script.specs.Lines.{before_comment, is_text, words_of}
 
 -- begins with such a byte
@@ -33,3 +33,8 @@ is_letter b = nat_le 33 b && (nat_le b 126 && not (b == 35))
 abbrev pub with_word : List ℕ → Option (List (List ℕ)) → Option (List (List ℕ))
 with_word [] words = words
 with_word (b ∷ bs) words = option_map (λ ws. (b ∷ bs) ∷ ws) words
+
+-- a table of a test: each entry says what the test says of its place, which is so much for the first
+abbrev pub is_table : (ℕ → Bool) → ℕ → List Bool → Bool
+is_table p place [] = true
+is_table p place (x ∷ xs) = (if x then p place else not (p place)) && is_table p (place + 1) xs

@@ -17,9 +17,14 @@ abbrev pub read_line : List ℕ → Result (Option Order) LineFault
 read_line line = if is_text (before_comment line) then order_of (words_of (before_comment line)) else Err NotText
 
 -- the same in a script
-abbrev pub numbered : ℕ → Result (Option Order) LineFault → Result (Option Order) ScriptFault
+abbrev pub numbered : {X : Type 0} → ℕ → Result X LineFault → Result X ScriptFault
 numbered number (Ok order) = Ok order
 numbered number (Err fault) = Err (at_line fault number)
+
+-- the fault of a line for whose directive there is no room
+abbrev pub too_many : ℕ → Result Order LineFault → ScriptFault
+too_many number (Ok order) = Long number
+too_many number (Err fault) = at_line fault number
 
 -- The directives of a line and of those after it, which are given by how many directives come before them.
 -- A directive that is the 50,001st is refused.

@@ -10,3 +10,8 @@ abbrev pub ◌>>=◌ : {A B E : Type 0} → Result A E → (A → Result B E) �
 abbrev pub prepended : {A E : Type 0} → List A → Result (List A) E → Result (List A) E
 prepended xs (Ok ys) = Ok (xs ++ ys)
 prepended xs (Err e) = Err e
+
+-- what a function gives that writes its answer to a place
+abbrev pub put : {X A F : Type 0} → Result A F → X → Result X F
+put (Ok a) x = Ok x
+put (Err fault) x = Err fault

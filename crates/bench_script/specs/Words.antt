@@ -1,6 +1,7 @@
 -- The words of the language: those that a directive begins with, and those that stand for a choice.
-use Rattle.std.specs.Prelude.{ℕ, List, [], ◌∷◌, Option, codes, bytes_eq}
+use Rattle.std.specs.Prelude.{◌≡◌, ℕ, ◌+◌, List, [], ◌∷◌, length, Option, codes, bytes_eq}
 use Rattle.std.specs.List.{find}
+use Rattle.mcal_base.specs.Names.{service_text}
 use Rattle.mcal_base.specs.declared.service.Service.{Service}
 use Rattle.mcal_base.specs.declared.service.Service.TheVariants as services
 use Rattle.mcal_base.specs.declared.directive.Stop.{Stop}
@@ -71,3 +72,7 @@ all_reasons = reasons.PowerOn ∷ reasons.Watchdog ∷ []
 -- the services that a script may name
 abbrev pub all_services : List Service
 all_services = services.McuInit ∷ services.McuInitRamSection ∷ services.McuInitClock ∷ services.McuDistributePllClock ∷ services.McuGetPllStatus ∷ services.McuGetResetReason ∷ services.McuPerformReset ∷ services.McuSetMode ∷ services.PortInit ∷ services.PortSetPinDirection ∷ services.PortRefreshPortDirection ∷ services.PortSetPinMode ∷ services.GptInit ∷ services.GptDeInit ∷ services.GptGetTimeElapsed ∷ services.GptGetTimeRemaining ∷ services.GptStartTimer ∷ services.GptStopTimer ∷ services.GptEnableNotification ∷ services.GptDisableNotification ∷ services.GptSetMode ∷ services.GptEnableWakeup ∷ services.GptDisableWakeup ∷ services.GptCheckWakeup ∷ services.PwmInit ∷ services.PwmDeInit ∷ services.PwmSetDutyCycle ∷ services.PwmSetPeriodAndDuty ∷ services.PwmSetOutputToIdle ∷ services.PwmGetOutputState ∷ services.PwmEnableNotification ∷ services.PwmDisableNotification ∷ services.IcuInit ∷ services.IcuDeInit ∷ services.IcuSetActivationCondition ∷ services.IcuEnableNotification ∷ services.IcuDisableNotification ∷ services.IcuGetInputState ∷ services.IcuEnableEdgeDetection ∷ services.IcuDisableEdgeDetection ∷ services.IcuResetEdgeCount ∷ services.IcuEnableEdgeCount ∷ services.IcuDisableEdgeCount ∷ services.IcuGetEdgeNumbers ∷ services.IcuStartTimestamp ∷ services.IcuStopTimestamp ∷ services.IcuGetTimestampIndex ∷ services.IcuStartSignalMeasurement ∷ services.IcuStopSignalMeasurement ∷ services.IcuGetTimeElapsed ∷ services.IcuGetDutyCycleValues ∷ services.AdcInit ∷ services.AdcDeInit ∷ services.AdcSetupResultBuffer ∷ services.AdcStartGroupConversion ∷ services.AdcStopGroupConversion ∷ services.AdcReadGroup ∷ services.AdcEnableHardwareTrigger ∷ services.AdcDisableHardwareTrigger ∷ services.AdcEnableGroupNotification ∷ services.AdcDisableGroupNotification ∷ services.AdcGetGroupStatus ∷ services.AdcGetStreamLastPointer ∷ services.SpiInit ∷ services.SpiDeInit ∷ services.SpiWriteIb ∷ services.SpiReadIb ∷ services.SpiSetupEb ∷ services.SpiAsyncTransmit ∷ services.SpiCancel ∷ services.SpiGetStatus ∷ services.SpiGetJobResult ∷ services.SpiGetSequenceResult ∷ services.SpiGetHwUnitStatus ∷ services.SpiSetAsyncMode ∷ services.SpiMainFunctionHandling ∷ []
+
+-- among these is each service that a word of so many letters may name, by its first letter
+abbrev pub FindsAll : List Service → ℕ → ℕ → Type 0
+FindsAll some letter letters = (rest : List ℕ) → length rest + 1 ≡ letters → named service_text some (letter ∷ rest) ≡ named service_text all_services (letter ∷ rest)

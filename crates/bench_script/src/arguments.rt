@@ -1,5 +1,6 @@
-ghost use Rattle.std.specs.Prelude.{◌≡◌, ◌≤◌, length, map};
+ghost use Rattle.std.specs.Prelude.{◌≡◌, ◌≤◌, [], length, map};
 ghost use Rattle.bench_script.specs.Arguments as spec;
+ghost use Rattle.bench_script.specs.Steps.{put};
 
 use crate::fault::LineFault;
 use crate::numbers::{number_up_to, numeral};
@@ -47,15 +48,19 @@ fn argument(kind: Kind, word: &[u8]) -> Result<Argument, LineFault>
     }
 }
 
-/// The arguments that words are, one for each kind.
-pub(crate) fn arguments(kinds: &[Kind], words: &[&[u8]]) -> Result<Short<Argument, 4>, LineFault>
+/// The arguments that words are, one for each kind, put into a place where there are none.
+pub(crate) fn arguments(
+    kinds: &[Kind],
+    words: &[&[u8]],
+    arguments: &mut Short<Argument, 4>,
+) -> Result<(), LineFault>
     requires same { length words.now ≡ length kinds.now }
     requires few { length kinds.now ≤ 4 }
-    ensures { result ≡ spec.arguments kinds.now (map (λ w. w.now) words.now) }
+    requires none { arguments.old ≡ [] }
+    ensures { put result arguments.new ≡ spec.arguments kinds.now (map (λ w. w.now) words.now) }
 {
-    let mut arguments = Short::new();
     for (place, word) in words.iter().enumerate() {
         arguments.push(argument(kinds[place], word)?);
     }
-    Ok(arguments)
+    Ok(())
 }

@@ -1,4 +1,4 @@
-ghost use Rattle.std.specs.Prelude.{◌≡◌, ◌==◌, ◌+◌, ◌<◌, ◌≤◌, [], ◌∷◌, false, Some, None, MatchOption, IfSome, IfOk, length, take, drop, map, not, option_map};
+ghost use Rattle.std.specs.Prelude.{◌≡◌, ◌==◌, ◌<◌, ◌≤◌, [], ◌∷◌, ◌++◌, ◌+◌, ℕ, List, Option, true, false, Some, None, MatchOption, IfSome, IfOk, OnOk, length, map, not, drop, option_map};
 ghost use Rattle.std.specs.List.{position, position_or_len};
 ghost use Rattle.std.specs.Str.Lines.{strip_carriage_return};
 ghost use Rattle.bench_script.specs.Lines as spec;
@@ -100,61 +100,71 @@ fn is_blank(byte: u8) -> bool
     byte == b' ' || byte == b'\t'
 }
 
+/// Which bytes stand in words.
+const LETTERS: [bool; 256] = [
+    false, false, false, false, false, false, false, false, false, false, false, false, false,
+    false, false, false, false, false, false, false, false, false, false, false, false, false,
+    false, false, false, false, false, false, false, true, true, false, true, true, true, true,
+    true, true, true, true, true, true, true, true, true, true, true, true, true, true, true, true,
+    true, true, true, true, true, true, true, true, true, true, true, true, true, true, true, true,
+    true, true, true, true, true, true, true, true, true, true, true, true, true, true, true, true,
+    true, true, true, true, true, true, true, true, true, true, true, true, true, true, true, true,
+    true, true, true, true, true, true, true, true, true, true, true, true, true, true, true, true,
+    true, true, true, true, true, true, true, false, false, false, false, false, false, false,
+    false, false, false, false, false, false, false, false, false, false, false, false, false,
+    false, false, false, false, false, false, false, false, false, false, false, false, false,
+    false, false, false, false, false, false, false, false, false, false, false, false, false,
+    false, false, false, false, false, false, false, false, false, false, false, false, false,
+    false, false, false, false, false, false, false, false, false, false, false, false, false,
+    false, false, false, false, false, false, false, false, false, false, false, false, false,
+    false, false, false, false, false, false, false, false, false, false, false, false, false,
+    false, false, false, false, false, false, false, false, false, false, false, false, false,
+    false, false, false, false, false, false, false, false, false, false, false, false, false,
+    false, false, false, false, false,
+];
+
+/// Which bytes stand in words.
+fn letters() -> &'static [bool]
+    ensures table { scanned.is_table scanned.is_letter 0 result.now ≡ true }
+    ensures size { length result.now ≡ 256 }
+{
+    &LETTERS
+}
+
 /// Whether a byte stands in words.
 fn is_letter(byte: u8) -> bool
     ensures { result ≡ scanned.is_letter byte }
 {
-    b'!' <= byte && byte <= b'~' && byte != b'#'
+    letters()[byte as usize]
 }
 
-/// The place of the first byte that is no blank.
-fn place_of_word(text: &[u8]) -> Option<usize>
-    ensures { result ≡ position (λ b. not (spec.is_blank b)) text.now }
+/// The end of the letters of a text from a place on.
+fn end_of_word(text: &[u8], start: usize) -> usize
+    requires { start ≤ length text.now }
+    ensures end { result ≡ start + position_or_len (λ b. not (scanned.is_letter b)) (drop start text.now) }
+    ensures within { result ≤ length text.now }
+    ensures after { start ≤ result }
 {
-    text.iter().position(|b| !is_blank(*b))
-}
-
-/// A text from its first byte on that is no blank.
-fn without_blanks(text: &[u8]) -> &[u8]
-    ensures { result.now ≡ drop (position_or_len (λ b. not (spec.is_blank b)) text.now) text.now }
-{
-    match place_of_word(text) {
-        Some(start) => &text[start..],
-        None => &[],
+    let mut place = start;
+    while place < text.len() && is_letter(text[place]) {
+        place += 1;
     }
+    place
 }
 
-/// The place of the first byte that is no letter.
-fn place_after_word(text: &[u8]) -> Option<usize>
-    ensures { result ≡ position (λ b. not (scanned.is_letter b)) text.now }
+/// Keeps a word behind others, unless it is empty.
+fn keep_word<'a>(words: &mut Vec<&'a [u8]>, word: &'a [u8]) -> Result<(), AllocError>
+    ensures { OnOk result ((o : Option (List (List ℕ))) → option_map (λ ws. map (λ w. w.now) words.old.items ++ ws) (scanned.with_word word.now o) ≡ option_map (λ ws. map (λ w. w.now) words.new.items ++ ws) o) }
 {
-    text.iter().position(|b| !is_letter(*b))
-}
-
-/// The letters at the front of a text, and what comes after them.
-fn front_word(text: &[u8]) -> (&[u8], &[u8])
-    ensures word { result.0.now ≡ take (position_or_len (λ b. not (scanned.is_letter b)) text.now) text.now }
-    ensures after { result.1.now ≡ drop (position_or_len (λ b. not (scanned.is_letter b)) text.now) text.now }
-{
-    match place_after_word(text) {
-        Some(end) => (&text[..end], &text[end..]),
-        None => (text, &[]),
+    if !word.is_empty() {
+        words.reserve(1)?;
+        words.push_reserved(word);
     }
-}
-
-/// The next word of a line, empty where there is none, and what comes after it.
-fn next_word(text: &[u8]) -> (&[u8], &[u8])
-    ensures word { scanned.line_words text.now ≡ scanned.with_word result.0.now (scanned.line_words result.1.now) }
-    ensures after { scanned.after_line text.now ≡ scanned.after_line result.1.now }
-    ensures shorter { length result.0.now + length result.1.now ≤ length text.now }
-    ensures letter { scanned.begins scanned.is_letter result.1.now ≡ false }
-    ensures blank { length result.0.now ≡ 0 → scanned.begins spec.is_blank result.1.now ≡ false }
-{
-    front_word(without_blanks(text))
+    Ok(())
 }
 
 /// Puts the words of the first line of a text in the place of others, and gives what comes after the line; none where a
-/// byte before its comment is no text.
+/// byte before its comment is no text. Each byte before the comment is looked at once.
 pub(crate) fn line_words<'a>(
     words: &mut Vec<&'a [u8]>,
     text: &'a [u8],
@@ -162,13 +172,14 @@ pub(crate) fn line_words<'a>(
     ensures { IfOk result (λ r. MatchOption r (scanned.line_words text.now ≡ None) (λ after. (scanned.line_words text.now ≡ Some (map (λ w. w.now) words.new.items)) × (after.now ≡ scanned.after_line text.now))) }
 {
     words.clear();
-    let mut rest = text;
-    loop {
-        let (word, after) = next_word(rest);
-        if word.is_empty() {
-            return Ok(end_of_line(after));
+    let mut start = 0;
+    while start < text.len() {
+        let end = end_of_word(text, start);
+        keep_word(words, &text[start..end])?;
+        if end == text.len() || !is_blank(text[end]) {
+            return Ok(end_of_line(&text[end..]));
         }
-        words.push(word)?;
-        rest = after;
+        start = end + 1;
     }
+    Ok(Some(&[]))
 }

@@ -1,6 +1,7 @@
-ghost use Rattle.std.specs.Prelude.{◌≡◌, ◌≤◌, length, map};
+ghost use Rattle.std.specs.Prelude.{◌≡◌, ◌≤◌, [], length, map};
 ghost use Rattle.mcal_base.specs.Names.{service_text};
 ghost use Rattle.bench_script.specs.Orders as spec;
+ghost use Rattle.bench_script.specs.Steps.{put};
 ghost use Rattle.bench_script.specs.Words.{all_services};
 ghost use Rattle.bench_script.specs.declared.words.Keyword.{Keyword};
 
@@ -10,8 +11,8 @@ use crate::numbers::number_up_to;
 use crate::services::service_named;
 use crate::spelled::{Spelled, named};
 use crate::tables::arguments_of;
-use crate::words::{Keyword, keywords, reasons, sights, stops};
-use mcal_base::{Order, Request, Service, Words};
+use crate::words::{Keyword, reasons, sights, stops};
+use mcal_base::{Order, Reason, Request, Service, Short, Shown, Stop, Words};
 
 /// What a word must be one of.
 fn choice<T: Spelled>(choices: &[T], word: &[u8]) -> Result<T, LineFault>
@@ -62,51 +63,73 @@ fn two(most: u32, most_next: u32, words: &[&[u8]]) -> Result<(u32, u32), LineFau
     }
 }
 
-/// The numbers that words are.
-fn numbers(most: u32, words: &[&[u8]]) -> Result<Words, LineFault>
-    requires { length words.now ≤ 64 }
-    ensures { result ≡ spec.numbers most (map (λ w. w.now) words.now) }
+/// The numbers that words are, put into a place where there are none.
+fn numbers(most: u32, words: &[&[u8]], numbers: &mut Words) -> Result<(), LineFault>
+    requires few { length words.now ≤ 64 }
+    requires none { numbers.old ≡ [] }
+    ensures { put result numbers.new ≡ spec.numbers most (map (λ w. w.now) words.now) }
 {
-    let mut numbers = Words::new();
     for word in words {
         numbers.push(number_up_to(most, word)?);
     }
-    Ok(numbers)
+    Ok(())
 }
 
-/// A number, and the numbers that follow it.
-fn row(most: u32, most_next: u32, word: &[u8], words: &[&[u8]]) -> Result<(u32, Words), LineFault>
+/// A number, and the numbers that follow it, written to a place. Not inlined, so that the room for the numbers is
+/// filled here alone.
+#[inline(never)]
+fn row(
+    most: u32,
+    most_next: u32,
+    word: &[u8],
+    words: &[&[u8]],
+    first: &mut u32,
+    others: &mut Words,
+) -> Result<(), LineFault>
     requires { length words.now ≤ 64 }
-    ensures { result ≡ spec.row most most_next word.now (map (λ w. w.now) words.now) }
+    ensures { put result (first.new, others.new) ≡ spec.row most most_next word.now (map (λ w. w.now) words.now) }
 {
-    let first = number_up_to(most, word)?;
-    let numbers = numbers(most_next, words)?;
-    Ok((first, numbers))
+    *first = number_up_to(most, word)?;
+    *others = Words::new();
+    numbers(most_next, words, others)
 }
 
-/// The number after a keyword, and the 1 to 64 numbers that follow it.
-fn several(most: u32, most_next: u32, words: &[&[u8]]) -> Result<(u32, Words), LineFault>
-    ensures { result ≡ spec.several most most_next (map (λ w. w.now) words.now) }
+/// The number after a keyword, and the 1 to 64 numbers that follow it, written to a place.
+fn several(
+    most: u32,
+    most_next: u32,
+    words: &[&[u8]],
+    first: &mut u32,
+    others: &mut Words,
+) -> Result<(), LineFault>
+    ensures { put result (first.new, others.new) ≡ spec.several most most_next (map (λ w. w.now) words.now) }
 {
     match words {
         [word, words @ ..] if !words.is_empty() && words.len() <= 64 => {
-            row(most, most_next, word, words)
+            row(most, most_next, word, words, first, others)
         }
         _ => Err(LineFault::Count),
     }
 }
 
-/// A level, and a service with its arguments.
-fn request_to(service: Service, level: &[u8], words: &[&[u8]]) -> Result<(u32, Request), LineFault>
-    ensures { result ≡ spec.request_to service level.now (map (λ w. w.now) words.now) }
+/// A level, and a service with its arguments, written to a place.
+fn request_to(
+    service: Service,
+    word: &[u8],
+    words: &[&[u8]],
+    level: &mut u32,
+    request: &mut Request,
+) -> Result<(), LineFault>
+    ensures { put result (level.new, request.new) ≡ spec.request_to service word.now (map (λ w. w.now) words.now) }
 {
     let kinds = arguments_of(service);
     if words.len() != kinds.len() {
         return Err(LineFault::Count);
     }
-    let level = number_up_to(7, level)?;
-    let arguments = arguments(kinds, words)?;
-    Ok((level, Request { service, arguments }))
+    *level = number_up_to(7, word)?;
+    request.service = service;
+    request.arguments = Short::new();
+    arguments(kinds, words, &mut request.arguments)
 }
 
 /// The service that a word must name.
@@ -119,20 +142,27 @@ fn service(name: &[u8]) -> Result<Service, LineFault>
     }
 }
 
-/// A level, and a service by its name with its arguments.
-fn request_by_name(level: &[u8], name: &[u8], words: &[&[u8]]) -> Result<(u32, Request), LineFault>
-    ensures { result ≡ spec.request_by_name level.now name.now (map (λ w. w.now) words.now) }
+/// A level, and a service by its name with its arguments, written to a place.
+fn request_by_name(
+    word: &[u8],
+    name: &[u8],
+    words: &[&[u8]],
+    level: &mut u32,
+    request: &mut Request,
+) -> Result<(), LineFault>
+    ensures { put result (level.new, request.new) ≡
+        spec.request_by_name word.now name.now (map (λ w. w.now) words.now) }
 {
     let service = service(name)?;
-    request_to(service, level, words)
+    request_to(service, word, words, level, request)
 }
 
-/// The level and the request after a keyword.
-fn request(words: &[&[u8]]) -> Result<(u32, Request), LineFault>
-    ensures { result ≡ spec.request (map (λ w. w.now) words.now) }
+/// The level and the request after a keyword, written to a place.
+fn request(words: &[&[u8]], level: &mut u32, request: &mut Request) -> Result<(), LineFault>
+    ensures { put result (level.new, request.new) ≡ spec.request (map (λ w. w.now) words.now) }
 {
     match words {
-        [level, name, words @ ..] => request_by_name(level, name, words),
+        [word, name, words @ ..] => request_by_name(word, name, words, level, request),
         _ => Err(LineFault::Count),
     }
 }
@@ -147,81 +177,69 @@ fn nothing(words: &[&[u8]]) -> Result<(), LineFault>
     }
 }
 
-/// Words for a serial unit, written to a place.
-fn miso(words: &[&[u8]], order: &mut Order) -> Result<(), LineFault>
-    ensures { spec.put result order.new ≡ spec.order_by_keyword Keyword.Miso (map (λ w. w.now) words.now) }
-{
-    let (unit, words) = several(1, 65_535, words)?;
-    *order = Order::Miso(unit, words);
-    Ok(())
+/// A request of which nothing is read yet.
+fn no_request() -> Request {
+    Request {
+        service: Service::McuInit,
+        arguments: Short::new(),
+    }
 }
 
-/// The first places of a channel's source array, written to a place.
-fn fill(words: &[&[u8]], order: &mut Order) -> Result<(), LineFault>
-    ensures { spec.put result order.new ≡ spec.order_by_keyword Keyword.Fill (map (λ w. w.now) words.now) }
-{
-    let (channel, words) = several(u32::MAX, u32::MAX, words)?;
-    *order = Order::Fill(channel, words);
-    Ok(())
-}
-
-/// The order that a keyword and the words after it are, written to a place.
-fn order_by_keyword(keyword: Keyword, words: &[&[u8]], order: &mut Order) -> Result<(), LineFault>
-    ensures { spec.put result order.new ≡ spec.order_by_keyword keyword (map (λ w. w.now) words.now) }
+/// An order of a keyword, of which nothing is read yet.
+pub(crate) fn unread(keyword: Keyword) -> Order
+    ensures { spec.keyword_of result ≡ keyword }
 {
     match keyword {
-        Keyword::Call => {
-            let (level, request) = request(words)?;
-            *order = Order::Call(level, request);
+        Keyword::Call => Order::Call(0, no_request()),
+        Keyword::Do => Order::Do(0, no_request()),
+        Keyword::Enter => Order::Enter(0),
+        Keyword::Serve => Order::Serve(0),
+        Keyword::Run => Order::Run(0),
+        Keyword::Upto => Order::Upto(Stop::Act),
+        Keyword::Finish => Order::Finish,
+        Keyword::Tick => Order::Tick(0),
+        Keyword::Level => Order::Level(0, false),
+        Keyword::Analog => Order::Analog(0, 0),
+        Keyword::Trigger => Order::Trigger(0),
+        Keyword::Miso => Order::Miso(0, Words::new()),
+        Keyword::SpiFault => Order::SpiFault(0),
+        Keyword::Fill => Order::Fill(0, Words::new()),
+        Keyword::Reset => Order::Reset(Reason::PowerOn),
+        Keyword::Show => Order::Show(Shown::Pins),
+    }
+}
+
+/// Reads what the words after a keyword ask for into an order of that keyword, where it stands. Inlined, so that a line
+/// makes no frame for it.
+#[inline(always)]
+pub(crate) fn read_order(words: &[&[u8]], order: &mut Order) -> Result<(), LineFault>
+    ensures { put result order.new ≡ spec.order_by_keyword (spec.keyword_of order.old) (map (λ w. w.now) words.now) }
+{
+    match order {
+        Order::Call(level, asked) => request(words, level, asked)?,
+        Order::Do(level, asked) => request(words, level, asked)?,
+        Order::Enter(line) => *line = one(31, words)?,
+        Order::Serve(line) => *line = one(31, words)?,
+        Order::Run(steps) => *steps = one(u32::MAX, words)?,
+        Order::Upto(stop) => *stop = one_of(stops(), words)?,
+        Order::Finish => nothing(words)?,
+        Order::Tick(ticks) => *ticks = one(1_000_000, words)?,
+        Order::Level(pin, level) => {
+            let (number, value) = two(63, 1, words)?;
+            *pin = number;
+            *level = value == 1;
         }
-        Keyword::Do => {
-            let (level, request) = request(words)?;
-            *order = Order::Do(level, request);
+        Order::Analog(input, value) => {
+            let (number, level) = two(31, 4095, words)?;
+            *input = number;
+            *value = level;
         }
-        Keyword::Enter => *order = Order::Enter(one(31, words)?),
-        Keyword::Serve => *order = Order::Serve(one(31, words)?),
-        Keyword::Run => *order = Order::Run(one(u32::MAX, words)?),
-        Keyword::Upto => *order = Order::Upto(one_of(stops(), words)?),
-        Keyword::Finish => {
-            nothing(words)?;
-            *order = Order::Finish;
-        }
-        Keyword::Tick => *order = Order::Tick(one(1_000_000, words)?),
-        Keyword::Level => {
-            let (pin, level) = two(63, 1, words)?;
-            *order = Order::Level(pin, level == 1);
-        }
-        Keyword::Analog => {
-            let (input, value) = two(31, 4095, words)?;
-            *order = Order::Analog(input, value);
-        }
-        Keyword::Trigger => *order = Order::Trigger(one(3, words)?),
-        Keyword::Miso => miso(words, order)?,
-        Keyword::SpiFault => *order = Order::SpiFault(one(1, words)?),
-        Keyword::Fill => fill(words, order)?,
-        Keyword::Reset => *order = Order::Reset(one_of(reasons(), words)?),
-        Keyword::Show => *order = Order::Show(one_of(sights(), words)?),
+        Order::Trigger(input) => *input = one(3, words)?,
+        Order::Miso(unit, words_in) => several(1, 65_535, words, unit, words_in)?,
+        Order::SpiFault(unit) => *unit = one(1, words)?,
+        Order::Fill(channel, values) => several(u32::MAX, u32::MAX, words, channel, values)?,
+        Order::Reset(reason) => *reason = one_of(reasons(), words)?,
+        Order::Show(shown) => *shown = one_of(sights(), words)?,
     }
     Ok(())
-}
-
-/// The order that a word and those after it are, written to a place.
-fn order_by_word(word: &[u8], words: &[&[u8]], order: &mut Order) -> Result<(), LineFault>
-    ensures { spec.put result order.new ≡ spec.order_by_word word.now (map (λ w. w.now) words.now) }
-{
-    let keyword = choice(keywords(), word)?;
-    order_by_keyword(keyword, words, order)
-}
-
-/// The order that the words of a line are, written to a place; tells whether there are any words.
-pub(crate) fn order_of(words: &[&[u8]], order: &mut Order) -> Result<bool, LineFault>
-    ensures { spec.put_if result order.new ≡ spec.order_of (map (λ w. w.now) words.now) }
-{
-    match words {
-        [] => Ok(false),
-        [word, words @ ..] => {
-            order_by_word(word, words, order)?;
-            Ok(true)
-        }
-    }
 }

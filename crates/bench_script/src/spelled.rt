@@ -2,7 +2,7 @@ ghost use Rattle.std.specs.Prelude.{◌≡◌, List, ℕ};
 ghost use Rattle.mcal_base.specs.Names.{service_text, argument_text};
 ghost use Rattle.bench_script.specs.Words as spec;
 
-use crate::words::{Keyword, reason_text, shown_text, stop_text};
+use crate::words::{reason_text, shown_text, stop_text};
 use mcal_base::{ArgumentName, Reason, Service, Shown, Stop};
 
 /// What a script spells by one word.
@@ -22,14 +22,6 @@ pub(crate) fn named<T: Spelled>(choices: &[T], word: &[u8]) -> Option<T>
         let text = choice.spelled().as_bytes();
         text.len() == word.len() && text == word
     })
-}
-
-impl Spelled for Keyword {
-    ghost spelling = { λ k. spec.keyword_text k };
-
-    fn spelled(self) -> &'static str {
-        self.text()
-    }
 }
 
 impl Spelled for Service {

@@ -1,6 +1,8 @@
 ghost use Rattle.std.specs.Prelude.{◌≡◌};
+ghost use Rattle.bench_script.specs.Orders.{choice};
 ghost use Rattle.bench_script.specs.Words as spec;
 
+use crate::fault::LineFault;
 use mcal_base::{Reason, Shown, Stop};
 
 /// The first words of directives.
@@ -40,57 +42,29 @@ pub(crate) enum Keyword {
     Show,
 }
 
-impl Keyword {
-    /// The keyword as it is written.
-    pub(crate) fn text(self) -> &'static str
-        ensures { result.now ≡ spec.keyword_text self }
-    {
-        match self {
-            Keyword::Call => "call",
-            Keyword::Do => "do",
-            Keyword::Enter => "enter",
-            Keyword::Serve => "serve",
-            Keyword::Run => "run",
-            Keyword::Upto => "upto",
-            Keyword::Finish => "finish",
-            Keyword::Tick => "tick",
-            Keyword::Level => "level",
-            Keyword::Analog => "analog",
-            Keyword::Trigger => "trigger",
-            Keyword::Miso => "miso",
-            Keyword::SpiFault => "spifault",
-            Keyword::Fill => "fill",
-            Keyword::Reset => "reset",
-            Keyword::Show => "show",
-        }
-    }
-}
-
-/// Each keyword.
-const KEYWORDS: [Keyword; 16] = [
-    Keyword::Call,
-    Keyword::Do,
-    Keyword::Enter,
-    Keyword::Serve,
-    Keyword::Run,
-    Keyword::Upto,
-    Keyword::Finish,
-    Keyword::Tick,
-    Keyword::Level,
-    Keyword::Analog,
-    Keyword::Trigger,
-    Keyword::Miso,
-    Keyword::SpiFault,
-    Keyword::Fill,
-    Keyword::Reset,
-    Keyword::Show,
-];
-
-/// Each keyword.
-pub(crate) fn keywords() -> &'static [Keyword]
-    ensures { result.now ≡ spec.all_keywords }
+/// The keyword that a word must be.
+pub(crate) fn keyword_named(word: &[u8]) -> Result<Keyword, LineFault>
+    ensures { result ≡ choice spec.keyword_text spec.all_keywords word.now }
 {
-    &KEYWORDS
+    match word {
+        b"call" => Ok(Keyword::Call),
+        b"do" => Ok(Keyword::Do),
+        b"enter" => Ok(Keyword::Enter),
+        b"serve" => Ok(Keyword::Serve),
+        b"run" => Ok(Keyword::Run),
+        b"upto" => Ok(Keyword::Upto),
+        b"finish" => Ok(Keyword::Finish),
+        b"tick" => Ok(Keyword::Tick),
+        b"level" => Ok(Keyword::Level),
+        b"analog" => Ok(Keyword::Analog),
+        b"trigger" => Ok(Keyword::Trigger),
+        b"miso" => Ok(Keyword::Miso),
+        b"spifault" => Ok(Keyword::SpiFault),
+        b"fill" => Ok(Keyword::Fill),
+        b"reset" => Ok(Keyword::Reset),
+        b"show" => Ok(Keyword::Show),
+        _ => Err(LineFault::Word),
+    }
 }
 
 /// Where `upto` may stop.

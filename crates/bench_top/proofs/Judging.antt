@@ -22,9 +22,11 @@ use Rattle.bench_top.specs.declared.refusal.Refusal.{Refusal}
 use Rattle.bench_top.specs.declared.refusal.Refusal.TheVariants as refusals
 use Rattle.bench_top.specs.declared.words.Form.{Form}
 use Rattle.bench_top.specs.declared.words.Form.TheVariants.{Check, Run}
+use Rattle.bench_top.specs.declared.words.Printing.{Printing}
 use Rattle.bench_top.specs.Judged.{Ending, Judgement, Prints, Runs, ending_of, judged, judged_built, judged_whole, judged_script, configuration_of, judged_parts, judged_file, too_many_bytes, too_long_report, usage, read_fault}
 use Rattle.bench_top.specs.Outcomes.{Concludes, Ends, IsEnded, IsCutOff, FrontOf, WritesFront, reported}
 use Rattle.bench_top.specs.Runs.{IsWholeRun, report_of}
+use Rattle.bench_top.specs.Tail.{is_traced, printed}
 use Rattle.mcal_system.specs.Runs.{bound_of}
 
 -- the bytes are judged so, where they are told
@@ -55,20 +57,25 @@ pub same_end : {A B E : Type 0} (s : Result B E) (x y : E) (r : Result A E) → 
 same_end s x y r e f g = let i : x ≡ y = cc in g ∙ ap (λ z. Err z) i
 
 -- a report that is no longer than it may be is printed
-reported_by : (b : Bool) (text : List ℕ) → is_too_long text ≡ b → length text ≤ most_bytes → (reported text).status ≡ 0
-reported_by true text h few = absurd (let more = ltb-true most_bytes (length text) h in omega (arith, more, few))
-reported_by false text h few = rw h refl
+reported_by : (b : Bool) (printing : Printing) (report : List ℕ) → is_too_long report ≡ b → length report ≤ most_bytes → (reported printing report).status ≡ 0
+reported_by true printing report h few = absurd (let more = ltb-true most_bytes (length report) h in omega (arith, more, few))
+reported_by false printing report h few = rw h refl
+
+-- the whole report of a run, of which some is printed
+abbrev pub whole_report : Printing → Config → List Directive → List Entry → List ℕ
+whole_report printing config script entries = report_of (is_traced printing) config script entries
 
 -- a script whose bounds are within the limit, and whose report is not too long, is run to its end
-whole_at : (traced : Bool) (config : Config) (script : List Directive) (ending : Ending) (entries : List Entry) → Ends (Runs traced config script) ending entries → bound_of config script ≤ 1000000 →
-    length (report_of traced config script entries) ≤ most_bytes → ending.status ≡ 0
-whole_at traced config script ending entries (inl e) few short = ap (λ (x : Ending). x.status) e.1 ∙ reported_by (is_too_long (report_of traced config script entries)) (report_of traced config script entries) refl short
-whole_at traced config script ending entries (inr e) few short = absurd (let more = e.0.bound in omega (arith, few, more))
+whole_at : (printing : Printing) (config : Config) (script : List Directive) (ending : Ending) (entries : List Entry) → Ends (Runs printing config script) ending entries → bound_of config script ≤ 1000000 →
+    length (whole_report printing config script entries) ≤ most_bytes → ending.status ≡ 0
+whole_at printing config script ending entries (inl e) few short =
+    ap (λ (x : Ending). x.status) e.1 ∙ reported_by (is_too_long (whole_report printing config script entries)) printing (whole_report printing config script entries) refl short
+whole_at printing config script ending entries (inr e) few short = absurd (let more = e.0.bound in omega (arith, few, more))
 
-pub whole_of : (j : Judgement) (status : ℕ) (entries : List Entry) (before after : Option (List ℕ)) (traced : Bool) (config : Config) (script : List Directive) → IsEnded j status entries before after → j ≡ Runs traced config script →
-    bound_of config script ≤ 1000000 → length (report_of traced config script entries) ≤ most_bytes → status ≡ 0
-whole_of j status entries before after traced config script e is few short =
-    e.status_is ∙ whole_at traced config script e.ending entries (subst (λ (k : Judgement). Ends k e.ending entries) is e.ends) few short
+pub whole_of : (j : Judgement) (status : ℕ) (entries : List Entry) (before after : Option (List ℕ)) (printing : Printing) (config : Config) (script : List Directive) → IsEnded j status entries before after → j ≡ Runs printing config script →
+    bound_of config script ≤ 1000000 → length (whole_report printing config script entries) ≤ most_bytes → status ≡ 0
+whole_of j status entries before after printing config script e is few short =
+    e.status_is ∙ whole_at printing config script e.ending entries (subst (λ (k : Judgement). Ends k e.ending entries) is e.ends) few short
 
 pub printed_of : (j : Judgement) (status : ℕ) (entries : List Entry) (before after : Option (List ℕ)) (ending : Ending) → IsEnded j status entries before after → j ≡ Prints ending → status ≡ ending.status
 printed_of j status entries before after ending e is = e.status_is ∙ ap (λ (x : Ending). x.status) (subst (λ (k : Judgement). Ends k e.ending entries) is e.ends).0
@@ -76,11 +83,11 @@ printed_of j status entries before after ending e is = e.status_is ∙ ap (λ (x
 -- no fault was met, so the call ended as it was judged
 pub complete_of : (left : Option (List ℕ)) (form : Option Form) (j : Judgement) (status : ℕ) (entries : List Entry) (before after : Option (List ℕ)) (faults now : ℕ) →
     JudgesSo left form j → Concludes j status entries before after faults now → (Rose faults now → ⊥) →
-    IfSome left (λ bytes. (traced : Bool) (config : Config) (script : List Directive) → judged form bytes ≡ Runs traced config script → bound_of config script ≤ 1000000 →
-    length (report_of traced config script entries) ≤ most_bytes → status ≢ 4 → status ≡ 0)
+    IfSome left (λ bytes. (printing : Printing) (config : Config) (script : List Directive) → judged form bytes ≡ Runs printing config script → bound_of config script ≤ 1000000 →
+    length (report_of (is_traced printing) config script entries) ≤ most_bytes → status ≢ 4 → status ≡ 0)
 complete_of None form j status entries before after faults now h c still = tt
 complete_of (Some bytes) form j status entries before after faults now h c still =
-    λ traced config script e few short m. whole_of j status entries before after traced config script (c.ends (λ s. still (c.fault s)) m) (sym h.judges ∙ e) few short
+    λ printing config script e few short m. whole_of j status entries before after printing config script (c.ends (λ s. still (c.fault s)) m) (sym h.judges ∙ e) few short
 
 pub checks_of : (left : Option (List ℕ)) (form : Option Form) (j : Judgement) (status : ℕ) (entries : List Entry) (before after : Option (List ℕ)) (faults now : ℕ) →
     JudgesSo left form j → Concludes j status entries before after faults now → (Rose faults now → ⊥) →
@@ -110,21 +117,26 @@ concludes_of j ending status entries before after faults now ends three four kno
     }
 
 -- how a whole run ends
-report_by : (b : Bool) (text : List ℕ) → is_too_long text ≡ b → length text ≤ most_bytes → record { status = 0; text = text } ≡ reported text
-report_by true text h few = absurd (let more = ltb-true most_bytes (length text) h in omega (arith, more, few))
-report_by false text h few = rw h refl
+report_by : (b : Bool) (printing : Printing) (report : List ℕ) → is_too_long report ≡ b → length report ≤ most_bytes → record { status = 0; text = printed printing report } ≡ reported printing report
+report_by true printing report h few = absurd (let more = ltb-true most_bytes (length report) h in omega (arith, more, few))
+report_by false printing report h few = rw h refl
 
-pub report_ends : (traced : Bool) (config : Config) (script : List Directive) (entries : List Entry) (text : List ℕ) → IsWholeRun config script entries → text ≡ report_of traced config script entries → length text ≤ most_bytes →
-    Ends (Runs traced config script) (record { status = 0; text = text }) entries
-report_ends traced config script entries text run is few =
-    inl (run, report_by (is_too_long text) text refl few ∙ ap (λ t. reported t) is)
+pub report_ends : (printing : Printing) (traced : Bool) (config : Config) (script : List Directive) (entries : List Entry) (report text : List ℕ) → traced ≡ is_traced printing → IsWholeRun config script entries →
+    report ≡ report_of traced config script entries → length report ≤ most_bytes → text ≡ printed printing report → Ends (Runs printing config script) (record { status = 0; text = text }) entries
+report_ends printing traced config script entries report text told run is few part =
+    let whole : report ≡ whole_report printing config script entries = is ∙ ap (λ (t : Bool). report_of t config script entries) told in
+    inl (run, ap (λ (t : List ℕ). record { status = 0; text = t }) part ∙ report_by (is_too_long report) printing report refl few ∙ ap (λ t. reported printing t) whole)
 
-long_by : (b : Bool) (text : List ℕ) → is_too_long text ≡ b → most_bytes < length text → too_long_report ≡ reported text
-long_by true text h more = rw h refl
-long_by false text h more = absurd (let few = ltb-false most_bytes (length text) h in omega (arith, more, few))
+long_by : (b : Bool) (printing : Printing) (report : List ℕ) → is_too_long report ≡ b → most_bytes < length report → too_long_report ≡ reported printing report
+long_by true printing report h more = rw h refl
+long_by false printing report h more = absurd (let few = ltb-false most_bytes (length report) h in omega (arith, more, few))
 
-pub too_long_ends : (traced : Bool) (config : Config) (script : List Directive) (entries : List Entry) → IsWholeRun config script entries → most_bytes < length (report_of traced config script entries) → Ends (Runs traced config script) too_long_report entries
-too_long_ends traced config script entries run more = inl (run, long_by (is_too_long (report_of traced config script entries)) (report_of traced config script entries) refl more)
+pub too_long_ends : (printing : Printing) (traced : Bool) (config : Config) (script : List Directive) (entries : List Entry) (text : List ℕ) → traced ≡ is_traced printing → IsWholeRun config script entries →
+    most_bytes < length (report_of traced config script entries) → text ≡ too_long_report.text → Ends (Runs printing config script) (record { status = 5; text = text }) entries
+too_long_ends printing traced config script entries text told run more is =
+    let whole = ap (λ (t : Bool). report_of t config script entries) told in
+    let over = subst (λ (r : List ℕ). most_bytes < length r) whole more in
+    inl (run, ap (λ (t : List ℕ). record { status = 5; text = t }) is ∙ long_by (is_too_long (whole_report printing config script entries)) printing (whole_report printing config script entries) refl over)
 
 -- ---- a file never ends with the status of wrong words or of a fault of the source
 
@@ -150,22 +162,23 @@ IsOfFile j = (ending : Ending) (entries : List Entry) → Ends j ending entries 
 prints_after : (r : Refusal) → IsOfFile (Prints (ending_of r))
 prints_after r ending entries e = subst (λ (x : Ending). NotBefore x.status) (sym e.0) (refused_before r)
 
-reported_before : (b : Bool) (text : List ℕ) → is_too_long text ≡ b → NotBefore (reported text).status
-reported_before true text h = rw h (λ f. cc, λ f. cc)
-reported_before false text h = rw h (λ f. cc, λ f. cc)
+reported_before : (b : Bool) (printing : Printing) (report : List ℕ) → is_too_long report ≡ b → NotBefore (reported printing report).status
+reported_before true printing report h = rw h (λ f. cc, λ f. cc)
+reported_before false printing report h = rw h (λ f. cc, λ f. cc)
 
-runs_after : (traced : Bool) (config : Config) (script : List Directive) → IsOfFile (Runs traced config script)
-runs_after traced config script ending entries (inl e) = subst (λ (x : Ending). NotBefore x.status) (sym e.1) (reported_before (is_too_long (report_of traced config script entries)) (report_of traced config script entries) refl)
-runs_after traced config script ending entries (inr e) = subst (λ (x : Ending). NotBefore x.status) (sym e.1) (λ f. cc, λ f. cc)
+runs_after : (printing : Printing) (config : Config) (script : List Directive) → IsOfFile (Runs printing config script)
+runs_after printing config script ending entries (inl e) =
+    subst (λ (x : Ending). NotBefore x.status) (sym e.1) (reported_before (is_too_long (whole_report printing config script entries)) printing (whole_report printing config script entries) refl)
+runs_after printing config script ending entries (inr e) = subst (λ (x : Ending). NotBefore x.status) (sym e.1) (λ f. cc, λ f. cc)
 
-built_after : (traced : Bool) (config : Config) (script : List Directive) (m : Option ModuleName) (line : Option ℕ) → IsOfFile (judged_built traced config script m line)
-built_after traced config script (Some m) line = prints_after (refusals.ModuleNotBuilt m)
-built_after traced config script None (Some line) = prints_after (refusals.LineNotBuilt line)
-built_after traced config script None None = runs_after traced config script
+built_after : (printing : Printing) (config : Config) (script : List Directive) (m : Option ModuleName) (line : Option ℕ) → IsOfFile (judged_built printing config script m line)
+built_after printing config script (Some m) line = prints_after (refusals.ModuleNotBuilt m)
+built_after printing config script None (Some line) = prints_after (refusals.LineNotBuilt line)
+built_after printing config script None None = runs_after printing config script
 
 whole_after : (form : Form) (config : Config) (script : List Directive) → IsOfFile (judged_whole form config script)
 whole_after Check config script ending entries e = subst (λ (x : Ending). NotBefore x.status) (sym e.0) (λ f. cc, λ f. cc)
-whole_after (Run traced) config script ending entries e = built_after traced config script (unbuilt_module config) (unbuilt_line script) ending entries e
+whole_after (Run printing) config script ending entries e = built_after printing config script (unbuilt_module config) (unbuilt_line script) ending entries e
 
 script_after : (form : Form) (config : Config) (r : Result (List Directive) ScriptFault) → IsOfFile (judged_script form config r)
 script_after form config (Ok script) = whole_after form config script

@@ -1,7 +1,10 @@
 pub mod Configurations
+pub mod Deciding
 pub mod Judging
 pub mod Keeping
 pub mod Known
+pub mod LastLines
 pub mod Lines
+pub mod Numerals
 pub mod Rows
 pub mod Scripts

@@ -1,5 +1,5 @@
 -- What a call of the bench prints without a run, in the order of its refusals, and what it runs.
-use Rattle.std.specs.Prelude.{◌≡◌, ℕ, ◌++◌, nat_lt, List, length, Bool, Option, Some, None, IsSome, Result, Ok, Err, codes, decimal, if◌then◌else◌}
+use Rattle.std.specs.Prelude.{◌≡◌, ℕ, ◌++◌, nat_lt, List, length, Option, Some, None, IsSome, Result, Ok, Err, codes, decimal, if◌then◌else◌}
 use Rattle.std.proofs.Common.{refl}
 use Rattle.std.proofs.lemmas.Bool.{false≢true}
 use Rattle.mcal_base.specs.Names.{module_text}
@@ -20,16 +20,17 @@ use Rattle.bench_top.specs.declared.refusal.Refusal.{Refusal}
 use Rattle.bench_top.specs.declared.refusal.Refusal.TheVariants as refusals
 use Rattle.bench_top.specs.declared.words.Form.{Form}
 use Rattle.bench_top.specs.declared.words.Form.TheVariants.{Check, Run}
+use Rattle.bench_top.specs.declared.words.Printing.{Printing}
 
 -- a status, and all that is printed
 pub record Ending : Type 0 where
   pub status : ℕ
   pub text : List ℕ
 
--- a text is printed and nothing runs, or a script runs on a configuration, traced or not
+-- a text is printed and nothing runs, or a script runs on a configuration, and its report is printed in some way
 pub data Judgement : Type 0 where
   Prints : Ending → Judgement
-  Runs : (traced : Bool) → Config → List Directive → Judgement
+  Runs : Printing → Config → List Directive → Judgement
 
 -- ---- endings without a run
 
@@ -69,15 +70,15 @@ ending_of (refusals.LineNotBuilt line) = record { status = 7; text = codes "scri
 -- ---- the order of the refusals
 
 -- what is configured, and then the directives, can be run
-abbrev pub judged_built : Bool → Config → List Directive → Option ModuleName → Option ℕ → Judgement
-judged_built traced config directives (Some m) line = Prints (ending_of (refusals.ModuleNotBuilt m))
-judged_built traced config directives None (Some line) = Prints (ending_of (refusals.LineNotBuilt line))
-judged_built traced config directives None None = Runs traced config directives
+abbrev pub judged_built : Printing → Config → List Directive → Option ModuleName → Option ℕ → Judgement
+judged_built printing config directives (Some m) line = Prints (ending_of (refusals.ModuleNotBuilt m))
+judged_built printing config directives None (Some line) = Prints (ending_of (refusals.LineNotBuilt line))
+judged_built printing config directives None None = Runs printing config directives
 
 -- a file that was read: `check` says so, whether it can be run or not
 abbrev pub judged_whole : Form → Config → List Directive → Judgement
 judged_whole Check config directives = Prints (checked (length directives))
-judged_whole (Run traced) config directives = judged_built traced config directives (unbuilt_module config) (unbuilt_line directives)
+judged_whole (Run printing) config directives = judged_built printing config directives (unbuilt_module config) (unbuilt_line directives)
 
 -- the script
 abbrev pub judged_script : Form → Config → Result (List Directive) ScriptFault → Judgement

@@ -8,6 +8,7 @@ mod output;
 mod refusal;
 mod run;
 mod show;
+mod tail;
 mod top;
 mod words;
 
@@ -17,4 +18,4 @@ pub use input::{LIMIT, ReadEnd, read_all};
 pub use output::write_all;
 pub use refusal::Refusal;
 pub use top::{Outcome, bench};
-pub use words::{Form, form_of};
+pub use words::{Form, Printing, form_of};

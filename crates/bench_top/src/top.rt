@@ -1,4 +1,4 @@
-ghost use Rattle.std.specs.Prelude.{◌≡◌, ◌≢◌, ◌≤◌, ◌++◌, ℕ, List, Bool, [], None, IfOk, codes, decimal, length, map, string_bytes};
+ghost use Rattle.std.specs.Prelude.{◌≡◌, ◌≢◌, ◌≤◌, ◌++◌, ℕ, List, [], None, IfOk, codes, decimal, length, map, string_bytes};
 ghost use Rattle.std.specs.Option.{IfSome};
 ghost use Rattle.std.specs.Io.KnownBytes.{Appends, IsAtEnd};
 ghost use Rattle.mcal_base.specs.Causes.{Rose};
@@ -12,9 +12,13 @@ ghost use Rattle.script_runner.specs.Scripts.{IsScript, AllOffered};
 ghost use Rattle.bench_top.specs.Built.{IsRead};
 ghost use Rattle.bench_top.specs.Judged as spec;
 ghost use Rattle.bench_top.specs.Judged.{Ending, Judgement, Prints, Runs, judged};
-ghost use Rattle.bench_top.specs.Outcomes.{Concludes, Ends, IsEnded, FrontOf, WritesFront};
+ghost use Rattle.bench_top.specs.Outcomes.{Concludes, Ends, EndsOnSome, IsEnded, FrontOf, FrontOnSome, WritesFront};
 ghost use Rattle.bench_top.specs.Runs.{report_of};
+ghost use Rattle.bench_top.specs.Statuses.{IsDecided};
+ghost use Rattle.bench_top.specs.Tail.{is_traced};
 ghost use Rattle.bench_top.specs.Words.{form_of};
+ghost use Rattle.bench_top.specs.declared.words.Form.{Form};
+ghost use Rattle.bench_top.specs.declared.words.Printing.{Printing};
 
 use crate::built::{unbuilt_line, unbuilt_module};
 use crate::file::{BenchFile, FileEnd, read_file};
@@ -22,7 +26,8 @@ use crate::input::{ReadEnd, read_all};
 use crate::output::write_all;
 use crate::refusal::Refusal;
 use crate::run::run;
-use crate::words::{Form, form_of};
+use crate::tail::{printed, ring_for};
+use crate::words::{Form, Printing, form_of};
 use bench_report::{ReportEnd, report};
 use mcal_base::{Config, Directive, Sink, Source};
 use run_model::Journal;
@@ -120,37 +125,49 @@ fn check<K: Sink>(alloc: Global, out: &mut K, script: &[Directive]) -> Outcome
     }
 }
 
-/// Runs a script, and writes the report, or that the run or the report was too long.
+/// Runs a script, and writes what is asked for of the report, or that the run or the report was too long.
 fn run_and_report<K: Sink>(
     alloc: Global,
     out: &mut K,
-    traced: bool,
+    printing: Printing,
     config: Config,
     script: &[Directive],
 ) -> Outcome
     requires valid { IsValid config }
     requires script { IsScript script.now }
     requires offered { AllOffered has_service script.now }
-    ensures { Concludes (Runs traced config script.now) result.status result.journal.entries (K.taken out.old) (K.taken out.new) (K.faults out.old) (K.faults out.new) }
+    ensures { Concludes (Runs printing config script.now) result.status result.journal.entries (K.taken out.old) (K.taken out.new) (K.faults out.old) (K.faults out.new) }
 {
+    let Ok(mut starts) = ring_for(alloc, printing) else {
+        return no_memory(alloc);
+    };
     let Ok(ran) = run(alloc, config, script) else {
         return no_memory(alloc);
     };
     if ran.too_long {
         return finish(out, 5, TOO_MANY_STEPS.as_bytes(), ran.journal);
     }
-    match report(alloc, script, &ran.journal, &ran.shown, traced) {
-        Ok(text) => finish(out, 0, text.as_bytes(), ran.journal),
+    match report(
+        alloc,
+        script,
+        &ran.journal,
+        &ran.shown,
+        printing.is_traced(),
+    ) {
+        Ok(text) => {
+            let part = printed(printing, &mut starts, text.as_bytes());
+            finish(out, 0, part, ran.journal)
+        }
         Err(ReportEnd::TooLong) => finish(out, 5, TOO_LONG_REPORT.as_bytes(), ran.journal),
         Err(ReportEnd::NoMemory) => no_memory(alloc),
     }
 }
 
 /// Runs a file that was read, where all of it can be run.
-fn run_built<K: Sink>(alloc: Global, out: &mut K, traced: bool, read: BenchFile) -> Outcome
+fn run_built<K: Sink>(alloc: Global, out: &mut K, printing: Printing, read: BenchFile) -> Outcome
     requires valid { IsValid read.config }
     requires script { IsRead read.script.items }
-    ensures { Concludes (spec.judged_whole (Form.Run traced) read.config read.script.items) result.status result.journal.entries (K.taken out.old) (K.taken out.new) (K.faults out.old) (K.faults out.new) }
+    ensures { Concludes (spec.judged_whole (Form.Run printing) read.config read.script.items) result.status result.journal.entries (K.taken out.old) (K.taken out.new) (K.faults out.old) (K.faults out.new) }
 {
     if let Some(module) = unbuilt_module(&read.config) {
         return refuse(alloc, out, Refusal::ModuleNotBuilt(module));
@@ -159,7 +176,7 @@ fn run_built<K: Sink>(alloc: Global, out: &mut K, traced: bool, read: BenchFile)
         return refuse(alloc, out, Refusal::LineNotBuilt(line));
     }
     let BenchFile { config, script } = read;
-    run_and_report(alloc, out, traced, config, &script)
+    run_and_report(alloc, out, printing, config, &script)
 }
 
 /// Does what a form asks for with a file that was read.
@@ -170,7 +187,7 @@ fn act<K: Sink>(alloc: Global, out: &mut K, form: Form, read: BenchFile) -> Outc
 {
     match form {
         Form::Check => check(alloc, out, &read.script),
-        Form::Run { traced } => run_built(alloc, out, traced, read),
+        Form::Run(printing) => run_built(alloc, out, printing, read),
     }
 }
 
@@ -196,6 +213,10 @@ pub fn bench<S: Source, K: Sink>(
     // Where no fault was met and memory was found, the status, the journal and the output are those of the definition.
     ensures exact { result.status ≢ 2 → result.status ≢ 3 → result.status ≢ 4 → IfSome (S.left input.old) (λ bytes.
         IsEnded (judged (form_of (map string_bytes words.now)) bytes) result.status result.journal.entries (K.taken out.old) (K.taken out.new)) }
+    // Whatever the source tells of its bytes, the call ends as it is to end on some bytes.
+    ensures on_some { result.status ≢ 2 → result.status ≢ 3 → result.status ≢ 4 → EndsOnSome (form_of (map string_bytes words.now)) result.status result.journal.entries (K.taken out.old) (K.taken out.new) }
+    // The status that the bytes come to, where the words are of a form.
+    ensures statuses { result.status ≢ 2 → result.status ≢ 3 → result.status ≢ 4 → IfSome (S.left input.old) (λ bytes. (form : Form) → form_of (map string_bytes words.now) ≡ Some form → IsDecided form bytes result.status result.journal.entries) }
     // There are no other statuses.
     ensures known { result.status ≤ 7 }
     // The words alone decide on status 1, and on the line that is printed then.
@@ -211,6 +232,7 @@ pub fn bench<S: Source, K: Sink>(
     ensures write { result.status ≡ 3 → Rose (K.faults out.old) (K.faults out.new) }
     ensures write_only { result.status ≢ 3 → K.faults out.new ≡ K.faults out.old }
     ensures front { result.status ≡ 3 → IfSome (S.left input.old) (λ bytes. FrontOf (judged (form_of (map string_bytes words.now)) bytes) (Rose (S.faults input.old) (S.faults input.new)) result.journal.entries (K.taken out.old) (K.taken out.new)) }
+    ensures front_on_some { result.status ≡ 3 → FrontOnSome (form_of (map string_bytes words.now)) (Rose (S.faults input.old) (S.faults input.new)) result.journal.entries (K.taken out.old) (K.taken out.new) }
     ensures read_front { result.status ≡ 3 → S.faults input.new ≢ S.faults input.old → WritesFront (K.taken out.old) (K.taken out.new) (codes "read fault\n") × (result.journal.entries ≡ []) }
     // Only a run leaves a journal.
     ensures no_run { result.status ≢ 0 → result.status ≢ 3 → result.status ≢ 5 → result.journal.entries ≡ [] }
@@ -221,8 +243,8 @@ pub fn bench<S: Source, K: Sink>(
     // A file that is not refused is run to its end and reported, where no fault is met, memory is found, the bounds of its frames are within the limit of steps and its report
     // within the limit of bytes.
     ensures complete { (Rose (S.faults input.old) (S.faults input.new) → ⊥) → (Rose (K.faults out.old) (K.faults out.new) → ⊥) → IfSome (S.left input.old) (λ bytes.
-        (traced : Bool) (config : records.Config) (script : List Directive) → judged (form_of (map string_bytes words.now)) bytes ≡ Runs traced config script → bound_of config script ≤ 1000000 →
-        length (report_of traced config script result.journal.entries) ≤ most_bytes → result.status ≢ 4 → result.status ≡ 0) }
+        (printing : Printing) (config : records.Config) (script : List Directive) → judged (form_of (map string_bytes words.now)) bytes ≡ Runs printing config script → bound_of config script ≤ 1000000 →
+        length (report_of (is_traced printing) config script result.journal.entries) ≤ most_bytes → result.status ≢ 4 → result.status ≡ 0) }
     // And a file that is not refused is checked.
     ensures checks { (Rose (S.faults input.old) (S.faults input.new) → ⊥) → (Rose (K.faults out.old) (K.faults out.new) → ⊥) → IfSome (S.left input.old) (λ bytes.
         (ending : Ending) → judged (form_of (map string_bytes words.now)) bytes ≡ Prints ending → result.status ≢ 4 → result.status ≡ ending.status) }

@@ -14,3 +14,4 @@ pub mod Serve
 pub mod Start
 pub mod Stop
 pub mod Switch
+pub mod Windows

@@ -3,6 +3,7 @@ use crate::call::Call;
 use crate::driver::GptDriver;
 use crate::service::serve::ServeBody;
 use crate::service::{self, GptBody};
+use chip_model::Bus;
 use mcal_base::ModuleName;
 use run_model::Class;
 use service_outline::Short;
@@ -66,6 +67,10 @@ impl Module for GptDriver {
 
     fn owner(&self, _line: u32) -> ModuleName {
         ModuleName::Gpt
+    }
+
+    fn source_use(&self, _bus: &Bus, _channel: u32) -> Option<bool> {
+        None
     }
 
     ghost laws = { λ d fits. short_lawful (gpt d) (lawful d fits) };

@@ -40,6 +40,7 @@ use Rattle.service_outline.specs.Done.{goes, acts, ends, numbers, owed_error, te
 use Rattle.service_outline.specs.Owing.{Owing, Under, owing, Windows, windows}
 use Rattle.service_outline.specs.Past.{Past, nothing_yet, Being}
 use Rattle.service_outline.specs.Services.{Held, Basis, Spot, Within, Outside, LongBodies, Services}
+use Rattle.service_outline.specs.Seen.{Plain}
 use Rattle.service_outline.specs.Sweeping.{Sweeping, sweep}
 use Rattle.held_example.specs.declared.asking.Asking.{Asking}
 use Rattle.held_example.specs.declared.asking.Asking.TheVariants.{Want, OpenOnce, Tell, ShutAgain, Look, Go, Unmark}
@@ -201,7 +202,7 @@ setting = record {
   may = λ o made. owns made;
   halves = λ c. None;
   fills = λ c. false;
-  fill_busy = λ w s origins c. false;
+  in_use = λ w s c. false;
   rest = λ chip w s. Unit {0};
   unmasked = λ chip w s origins. Unit {0};
   shows = λ origin n chip s. Unit {0};
@@ -648,6 +649,7 @@ toy = record {
   bodies = both (both fill_bodies ask_bodies) (both (both put_bodies take_bodies) (both poll_bodies reboot_bodies));
   fits = Unit {0};
   can = λ c. Unit {0};
+  seen = λ k. Plain;
   word = STATE;
   asked = λ c. c;
   looked = looked;

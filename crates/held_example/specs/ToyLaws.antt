@@ -18,7 +18,7 @@ use Rattle.mcal_base.specs.declared.moves.Move.TheVariants.{Read, Write, Load, S
 use Rattle.mcal_base.specs.declared.moves.Unit as units
 use Rattle.mcal_base.specs.declared.moves.Unit.TheVariants.{Adc0, Adc1, Spi0, Spi1}
 use Rattle.mcal_base.specs.declared.register.Reg.{Reg}
-use Rattle.mcal_base.specs.declared.register.Reg.TheVariants.{ConverterGo, ResetRequest}
+use Rattle.mcal_base.specs.declared.register.Reg.TheVariants.{TimerHigh, PulseCommit, PulseIdle, CaptureCountHigh, CaptureTimeHigh, ConverterGo, ResetRequest}
 use Rattle.run_model.specs.World.{World, world_after}
 use Rattle.run_model.specs.Machine.{Acts, Outcome, ErrorLeaves, tells_nothing, no_answer, outcome}
 use Rattle.run_model.specs.Frame.{Origin, Called, is_shared, resets_chip, begins_word, missed_after}
@@ -39,6 +39,8 @@ use Rattle.service_outline.specs.laws.Both.{both_ending, both_right}
 use Rattle.service_outline.specs.laws.Ending.{goes_right}
 use Rattle.service_outline.specs.laws.Lawful.{services_lawful}
 use Rattle.service_outline.specs.laws.Owing.{owing_basis, windows_right}
+use Rattle.service_outline.specs.Seen.{is_windowed}
+use Rattle.service_outline.specs.laws.Seen.{free_windows}
 use Rattle.service_outline.specs.laws.SimpleMoves.{simple_owed}
 use Rattle.service_outline.specs.laws.Sweeping.{sweep_right}
 use Rattle.service_outline.specs.laws.Words.{stored_same, stored_other, stores_in, word_apart, word_later, fills_there}
@@ -1000,10 +1002,21 @@ bodies_right =
     let others = both_right basis poll_bodies reboot_bodies poll_right reboot_right in
     both_ending basis (both fill_bodies ask_bodies) (both (both put_bodies take_bodies) (both poll_bodies reboot_bodies)) ends_with first (both_ending basis (both put_bodies take_bodies) (both poll_bodies reboot_bodies) (λ k. ends_with (Second k)) kept others)
 
+-- it reads no high half, and sets no output
+no_windows : (made : Move) → owns made ≡ true → is_windowed made ≡ false
+no_windows (Read (TimerHigh c)) e = absurd (cc)
+no_windows (Read (CaptureCountHigh c)) e = absurd (cc)
+no_windows (Read (CaptureTimeHigh c)) e = absurd (cc)
+no_windows (Write (PulseCommit c) v) e = absurd (cc)
+no_windows (Write (PulseIdle c) v) e = absurd (cc)
+no_windows _ e = refl
+
 pub toy_right : AreEndingServices toy ends_with
 toy_right = record {
   basis = basis_right;
   bodies = bodies_right;
+  windows = free_windows toy bodies_right (λ k. refl) (λ o made h. no_windows made h);
+  unseen = λ below chip w s k c h. tt;
   looks = λ below chip w s c can beside h. looks below chip w s h c beside;
   own_word = λ o. refl;
   word_there = omega arith;

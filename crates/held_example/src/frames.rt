@@ -7,6 +7,7 @@ use crate::filling::{Filled, Job};
 use crate::keeping::{Putting, Taking};
 use crate::polling::Polling;
 use crate::rebooting::Rebooting;
+use chip_model::Bus;
 use mcal_base::{Answer, ErrorName, ModuleName, Service as ServiceName};
 use run_model::{Class, Key, KeyKind, Kind};
 use service_outline::{Done, Looked, Or, Place, Service, Short, Sweep, error, nothing};
@@ -132,6 +133,10 @@ impl Module for ToyModule {
 
     fn owner(&self, _line: u32) -> ModuleName {
         ModuleName::Mcu
+    }
+
+    fn source_use(&self, _bus: &Bus, _channel: u32) -> Option<bool> {
+        None
     }
 
     ghost laws = { λ d fits. toy_lawful };

@@ -37,3 +37,4 @@ pub mod Steady
 pub mod Tables
 pub mod Turns
 pub mod Values
+pub mod Windows

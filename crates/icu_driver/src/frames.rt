@@ -3,6 +3,7 @@ use crate::call::Call;
 use crate::driver::IcuDriver;
 use crate::handler::handler;
 use crate::service::IcuBody;
+use chip_model::Bus;
 use mcal_base::ModuleName;
 use run_model::Class;
 use service_outline::Short;
@@ -63,6 +64,10 @@ impl Module for IcuDriver {
 
     fn owner(&self, _line: u32) -> ModuleName {
         ModuleName::Icu
+    }
+
+    fn source_use(&self, _bus: &Bus, _channel: u32) -> Option<bool> {
+        None
     }
 
     ghost laws = { λ d fits. short_lawful (icu d) (lawful d fits) };

@@ -15,17 +15,17 @@ use Rattle.mcal_base.specs.declared.error_name.ErrorName.{ErrorName}
 use Rattle.mcal_base.specs.declared.moves.Unit.TheVariants.{Adc0, Adc1}
 use Rattle.run_model.specs.Machine.{Happening, Starts, Aborts, Moves, Restarts, Told}
 use Rattle.machine_examples.specs.Told.{told, state_after, named, named_with, refused_with, refused_named, ticks, acting, serving}
-use Rattle.adc_groups.specs.Checks.{zero_null}
-use Rattle.adc_groups.specs.Machine.{adc_machine, place_value, chosen_buffer}
-use Rattle.adc_groups.specs.Table.{driver_of}
-use Rattle.adc_groups.specs.Turns.{first_state}
-use Rattle.adc_groups.specs.declared.call.Call.{Call}
-use Rattle.adc_groups.specs.declared.call.Call.TheVariants.{Init, DeInit, Group}
-use Rattle.adc_groups.specs.declared.call.GroupCall.{GroupCall}
-use Rattle.adc_groups.specs.declared.call.GroupCall.TheVariants.{SetupResultBuffer, StartGroupConversion, StopGroupConversion, ReadGroup, EnableHardwareTrigger, DisableHardwareTrigger, Notification, GetGroupStatus, GetStreamLastPointer}
-use Rattle.adc_groups.specs.declared.call.ResultBuffer.{ResultBuffer}
-use Rattle.adc_groups.specs.declared.call.ResultBuffer.TheVariants.{Zero, One}
-use Rattle.adc_groups.specs.declared.driver.AdcDriver.{AdcDriver}
+use Rattle.adc_machine.specs.Checks.{zero_null}
+use Rattle.adc_machine.specs.Machine.{adc_machine, place_value, chosen_buffer}
+use Rattle.adc_machine.specs.Table.{table_of}
+use Rattle.adc_machine.specs.Turns.{first_state}
+use Rattle.adc_machine.specs.declared.call.Call.{Call}
+use Rattle.adc_machine.specs.declared.call.Call.TheVariants.{Init, DeInit, Group}
+use Rattle.adc_machine.specs.declared.call.GroupCall.{GroupCall}
+use Rattle.adc_machine.specs.declared.call.GroupCall.TheVariants.{SetupResultBuffer, StartGroupConversion, StopGroupConversion, ReadGroup, EnableHardwareTrigger, DisableHardwareTrigger, Notification, GetGroupStatus, GetStreamLastPointer}
+use Rattle.adc_machine.specs.declared.call.ResultBuffer.{ResultBuffer}
+use Rattle.adc_machine.specs.declared.call.ResultBuffer.TheVariants.{Zero, One}
+use Rattle.adc_machine.specs.declared.table.AdcTable.{AdcTable}
 
 -- ---- boards
 
@@ -60,23 +60,23 @@ abbrev pub triggered : ℕ → List ℕ → (priority : ℕ) → AdcGroup
 triggered g inputs priority = record (single g inputs priority) { trigger_source = Hardware; trigger_input = Some 0; level = 3 }
 
 -- a board with unit 0 and these groups; priorities count
-abbrev pub board_of : List AdcGroup → AdcDriver
-board_of groups = driver_of (record { dev_error_detect = true; classification = 1; priority_implementation = priorities.HwSw; enable_queuing = false; units = record { id = 0; level = 2 } ∷ []; groups = groups })
+abbrev pub board_of : List AdcGroup → AdcTable
+board_of groups = table_of (record { dev_error_detect = true; classification = 1; priority_implementation = priorities.HwSw; enable_queuing = false; units = record { id = 0; level = 2 } ∷ []; groups = groups })
 
 -- two small groups, one of high priority, a circular stream of three samples and a triggered group
-abbrev pub five_groups : AdcDriver
+abbrev pub five_groups : AdcTable
 five_groups = board_of (single 0 (0 ∷ 1 ∷ []) 1 ∷ single 1 (2 ∷ []) 1 ∷ single 2 (3 ∷ []) 5 ∷ ring 3 (4 ∷ 5 ∷ []) 3 ∷ triggered 4 (6 ∷ []) 3 ∷ [])
 
 -- the same without the stream
-abbrev pub four_groups : AdcDriver
+abbrev pub four_groups : AdcTable
 four_groups = board_of (single 0 (0 ∷ 1 ∷ []) 1 ∷ single 1 (2 ∷ []) 1 ∷ single 2 (3 ∷ []) 5 ∷ triggered 4 (6 ∷ []) 3 ∷ [])
 
 -- the five groups, of which the first one suspends and resumes
-abbrev pub suspending : AdcDriver
+abbrev pub suspending : AdcTable
 suspending = board_of (record (single 0 (0 ∷ 1 ∷ []) 1) { replacement = SuspendResume } ∷ single 1 (2 ∷ []) 1 ∷ single 2 (3 ∷ []) 5 ∷ ring 3 (4 ∷ 5 ∷ []) 3 ∷ triggered 4 (6 ∷ []) 3 ∷ [])
 
 -- a linear stream of two samples
-abbrev pub linear_stream : AdcDriver
+abbrev pub linear_stream : AdcTable
 linear_stream = board_of (stream 0 (0 ∷ []) 2 ∷ [])
 
 -- all inputs
@@ -84,39 +84,39 @@ abbrev pub all_inputs : List ℕ
 all_inputs = range_with_len 0 32
 
 -- a circular stream of all inputs
-abbrev pub wide_stream : AdcDriver
+abbrev pub wide_stream : AdcTable
 wide_stream = board_of (ring 3 all_inputs 3 ∷ [])
 
 -- one triggered group, and one plain group
-abbrev pub one_triggered : AdcDriver
+abbrev pub one_triggered : AdcTable
 one_triggered = board_of (triggered 0 (0 ∷ []) 0 ∷ [])
 
-abbrev pub one_group : AdcDriver
+abbrev pub one_group : AdcTable
 one_group = board_of (single 0 (0 ∷ []) 0 ∷ [])
 
 -- a plain group without a notification, and a triggered one
-abbrev pub two_plain : AdcDriver
+abbrev pub two_plain : AdcTable
 two_plain = board_of (record (single 0 (0 ∷ []) 0) { notification = false } ∷ triggered 1 (1 ∷ []) 0 ∷ [])
 
 -- a continuous group
-abbrev pub one_continuous : AdcDriver
+abbrev pub one_continuous : AdcTable
 one_continuous = board_of (record (single 0 (0 ∷ []) 0) { conversion_mode = Continuous } ∷ [])
 
 -- a continuous group and a one-shot one of the same priority
-abbrev pub equals : AdcDriver
+abbrev pub equals : AdcTable
 equals = board_of (record (single 0 (0 ∷ []) 1) { conversion_mode = Continuous } ∷ single 1 (1 ∷ []) 1 ∷ [])
 
 -- two groups that are triggered by inputs 0 and 1
-abbrev pub two_triggered : AdcDriver
+abbrev pub two_triggered : AdcTable
 two_triggered = board_of (triggered 0 (0 ∷ []) 0 ∷ record (triggered 1 (1 ∷ []) 0) { trigger_input = Some 1 } ∷ [])
 
 -- a triggered linear stream of two samples
-abbrev pub triggered_stream : AdcDriver
+abbrev pub triggered_stream : AdcTable
 triggered_stream = board_of (record (triggered 0 (0 ∷ []) 0) { access_mode = Streaming; streaming_num_samples = 2 } ∷ [])
 
 -- three groups of unit 0 and one of unit 1, whose priorities don't count; with queues or without
-abbrev pub unranked : (queuing : Bool) → AdcDriver
-unranked queuing = driver_of (record {
+abbrev pub unranked : (queuing : Bool) → AdcTable
+unranked queuing = table_of (record {
   dev_error_detect = true;
   classification = 1;
   priority_implementation = priorities.None;
@@ -128,18 +128,18 @@ unranked queuing = driver_of (record {
 -- ---- what is told
 
 -- from power on
-abbrev pub told_on : AdcDriver → List (Happening Call) → List (Option Told)
+abbrev pub told_on : AdcTable → List (Happening Call) → List (Option Told)
 told_on d hs = told (adc_machine d) first_state hs
 
 -- the first so many places of buffer 0 of a group, at the end
-abbrev pub shown : AdcDriver → List (Happening Call) → (group places : ℕ) → List ℕ
+abbrev pub shown : AdcTable → List (Happening Call) → (group places : ℕ) → List ℕ
 shown d hs g n = map (place_value (state_after (adc_machine d) first_state hs) g Zero) (range_with_len 0 n)
 
 -- the buffer of a group that is shown at the end, and place 0 of each of its buffers
-abbrev pub chosen_after : AdcDriver → List (Happening Call) → (group : ℕ) → Option ResultBuffer
+abbrev pub chosen_after : AdcTable → List (Happening Call) → (group : ℕ) → Option ResultBuffer
 chosen_after d hs g = chosen_buffer (state_after (adc_machine d) first_state hs) g
 
-abbrev pub first_places : AdcDriver → List (Happening Call) → (group : ℕ) → List ℕ
+abbrev pub first_places : AdcTable → List (Happening Call) → (group : ℕ) → List ℕ
 first_places d hs g = map (λ b. place_value (state_after (adc_machine d) first_state hs) g b 0) (Zero ∷ One ∷ [])
 
 -- a call is accepted, alone or with the values of a round; an error is found

@@ -9,26 +9,26 @@ use Rattle.run_model.specs.declared.class.Tag.{Tag}
 use Rattle.run_model.specs.World.{World, world_start, world_after}
 use Rattle.run_model.specs.Machine.{Happening, Serves, Starts, Moves, Restarts, Told, Begun}
 use Rattle.machine_examples.specs.Told.{told, begun, state_after, at_rate, ticks, acting}
-use Rattle.spi_sequences.specs.Bounds.{class_of}
-use Rattle.spi_sequences.specs.Machine.{spi_machine}
-use Rattle.spi_sequences.specs.State.{SpiState, first_state, channel_at}
-use Rattle.spi_sequences.specs.Numbered.{first_items}
-use Rattle.spi_sequences.specs.Table.{driver_of}
-use Rattle.spi_sequences.specs.declared.call.AsyncMode.TheVariants as modes
-use Rattle.spi_sequences.specs.declared.call.Call.{Call}
-use Rattle.spi_sequences.specs.declared.call.Call.TheVariants.{Init, DeInit, SetAsyncMode, MainFunctionHandling, Channel, Sequence, Get}
-use Rattle.spi_sequences.specs.declared.call.ChannelCall.TheVariants.{WriteIb, ReadIb, SetupEb}
-use Rattle.spi_sequences.specs.declared.call.Pointer.{Pointer}
-use Rattle.spi_sequences.specs.declared.call.Pointer.TheVariants.{Users, Null}
-use Rattle.spi_sequences.specs.declared.call.Query.TheVariants.{Status, JobResult, SequenceResult, HwUnitStatus}
-use Rattle.spi_sequences.specs.declared.call.SequenceCall.TheVariants.{AsyncTransmit, Cancel}
-use Rattle.spi_sequences.specs.declared.driver.SpiDriver.{SpiDriver}
+use Rattle.spi_machine.specs.Bounds.{class_of}
+use Rattle.spi_machine.specs.Machine.{spi_machine}
+use Rattle.spi_machine.specs.State.{SpiState, first_state, channel_at}
+use Rattle.spi_machine.specs.Numbered.{first_items}
+use Rattle.spi_machine.specs.Table.{table_of}
+use Rattle.spi_machine.specs.declared.call.AsyncMode.TheVariants as modes
+use Rattle.spi_machine.specs.declared.call.Call.{Call}
+use Rattle.spi_machine.specs.declared.call.Call.TheVariants.{Init, DeInit, SetAsyncMode, MainFunctionHandling, Channel, Sequence, Get}
+use Rattle.spi_machine.specs.declared.call.ChannelCall.TheVariants.{WriteIb, ReadIb, SetupEb}
+use Rattle.spi_machine.specs.declared.call.Pointer.{Pointer}
+use Rattle.spi_machine.specs.declared.call.Pointer.TheVariants.{Users, Null}
+use Rattle.spi_machine.specs.declared.call.Query.TheVariants.{Status, JobResult, SequenceResult, HwUnitStatus}
+use Rattle.spi_machine.specs.declared.call.SequenceCall.TheVariants.{AsyncTransmit, Cancel}
+use Rattle.spi_machine.specs.declared.table.SpiTable.{SpiTable}
 
 -- ---- boards
 
 -- an internal channel of two words and an external one, four jobs on one unit, and three interruptible sequences: of jobs 0, 1 and 3, of job 0, and of job 2
-abbrev pub three_sequences : SpiDriver
-three_sequences = driver_of (record {
+abbrev pub three_sequences : SpiTable
+three_sequences = table_of (record {
   dev_error_detect = true;
   classification = 1;
   levels = 4 ∷ 4 ∷ [];
@@ -50,8 +50,8 @@ three_sequences = driver_of (record {
 })
 
 -- one internal channel of one word, and two sequences on one unit: one of two jobs of the lowest priority, which isn't interruptible, and one of a job of the highest
-abbrev pub two_sequences : SpiDriver
-two_sequences = driver_of (record {
+abbrev pub two_sequences : SpiTable
+two_sequences = table_of (record {
   dev_error_detect = true;
   classification = 1;
   levels = 1 ∷ 1 ∷ [];
@@ -68,8 +68,8 @@ two_sequences = driver_of (record {
 })
 
 -- an external channel of so many words, with or without a device, and with or without a notice of its sequence
-abbrev pub plain_board : (words : ℕ) → (select : Option ℕ) → (notifies : Bool) → SpiDriver
-plain_board n select notifies = driver_of (record {
+abbrev pub plain_board : (words : ℕ) → (select : Option ℕ) → (notifies : Bool) → SpiTable
+plain_board n select notifies = table_of (record {
   dev_error_detect = true;
   classification = 1;
   levels = 1 ∷ 1 ∷ [];
@@ -79,15 +79,15 @@ plain_board n select notifies = driver_of (record {
 })
 
 -- two words for a device at place 0 with no notice, and four for no device with a notice
-abbrev pub device_board : SpiDriver
+abbrev pub device_board : SpiTable
 device_board = plain_board 2 (Some 0) false
 
-abbrev pub noting_board : SpiDriver
+abbrev pub noting_board : SpiTable
 noting_board = plain_board 4 None true
 
 -- an internal channel of one word and an external one of at most two, and three interruptible sequences of a job each on one unit, all of one priority
-abbrev pub equal_sequences : SpiDriver
-equal_sequences = driver_of (record {
+abbrev pub equal_sequences : SpiTable
+equal_sequences = table_of (record {
   dev_error_detect = true;
   classification = 1;
   levels = 1 ∷ 1 ∷ [];
@@ -110,21 +110,21 @@ equal_sequences = driver_of (record {
 -- ---- what is told
 
 -- from power on
-abbrev pub told_on : SpiDriver → List (Happening Call) → List (Option Told)
+abbrev pub told_on : SpiTable → List (Happening Call) → List (Option Told)
 told_on d hs = told (spi_machine d) first_state hs
 
 -- the state that is left, and the words that began
-abbrev pub left : SpiDriver → List (Happening Call) → SpiState
+abbrev pub left : SpiTable → List (Happening Call) → SpiState
 left d hs = state_after (spi_machine d) first_state hs
 
-abbrev pub begun_on : SpiDriver → List (Happening Call) → List Begun
+abbrev pub begun_on : SpiTable → List (Happening Call) → List Begun
 begun_on d hs = begun (spi_machine d) first_state hs
 
 -- what is told and the state that is left where a tick is four peripheral ones
-abbrev pub told_at_four : SpiDriver → List (Happening Call) → List (Option Told)
+abbrev pub told_at_four : SpiTable → List (Happening Call) → List (Option Told)
 told_at_four d hs = told (at_rate 4 (spi_machine d)) first_state hs
 
-abbrev pub left_at_four : SpiDriver → List (Happening Call) → SpiState
+abbrev pub left_at_four : SpiTable → List (Happening Call) → SpiState
 left_at_four d hs = state_after (at_rate 4 (spi_machine d)) first_state hs
 
 -- the first places of a channel's arrays
@@ -135,8 +135,8 @@ abbrev pub destination_of : SpiState → (channel count : ℕ) → List ℕ
 destination_of s c n = first_items 0 n (channel_at s c).destination
 
 -- a word begins on the first unit
-abbrev pub word : (sent width select : ℕ) → Begun
-word sent width select = record { unit = 0; word = sent; width = width; select = select }
+abbrev pub word : (sent width : ℕ) → (device : Option ℕ) → Begun
+word sent width device = record { unit = 0; word = sent; width = width; device = device }
 
 -- ---- what happens
 

@@ -6,8 +6,8 @@ ghost use Rattle.mcal_base.specs.declared.error_name.ErrorName.TheVariants as er
 ghost use Rattle.mcal_base.specs.declared.notice.NoticeKind.TheVariants.{AdcNotification};
 ghost use Rattle.machine_examples.specs.Told.{silence, answering, named, numbered, noted, forbidden, refused, refused_named};
 ghost use Rattle.machine_examples.specs.AdcRuns.{five_groups, four_groups, suspending, linear_stream, wide_stream, one_triggered, one_group, two_plain, one_continuous, equals, two_triggered, triggered_stream, unranked, told_on, shown, chosen_after, first_places, ok, read, not_ok, no_pointer, late_request_run, two_rounds, wide_rounds, read_before, read_after, stopped_run, four_rounds, pulses_run, full_run, aborted_run, both_read, trigger_run, notified_run, reset_run, refusals_run, single_run, continuous_run, first_round_run, unqueued_run, queued_run, waiting_run, dropped_pulse_run, triggered_stream_run, equals_run, forgotten_run, closed_run, second_buffer_run, single_way_run, continuous_way_run, triggered_way_run, stream_way_run, inputs_run, units_run, opened_again, first_buffer};
-ghost use Rattle.adc_groups.specs.Checks.{zero_null};
-ghost use Rattle.adc_groups.specs.declared.call.ResultBuffer.TheVariants.{Zero};
+ghost use Rattle.adc_machine.specs.Checks.{zero_null};
+ghost use Rattle.adc_machine.specs.declared.call.ResultBuffer.TheVariants.{Zero};
 
 /// A request of higher priority doesn't abort a round that is finished. It comes next when that is served, before
 /// one of lower priority that waits longer.

@@ -7,14 +7,15 @@ ghost use Rattle.mcal_base.specs.declared.error_name.ErrorName.TheVariants.{SpiU
 ghost use Rattle.mcal_base.specs.declared.notice.NoticeKind.TheVariants.{SpiJobEndNotification, SpiSeqEndNotification};
 ghost use Rattle.run_model.specs.Causes.{call_cause};
 ghost use Rattle.run_model.specs.Frame.{Called};
+ghost use Rattle.run_model.specs.Moment.{is_busy};
 ghost use Rattle.run_model.specs.World.{world_start};
-ghost use Rattle.spi_sequences.specs.Bounds.{class_of, fill_busy};
-ghost use Rattle.spi_sequences.specs.Machine.{spi_machine};
-ghost use Rattle.spi_sequences.specs.State.{first_state, internal_word, wire_at};
-ghost use Rattle.spi_sequences.specs.declared.call.Call.TheVariants.{DeInit, MainFunctionHandling, Channel, Get};
-ghost use Rattle.spi_sequences.specs.declared.call.ChannelCall.TheVariants.{WriteIb};
-ghost use Rattle.spi_sequences.specs.declared.call.Pointer.TheVariants.{Users, Null};
-ghost use Rattle.spi_sequences.specs.declared.call.Query.TheVariants.{Status};
+ghost use Rattle.spi_machine.specs.Bounds.{class_of, spi_setting};
+ghost use Rattle.spi_machine.specs.Machine.{spi_machine};
+ghost use Rattle.spi_machine.specs.State.{first_state, internal_word, wire_at};
+ghost use Rattle.spi_machine.specs.declared.call.Call.TheVariants.{DeInit, MainFunctionHandling, Channel, Get};
+ghost use Rattle.spi_machine.specs.declared.call.ChannelCall.TheVariants.{WriteIb};
+ghost use Rattle.spi_machine.specs.declared.call.Pointer.TheVariants.{Users, Null};
+ghost use Rattle.spi_machine.specs.declared.call.Query.TheVariants.{Status};
 ghost use Rattle.machine_examples.specs.SpiRuns as runs;
 ghost use Rattle.machine_examples.specs.SpiRuns.{three_sequences, two_sequences, equal_sequences, device_board, noting_board, told_on, left, begun_on, word, source_of, destination_of};
 ghost use Rattle.machine_examples.specs.Told.{silence, named, named_with, refused, refused_named, notice, notified, forbidden};
@@ -59,7 +60,7 @@ pub fn over_a_call_that_writes()
     ensures same { call_cause false (runs.asking_tag (Channel 0 (WriteIb Users)) 0 ∷ []) false (class_of (Channel 0 (WriteIb Null))) 1 ≡ Some Reentry }
     ensures whole { call_cause false (runs.asking_tag (Channel 0 (WriteIb Users)) 0 ∷ []) false (class_of DeInit) 1 ≡ Some Reentry }
     ensures query { call_cause false (runs.asking_tag (Channel 0 (WriteIb Users)) 0 ∷ []) false (class_of (Get Status)) 1 ≡ None }
-    ensures filled { fill_busy three_sequences (world_start 0) first_state (Called (Channel 0 (WriteIb Users)) ∷ []) 0 ≡ true }
+    ensures filled { is_busy (spi_setting three_sequences) (world_start 0) first_state (Called (Channel 0 (WriteIb Users)) ∷ []) 0 ≡ true }
     ensures answers { told_on three_sequences runs.writing_run ≡ silence ∷ named SpiIdle ∷ named EOk ∷ [] }
 {}
 
@@ -151,19 +152,19 @@ pub fn lines_in_both_modes()
     ensures polls_none { (spi_machine three_sequences).polls runs.eight_later (left three_sequences runs.interrupt_run) MainFunctionHandling ≡ [] }
 {}
 
-/// The words that begin are those that the wire shows as sent, in their order, of the width of their channel, and under
-/// the place of their job's device plus 1, 0 where it has none.
+/// The words that begin are those that the wire shows as sent, in their order, of the width of their channel, and for
+/// their job's device, where it has one.
 pub fn beginnings_of_words()
-    ensures device { begun_on device_board (runs.device_run (240 ∷ 0 ∷ []) 65295 65535) ≡ word 240 16 1 ∷ word 0 16 1 ∷ [] }
-    ensures failed { begun_on device_board (runs.device_run (1 ∷ 2 ∷ []) 65534 65536) ≡ word 1 16 1 ∷ word 2 16 1 ∷ [] }
-    ensures none { begun_on three_sequences runs.cancel_run ≡ word 255 8 0 ∷ word 255 8 0 ∷ [] }
-    ensures written { begun_on three_sequences runs.written_before_run ≡ word 3 8 0 ∷ word 4 8 0 ∷ [] }
+    ensures device { begun_on device_board (runs.device_run (240 ∷ 0 ∷ []) 65295 65535) ≡ word 240 16 (Some 0) ∷ word 0 16 (Some 0) ∷ [] }
+    ensures failed { begun_on device_board (runs.device_run (1 ∷ 2 ∷ []) 65534 65536) ≡ word 1 16 (Some 0) ∷ word 2 16 (Some 0) ∷ [] }
+    ensures none { begun_on three_sequences runs.cancel_run ≡ word 255 8 None ∷ word 255 8 None ∷ [] }
+    ensures written { begun_on three_sequences runs.written_before_run ≡ word 3 8 None ∷ word 4 8 None ∷ [] }
 {}
 
 /// Sources that a pending sequence uses aren't filled.
 pub fn sources_in_use()
-    ensures used { fill_busy three_sequences runs.eight_later (left three_sequences runs.polling_run) [] 1 ≡ true }
-    ensures unused { fill_busy three_sequences runs.eight_later (left three_sequences runs.up_to_reset) [] 1 ≡ false }
+    ensures used { is_busy (spi_setting three_sequences) runs.eight_later (left three_sequences runs.polling_run) [] 1 ≡ true }
+    ensures unused { is_busy (spi_setting three_sequences) runs.eight_later (left three_sequences runs.up_to_reset) [] 1 ≡ false }
 {}
 
 /// Among jobs of one priority that of the earlier request runs next. While a sequence is pending the module is neither

@@ -37,7 +37,8 @@ use Rattle.pwm_driver.specs.declared.asked.Asked as pulse_asked
 use Rattle.pwm_driver.specs.declared.driver.Channel as pulse_channels
 use Rattle.pwm_driver.specs.laws.Lawful as pulse_laws
 use Rattle.icu_driver.specs.Ground.{settled, IcuAgrees}
-use Rattle.mcal_system.specs.Drivers.{SystemFrame, clock, pins, timers, pulses, captures, drivers_of, as_one}
+use Rattle.mcal_system.specs.Drivers.{clock, pins, timers, pulses, captures, drivers_of, as_one}
+use Rattle.mcal_system.specs.Frames.{SystemFrame}
 use Rattle.mcal_system.specs.Runs.{SystemRun, most_steps, bound_of, run_start, moment_of, AddsItems}
 use Rattle.mcal_system.specs.Setting.{SystemState, SystemCall, clock_setting, pin_setting, timer_setting, pulse_setting, capture_setting, joined, system_setting, call_of}
 use Rattle.mcal_system.specs.Shows.{level_at, ram_at, size_at, stamp_at}

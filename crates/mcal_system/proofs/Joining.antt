@@ -1,12 +1,15 @@
 -- The drivers of all modules are what two drivers as one have to be.
-use Rattle.std.proofs.Common.{◌≡◌, ℕ, Bool, true, false, refl}
+use Rattle.std.proofs.Common.{◌≡◌, ℕ, Bool, true, false, [], refl, sym, subst}
+use Rattle.std.specs.List.{list_all}
 use Rattle.chip_model.specs.Chip.{Chip, power_on}
 use Rattle.config_facts.specs.Valid.{IsValid}
 use Rattle.mcal_base.specs.declared.config.whole.Config.{Config}
 use Rattle.mcal_base.specs.declared.module_name.ModuleName.{ModuleName}
 use Rattle.mcal_base.specs.declared.module_name.ModuleName.TheVariants.{Mcu, Port, Gpt, Pwm, Icu}
 use Rattle.step_runner.specs.Driver.{Driver, Covers}
-use Rattle.step_runner.specs.Union.{union_of}
+use Rattle.run_model.specs.World.{World}
+use Rattle.step_runner.specs.Union.{has_handler, union_of}
+use Rattle.step_runner.specs.declared.either.Either.TheVariants.{Left, Right}
 use Rattle.step_runner.specs.Whose.{only, all_of, are_disjoint, KeepsTo}
 use Rattle.step_runner.proofs.Apart.{covers-both}
 use Rattle.step_runner.proofs.Whose.{keeps-both, disjoint-apart}
@@ -40,10 +43,14 @@ pub record IsReady {S C F : Type 0} (mine : ModuleName → Bool) (chip_of : ℕ 
   pub wired : (room : ℕ) → d.wired (chip_of room)
   pub keeps : KeepsTo mine d
 
--- of two, of which the second isn't the clock's
-join : {S T C D F G : Type 0} (p q : ModuleName → Bool) (chip_of : ℕ → Chip) (d : Driver S C F) (e : Driver T D G) → are_disjoint p q ≡ true → q Mcu ≡ false → IsReady p chip_of d → IsReady q chip_of e → IsReady (all_of p q) chip_of (union_of d e)
-join p q chip_of d e apart still one other = record {
-  fits = (one.fits, other.fits, disjoint-apart p q d e apart still one.keeps other.keeps);
+-- no call polls lines
+abbrev IsMute : {S C F : Type 0} → Driver S C F → Type 0
+IsMute {S = S} {C = C} d = (w : World) (s : S) (c : C) → d.setting.machine.polls w s c ≡ []
+
+-- of two, of which the first polls no lines and the second isn't the clock's
+join : {S T C D F G : Type 0} (p q : ModuleName → Bool) (chip_of : ℕ → Chip) (d : Driver S C F) (e : Driver T D G) → are_disjoint p q ≡ true → q Mcu ≡ false → IsMute d → IsReady p chip_of d → IsReady q chip_of e → IsReady (all_of p q) chip_of (union_of d e)
+join p q chip_of d e apart still mute one other = record {
+  fits = (one.fits, other.fits, disjoint-apart p q d e apart still (λ w s c. subst (λ ls. list_all (has_handler d) ls ≡ true) (sym (mute w s c)) refl) one.keeps other.keeps);
   covers = covers-both d e one.covers other.covers;
   wired = λ room. (one.wired room, other.wired room);
   keeps = keeps-both p q d e one.keeps other.keeps;
@@ -70,14 +77,19 @@ module _ (c : Config) (v : IsValid c) where
 
   -- one module after another
   timed_ready : Ready (all_of (only Port) (only Gpt)) (union_of (pins c) (timers c))
-  timed_ready = join (only Port) (only Gpt) (power_on c) (pins c) (timers c) refl refl pins_ready timers_ready
+  timed_ready = join (only Port) (only Gpt) (power_on c) (pins c) (timers c) refl refl (λ w s call. refl) pins_ready timers_ready
 
   firsts_ready : Ready (all_of (only Mcu) (all_of (only Port) (only Gpt))) (union_of (clock c) (union_of (pins c) (timers c)))
-  firsts_ready = join (only Mcu) (all_of (only Port) (only Gpt)) (power_on c) (clock c) (union_of (pins c) (timers c)) refl refl clock_ready timed_ready
+  firsts_ready = join (only Mcu) (all_of (only Port) (only Gpt)) (power_on c) (clock c) (union_of (pins c) (timers c)) refl refl (λ w s call. refl) clock_ready timed_ready
 
   seconds_ready : Ready (all_of (only Pwm) (only Icu)) (union_of (pulses c) (captures c))
-  seconds_ready = join (only Pwm) (only Icu) (power_on c) (pulses c) (captures c) refl refl pulses_ready captures_ready
+  seconds_ready = join (only Pwm) (only Icu) (power_on c) (pulses c) (captures c) refl refl (λ w s call. refl) pulses_ready captures_ready
+
+  mute_firsts : IsMute (union_of (clock c) (union_of (pins c) (timers c)))
+  mute_firsts w s (Left call) = refl
+  mute_firsts w s (Right (Left call)) = refl
+  mute_firsts w s (Right (Right call)) = refl
 
   pub all_ready : Ready (all_of (all_of (only Mcu) (all_of (only Port) (only Gpt))) (all_of (only Pwm) (only Icu))) (system c)
   unfolding as_one
-  all_ready = join (all_of (only Mcu) (all_of (only Port) (only Gpt))) (all_of (only Pwm) (only Icu)) (power_on c) (union_of (clock c) (union_of (pins c) (timers c))) (union_of (pulses c) (captures c)) refl refl firsts_ready seconds_ready
+  all_ready = join (all_of (only Mcu) (all_of (only Port) (only Gpt))) (all_of (only Pwm) (only Icu)) (power_on c) (union_of (clock c) (union_of (pins c) (timers c))) (union_of (pulses c) (captures c)) refl refl mute_firsts firsts_ready seconds_ready

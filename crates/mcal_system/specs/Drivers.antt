@@ -4,40 +4,29 @@ use Rattle.config_facts.specs.Valid.{IsValid}
 use Rattle.mcal_base.specs.declared.config.whole.Config.{Config}
 use Rattle.service_outline.specs.Services.{services_driver}
 use Rattle.service_outline.specs.ShortServices as short
-use Rattle.service_outline.specs.declared.short.Short.{Short}
 use Rattle.step_runner.specs.Driver.{Driver}
 use Rattle.step_runner.specs.Union.{union_of}
-use Rattle.step_runner.specs.declared.either.Either.{Either}
 use Rattle.mcu_driver.specs.Machine.{McuState}
 use Rattle.mcu_driver.specs.Table as clock_table
-use Rattle.mcu_driver.specs.declared.asked.Asked as clock_asked
 use Rattle.mcu_driver.specs.declared.call.Call as clock_calls
-use Rattle.mcu_driver.specs.laws.Bodies.{McuBody}
 use Rattle.mcu_driver.specs.laws.Lawful.{mcu}
 use Rattle.port_driver.specs.Machine.{PortState}
 use Rattle.port_driver.specs.Table as pin_table
-use Rattle.port_driver.specs.declared.asked.Asked as pin_asked
 use Rattle.port_driver.specs.declared.call.Call as pin_calls
-use Rattle.port_driver.specs.laws.Bodies.{PortBody}
 use Rattle.port_driver.specs.laws.Lawful.{port}
 use Rattle.gpt_driver.specs.Machine.{GptState}
 use Rattle.gpt_driver.specs.Table as timer_table
-use Rattle.gpt_driver.specs.declared.asked.Asked as timer_asked
 use Rattle.gpt_driver.specs.declared.call.Call as timer_calls
-use Rattle.gpt_driver.specs.laws.Bodies.{GptBody}
 use Rattle.gpt_driver.specs.laws.Lawful.{gpt}
 use Rattle.pwm_driver.specs.Machine.{PwmState}
 use Rattle.pwm_driver.specs.Table as pulse_table
-use Rattle.pwm_driver.specs.declared.asked.Asked as pulse_asked
 use Rattle.pwm_driver.specs.declared.call.Call as pulse_calls
-use Rattle.pwm_driver.specs.laws.Bodies.{PwmBody}
 use Rattle.pwm_driver.specs.laws.Lawful.{pwm}
 use Rattle.icu_driver.specs.Machine.{IcuState}
 use Rattle.icu_driver.specs.Table as capture_table
-use Rattle.icu_driver.specs.declared.asked.Asked as capture_asked
 use Rattle.icu_driver.specs.declared.call.Call as capture_calls
-use Rattle.icu_driver.specs.laws.Bodies.{IcuBody}
 use Rattle.icu_driver.specs.laws.Lawful.{icu}
+use Rattle.mcal_system.specs.Frames.{ClockFrame, PinFrame, TimerFrame, PulseFrame, CaptureFrame, SystemFrame}
 use Rattle.mcal_system.specs.Runs.{most_steps}
 use Rattle.mcal_system.specs.Setting.{SystemState, SystemCall}
 use Rattle.mcal_system.specs.declared.drivers.Drivers.{Drivers}
@@ -47,21 +36,6 @@ abbrev pub drivers_of : Config → Drivers
 drivers_of c = record { clock = clock_table.driver_of c.mcu; pins = pin_table.driver_of c.port; timers = timer_table.driver_of c.gpt; pulses = pulse_table.driver_of c.pwm; captures = capture_table.driver_of c.icu }
 
 -- each module's driver
-abbrev pub ClockFrame : Type 0
-ClockFrame = Short clock_asked.Asked McuBody
-
-abbrev pub PinFrame : Type 0
-PinFrame = Short pin_asked.Asked PortBody
-
-abbrev pub TimerFrame : Type 0
-TimerFrame = Short timer_asked.Asked GptBody
-
-abbrev pub PulseFrame : Type 0
-PulseFrame = Short pulse_asked.Asked PwmBody
-
-abbrev pub CaptureFrame : Type 0
-CaptureFrame = Short capture_asked.Asked IcuBody
-
 abbrev pub clock : Config → Driver McuState clock_calls.Call ClockFrame
 clock c = services_driver (mcu (clock_table.driver_of c.mcu))
 
@@ -76,10 +50,6 @@ pulses c = services_driver (pwm (pulse_table.driver_of c.pwm))
 
 abbrev pub captures : Config → Driver IcuState capture_calls.Call CaptureFrame
 captures c = short.driver_of (icu (capture_table.driver_of c.icu))
-
--- the frames of all
-abbrev pub SystemFrame : Type 0
-SystemFrame = Either (Either ClockFrame (Either PinFrame TimerFrame)) (Either PulseFrame CaptureFrame)
 
 -- all as one, in the order of the configuration; what is in it stays closed where no proof asks for it
 unfoldable pub as_one : Drivers → Driver SystemState SystemCall SystemFrame

@@ -21,7 +21,8 @@ use Rattle.pwm_driver.specs.laws.Lawful as pulse_laws
 use Rattle.pwm_driver.specs.laws.Lawful.{pwm}
 use Rattle.icu_driver.specs.laws.Lawful as capture_laws
 use Rattle.icu_driver.specs.laws.Lawful.{icu}
-use Rattle.mcal_system.specs.Drivers.{SystemFrame, as_one}
+use Rattle.mcal_system.specs.Drivers.{as_one}
+use Rattle.mcal_system.specs.Frames.{SystemFrame}
 use Rattle.mcal_system.specs.Setting.{SystemState, SystemCall}
 use Rattle.mcal_system.specs.declared.drivers.Drivers.{Drivers}
 

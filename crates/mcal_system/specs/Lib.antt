@@ -1,4 +1,5 @@
 pub mod Drivers
+pub mod Frames
 pub mod Laws
 pub mod Runs
 pub mod Setting

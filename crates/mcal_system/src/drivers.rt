@@ -4,6 +4,8 @@ ghost use Rattle.config_facts.specs.Valid.{IsValid};
 ghost use Rattle.step_runner.specs.Driver.{Covers};
 ghost use Rattle.mcal_system.specs.Drivers.{drivers_of, system};
 
+use crate::frame::Frame;
+use chip_model::Bus;
 use gpt_driver::GptDriver;
 use icu_driver::IcuDriver;
 use mcal_base::{Config, ModuleName, Request, Service};
@@ -53,9 +55,6 @@ impl Drivers {
 /// The calls of a module.
 type CallOf<M> = <M as Module>::Call;
 
-/// The frames of a module.
-type FrameOf<M> = <M as Module>::Frame;
-
 /// The states of a module's machine.
 type StateOf<M> = <M as Module>::State;
 
@@ -63,12 +62,6 @@ type StateOf<M> = <M as Module>::State;
 type Call = Either<
     Either<CallOf<McuDriver>, Either<CallOf<PortDriver>, CallOf<GptDriver>>>,
     Either<CallOf<PwmDriver>, CallOf<IcuDriver>>,
->;
-
-/// A call or a handler of one of the modules, under way.
-type Frame = Either<
-    Either<FrameOf<McuDriver>, Either<FrameOf<PortDriver>, FrameOf<GptDriver>>>,
-    Either<FrameOf<PwmDriver>, FrameOf<IcuDriver>>,
 >;
 
 /// The states of their machines.
@@ -94,7 +87,7 @@ impl Module for Drivers {
 
     #[tactic(auto, unfolding(crate::specs::Drivers::as_one))]
     fn frame(&self, call: &Call) -> Frame {
-        match call {
+        let parts = match call {
             Either::Left(Either::Left(call)) => Either::Left(Either::Left(self.clock.frame(call))),
             Either::Left(Either::Right(Either::Left(call))) => Either::Left(Either::Right(
                 Either::Left(self.pins.frame(call)),
@@ -108,22 +101,24 @@ impl Module for Drivers {
             Either::Right(Either::Right(call)) => Either::Right(Either::Right(
                 self.captures.frame(call),
             )),
-        }
+        };
+        Frame { parts }
     }
 
     /// Clock and pins have no lines.
     #[tactic(auto, unfolding(crate::specs::Drivers::as_one))]
     fn handler(&self, line: u32) -> Option<Frame> {
-        match self.timers.handler(line) {
-            Some(frame) => Some(Either::Left(Either::Right(Either::Right(frame)))),
+        let parts = match self.timers.handler(line) {
+            Some(frame) => Either::Left(Either::Right(Either::Right(frame))),
             None => match self.pulses.handler(line) {
-                Some(frame) => Some(Either::Right(Either::Left(frame))),
+                Some(frame) => Either::Right(Either::Left(frame)),
                 None => match self.captures.handler(line) {
-                    Some(frame) => Some(Either::Right(Either::Right(frame))),
-                    None => None,
+                    Some(frame) => Either::Right(Either::Right(frame)),
+                    None => return None,
                 },
             },
-        }
+        };
+        Some(Frame { parts })
     }
 
     #[tactic(auto, unfolding(crate::specs::Drivers::as_one))]
@@ -157,6 +152,12 @@ impl Module for Drivers {
                 None => self.captures.owner(line),
             },
         }
+    }
+
+    /// None of these modules has source arrays.
+    #[tactic(auto, unfolding(crate::specs::Drivers::as_one))]
+    fn source_use(&self, _bus: &Bus, _channel: u32) -> Option<bool> {
+        None
     }
 
     ghost laws = { lawful_system };

@@ -2,8 +2,10 @@
 #![tactic(auto)]
 
 mod drivers;
+mod frame;
 mod system;
 
 pub use drivers::Drivers;
+pub use frame::Frame;
 pub use script_runner::TooLong;
 pub use system::{MOST_STEPS, System};

@@ -2,6 +2,7 @@ use crate::asked::Asked;
 use crate::call::Call;
 use crate::driver::McuDriver;
 use crate::service::McuBody;
+use chip_model::Bus;
 use mcal_base::ModuleName;
 use run_model::Class;
 use service_outline::Short;
@@ -56,6 +57,10 @@ impl Module for McuDriver {
 
     fn owner(&self, _line: u32) -> ModuleName {
         ModuleName::Mcu
+    }
+
+    fn source_use(&self, _bus: &Bus, _channel: u32) -> Option<bool> {
+        None
     }
 
     ghost laws = { λ d fits. services_lawful (mcu d) (lawful d fits) };

@@ -2,6 +2,7 @@ use crate::asked::Asked;
 use crate::call::Call;
 use crate::driver::PortDriver;
 use crate::service::PortBody;
+use chip_model::Bus;
 use mcal_base::ModuleName;
 use run_model::Class;
 use service_outline::Short;
@@ -55,6 +56,10 @@ impl Module for PortDriver {
 
     fn owner(&self, _line: u32) -> ModuleName {
         ModuleName::Port
+    }
+
+    fn source_use(&self, _bus: &Bus, _channel: u32) -> Option<bool> {
+        None
     }
 
     ghost laws = { λ d fits. lawful d };

@@ -17,3 +17,4 @@ pub mod Relation
 pub mod Rest
 pub mod Serve
 pub mod Units
+pub mod Windows

@@ -3,6 +3,7 @@ use crate::call::Call;
 use crate::driver::PwmDriver;
 use crate::service::serve::ServeBody;
 use crate::service::{self, PwmBody};
+use chip_model::Bus;
 use mcal_base::ModuleName;
 use run_model::Class;
 use service_outline::Short;
@@ -65,6 +66,10 @@ impl Module for PwmDriver {
 
     fn owner(&self, _line: u32) -> ModuleName {
         ModuleName::Pwm
+    }
+
+    fn source_use(&self, _bus: &Bus, _channel: u32) -> Option<bool> {
+        None
     }
 
     ghost laws = { λ d fits. lawful d fits };

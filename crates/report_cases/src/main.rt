@@ -184,15 +184,6 @@ fn answers(rt: &HostRuntime, head: Head) -> io::Result<()> {
     show(rt, script.as_slice(), &journal)
 }
 
-/// The text of the rows that a directive shows: each the directive's line, the row's name, and its values.
-fn rows_of(rt: &HostRuntime, rows: &[(u32, RowName, &[Value])]) -> io::Result<String> {
-    let mut text = String::new(rt.alloc());
-    for (line, name, values) in rows {
-        write_row(&mut text, *line, *name, values)?;
-    }
-    Ok(text)
-}
-
 /// Shows: of pins, one that is held, one that prints nothing, and one of each other kind of row.
 fn shows(rt: &HostRuntime) -> io::Result<()> {
     let script = vec![in rt.alloc();
@@ -207,32 +198,33 @@ fn shows(rt: &HostRuntime) -> io::Result<()> {
     journal.happened(3, 0, &Order::Show(Shown::Wire));
     journal.happened(4, 0, &Order::Show(Shown::Buffers));
     let mut shown = ShownTexts::new(rt.alloc());
-    shown.push(rows_of(
-        rt,
-        &[
-            (1, RowName::Pin(0), &[Value::One(1)]),
-            (1, RowName::Pin(17), &[Value::One(0)]),
-        ],
-    )?)?;
+    let mut pins = String::new(rt.alloc());
+    write_row(&mut pins, 1, RowName::Pin(0), &[Value::One(1)])?;
+    write_row(&mut pins, 1, RowName::Pin(17), &[Value::One(0)])?;
+    shown.push(pins)?;
     shown.push(String::new(rt.alloc()))?;
-    shown.push(rows_of(
-        rt,
-        &[
-            (4, RowName::Ram(0), &[Value::One(7), Value::One(255)]),
-            (
-                4,
-                RowName::Wire(0),
-                &[Value::Pair(255, 17), Value::Pair(255, 65_536)],
-            ),
-            (4, RowName::Wire(1), &[]),
-            (4, RowName::Stamps(2), &[Value::One(4_294_967_295)]),
-            (4, RowName::Results(3, 1), &[Value::One(4_095)]),
-            (4, RowName::Source(0), &[Value::One(240)]),
-            (4, RowName::Destination(15), &[Value::One(0)]),
-            (4, RowName::Transmit(1), &[Value::One(1)]),
-            (4, RowName::Receive(1), &[Value::One(2)]),
-        ],
-    )?)?;
+    let mut rows = String::new(rt.alloc());
+    write_row(
+        &mut rows,
+        4,
+        RowName::Ram(0),
+        &[Value::One(7), Value::One(255)],
+    )?;
+    let words = [Value::Pair(255, 17), Value::Pair(255, 65_536)];
+    write_row(&mut rows, 4, RowName::Wire(0), &words)?;
+    write_row(&mut rows, 4, RowName::Wire(1), &[])?;
+    write_row(
+        &mut rows,
+        4,
+        RowName::Stamps(2),
+        &[Value::One(4_294_967_295)],
+    )?;
+    write_row(&mut rows, 4, RowName::Results(3, 1), &[Value::One(4_095)])?;
+    write_row(&mut rows, 4, RowName::Source(0), &[Value::One(240)])?;
+    write_row(&mut rows, 4, RowName::Destination(15), &[Value::One(0)])?;
+    write_row(&mut rows, 4, RowName::Transmit(1), &[Value::One(1)])?;
+    write_row(&mut rows, 4, RowName::Receive(1), &[Value::One(2)])?;
+    shown.push(rows)?;
     show_with(rt, script.as_slice(), &journal, &shown)
 }
 

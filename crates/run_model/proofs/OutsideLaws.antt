@@ -1,6 +1,7 @@
 -- A chip stands in the world of its run from power on, after each move, each hardware event and each reset.
-use Rattle.std.proofs.Common.{◌≡◌, ℕ, ◌+◌, ◌*◌, ◌<◌, ◌≢◌, Bool, true, false, cond, [], length, ◌⊎◌, inl, inr, refl, sym, ◌∙◌, ap, arith, get_or-set_same, get_or-set_other}
+use Rattle.std.proofs.Common.{◌≡◌, ℕ, ◌+◌, ◌*◌, ◌<◌, ◌≤◌, List, ◌∷◌, ◌≢◌, Bool, true, false, cond, [], length, ◌⊎◌, inl, inr, refl, sym, ◌∙◌, ap, arith, get_or-set_same, get_or-set_other}
 use Rattle.std.specs.Prelude.{◌==◌, slice_index_or}
+use Rattle.std.specs.List.{AllByRecursion}
 use Rattle.std.proofs.lemmas.Bool.Decides.{eqb_tells}
 use Rattle.std.proofs.lemmas.List.{get_or-replicate}
 use Rattle.mcal_base.specs.Layout.{WithinLimits}
@@ -15,7 +16,7 @@ use Rattle.chip_model.specs.Histories.{HasAll, Made, Hardware, WasReset, FillsTh
 use Rattle.chip_model.proofs.HistoryLaws.{level_leaves, level-since_event, outside-move, outside-step, levels-move, levels-pulse, osc-move, now-move}
 use Rattle.chip_model.proofs.WholeLaws.{all-step, all-power_on, time-step, silent-level}
 use Rattle.run_model.specs.Outside.{StandsIn}
-use Rattle.run_model.specs.World.{World, world_start, world_after, last_sample}
+use Rattle.run_model.specs.World.{World, Sample, world_start, world_after, last_sample}
 
 pub stands-start : (config : Config) (room : ℕ) → WithinLimits config → StandsIn (power_on config room) (world_start 0)
 stands-start config room w = record {
@@ -25,6 +26,7 @@ stands-start config room w = record {
   now = refl;
   levels = λ p lt. get_or-replicate {A = Bool} 64 p false false lt;
   analog = λ i lt. silent-level i;
+  past = tt;
 }
 
 pub stands-move : (chip : Chip) (w : World) (made : Move) (received : ℕ) → StandsIn chip w → StandsIn (chip_after chip made received) w
@@ -35,6 +37,7 @@ stands-move chip w made received s = record {
   now = now-move chip made received ∙ s.now;
   levels = λ p lt. ap (λ o. slice_index_or o p false) (outside-move chip made received) ∙ s.levels p lt;
   analog = λ i lt. ap (λ l. level_at l i) (levels-move chip made received) ∙ s.analog i lt;
+  past = s.past;
 }
 
 -- ---- the times after an event
@@ -104,6 +107,24 @@ analog_event chip w (SpiFault u) s i lt = s.analog i lt
 analog_event chip w (Fill channel ws) s i lt = s.analog i lt
 analog_event chip w _ s i lt = s.analog i lt
 
+-- ---- the past after an event
+
+-- what was past stays past
+pub still_past : (xs : List Sample) (m n : ℕ) → m ≤ n → AllByRecursion (λ (x : Sample). x.since ≤ m) xs → AllByRecursion (λ (x : Sample). x.since ≤ n) xs
+still_past [] m n le h = tt
+still_past (x ∷ xs) m n le h = (omega (arith, le, h.0), still_past xs m n le h.1)
+
+past_event : (chip : Chip) (w : World) (order : Order) → AllByRecursion (λ (x : Sample). x.since ≤ w.now) w.samples
+    → AllByRecursion (λ (x : Sample). x.since ≤ (world_after w chip.clock.rate order).now) (world_after w chip.clock.rate order).samples
+past_event chip w (Tick n) h = still_past w.samples w.now (w.now + n * chip.clock.rate) (omega arith) h
+past_event chip w (Level p v) h = h
+past_event chip w (Analog k v) h = (omega arith, h)
+past_event chip w (Trigger k) h = h
+past_event chip w (Miso u ws) h = h
+past_event chip w (SpiFault u) h = h
+past_event chip w (Fill channel ws) h = h
+past_event chip w _ h = h
+
 pub stands-event : (chip : Chip) (w : World) (order : Order) → FillsThere (Hardware order) → StandsIn chip w → StandsIn (happened chip order) (world_after w chip.clock.rate order)
 stands-event chip w order there s = record {
   all = all-step chip (Hardware order) there s.all;
@@ -112,6 +133,7 @@ stands-event chip w order there s = record {
   now = now_event chip w order s.now;
   levels = levels_event chip w order s;
   analog = analog_event chip w order s;
+  past = past_event chip w order s.past;
 }
 
 pub stands-reset : (chip : Chip) (w : World) (reason : Reason) → StandsIn chip w → StandsIn (reset_chip chip reason) w
@@ -122,4 +144,5 @@ stands-reset chip w reason s = record {
   now = s.now;
   levels = s.levels;
   analog = s.analog;
+  past = s.past;
 }

@@ -13,6 +13,7 @@ use Rattle.run_model.specs.declared.class.Class.{Class}
 use Rattle.run_model.specs.declared.class.Tag.{Tag}
 use Rattle.run_model.specs.Frame.{Origin, Open}
 
+-- what kind of object it is; a channel is the same one whether or not its source array is read
 abbrev pub kind_number : KeyKind → ℕ
 kind_number kinds.Section = 0
 kind_number kinds.Pin = 1
@@ -21,6 +22,7 @@ kind_number kinds.Group = 3
 kind_number kinds.Sequence = 4
 kind_number kinds.Clock = 5
 kind_number kinds.Main = 6
+kind_number kinds.Source = 2
 
 -- both have a key, and it is the same one
 abbrev pub same_key : Option Key → Option Key → Bool
@@ -75,6 +77,19 @@ none_above tags level = list_all (λ t. nat_le t.level level) tags
 
 abbrev pub all_below : List Tag → ℕ → Bool
 all_below tags level = list_all (λ t. nat_lt t.level level) tags
+
+-- a call with this key, or of this class, reads the source array of a channel
+abbrev pub is_source : KeyKind → Bool
+is_source kinds.Source = true
+is_source kind = false
+
+abbrev pub reads_by : (channel : ℕ) → Option Key → Bool
+reads_by c None = false
+reads_by c (Some k) = is_source k.kind && k.number == c
+
+abbrev pub reads_source : (channel : ℕ) → Option Class → Bool
+reads_source c None = false
+reads_source c (Some class) = reads_by c class.key
 
 -- why a fill of a source array is held
 abbrev pub fill_cause : (masked there busy : Bool) → Option Held

@@ -10,8 +10,6 @@ use Rattle.mcal_base.specs.declared.directive.Reason.TheVariants.{Watchdog, Soft
 use Rattle.mcal_base.specs.declared.directive.Request.{Request}
 use Rattle.mcal_base.specs.declared.directive.Stop.{Stop}
 use Rattle.mcal_base.specs.declared.directive.Stop.TheVariants as stops
-use Rattle.mcal_base.specs.declared.moves.Event.{Event}
-use Rattle.mcal_base.specs.declared.moves.Event.TheVariants.{Act}
 use Rattle.mcal_base.specs.declared.moves.Move.{Move}
 use Rattle.mcal_base.specs.declared.moves.Move.TheVariants.{Mask, Unmask, Note}
 use Rattle.run_model.specs.declared.item.Stepped.{Stepped}
@@ -19,7 +17,7 @@ use Rattle.run_model.specs.declared.reach.Reach.{Reach}
 use Rattle.run_model.specs.declared.reach.Reach.TheVariants.{Count, Until, Whole}
 use Rattle.run_model.specs.Causes.{call_cause, line_cause, tags_of, top_noted}
 use Rattle.run_model.specs.Entry as entry
-use Rattle.run_model.specs.Frame.{Open, resets_chip}
+use Rattle.run_model.specs.Frame.{Open, is_act, resets_chip}
 use Rattle.run_model.specs.Legal.{hardware_held}
 use Rattle.run_model.specs.Moment.{Setting, Moment, Deed, Begins, Enters, Steps, after, after_all}
 use Rattle.run_model.specs.Script.{deed_of}
@@ -50,10 +48,6 @@ Ticks m line n (Some left) items = MatchBool (nat_lt n left) (IsOne m line (entr
 -- ---- steps of the top frame
 
 -- the step is one at which `upto` stops
-abbrev pub is_act : Option Event → Bool
-is_act (Some Act) = true
-is_act _ = false
-
 abbrev pub is_mask : Move → Bool
 is_mask Mask = true
 is_mask _ = false

@@ -54,8 +54,10 @@ pub record Open (Call : Type 0) : Type 0 where
   -- the notices that it owes, and the error that it has to report
   pub owed : List Owing
   pub report : Option DevError
-  -- whether it holds the mask closed
+  -- whether it holds the mask closed, its moves since it last closed or opened it, the newest first, and whether it acted since then
   pub inside : Bool
+  pub since : List Move
+  pub acts_since : Bool
   -- its steps, and the moves of its present window
   pub steps : ℕ
   pub window : ℕ
@@ -65,7 +67,7 @@ pub record Open (Call : Type 0) : Type 0 where
 -- a frame that has done nothing yet
 abbrev pub opened : {Call : Type 0} → Origin Call → Tag → Open Call
 opened origin tag =
-    record { origin = origin; tag = tag; acted = None; acted_at = None; polled = []; served = []; missed = λ l. false; committed = λ c. None; reads = []; wrote = false; owed = []; report = None; inside = false; steps = 0; window = 0; noted = false }
+    record { origin = origin; tag = tag; acted = None; acted_at = None; polled = []; served = []; missed = λ l. false; committed = λ c. None; reads = []; wrote = false; owed = []; report = None; inside = false; since = []; acts_since = false; steps = 0; window = 0; noted = false }
 
 -- what a step brings to its event: the incoming word, and the time of the frame's last write of each commit register
 pub record Brought : Type 0 where
@@ -245,6 +247,35 @@ inside_after b (Store k v) = b
 inside_after b (Note n) = b
 inside_after b (Report e) = b
 
+-- the moves since the mask was closed or opened
+abbrev pub since_after : List Move → Move → List Move
+since_after ms Mask = []
+since_after ms Unmask = []
+since_after ms (Read r) = Read r ∷ ms
+since_after ms (Write r v) = Write r v ∷ ms
+since_after ms (Load k) = Load k ∷ ms
+since_after ms (Store k v) = Store k v ∷ ms
+since_after ms (Note n) = Note n ∷ ms
+since_after ms (Report e) = Report e ∷ ms
+
+abbrev pub is_act : Option Event → Bool
+is_act (Some Act) = true
+is_act (Some (Serve k)) = false
+is_act (Some (Abort u)) = false
+is_act (Some (Start u)) = false
+is_act None = false
+
+-- whether the frame acted since then: a step that turns the mask belongs to the window that it begins or ends
+abbrev pub acts_after : Bool → Move → Option Event → Bool
+acts_after acts Mask e = is_act e
+acts_after acts Unmask e = false
+acts_after acts (Read r) e = acts || is_act e
+acts_after acts (Write r v) e = acts || is_act e
+acts_after acts (Load k) e = acts || is_act e
+acts_after acts (Store k v) e = acts || is_act e
+acts_after acts (Note n) e = acts || is_act e
+acts_after acts (Report x) e = acts || is_act e
+
 -- the moves of a window, from the one that closes the mask on
 abbrev pub window_after : Bool → ℕ → Move → ℕ
 window_after inside n Mask = 1
@@ -292,6 +323,8 @@ open_after mac w s o made received e =
       owed = owed_after (owed_by o.owed e out) made;
       report = report_after (report_by mac o.origin o.report e out) made;
       inside = inside_after o.inside made;
+      since = since_after o.since made;
+      acts_since = acts_after o.acts_since made e;
       steps = o.steps + 1;
       window = window_after o.inside o.window made;
       noted = is_note made;

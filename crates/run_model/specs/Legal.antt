@@ -17,16 +17,18 @@ use Rattle.mcal_base.specs.declared.moves.Unit as units
 use Rattle.mcal_base.specs.declared.moves.Unit.TheVariants.{Adc0, Adc1, Spi0, Spi1}
 use Rattle.mcal_base.specs.declared.notice.Notice.{Notice}
 use Rattle.mcal_base.specs.declared.register.Reg.{Reg}
-use Rattle.mcal_base.specs.declared.register.Reg.TheVariants.{ConverterGo, ConverterAbort, SerialData}
+use Rattle.mcal_base.specs.declared.register.Reg.TheVariants.{TimerLow, TimerHigh, PulseCommit, PulseIdle, CaptureCountLow, CaptureCountHigh, CaptureTimeLow, CaptureTimeHigh, ConverterGo, ConverterAbort, SerialData}
+use Rattle.mcal_base.specs.declared.service.Service.{Service}
+use Rattle.mcal_base.specs.declared.service.Service.TheVariants.{PwmInit, PwmDeInit}
 use Rattle.run_model.specs.declared.item.Stepped.{Stepped}
 use Rattle.mcal_base.specs.declared.directive.Order.{Order}
 use Rattle.mcal_base.specs.declared.directive.Order.TheVariants as orders
 use Rattle.mcal_base.specs.declared.directive.Reason.TheVariants.{Watchdog}
 use Rattle.run_model.specs.World.{World}
-use Rattle.run_model.specs.Machine.{Moves, Restarts, Begun, Machine, no_answer}
-use Rattle.run_model.specs.Frame.{Origin, Called, Entered, Owing, ActedAt, Open, outcome_at, begun_by, report_by, open_after, is_shared, resets_chip, asks_reset}
+use Rattle.run_model.specs.Machine.{Moves, Restarts, Begun, Machine, no_answer, select_of}
+use Rattle.run_model.specs.Frame.{Origin, Called, Entered, Owing, ActedAt, Open, outcome_at, begun_by, report_by, is_act, open_after, is_shared, resets_chip, asks_reset}
 use Rattle.run_model.specs.Causes.{call_cause, line_cause, fill_cause, tags_of, origins_of, top_noted}
-use Rattle.run_model.specs.Moment.{Halves, Setting, Moment, Deed, Begins, Enters, Steps, Happens, Resets, after}
+use Rattle.run_model.specs.Moment.{Halves, Setting, is_busy, Moment, Deed, Begins, Enters, Steps, Happens, Resets, after}
 
 -- ---- the events of a step
 
@@ -105,6 +107,57 @@ abbrev pub ErrorsRight : (wrote : Bool) → Option ActedAt → Type 0
 ErrorsRight wrote None = Unit {0}
 ErrorsRight wrote (Some at) = WritesNothing wrote at.error
 
+-- ---- what belongs into one window
+
+-- the register that has the low half, where a register has the high half of a counter or of an edge's time
+abbrev pub low_half : Reg → Option Reg
+low_half (TimerHigh c) = Some (TimerLow c)
+low_half (CaptureCountHigh c) = Some (CaptureCountLow c)
+low_half (CaptureTimeHigh c) = Some (CaptureTimeLow c)
+low_half r = None
+
+-- a high half is read with the mask closed, after its low half was read there
+abbrev pub ComesAfter : (inside : Bool) → (since : List Move) → (low : Option Reg) → Type 0
+ComesAfter inside since None = Unit {0}
+ComesAfter inside since (Some low) = (inside ≡ true) × Contains since (Read low)
+
+-- the move commits a pulse output, or idles it
+abbrev pub commits : Move → Bool
+commits (Write (PulseCommit c) v) = true
+commits made = false
+
+abbrev pub idles : Move → Bool
+idles (Write (PulseIdle c) v) = true
+idles made = false
+
+-- the service commits outputs, or idles them, in the window in which it acts
+abbrev pub commits_at_act : Service → Bool
+commits_at_act PwmInit = true
+commits_at_act service = false
+
+abbrev pub idles_at_act : Service → Bool
+idles_at_act PwmDeInit = true
+idles_at_act service = false
+
+-- what a call of the service does in the window in which it acts, and nowhere else
+abbrev pub is_beside : Service → Move → Bool
+is_beside service made = commits_at_act service && commits made || idles_at_act service && idles made
+
+abbrev pub is_beside_act : {State Call : Type 0} → Machine State Call → Origin Call → Move → Bool
+is_beside_act mac (Called c) made = is_beside (mac.service_of c) made
+is_beside_act mac (Entered l) made = false
+
+-- both halves are read in one window; and such a move is made in a window, which isn't opened before the call has acted there
+abbrev pub WindowRight : (beside : Move → Bool) → (inside : Bool) → (since : List Move) → (acts : Bool) → Move → Type 0
+WindowRight beside inside since acts (Read r) = ComesAfter inside since (low_half r)
+WindowRight beside inside since acts (Write r v) = beside (Write r v) ≡ true → inside ≡ true
+WindowRight beside inside since acts Unmask = list_any beside since ≡ true → acts ≡ true
+WindowRight beside inside since acts Mask = Unit {0}
+WindowRight beside inside since acts (Load k) = Unit {0}
+WindowRight beside inside since acts (Store k v) = Unit {0}
+WindowRight beside inside since acts (Note n) = Unit {0}
+WindowRight beside inside since acts (Report e) = Unit {0}
+
 -- ---- serial words
 
 -- a serial unit selects a device that is there
@@ -122,7 +175,7 @@ pub record IsBegun (b : Begun) (u v : ℕ) (unit : Serial) : Type 0 where
   pub on : u ≡ b.unit
   pub word : outgoing unit v ≡ b.word
   pub width : min unit.width 16 ≡ b.width
-  pub select : unit.select ≡ b.select
+  pub select : unit.select ≡ select_of b.device
 
 -- a word is written to a serial unit exactly where the machine begins one
 abbrev pub SendsRight : Chip → Option Begun → Move → Type 0
@@ -194,6 +247,8 @@ pub record IsLegalStep {State Call : Type 0} (g : Setting State Call) (m : Momen
   pub sends : SendsRight m.chip (begun_by (outcome_at g.machine m.world m.state o s.made s.received s.event)) s.made
   -- a counter that was read in halves was read at the act, with the mask closed
   pub halves : let o1 = open_after g.machine m.world m.state o s.made s.received s.event in HalvesRight (halves_of g o.origin) o1.reads o1.acted_at
+  -- what belongs into one window stands there
+  pub together : WindowRight (is_beside_act g.machine o.origin) o.inside o.since (o.acts_since || is_act s.event) s.made
   -- a call that finds an error writes no register and no word
   pub errors : let o1 = open_after g.machine m.world m.state o s.made s.received s.event in ErrorsRight o1.wrote o1.acted_at
   -- the mask, the notices and the report: a notice is owed before the step, a report also by it
@@ -220,7 +275,7 @@ LegalStep g m (o ∷ os) s = IsLegalStep g m o s
 
 -- why a hardware event is held: a fill may be
 abbrev pub order_held : {State Call : Type 0} → Setting State Call → (masked : Bool) → World → State → List (Origin Call) → Order → Option Held
-order_held g masked w s origins (orders.Fill c ws) = fill_cause masked (g.fills c) (g.fill_busy w s origins c)
+order_held g masked w s origins (orders.Fill c ws) = fill_cause masked (g.fills c) (is_busy g w s origins c)
 order_held g masked w s origins _ = None
 
 abbrev pub hardware_held : {State Call : Type 0} → Setting State Call → Moment State Call → Order → Option Held

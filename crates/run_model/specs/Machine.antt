@@ -1,5 +1,5 @@
 -- A machine of the specifications: what happens to a module, and what comes of it. It knows no register, no mask and no place in a program.
-use Rattle.std.specs.Prelude.{◌≡◌, ℕ, List, [], Bool, Option, None, IsSome}
+use Rattle.std.specs.Prelude.{◌≡◌, ℕ, ◌+◌, List, [], Bool, Option, Some, None, IsSome}
 use Rattle.det_errors.specs.Reports.{Reporting}
 use Rattle.mcal_base.specs.declared.answer.Answer.{Answer}
 use Rattle.mcal_base.specs.declared.answer.Head.TheVariants.{Nothing}
@@ -32,12 +32,17 @@ pub record Told : Type 0 where
   pub error : Option ErrorName
   pub notices : List Notice
 
--- a word that begins on a serial unit: masked by a width, under the number of a device's place plus 1, or 0 for none
+-- a word that begins on a serial unit: masked by a width, for the device at a place, or for none
 pub record Begun : Type 0 where
   pub unit : ℕ
   pub word : ℕ
   pub width : ℕ
-  pub select : ℕ
+  pub device : Option ℕ
+
+-- how a serial unit names a device, or none
+abbrev pub select_of : Option ℕ → ℕ
+select_of None = 0
+select_of (Some place) = place + 1
 
 -- the state that comes of it, with what is told, and the word that begins there, where one does
 pub record Outcome (State : Type 0) : Type 0 where

@@ -1,5 +1,6 @@
 -- A moment of a run: the chip, the outside, the machine's state and the frames under way; and what comes after it.
-use Rattle.std.specs.Prelude.{ℕ, ◌+◌, Bool, List, [], ◌∷◌, Option, Some, None}
+use Rattle.std.specs.Prelude.{ℕ, ◌+◌, Bool, false, ◌||◌, List, [], ◌∷◌, Option, Some, None}
+use Rattle.std.specs.List.{list_any}
 use Rattle.chip_model.specs.Chip.{Chip, chip_after, happened, reset_chip}
 use Rattle.mcal_base.specs.declared.notice.Notice.{Notice}
 use Rattle.mcal_base.specs.declared.directive.Order.{Order}
@@ -11,6 +12,7 @@ use Rattle.run_model.specs.declared.class.Class.{Class}
 use Rattle.run_model.specs.declared.class.Tag.{Tag}
 use Rattle.run_model.specs.declared.item.Stepped.{Stepped}
 use Rattle.run_model.specs.World.{World, world_start, world_after}
+use Rattle.run_model.specs.Causes.{reads_source}
 use Rattle.run_model.specs.Machine.{Machine, Moves, Restarts}
 use Rattle.run_model.specs.Frame.{Origin, Called, Entered, Open, opened, state_by, state_after, open_after, top_after}
 
@@ -36,15 +38,24 @@ pub record Setting (State Call : Type 0) : Type 1 where
   pub may : Origin Call → Move → Bool
   -- the halves of the counter that a call reads
   pub halves : Call → Option Halves
-  -- the source arrays that there are, and whether one is in use, by the frames under way
+  -- the source arrays that there are, and whether the machine has one in use
   pub fills : (channel : ℕ) → Bool
-  pub fill_busy : World → State → List (Origin Call) → (channel : ℕ) → Bool
+  pub in_use : World → State → (channel : ℕ) → Bool
   -- with no frame: pins, RAM and user arrays are the machine's
   pub rest : Chip → World → State → Type 0
   -- wherever the mask is open, with these frames under way: outputs that are the machine's at every time
   pub unmasked : Chip → World → State → List (Origin Call) → Type 0
   -- at a notice of a frame of this origin: the user arrays of the object that it names are the machine's
   pub shows : Origin Call → Notice → Chip → State → Type 0
+
+-- a call under way reads the source array of a channel
+abbrev pub reads_from : {State Call : Type 0} → Setting State Call → (channel : ℕ) → Origin Call → Bool
+reads_from g c (Called call) = reads_source c (Some (g.class_of call))
+reads_from g c (Entered l) = false
+
+-- a source array is busy: the machine has it in use, or a call under way reads it
+abbrev pub is_busy : {State Call : Type 0} → Setting State Call → World → State → List (Origin Call) → (channel : ℕ) → Bool
+is_busy g w s origins c = g.in_use w s c || list_any (reads_from g c) origins
 
 -- what is done in a run: a call begins at a level, a handler begins, the top frame makes a step, the hardware moves, the chip is reset
 pub data Deed (Call : Type 0) : Type 0 where

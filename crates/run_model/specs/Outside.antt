@@ -1,9 +1,10 @@
 -- A chip in its outside: what every chip of a run is in the world of that run.
-use Rattle.std.specs.Prelude.{◌≡◌, ℕ, ◌<◌}
+use Rattle.std.specs.Prelude.{◌≡◌, ℕ, ◌<◌, ◌≤◌}
+use Rattle.std.specs.List.{AllByRecursion}
 use Rattle.chip_converter.specs.Converters.{level_at}
 use Rattle.chip_model.specs.Chip.{Chip, now_of, outside_at}
 use Rattle.chip_model.specs.Histories.{HasAll, IsAtOneTime}
-use Rattle.run_model.specs.World.{World, last_sample}
+use Rattle.run_model.specs.World.{World, Sample, last_sample}
 
 pub record StandsIn (chip : Chip) (w : World) : Type 0 where
   -- it has all its parts, and its blocks are at one time
@@ -15,3 +16,5 @@ pub record StandsIn (chip : Chip) (w : World) : Type 0 where
   -- and so are the outside levels of its 64 pins, and those of its 32 analog inputs
   pub levels : (p : ℕ) → p < 64 → outside_at chip p ≡ w.levels p
   pub analog : (i : ℕ) → i < 32 → level_at chip.converters.levels i ≡ last_sample w.samples i
+  -- what the analog inputs took, they took in the past
+  pub past : AllByRecursion (λ (x : Sample). x.since ≤ w.now) w.samples

@@ -30,6 +30,8 @@ pub enum KeyKind {
     Clock,
     /// The serial main function.
     Main,
+    /// A channel, of which the call reads the user's source array.
+    Source,
 }
 
 /// A key: what a keyed call is about.

@@ -1,5 +1,5 @@
 -- Directives that move the hardware, show something or reset the chip.
-use Rattle.std.proofs.Common.{◌≡◌, ◌≢◌, ℕ, ◌+◌, ◌*◌, ◌<◌, ◌≤◌, ◌^◌, Bool, true, false, List, [], ◌∷◌, ◌++◌, length, Option, None, refl, sym, ◌∙◌, ap, subst, arith, append-nil}
+use Rattle.std.proofs.Common.{◌≡◌, ◌≢◌, ℕ, ◌+◌, ◌*◌, ◌<◌, ◌≤◌, ◌^◌, Bool, true, false, List, [], ◌∷◌, ◌++◌, length, Option, Some, None, refl, sym, ◌∙◌, ap, subst, arith, append-nil}
 use Rattle.std.specs.Prelude.{nat_le, nat_lt}
 use Rattle.std.proofs.lemmas.Bool.Decides.{nat_tests}
 use Rattle.chip_model.specs.Chip.{Chip, now_of, happened, reset_chip, CanHappen}
@@ -15,7 +15,7 @@ use Rattle.mcal_base.specs.declared.directive.Request.{Request}
 use Rattle.mcal_base.specs.declared.directive.Shown.{Shown}
 use Rattle.run_model.specs.Entry.{Entry, Stays, Happens, Resets, Written, written, words_of_order, is_happening}
 use Rattle.run_model.specs.Frame as frame
-use Rattle.run_model.specs.Follows.{Gives, Ticks, IsOne, Shows}
+use Rattle.run_model.specs.Follows.{Gives, Ticks, IsOne, HappensOnly, Shows}
 use Rattle.run_model.specs.Legal.{hardware_held}
 use Rattle.run_model.specs.Moment as moment
 use Rattle.run_model.specs.Moment.{Setting, Moment, Deed}
@@ -25,7 +25,7 @@ use Rattle.step_runner.specs.Driver.{Driver}
 use Rattle.step_runner.specs.Kept.{Kept}
 use Rattle.step_runner.specs.Stands.{Stands, paired}
 use Rattle.step_runner.specs.declared.stack.Under.{Under}
-use Rattle.script_runner.specs.Standing.{moment_of, IsStanding, Obeyed, GivenFits, is_built, is_hardware, words_by, room_on, work_of}
+use Rattle.script_runner.specs.Standing.{moment_of, IsStanding, Obeyed, GivenFits, is_built, is_hardware, filled_by, words_by, room_on, work_of}
 use Rattle.script_runner.proofs.Arms.{depth_is, deeds_more, moment_more}
 use Rattle.script_runner.proofs.Given.{room_event}
 use Rattle.script_runner.proofs.Orders.{item_filled, one_filled, no_opens, some_opens}
@@ -42,11 +42,11 @@ is_noted (orders.SpiFault u) h = refl
 is_noted (orders.Fill c ws) h = refl
 is_noted _ h = cc
 
--- the words that it brings are those that it gives to come in
-pub words_are : (order : Order) → is_built order ≡ true → length (words_of_order order) ≡ words_by order
-words_are (orders.Miso u ws) h = refl
-words_are (orders.Fill c ws) h = cc
-words_are _ h = refl
+-- the words of its list are those that it brings
+pub words_are : (order : Order) → length (words_of_order order) ≡ words_by order
+words_are (orders.Miso u ws) = refl
+words_are (orders.Fill c ws) = refl
+words_are _ = refl
 
 moves_by : {Call : Type 0} (order : Order) → is_hardware order ≡ true → moved_by {Call = Call} order ≡ moment.Happens order ∷ []
 moves_by (orders.Tick n) h = refl
@@ -58,8 +58,8 @@ moves_by (orders.SpiFault u) h = refl
 moves_by (orders.Fill c ws) h = refl
 moves_by _ h = cc
 
--- none of them is held
-pub none_held : {State Call : Type 0} (g : Setting State Call) (m : Moment State Call) (order : Order) → is_built order ≡ true → hardware_held g m order ≡ None
+-- a fill alone may be held
+pub none_held : {State Call : Type 0} (g : Setting State Call) (m : Moment State Call) (order : Order) → filled_by order ≡ None → hardware_held g m order ≡ None
 none_held g m (orders.Fill c ws) h = cc
 none_held g m _ h = refl
 
@@ -73,14 +73,14 @@ is_unit u h = grind (arith, nat_tests)
 product : (n rate : ℕ) → n ≤ 1000000 → rate ≤ 16 → n * rate ≤ 16000000
 product n rate few slow = grind arith
 
-pub may_happen : (c : Chip) (order : Order) → is_built order ≡ true → c.clock.rate ≤ 16 → c.clock.osc + 1000000 < 2 ^ 64 → now_of c + 16000000 < 2 ^ 64 → GivenFits order c → CanHappen c order
-may_happen c (orders.Tick n) built slow time late given =
+pub may_happen : (c : Chip) (order : Order) → is_built order ≡ true → filled_by order ≡ None → c.clock.rate ≤ 16 → c.clock.osc + 1000000 < 2 ^ 64 → now_of c + 16000000 < 2 ^ 64 → GivenFits order c → CanHappen c order
+may_happen c (orders.Tick n) built other slow time late given =
     let few = few_ticks n built in
     let ticks = product n c.clock.rate few slow in
     (omega (arith, few, time), omega (arith, ticks, late))
-may_happen c (orders.Miso u ws) built slow time late given = let lt = is_unit u built in (lt, given u lt)
-may_happen c (orders.Fill k ws) built slow time late given = cc
-may_happen c _ built slow time late given = tt
+may_happen c (orders.Miso u ws) built other slow time late given = let lt = is_unit u built in (lt, given u lt)
+may_happen c (orders.Fill k ws) built other slow time late given = cc
+may_happen c _ built other slow time late given = tt
 
 osc_same : (c : Chip) (order : Order) → is_built order ≡ true → (happened c order).clock.osc ≤ c.clock.osc + 1000000
 osc_same c (orders.Tick n) built = let few = few_ticks n built in omega (arith, few)
@@ -106,15 +106,24 @@ now_same c (orders.Fill k ws) built slow = omega arith
 now_same c _ built slow = omega arith
 
 -- what one of them gives, on a chip without a watchdog
-gives_one : {State Call : Type 0} (g : Setting State Call) (call_of : Request → Call) (m : Moment State Call) (line : ℕ) (order : Order) (items : List Entry) → is_hardware order ≡ true → is_built order ≡ true → g.machine.expires m.world m.state ≡ None → IsOne m line (Happens order) items → Gives g call_of m line order items
+gives_one : {State Call : Type 0} (g : Setting State Call) (call_of : Request → Call) (m : Moment State Call) (line : ℕ) (order : Order) (items : List Entry) → is_hardware order ≡ true → hardware_held g m order ≡ None → g.machine.expires m.world m.state ≡ None → IsOne m line (Happens order) items → Gives g call_of m line order items
 gives_one g call_of m line (orders.Tick n) items h b none one = subst (λ t. Ticks m line n t items) (sym none) one
 gives_one g call_of m line (orders.Level p v) items h b none one = one
 gives_one g call_of m line (orders.Analog i v) items h b none one = one
 gives_one g call_of m line (orders.Trigger i) items h b none one = one
 gives_one g call_of m line (orders.Miso u ws) items h b none one = one
 gives_one g call_of m line (orders.SpiFault u) items h b none one = one
-gives_one g call_of m line (orders.Fill c ws) items h b none one = cc
+gives_one g call_of m line (orders.Fill c ws) items h b none one = subst (λ x. HappensOnly m line (orders.Fill c ws) x items) (sym b) one
 gives_one g call_of m line _ items h b none one = cc
+
+gives_held : {State Call : Type 0} (g : Setting State Call) (call_of : Request → Call) (m : Moment State Call) (line : ℕ) (order : Order) (cause : Held) (items : List Entry) (c : ℕ) → filled_by order ≡ Some c → hardware_held g m order ≡ Some cause → IsOne m line (Stays cause) items → Gives g call_of m line order items
+gives_held g call_of m line (orders.Fill k ws) cause items c fill held one = subst (λ x. HappensOnly m line (orders.Fill k ws) x items) (sym held) one
+gives_held g call_of m line _ cause items c fill held one = cc
+
+-- an order that fills an array
+pub fill_is : (order : Order) (c : ℕ) → filled_by order ≡ Some c → (ws : List ℕ) × (order ≡ orders.Fill c ws)
+fill_is (orders.Fill k ws) c e = let i : k ≡ c = cc in (ws, ap (λ x. orders.Fill x ws) i)
+fill_is _ c e = cc
 
 gives_reset : {State Call : Type 0} (g : Setting State Call) (call_of : Request → Call) (m : Moment State Call) (line : ℕ) (reason : Reason) (items : List Entry) → reason ≢ Software → IsOne m line (Resets reason (length m.opens)) items → Gives g call_of m line (orders.Reset reason) items
 gives_reset g call_of m line PowerOn items h one = one
@@ -130,23 +139,44 @@ module _ {State Call Frame : Type 0} (d : Driver State Call Frame) (first : Chip
       omega (arith, e, k)
 
   -- the hardware moved
-  pub moves : (most line n : ℕ) (order : Order) (chip : Chip) (kept : Kept Frame) (before : Written) (chip1 : Chip) (after : Written) → kept.steps ≤ most → is_hardware order ≡ true → is_built order ≡ true → words_by order ≤ 64 → chip.clock.rate ≤ 16 → n ≡ length kept.frames → chip1 ≡ happened chip order → after ≡ written before line n (Happens order) (words_of_order order) → Stands d first chip1 kept.frames (deeds_of call_of script before.entries ++ moment.Happens order ∷ []) → IsStanding d first call_of script chip kept.frames before.entries → Obeyed d first call_of script most line order chip kept before chip1 kept after
-  moves most line n order chip kept before chip1 after few hard built short slow n_is chip_is is moved stands =
+  pub moves : (most line n : ℕ) (order : Order) (chip : Chip) (kept : Kept Frame) (before : Written) (chip1 : Chip) (after : Written) → kept.steps ≤ most → is_hardware order ≡ true → is_built order ≡ true → hardware_held d.setting (moment_of d first call_of script before.entries) order ≡ None → words_by order ≤ 64 → chip.clock.rate ≤ 16 → n ≡ length kept.frames → chip1 ≡ happened chip order → after ≡ written before line n (Happens order) (words_of_order order) → Stands d first chip1 kept.frames (deeds_of call_of script before.entries ++ moment.Happens order ∷ []) → IsStanding d first call_of script chip kept.frames before.entries → Obeyed d first call_of script most line order chip kept before chip1 kept after
+  moves most line n order chip kept before chip1 after few hard built free short slow n_is chip_is is moved stands =
       let e : Entry = record { line = line; depth = n; said = Happens order } in
       let m = moment_of d first call_of script before.entries in
       record {
         adds = record {
           items = e ∷ [];
           is = ap (λ w. w.entries) is;
-          right = gives_one d.setting call_of m line order (e ∷ []) hard built (stands.covers.unwatched m.world m.state)
+          right = gives_one d.setting call_of m line order (e ∷ []) hard free (stands.covers.unwatched m.world m.state)
               (ap (λ x. let i : Entry = record { line = line; depth = x; said = Happens order } in i ∷ []) (n_is ∙ depth_is d first call_of script chip kept.frames before.entries stands));
           leads = sym (moment_more d first call_of script before.entries e (moved_by order) refl ∙ ap (λ ds. moment.after_all d.setting m ds) (sym (append-nil (moved_by order)))) ∙ ap (λ w. moment_of d first call_of script w.entries) (sym is);
           stands = subst (λ w. IsStanding d first call_of script chip1 kept.frames w.entries) (sym is) (subst (λ h. Stands d first chip1 kept.frames h) (sym (deeds_more d first call_of script before.entries e (moment.Happens order ∷ []) (moves_by order hard))) moved);
         };
-        filled = item_filled d first call_of script most line n (Happens order) (words_of_order order) kept.steps kept.steps before after few refl refl (omega (arith, words_are order built, short)) is;
+        filled = item_filled d first call_of script most line n (Happens order) (words_of_order order) kept.steps kept.steps before after few refl refl (omega (arith, words_are order, short)) is;
         osc = subst (λ x. x.clock.osc ≤ chip.clock.osc + 1000000) (sym chip_is) (osc_same chip order built);
         now = subst (λ x. now_of x ≤ now_of chip + 16000000) (sym chip_is) (now_same chip order built slow);
         given = λ u. subst (λ x. room_on chip u ≤ room_on x u + words_by order) (sym chip_is) (room_event chip order u);
+        spent = omega arith;
+      }
+
+  -- a fill was held
+  pub fills_not : (most line n c : ℕ) (order : Order) (cause : Held) (chip : Chip) (kept : Kept Frame) (before after : Written) → kept.steps ≤ most → filled_by order ≡ Some c → n ≡ length kept.frames → hardware_held d.setting (moment_of d first call_of script before.entries) order ≡ Some cause → after ≡ written before line n (Stays cause) [] → IsStanding d first call_of script chip kept.frames before.entries → Obeyed d first call_of script most line order chip kept before chip kept after
+  fills_not most line n c order cause chip kept before after few fill n_is held is stands =
+      let e : Entry = record { line = line; depth = n; said = Stays cause } in
+      let m = moment_of d first call_of script before.entries in
+      let depth = depth_is d first call_of script chip kept.frames before.entries stands in
+      record {
+        adds = record {
+          items = e ∷ [];
+          is = ap (λ w. w.entries) is;
+          right = gives_held d.setting call_of m line order cause (e ∷ []) c fill held (ap (λ x. let i : Entry = record { line = line; depth = x; said = Stays cause } in i ∷ []) (n_is ∙ depth));
+          leads = sym (moment_more d first call_of script before.entries e [] refl) ∙ ap (λ w. moment_of d first call_of script w.entries) (sym is);
+          stands = subst (λ w. IsStanding d first call_of script chip kept.frames w.entries) (sym is) (subst (λ h. Stands d first chip kept.frames h) (sym (deeds_more d first call_of script before.entries e [] refl ∙ append-nil (deeds_of call_of script before.entries))) stands);
+        };
+        filled = one_filled d first call_of script most line n (Stays cause) kept.steps kept.steps before after few refl refl is;
+        osc = omega arith;
+        now = omega arith;
+        given = λ u. omega arith;
         spent = omega arith;
       }
 

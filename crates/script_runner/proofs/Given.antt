@@ -69,5 +69,5 @@ room_event c (Analog i v) u = as_before _ _ 0 refl
 room_event c (Trigger i) u = as_before _ _ 0 refl
 room_event c (Miso k ws) u = set_less c.incoming k u (length ws) (record (incoming_at c k) { waiting = (incoming_at c k).waiting ++ ws; room = (incoming_at c k).room - length ws }) (omega arith)
 room_event c (SpiFault k) u = as_before _ _ 0 refl
-room_event c (Fill channel ws) u = as_before _ _ 0 refl
+room_event c (Fill channel ws) u = as_before _ _ (length ws) refl
 room_event c _ u = as_before _ _ 0 refl

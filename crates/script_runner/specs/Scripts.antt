@@ -42,7 +42,7 @@ abbrev pub AllOffered : (Service → Bool) → List Directive → Type 0
 AllOffered offered [] = Unit {0}
 AllOffered offered (d ∷ ds) = (is_offered offered d.order ≡ true) × AllOffered offered ds
 
--- the words that a script gives to come in on serial units
+-- the words that a script brings
 abbrev pub words_given : List Directive → ℕ
 words_given script = sum_by (λ d. words_by d.order) script
 

@@ -55,9 +55,10 @@ pub record IsFilled (most taken : ℕ) (before : Written) (others : ℕ) (taken1
 abbrev pub work_of : {State Call Frame : Type 0} → Driver State Call Frame → Kept Frame → ℕ
 work_of d k = k.steps + total_fuel d.fuel k.frames
 
--- the words that an order gives to come in on a serial unit
+-- the words that an order brings: to come in on a serial unit, or to fill an array
 abbrev pub words_by : Order → ℕ
 words_by (orders.Miso u ws) = length ws
+words_by (orders.Fill c ws) = length ws
 words_by _ = 0
 
 -- for how many more words that come in a serial unit has room
@@ -151,14 +152,18 @@ makes_no_step (Count (suc n)) = false
 makes_no_step (Until stop) = false
 makes_no_step Whole = false
 
--- a directive that is obeyed: all but to fill a user's array
+-- a directive that is obeyed
 abbrev pub is_built : Order → Bool
-is_built (orders.Fill c ws) = false
 is_built (orders.Tick n) = nat_le n 1000000
 is_built (orders.Miso u ws) = nat_lt u 2
 -- a script asks for no software reset
 is_built (orders.Reset Software) = false
 is_built _ = true
+
+-- the channel whose source array an order fills, where it fills one
+abbrev pub filled_by : Order → Option ℕ
+filled_by (orders.Fill c ws) = Some c
+filled_by order = None
 
 -- a directive that moves the hardware
 abbrev pub is_hardware : Order → Bool

@@ -1,32 +1,30 @@
 //! Directives that move the hardware, show something or reset the chip.
 
-ghost use Rattle.std.specs.Prelude.{◌≡◌, ◌<◌, ◌≤◌, ◌+◌, ◌^◌, ◌≢◌, ℕ, length, true};
-ghost use Rattle.chip_model.specs.Chip.{now_of, incoming_at};
+ghost use Rattle.std.specs.Prelude.{◌≡◌, ◌<◌, ◌≤◌, ◌+◌, ◌^◌, ◌≢◌, ℕ, length, true, Some, None};
+ghost use Rattle.chip_model.specs.Chip.{now_of, CanHappen};
 ghost use Rattle.mcal_base.specs.declared.directive.Order.{Order};
 ghost use Rattle.mcal_base.specs.declared.directive.Reason.TheVariants.{Software};
-ghost use Rattle.run_model.specs.Entry.{words_of_order};
+ghost use Rattle.run_model.specs.Legal.{hardware_held};
 ghost use Rattle.script_runner.specs.Scripts.{chip_for};
-ghost use Rattle.script_runner.specs.Standing.{IsStanding, HasRoom, Obeyed, is_built, is_hardware, GivenFits};
+ghost use Rattle.script_runner.specs.Standing.{moment_of, IsStanding, HasRoom, Obeyed, is_built, is_hardware, filled_by, GivenFits};
 
 use crate::caller::Caller;
 use crate::parts::{Course, Parts};
 use crate::sizes::words_by;
 use irq_control::Held;
 use mcal_base::{Directive, Reason, Shown};
-use step_runner::{hardware, reset};
+use step_runner::{fill_held, hardware, reset};
 
-/// Moves the hardware.
-pub(crate) fn obey_hardware<M: Caller>(
-    course: &Course<M>,
-    directive: &Directive,
-    parts: &mut Parts<M>,
-)
+/// Moves the hardware, where nothing holds it.
+fn move_hardware<M: Caller>(course: &Course<M>, directive: &Directive, parts: &mut Parts<M>)
     requires fits { (M.spec course.now.driver).fits }
     requires hardware { is_hardware directive.now.order ≡ true }
     requires built { is_built directive.now.order ≡ true }
-    requires time { parts.old.bus.clock.osc + 1000000 < 2 ^ 64 }
-    requires late { now_of parts.old.bus + 16000000 < 2 ^ 64 }
-    requires given { GivenFits directive.now.order parts.old.bus }
+    requires can { CanHappen parts.old.bus directive.now.order }
+    requires free { let d = M.spec course.now.driver in let calls = M.call_of course.now.driver in
+        let first = chip_for course.now.config course.now.script.now in
+        hardware_held d.setting (moment_of d first calls course.now.script.now parts.old.journal.entries)
+        directive.now.order ≡ None }
     requires room { HasRoom course.now.most parts.old.stack.steps 2 parts.old.journal }
     requires stands { let d = M.spec course.now.driver in let calls = M.call_of course.now.driver in
         let first = chip_for course.now.config course.now.script.now in
@@ -42,6 +40,58 @@ pub(crate) fn obey_hardware<M: Caller>(
     parts
         .journal
         .happened(directive.line, depth, &directive.order);
+}
+
+/// Moves the hardware, but for a fill, which alone may be held.
+pub(crate) fn obey_hardware<M: Caller>(
+    course: &Course<M>,
+    directive: &Directive,
+    parts: &mut Parts<M>,
+)
+    requires fits { (M.spec course.now.driver).fits }
+    requires hardware { is_hardware directive.now.order ≡ true }
+    requires built { is_built directive.now.order ≡ true }
+    requires other { filled_by directive.now.order ≡ None }
+    requires time { parts.old.bus.clock.osc + 1000000 < 2 ^ 64 }
+    requires late { now_of parts.old.bus + 16000000 < 2 ^ 64 }
+    requires given { GivenFits directive.now.order parts.old.bus }
+    requires room { HasRoom course.now.most parts.old.stack.steps 2 parts.old.journal }
+    requires stands { let d = M.spec course.now.driver in let calls = M.call_of course.now.driver in
+        let first = chip_for course.now.config course.now.script.now in
+        IsStanding d first calls course.now.script.now parts.old.bus parts.old.stack.frames parts.old.journal.entries }
+    ensures { let d = M.spec course.now.driver in let calls = M.call_of course.now.driver in
+        let first = chip_for course.now.config course.now.script.now in
+        Obeyed d first calls course.now.script.now course.now.most directive.now.line directive.now.order
+        parts.old.bus parts.old.stack parts.old.journal parts.new.bus parts.new.stack parts.new.journal }
+{
+    move_hardware(course, directive, parts)
+}
+
+/// Fills a serial channel's source array, unless a cause holds it.
+pub(crate) fn obey_fill<M: Caller>(
+    course: &Course<M>,
+    directive: &Directive,
+    channel: u32,
+    parts: &mut Parts<M>,
+)
+    requires fits { (M.spec course.now.driver).fits }
+    requires fill { filled_by directive.now.order ≡ Some channel }
+    requires room { HasRoom course.now.most parts.old.stack.steps 2 parts.old.journal }
+    requires stands { let d = M.spec course.now.driver in let calls = M.call_of course.now.driver in
+        let first = chip_for course.now.config course.now.script.now in
+        IsStanding d first calls course.now.script.now parts.old.bus parts.old.stack.frames parts.old.journal.entries }
+    ensures { let d = M.spec course.now.driver in let calls = M.call_of course.now.driver in
+        let first = chip_for course.now.config course.now.script.now in
+        Obeyed d first calls course.now.script.now course.now.most directive.now.line directive.now.order
+        parts.old.bus parts.old.stack parts.old.journal parts.new.bus parts.new.stack parts.new.journal }
+{
+    match fill_held(&parts.stack, &course.driver, &parts.bus, channel) {
+        None => move_hardware(course, directive, parts),
+        Some(cause) => {
+            let depth = parts.stack.depth();
+            parts.journal.held(directive.line, depth, cause);
+        }
+    }
 }
 
 /// Notes that something is shown, which needs that no frame is under way.

@@ -11,7 +11,7 @@ ghost use Rattle.script_runner.specs.Standing.{IsStanding, HasRoom, ObeyedBy, Ob
 
 use crate::beginnings::{obey_call_alone, obey_call_whole, obey_enter_alone, obey_enter_whole};
 use crate::caller::Caller;
-use crate::hardware::{obey_hardware, obey_reset, obey_show};
+use crate::hardware::{obey_fill, obey_hardware, obey_reset, obey_show};
 use crate::parts::{Course, Parts};
 use crate::steps::{TooLong, run_steps};
 use irq_control::Held;
@@ -120,6 +120,9 @@ pub(crate) fn obey_one<M: Caller>(
             obey_show(course, directive, *shown, parts);
             Ok(())
         }
-        Order::Fill(..) => unreachable!(),
+        Order::Fill(channel, _) => {
+            obey_fill(course, directive, *channel, parts);
+            Ok(())
+        }
     }
 }

@@ -44,18 +44,18 @@ pub(crate) fn steps_of<M: Caller>(driver: &M, script: &[Directive]) -> u64
     most
 }
 
-/// How many words an order brings, at most 64: those that it gives to come in.
+/// How many words an order brings, at most 64: those that it gives to come in, or that fill an array.
 pub(crate) fn words_by(order: &Order) -> usize
     ensures given { result ≡ words_by order.now }
     ensures few { result ≤ 64 }
 {
     match order {
-        Order::Miso(_, words) => words.len(),
+        Order::Miso(_, words) | Order::Fill(_, words) => words.len(),
         _ => 0,
     }
 }
 
-/// The words that a script gives to come in on serial units.
+/// The words that a script brings.
 pub(crate) fn words_given(script: &[Directive]) -> usize
     requires { length script.now ≤ 1100000 }
     ensures given { result ≡ spec.words_given script.now }

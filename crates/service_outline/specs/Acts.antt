@@ -10,6 +10,8 @@ use Rattle.run_model.specs.Machine.{Told}
 use Rattle.run_model.specs.Frame.{Origin, Called, Entered, ActedAt, Open, is_write}
 use Rattle.run_model.specs.Moment.{Setting, Halves}
 use Rattle.run_model.specs.Legal.{HalvesRight, halves_of, ErrorsRight}
+use Rattle.std.specs.List.{list_any}
+use Rattle.service_outline.specs.Seen.{sets_output}
 use Rattle.service_outline.specs.declared.done.Done.{Done}
 use Rattle.service_outline.specs.declared.done.BodyTaken.{BodyTaken}
 
@@ -58,6 +60,8 @@ pub record IsFresh {Call : Type 0} (o : Open Call) : Type 0 where
   pub wrote : o.wrote ≡ false
   pub reads : o.reads ≡ []
   pub acted : o.acted_at ≡ None
+  -- nor set an output since it closed the mask
+  pub since : list_any sets_output o.since ≡ false
 
 -- in its body a call that acted found no error, and read the low half of its counter there, if it has one
 abbrev pub LowSound : Option Halves → ActedAt → Type 0

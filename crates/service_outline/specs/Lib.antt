@@ -7,6 +7,7 @@ pub mod Fuel
 pub mod Outline
 pub mod Owing
 pub mod Past
+pub mod Seen
 pub mod Services
 pub mod Short
 pub mod ShortServices

@@ -29,6 +29,7 @@ use Rattle.service_outline.specs.declared.body.Looked.{Looked}
 use Rattle.service_outline.specs.declared.body.Looked.TheVariants.{Refused, Goes}
 use Rattle.service_outline.specs.Acts.{Cleans, ActsRight}
 use Rattle.service_outline.specs.Fuel.{Shortens}
+use Rattle.service_outline.specs.Seen.{Seen, Starts, SeesTo}
 
 -- ---- what is told
 
@@ -71,9 +72,9 @@ report_in mac None origin = None
 report_in mac (Some t) (Called c) = report_of mac c t.error
 report_in mac (Some t) (Entered l) = None
 
--- a frame with the level, polled lines, misses, commits, reads, writes and counts of another, and these
+-- a frame with the level, polled lines, misses, commits, reads, writes, window and counts of another, and these
 abbrev pub form : {Call : Type 0} → Open Call → Origin Call → Option Answer → List ℕ → List Owing → Option DevError → Bool → Open Call
-form r origin acted served owed report inside = record { origin = origin; tag = r.tag; acted = acted; acted_at = r.acted_at; polled = r.polled; served = served; missed = r.missed; committed = r.committed; reads = r.reads; wrote = r.wrote; owed = owed; report = report; inside = inside; steps = r.steps; window = r.window; noted = r.noted }
+form r origin acted served owed report inside = record { origin = origin; tag = r.tag; acted = acted; acted_at = r.acted_at; polled = r.polled; served = served; missed = r.missed; committed = r.committed; reads = r.reads; wrote = r.wrote; owed = owed; report = report; inside = inside; since = r.since; acts_since = r.acts_since; steps = r.steps; window = r.window; noted = r.noted }
 
 -- ---- what a driver gives
 
@@ -114,7 +115,6 @@ pub record IsGround {State Call : Type 0} (g : Ground State Call) : Type 0 where
   pub resets : (gap : g.Gap) (chip : Chip) (w : World) (s : State) (reason : Reason) → g.agrees gap chip w s → (out : Outcome State) × (g.setting.machine.happens w s (Restarts reason) ≡ Some out) × g.agrees g.settled (reset_chip chip reason) w out.state
   pub agrees_later : (gap : g.Gap) (chip : Chip) (w : World) (s : State) (order : Order) → Comes g.setting chip w s order → g.agrees gap chip w s → g.agrees gap (happened chip order) (world_after w chip.clock.rate order) (g.later w s order)
   pub agrees_apart : (gap : g.Gap) (chip : Chip) (w : World) (s : State) (made : Move) (received : ℕ) → Apart g made → g.agrees gap chip w s → g.agrees gap (chip_after chip made received) w s
-  pub foot_apart : (chip : Chip) (made : Move) (received : ℕ) → Apart g made → g.foot (chip_after chip made received) ≡ g.foot chip
   -- what a frame may do names what is the driver's own, and that is a register or a word, which is there
   pub may_owns : (origin : Origin Call) (made : Move) → g.setting.may origin made ≡ true → g.owns origin made ≡ true
   pub owns_plain : (origin : Origin Call) (made : Move) → g.owns origin made ≡ true → is_shared made ≡ false
@@ -172,6 +172,8 @@ At g b chip w s k origin told = g.agrees (b.gap_of k) chip w s × b.place (g.foo
 pub record Outlined (State Call Asked Body : Type 0) : Type 1 where
   pub basis : Ground State Call
   pub bodies : Bodies basis Body
+  -- what a frame has surely done in its window, at a place of a body
+  pub seen : Body → Seen
   -- what the driver's value, and a call, have to be
   pub fits : Type 0
   pub can : Call → Type 0
@@ -189,6 +191,7 @@ pub record Outlined (State Call Asked Body : Type 0) : Type 1 where
 -- a body that may be entered wherever the words and registers agree
 pub record CanEnter {State Call Asked Body : Type 0} (d : Outlined State Call Asked Body) (k : Body) (origin : Origin Call) : Type 0 where
   pub at : (chip : Chip) (w : World) (s : State) → d.basis.agrees d.basis.settled chip w s → At d.basis d.bodies chip w s k origin None
+  pub unseen : Starts (d.seen k)
   pub room : 2 + d.bodies.fuel k ≤ d.basis.setting.window_of origin
 
 abbrev pub owes_nothing : Answer → Done
@@ -259,6 +262,9 @@ pub record AreRight {State Call Body : Type 0} (g : Ground State Call) (b : Bodi
 pub record IsOutlined {State Call Asked Body : Type 0} (d : Outlined State Call Asked Body) : Type 0 where
   pub basis : IsGround d.basis
   pub bodies : AreRight d.basis d.bodies
+  -- what a body's step owes of its window, in which a body that begins has done nothing
+  pub windows : (chip : Chip) (w : World) (s : State) (k : Body) (origin : Origin Call) (told : Option Told) → At d.basis d.bodies chip w s k origin told → SeesTo d.seen true (d.bodies.work_of k) k (d.bodies.takes k (value_of chip (d.bodies.work_of k)))
+  pub unseen : (chip : Chip) (w : World) (s : State) (k : Body) (c : Call) → At d.basis d.bodies chip w s k (Called c) None → Starts (d.seen k)
   -- the load of the state word, in the window
   pub looks : (chip : Chip) (w : World) (s : State) (c : Call) → d.can c → d.basis.agrees d.basis.settled chip w s → LooksRight d chip w s c (d.looked (d.asked c) (value_of chip (Load d.word)))
   -- the state word is its own, and there

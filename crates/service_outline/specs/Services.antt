@@ -37,6 +37,7 @@ use Rattle.service_outline.specs.Acts.{Cleans, ActsRight, IsFresh, Behaves, Leav
 use Rattle.service_outline.specs.Fuel.{short_fuel, short_room, Shortens}
 use Rattle.service_outline.specs.Outline.{Ground, TellsAs, owes_nothing, notices_in, error_in}
 use Rattle.service_outline.specs.Past.{Past, nothing_yet, having, past_wrote, past_after, MayDo, MayAnswer}
+use Rattle.service_outline.specs.Seen.{Seen, IsSeen, MayOpen, Starts, SeesTo}
 
 -- ---- what is held
 
@@ -209,6 +210,8 @@ Stand g b below chip w s k origin past = g.agrees (with_holds origin past.acted 
 pub record Services (State Call Asked Body : Type 0) : Type 1 where
   pub basis : Basis State Call
   pub bodies : LongBodies basis Body
+  -- what a frame has surely done since it last closed or opened the mask, at a place of a body
+  pub seen : Body → Seen
   -- what the driver's value, and a call, have to be
   pub fits : Type 0
   pub can : Call → Type 0
@@ -236,6 +239,7 @@ pub record IsCalling {State Call Asked Body : Type 0} (d : Services State Call A
 pub record CanBegin {State Call Asked Body : Type 0} (d : Services State Call Asked Body) (k : Body) (origin : Origin Call) : Type 0 where
   pub at : (below : List (Held Call d.basis.Hold)) (chip : Chip) (w : World) (s : State) → Beside d.basis.setting origin below → d.basis.agrees below d.basis.settled chip w s → Stand d.basis d.bodies below chip w s k origin nothing_yet
   pub closed : is_closed (d.bodies.spot k) ≡ true
+  pub unseen : Starts (d.seen k)
   pub room : 2 + d.bodies.room k ≤ d.basis.setting.window_of origin
 
 pub record IsEntering {State Call Asked Body : Type 0} (d : Services State Call Asked Body) (k : Body) (o : Open Call) : Type 0 where
@@ -248,6 +252,7 @@ pub record IsInside {State Call Asked Body : Type 0} (d : Services State Call As
   pub past : Past
   pub form : o ≡ having o o.origin past (is_closed (d.bodies.spot k))
   pub behaves : Behaves d.basis.setting (d.bodies.clean k) o
+  pub window : IsSeen (d.seen k) o.since o.acts_since
   pub at : Stand d.basis d.bodies below chip w s k o.origin past
 
 -- a frame in its body, with the mask open. It rests on what it holds alone
@@ -255,6 +260,7 @@ pub record IsOutside {State Call Asked Body : Type 0} (d : Services State Call A
   pub past : Past
   pub form : o ≡ having o o.origin past (is_closed (d.bodies.spot k))
   pub behaves : Behaves d.basis.setting (d.bodies.clean k) o
+  pub window : IsSeen (d.seen k) o.since o.acts_since
   pub opened : is_closed (d.bodies.spot k) ≡ false
   pub place : (f : d.basis.Foot) (w : World) (s : State) → place_at (d.bodies.spot k) below f w s o.origin past
 
@@ -283,6 +289,7 @@ pub record IsDone {State Call : Type 0} (g : Basis State Call) (o : Open Call) (
   pub report : o.report ≡ error_in n.owed
   pub leaves : LeavesRight g.setting o.origin o.reads o.wrote o.acted_at
   pub inside : o.inside ≡ closed
+  pub window : closed ≡ true → MayOpen o.since o.acts_since
 
 -- what a frame holds, above what is held below it, and what all frames under way hold
 abbrev pub holds_by : {State Call Asked Body : Type 0} (d : Services State Call Asked Body) → Short Asked Body → Open Call → List (Held Call d.basis.Hold) → List (Held Call d.basis.Hold)
@@ -482,6 +489,9 @@ AreLong g b = AreEnding g b (λ k. None)
 pub record AreEndingServices {State Call Asked Body : Type 0} (d : Services State Call Asked Body) (ends_with : Body → Option Answer) : Type 0 where
   pub basis : IsBasis d.basis
   pub bodies : AreEnding d.basis d.bodies ends_with
+  -- what a body's step owes of its window, in which a body that begins has done nothing
+  pub windows : (below : List (Held Call d.basis.Hold)) (chip : Chip) (w : World) (s : State) (k : Body) (origin : Origin Call) (past : Past) → Stand d.basis d.bodies below chip w s k origin past → SeesTo d.seen (is_closed (d.bodies.spot k)) (d.bodies.work_of k) k (d.bodies.takes k (value_of chip (d.bodies.work_of k)))
+  pub unseen : (below : List (Held Call d.basis.Hold)) (chip : Chip) (w : World) (s : State) (k : Body) (c : Call) → Stand d.basis d.bodies below chip w s k (Called c) nothing_yet → Starts (d.seen k)
   -- the load of the state word, in the window, above what is held by those that let the call begin
   pub looks : (below : List (Held Call d.basis.Hold)) (chip : Chip) (w : World) (s : State) (c : Call) → d.can c → Beside d.basis.setting (Called c) below → d.basis.agrees below d.basis.settled chip w s → Decides d below chip w s c (d.looked (d.asked c) (value_of chip (Load d.word)))
   -- the state word is its own, and there

@@ -51,6 +51,7 @@ abbrev pub services_of : {State Call Asked Body : Type 0} → Outlined State Cal
 services_of d = record {
   basis = unheld d.basis;
   bodies = short (unheld d.basis) d.bodies (λ below. d.bodies.place);
+  seen = d.seen;
   fits = d.fits;
   can = d.can;
   word = d.word;

@@ -7,6 +7,7 @@ pub mod Fuel
 pub mod Lawful
 pub mod Owing
 pub mod Reports
+pub mod Seen
 pub mod ShortServices
 pub mod SimpleMoves
 pub mod StepKinds

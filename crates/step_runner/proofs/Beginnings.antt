@@ -20,11 +20,11 @@ use Rattle.run_model.specs.Frame.{Origin, Called, Entered, Open, opened, state_b
 use Rattle.run_model.specs.Causes.{may_reenter, none_above, all_below, call_level_allows, line_level_allows, first_cause, is_full, call_cause, line_cause, fill_cause, tags_of, origins_of, top_noted}
 use Rattle.run_model.specs.Outside.{StandsIn}
 use Rattle.run_model.specs.Legal.{order_held, hardware_held}
-use Rattle.run_model.specs.Moment.{Moment, Deed, Begins, Enters, Happens, Resets, call_tag, line_tag, start_moment, after_all}
+use Rattle.run_model.specs.Moment.{is_busy, Moment, Deed, Begins, Enters, Happens, Resets, call_tag, line_tag, start_moment, after_all}
 use Rattle.step_runner.specs.Driver.{Driver, Covers, IsLawful, AllOutside, tags_in, TicksFit, IsFree}
 use Rattle.step_runner.specs.Lifts.{and-left, and-right}
 use Rattle.step_runner.specs.Kept.{Kept, tags_under, top_is_noted, cause_of, beginning, put_by, enter_by}
-use Rattle.step_runner.specs.Stands.{paired, AreFramesOf, IsGuarded, LevelsRise, Matches, Stands, done}
+use Rattle.step_runner.specs.Stands.{paired, class_by, AreFramesOf, IsGuarded, LevelsRise, Matches, Stands, done}
 use Rattle.step_runner.specs.declared.stack.Under.{Under}
 use Rattle.step_runner.proofs.ChipFacts.{mask-happened, enabled-happened, devices-after, fills-there}
 use Rattle.run_model.proofs.OutsideLaws.{stands-event, stands-reset}
@@ -89,7 +89,7 @@ below-above (t ∷ ts) level h =
     rw here (below-above ts level (and-right (nat_lt t.level level) (all_below ts level) h))
 
 -- a hardware event that isn't held is free
-fill-free : (masked there busy : Bool) → fill_cause masked there busy ≡ None → masked || busy ≡ false
+fill-free : (masked there busy : Bool) → fill_cause masked there busy ≡ None → masked || (there && busy) ≡ false
 fill-free masked false busy e = cc
 fill-free true true busy e = cc
 fill-free false true true e = cc
@@ -112,7 +112,7 @@ module _ {State Call Frame : Type 0} (d : Driver State Call Frame) where
 
   free-of : Covers d → (chip : Chip) (masked : Bool) (w : World) (s : State) (os : List (Origin Call)) (order : Order) → CanHappen chip order → order_held d.setting masked w s os order ≡ None → IsFree d.setting masked w s os order
   free-of cover chip masked w s os (orders.Tick n) can e = subst (λ x. TicksFit n x) (sym (cover.unwatched w s)) tt
-  free-of cover chip masked w s os (orders.Fill c ws) can e = (fill-free masked (d.setting.fills c) (d.setting.fill_busy w s os c) e, can.0)
+  free-of cover chip masked w s os (orders.Fill c ws) can e = (fill-free masked (d.setting.fills c) (is_busy d.setting w s os c) e, can.0)
   free-of cover chip masked w s os _ can e = tt
 
   noted-is : (us : List (Under Frame)) (os : List (Open Call)) → AreFramesOf d us os → top_is_noted us ≡ top_noted os
@@ -122,12 +122,12 @@ module _ {State Call Frame : Type 0} (d : Driver State Call Frame) where
   noted-is (u ∷ us) (o ∷ os) a = a.0.noted
 
   -- a frame that begins with the mask open
-  put-on : (chip : Chip) (us : List (Under Frame)) (m : Moment State Call) (f : Frame) (origin : Origin Call) (tag : Tag) → is_masked m.chip ≡ false → none_above (tags_of m.opens) tag.level ≡ true → d.fuel f ≤ d.setting.steps_of origin → (AllOutside (paired us m.opens) → d.relates m.chip m.world ((f, opened origin tag) ∷ paired us m.opens) m.state) → Matches d chip us m → Matches d chip (beginning f tag ∷ us) (record m { opens = opened origin tag ∷ m.opens })
-  put-on chip us m f origin tag e above fuel keep k =
+  put-on : (chip : Chip) (us : List (Under Frame)) (m : Moment State Call) (f : Frame) (origin : Origin Call) (tag : Tag) → tag.class ≡ class_by d.setting origin → is_masked m.chip ≡ false → none_above (tags_of m.opens) tag.level ≡ true → d.fuel f ≤ d.setting.steps_of origin → (AllOutside (paired us m.opens) → d.relates m.chip m.world ((f, opened origin tag) ∷ paired us m.opens) m.state) → Matches d chip us m → Matches d chip (beginning f tag ∷ us) (record m { opens = opened origin tag ∷ m.opens })
+  put-on chip us m f origin tag class e above fuel keep k =
       let out = none-inside (is_masked m.chip) m.opens e k.guarded in
       record {
         chip_is = k.chip_is;
-        frames = (record { tag = refl; noted = refl; steps = omega arith; window = omega arith; room = λ inside. cc }, k.frames);
+        frames = (record { tag = refl; noted = refl; class = class; steps = omega arith; window = omega arith; room = λ inside. cc }, k.frames);
         relates = keep (outside-paired us m.opens out);
         guarded = (e, out);
         counted = k.counted;
@@ -158,7 +158,7 @@ module _ {State Call Frame : Type 0} (d : Driver State Call Frame) (move_of : Fr
       ∙ (ap (λ ts. call_cause (is_masked chip) ts (top_noted m.opens) (d.setting.class_of c) level) (sym (tags-are d us m.opens mm.frames))
       ∙ (ap (λ b. call_cause (is_masked chip) (tags_under us) b (d.setting.class_of c) level) (sym (noted-is d us m.opens mm.frames)) ∙ none)) in
       stands-on d move_of left gave law first chip chip us (beginning (d.frame_of c) (call_tag d.setting c level) ∷ us) h (Begins c level) st legal
-      (put-on d chip us m (d.frame_of c) (Called c) (call_tag d.setting c level) e above (law.call_fuel c can) (λ out. law.begins m.chip m.world (paired us m.opens) m.state c level can e out reenters above_in mm.relates) mm)
+      (put-on d chip us m (d.frame_of c) (Called c) (call_tag d.setting c level) refl e above (law.call_fuel c can) (λ out. law.begins m.chip m.world (paired us m.opens) m.state c level can e out reenters above_in mm.relates) mm)
 
   -- a handler begins, or is held
   pub stands-enter : {A : Type 0} (first : Chip) (h : List (Deed Call)) (chip : Chip) (k : Kept Frame) (r : Result A Held) (line : ℕ) (handler : Option Frame) → d.handler_of line ≡ handler → cause_of r ≡ line_cause (is_masked chip) (tags_under k.frames) (d.setting.level_of line) (is_some handler && is_pending chip line) → Stands d first chip k.frames h → Stands d first chip (enter_by r handler (line_tag d.setting line) k).frames (h ++ done r (Enters line))
@@ -183,7 +183,7 @@ module _ {State Call Frame : Type 0} (d : Driver State Call Frame) (move_of : Fr
       ap (λ b. line_cause (is_masked b) (tags_of m.opens) level (is_pending b line)) (sym mm.chip_is)
       ∙ (ap (λ ts. line_cause (is_masked chip) ts level (is_pending chip line)) (sym (tags-are d us m.opens mm.frames)) ∙ none) in
       stands-on d move_of left gave law first chip chip us (beginning f (line_tag d.setting line) ∷ us) h (Enters line) st legal
-      (put-on d chip us m f (Entered line) (line_tag d.setting line) e (below-above (tags_of m.opens) level under) (law.line_fuel line f there) (λ out. law.enters m.chip m.world (paired us m.opens) m.state line f there e pending out under_in mm.relates) mm)
+      (put-on d chip us m f (Entered line) (line_tag d.setting line) refl e (below-above (tags_of m.opens) level under) (law.line_fuel line f there) (λ out. law.enters m.chip m.world (paired us m.opens) m.state line f there e pending out under_in mm.relates) mm)
 
   -- the hardware moves
   pub stands-happens : (first : Chip) (h : List (Deed Call)) (chip : Chip) (us : List (Under Frame)) (order : Order) → CanHappen chip order → hardware_held d.setting (after_all d.setting (start_moment d.setting first) h) order ≡ None → Stands d first chip us h → Stands d first (happened chip order) us (h ++ Happens order ∷ [])

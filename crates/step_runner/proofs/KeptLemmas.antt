@@ -1,12 +1,12 @@
 -- Facts on the frames of a stack.
-use Rattle.std.proofs.Common.{◌≡◌, ℕ, suc, Bool, true, false, not, ◌&&◌, nat_lt, nat_le, List, [], ◌∷◌, length, reverse, refl, sym, ◌∙◌, ap, arith}
-use Rattle.std.specs.List.{list_all}
+use Rattle.std.proofs.Common.{◌≡◌, ℕ, suc, Bool, true, false, not, ◌&&◌, ◌||◌, nat_lt, nat_le, List, [], ◌∷◌, length, reverse, refl, sym, ◌∙◌, ap, arith}
+use Rattle.std.specs.List.{list_any, list_all}
 use Rattle.std.proofs.lemmas.Bool.Decides.{nat_tests}
 use Rattle.std.proofs.lemmas.List.{reverse-append}
-use Rattle.std.proofs.lemmas.List.Folds.{list_all-append}
+use Rattle.std.proofs.lemmas.List.Folds.{list_any-append, list_all-append}
 use Rattle.run_model.specs.declared.class.Class.{Class}
-use Rattle.run_model.specs.Causes.{may_reenter, blocks, is_full}
-use Rattle.step_runner.specs.Kept.{tags_under}
+use Rattle.run_model.specs.Causes.{may_reenter, blocks, reads_source, is_full}
+use Rattle.step_runner.specs.Kept.{tags_under, is_read}
 use Rattle.step_runner.specs.declared.stack.Under.{Under}
 
 pub length-tags_under : {Frame : Type 0} (us : List (Under Frame)) → length (tags_under us) ≡ length us
@@ -41,3 +41,23 @@ list_all-reverse p (x ∷ xs) = ap (list_all p) (reverse-append (x ∷ []) xs) �
 -- reentry by the frames as they lie, the oldest first
 pub reenter-items : {Frame : Type 0} (class : Class) (items us : List (Under Frame)) → reverse items ≡ us → list_all (λ u. not (blocks class u.tag)) items ≡ may_reenter class (tags_under us)
 reenter-items class items us e = sym (list_all-reverse (λ u. not (blocks class u.tag)) items) ∙ (ap (list_all (λ u. not (blocks class u.tag))) e ∙ reenter-tags_under class us)
+
+or-false : (a : Bool) → (a || false) ≡ a
+or-false true = refl
+or-false false = refl
+
+turned : (a b c : Bool) → a ≡ c → (a || (b || false)) ≡ (b || c)
+turned a true c e = or-true a
+  where
+    or-true : (a : Bool) → (a || true) ≡ true
+    or-true true = refl
+    or-true false = refl
+turned a false c e = or-false a ∙ e
+
+list_any-reverse : {X : Type 0} (p : X → Bool) (xs : List X) → list_any p (reverse xs) ≡ list_any p xs
+list_any-reverse p [] = refl
+list_any-reverse p (x ∷ xs) = ap (list_any p) (reverse-append (x ∷ []) xs) ∙ (list_any-append p (reverse xs) (x ∷ []) ∙ turned (list_any p (reverse xs)) (p x) (list_any p xs) (list_any-reverse p xs))
+
+-- what calls read, by the frames as they lie
+pub read-items : {Frame : Type 0} (c : ℕ) (items us : List (Under Frame)) → reverse items ≡ us → list_any (λ u. reads_source c u.tag.class) items ≡ is_read c us
+read-items c items us e = sym (list_any-reverse (λ u. reads_source c u.tag.class) items) ∙ ap (list_any (λ u. reads_source c u.tag.class)) e

@@ -2,6 +2,7 @@ pub mod Apart
 pub mod Beginnings
 pub mod Bounds
 pub mod ChipFacts
+pub mod Fills
 pub mod KeptLemmas
 pub mod Runs
 pub mod LastFrame

@@ -208,6 +208,7 @@ module _ {State Call Frame : Type 0} (d : Driver State Call Frame) (move_of : Fr
           event = x.event;
           sends = x.sends;
           halves = x.halves;
+          together = x.together;
           errors = x.errors;
           move = x.move;
           shows = x.shows;
@@ -224,6 +225,7 @@ module _ {State Call Frame : Type 0} (d : Driver State Call Frame) (move_of : Fr
           frames = frames-after u u1 o o1 us os taken.ended (λ f e. record {
             tag = here.tag;
             noted = refl;
+            class = here.class;
             steps = fuel-after o.steps (d.fuel u.frame) (d.fuel u1.frame) bound taken.ended f e here.steps;
             window = window_bound made o.inside o.owed (report_by d.setting.machine o.origin o.report taken.event out) o.window (d.room u.frame) (d.room u1.frame) wide x.move x.room here.window here.room;
             room = room_bound made o.inside o.window (d.room u.frame) (d.room u1.frame) wide x.room here.room;

@@ -18,8 +18,8 @@ use Rattle.run_model.specs.Frame.{Origin}
 use Rattle.step_runner.specs.Driver.{Driver}
 use Rattle.step_runner.specs.Lifts.{and-left, and-right}
 use Rattle.step_runner.specs.Union.{either_handler, others, has_handler, AreApart, union_of}
-use Rattle.step_runner.specs.Whose.{module_of_register, module_of_line, module_of_word, module_of_unit, all_of, are_disjoint, is_of, EnablesWithin, WritesWithin, NamesWithin, EnablesOthers, WritesOthers, NamesOthers, KeepsTo}
-use Rattle.step_runner.proofs.Apart.{owns-neither, may-either, some-either, all-into, handler-first, handler-second}
+use Rattle.step_runner.specs.Whose.{module_of_register, module_of_line, module_of_word, module_of_unit, all_of, are_disjoint, is_of, is_line_of, EnablesWithin, WritesWithin, NamesWithin, EnablesOthers, WritesOthers, NamesOthers, KeepsTo}
+use Rattle.step_runner.proofs.Apart.{owns-neither, may-either, some-either, all-into}
 use Rattle.step_runner.specs.declared.either.Either.{Either}
 use Rattle.step_runner.specs.declared.either.Either.TheVariants.{Left, Right}
 
@@ -166,32 +166,32 @@ some-of None (Some g) h one other = other refl
 some-of None None h one other = cc
 
 module _ {S T C D F G : Type 0} (p q : ModuleName → Bool) (d : Driver S C F) (e : Driver T D G) (one : KeepsTo p d) (other : KeepsTo q e) where
-  -- of different modules they are apart, where the second isn't the clock's
-  module _ (apart : Disjoint p q) where
+  -- of different modules they are apart, where the second isn't the clock's, and the first polls lines that it handles
+  module _ (apart : Disjoint p q) (polled : (w : World) (s : S) (c : C) → list_all (has_handler d) (d.setting.machine.polls w s c) ≡ true) where
     both-starts : (u : ModuleName) → p u ≡ true → q u ≡ true → ⊥
     both-starts u h k = let f = apart u h in cc
 
-    no-handler : (l : ℕ) → has_handler e l ≡ true → others (has_handler d) l ≡ true
+    no-handler : (l : ℕ) → is_line_of q l ≡ true → others (has_handler d) l ≡ true
     no-handler l h = by (has_handler d l) refl
       where
         by : (b : Bool) → has_handler d l ≡ b → not b ≡ true
-        by true i = let f = not-of p q apart (module_of_line l) (one.handlers l i) in let g = other.handlers l h in cc
+        by true i = let f = not-of p q apart (module_of_line l) (one.handlers l i) in cc
         by false i = refl
 
     keeps-apart : q Mcu ≡ false → AreApart d e
     keeps-apart still = record {
       may = λ a b made h. other.owns b made (names-others p q apart made (one.may a made h));
       may_other = λ a b made h. one.owns a made (names-others q p (turned p q apart) made (other.may b made h));
-      polls = one.polls;
-      polls_other = λ w t c. all-into (has_handler e) (others (has_handler d)) (e.setting.machine.polls w t c) no-handler (other.polls w t c);
+      polls = polled;
+      polls_other = λ w t c. all-into (is_line_of q) (others (has_handler d)) (e.setting.machine.polls w t c) no-handler (other.polls w t c);
       starts = λ w s t u r some. none-unless (d.setting.machine.happens w s (Starts u r)) (λ i. both-starts (module_of_unit u) (one.starts w s u r i) (other.starts w t u r some));
       aborts = λ w s t u some. none-unless (d.setting.machine.happens w s (Aborts u)) (λ i. both-starts (module_of_unit u) (one.aborts w s u i) (other.aborts w t u some));
       steady = λ chip b made received h. rate-left chip made received (sets-none q made still (other.may b made h));
     }
 
-  polls-both : (w : World) (s : S × T) (c : Either C D) → list_all (has_handler (union_of d e)) ((union_of d e).setting.machine.polls w s c) ≡ true
-  polls-both w s (Left c) = all-into (has_handler d) (has_handler (union_of d e)) (d.setting.machine.polls w s.0 c) (λ l h. handler-first (d.handler_of l) (e.handler_of l) h) (one.polls w s.0 c)
-  polls-both w s (Right c) = all-into (has_handler e) (has_handler (union_of d e)) (e.setting.machine.polls w s.1 c) (λ l h. handler-second (d.handler_of l) (e.handler_of l) h) (other.polls w s.1 c)
+  polls-both : (w : World) (s : S × T) (c : Either C D) → list_all (is_line_of (all_of p q)) ((union_of d e).setting.machine.polls w s c) ≡ true
+  polls-both w s (Left c) = all-into (is_line_of p) (is_line_of (all_of p q)) (d.setting.machine.polls w s.0 c) (λ l h. of-left p q (module_of_line l) h) (one.polls w s.0 c)
+  polls-both w s (Right c) = all-into (is_line_of q) (is_line_of (all_of p q)) (e.setting.machine.polls w s.1 c) (λ l h. of-right p q (module_of_line l) h) (other.polls w s.1 c)
 
   -- as one they are of the modules of both
   pub keeps-both : KeepsTo (all_of p q) (union_of d e)
@@ -204,6 +204,6 @@ module _ {S T C D F G : Type 0} (p q : ModuleName → Bool) (d : Driver S C F) (
     aborts = λ w s u some. some-either s.0 s.1 (d.setting.machine.happens w s.0 (Aborts u)) (e.setting.machine.happens w s.1 (Aborts u)) some (λ i. or-left (p (module_of_unit u)) (q (module_of_unit u)) (one.aborts w s.0 u i)) (λ i. or-right (p (module_of_unit u)) (q (module_of_unit u)) (other.aborts w s.1 u i));
   }
 
--- two drivers of different modules, of which the second isn't the clock's, are apart
-pub disjoint-apart : {S T C D F G : Type 0} (p q : ModuleName → Bool) (d : Driver S C F) (e : Driver T D G) → are_disjoint p q ≡ true → q Mcu ≡ false → KeepsTo p d → KeepsTo q e → AreApart d e
-disjoint-apart p q d e apart still one other = keeps-apart p q d e one other (disjoint p q apart) still
+-- two drivers of different modules, of which the second isn't the clock's, and the first polls lines that it handles, are apart
+pub disjoint-apart : {S T C D F G : Type 0} (p q : ModuleName → Bool) (d : Driver S C F) (e : Driver T D G) → are_disjoint p q ≡ true → q Mcu ≡ false → ((w : World) (s : S) (c : C) → list_all (has_handler d) (d.setting.machine.polls w s c) ≡ true) → KeepsTo p d → KeepsTo q e → AreApart d e
+disjoint-apart p q d e apart still polled one other = keeps-apart p q d e one other (disjoint p q apart) polled still

@@ -1,5 +1,5 @@
 -- What a driver is to the runner, and the laws that it owes.
-use Rattle.std.specs.Prelude.{◌≡◌, ℕ, ◌+◌, ◌<◌, ◌≤◌, Bool, true, false, ◌||◌, List, [], ◌∷◌, Option, Some, None, is_some}
+use Rattle.std.specs.Prelude.{◌≡◌, ℕ, ◌+◌, ◌<◌, ◌≤◌, Bool, true, false, ◌&&◌, ◌||◌, List, [], ◌∷◌, Option, Some, None, is_some}
 use Rattle.chip_model.specs.Chip.{Chip, value_of, chip_after, happened, reset_chip, is_masked, is_pending}
 use Rattle.mcal_base.specs.Bits.{has_bit}
 use Rattle.mcal_base.specs.Reach.{CanApply}
@@ -17,11 +17,11 @@ use Rattle.run_model.specs.declared.class.Tag.{Tag}
 use Rattle.run_model.specs.declared.item.Stepped.{Stepped}
 use Rattle.run_model.specs.World.{World, world_after}
 use Rattle.run_model.specs.Machine.{Happening, Acts, Moves, Restarts, Outcome, ErrorLeaves}
-use Rattle.run_model.specs.Frame.{Origin, Called, Entered, Open, opened, state_after, open_after, report_by, outcome_at, begun_by, top_after, is_shared, resets_chip, asks_reset}
+use Rattle.run_model.specs.Frame.{Origin, Called, Entered, Open, opened, is_act, state_after, open_after, report_by, outcome_at, begun_by, top_after, is_shared, resets_chip, asks_reset}
 use Rattle.run_model.specs.Causes.{may_reenter, none_above, all_below}
-use Rattle.run_model.specs.Moment.{Setting, Moment, call_tag, line_tag}
+use Rattle.run_model.specs.Moment.{Setting, is_busy, Moment, call_tag, line_tag}
 use Rattle.run_model.specs.Outside.{StandsIn}
-use Rattle.run_model.specs.Legal.{ReceivedRight, SendsRight, EventRight, HalvesRight, halves_of, ErrorsRight, MoveRight, ShowsRight, EndRight}
+use Rattle.run_model.specs.Legal.{ReceivedRight, SendsRight, EventRight, WindowRight, is_beside_act, HalvesRight, halves_of, ErrorsRight, MoveRight, ShowsRight, EndRight}
 
 -- A driver: its machine with the bounds of its frames, its frames, and how the chip and the open frames stand for the machine's state.
 pub record Driver (State Call Frame : Type 0) : Type 1 where
@@ -71,9 +71,9 @@ abbrev pub TicksFit : ℕ → Option ℕ → Type 0
 TicksFit n None = Unit {0}
 TicksFit n (Some left) = n ≤ left
 
--- a fill comes with the mask open, to one of the 16 arrays that isn't in use, and ticks come while the machine allows them
+-- a fill comes with the mask open, to one of the 16 arrays, and one that is there isn't busy; ticks come while the machine allows them
 abbrev pub IsFree : {State Call : Type 0} → Setting State Call → (masked : Bool) → World → State → List (Origin Call) → Order → Type 0
-IsFree g masked w s origins (orders.Fill c ws) = (masked || g.fill_busy w s origins c ≡ false) × (c < 16)
+IsFree g masked w s origins (orders.Fill c ws) = (masked || (g.fills c && is_busy g w s origins c) ≡ false) × (c < 16)
 IsFree g masked w s origins (orders.Tick n) = TicksFit n (g.machine.expires w s)
 IsFree g masked w s origins _ = Unit {0}
 
@@ -102,6 +102,7 @@ pub record KeepsStep {State Call Frame : Type 0} (d : Driver State Call Frame) (
   pub event : EventRight d.setting m o s s.event
   pub sends : SendsRight m.chip (begun_by (outcome_at d.setting.machine m.world m.state o s.made s.received s.event)) s.made
   pub halves : let o1 = open_after d.setting.machine m.world m.state o s.made s.received s.event in HalvesRight (halves_of d.setting o.origin) o1.reads o1.acted_at
+  pub together : WindowRight (is_beside_act d.setting.machine o.origin) o.inside o.since (o.acts_since || is_act s.event) s.made
   pub errors : let o1 = open_after d.setting.machine m.world m.state o s.made s.received s.event in ErrorsRight o1.wrote o1.acted_at
   pub move : MoveRight o.inside o.owed (report_by d.setting.machine o.origin o.report s.event (outcome_at d.setting.machine m.world m.state o s.made s.received s.event)) s.made
   pub shows : ShowsRight d.setting m.chip m.state o.origin o.owed s.made

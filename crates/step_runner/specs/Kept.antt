@@ -1,12 +1,14 @@
 -- What a stack keeps of each frame, and what a beginning and a step leave of it.
-use Rattle.std.specs.Prelude.{◌≡◌, ℕ, ◌+◌, ◌<◌, Bool, false, List, [], ◌∷◌, length, Option, Some, None, Result, Ok, Err}
+use Rattle.std.specs.Prelude.{◌≡◌, ℕ, ◌+◌, ◌<◌, Bool, false, ◌||◌, cond, List, [], ◌∷◌, length, Option, Some, None, Result, Ok, Err}
 use Rattle.chip_model.specs.Chip.{Chip, value_of, received_of, chip_after}
 use Rattle.irq_control.specs.declared.held.Held.{Held}
-use Rattle.irq_control.specs.declared.held.Held.TheVariants.{Empty}
+use Rattle.irq_control.specs.declared.held.Held.TheVariants.{Empty, Busy, Unknown}
 use Rattle.mcal_base.specs.declared.moves.Move.{Move}
 use Rattle.mcal_base.specs.declared.routine.Taken.{Taken}
 use Rattle.run_model.specs.declared.class.Tag.{Tag}
 use Rattle.run_model.specs.declared.item.Stepped.{Stepped}
+use Rattle.std.specs.List.{list_any}
+use Rattle.run_model.specs.Causes.{reads_source}
 use Rattle.run_model.specs.Frame.{is_note, top_after}
 use Rattle.mcal_base.specs.Reach.{CanApply}
 use Rattle.step_runner.specs.Driver.{stepped}
@@ -30,6 +32,21 @@ tags_under (u ∷ us) = u.tag ∷ tags_under us
 abbrev pub top_is_noted : {Frame : Type 0} → List (Under Frame) → Bool
 top_is_noted [] = false
 top_is_noted (u ∷ us) = u.noted
+
+-- a frame of a call reads the source array of a channel
+abbrev pub is_read : {Frame : Type 0} → (channel : ℕ) → List (Under Frame) → Bool
+is_read c us = list_any (λ u. reads_source c u.tag.class) us
+
+-- whether one of two drivers uses an array, of those that have it
+abbrev pub used_by : Option Bool → Option Bool → Option Bool
+used_by None second = second
+used_by (Some first) None = Some first
+used_by (Some first) (Some second) = Some (first || second)
+
+-- why a fill is held, by whether the machine uses the array, if there is one, whether the mask is closed, and whether a call reads the array
+abbrev pub fill_by : Option Bool → (masked read : Bool) → Option Held
+fill_by None masked read = Some Unknown
+fill_by (Some used) masked read = cond ((masked || used) || read) (Some Busy) None
 
 -- the cause by which a beginning was held
 abbrev pub cause_of : {A : Type 0} → Result A Held → Option Held

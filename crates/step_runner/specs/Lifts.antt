@@ -17,9 +17,9 @@ use Rattle.mcal_base.specs.declared.notice.Notice.{Notice}
 use Rattle.run_model.specs.declared.item.Stepped.{Stepped}
 use Rattle.run_model.specs.World.{World}
 use Rattle.run_model.specs.Machine.{Acts, Serves, Starts, Aborts, Outcome}
-use Rattle.run_model.specs.Frame.{Origin, Called, Entered, Owing, ActedAt, Open, Brought, brought_by, happening_of, happening_at, outcome_of, outcome_at, state_by, begun_by, acted_by, polled_by, committed_after, served_by, owed_by, acted_at_by, report_as, report_of, report_by, owed_after, report_after, reads_after, is_write, inside_after, window_after, is_note, missed_after, open_after, is_shared, is_reset_service, asks_reset}
+use Rattle.run_model.specs.Frame.{Origin, Called, Entered, Owing, ActedAt, Open, Brought, brought_by, happening_of, happening_at, outcome_of, outcome_at, state_by, begun_by, acted_by, polled_by, committed_after, served_by, owed_by, acted_at_by, report_as, report_of, report_by, owed_after, report_after, reads_after, is_write, inside_after, since_after, is_act, acts_after, window_after, is_note, missed_after, open_after, is_shared, is_reset_service, asks_reset}
 use Rattle.run_model.specs.Moment.{Setting}
-use Rattle.run_model.specs.Legal.{has_line, IsNext, IsOwnEvent, EventRight, SendsRight, ShowsFirst, ShowsRight, has_met, HalvesRight, halves_of, ErrorsRight, MoveRight, MayEnd, EndRight}
+use Rattle.run_model.specs.Legal.{has_line, IsNext, IsOwnEvent, EventRight, SendsRight, ShowsFirst, ShowsRight, has_met, is_beside, is_beside_act, WindowRight, HalvesRight, halves_of, ErrorsRight, MoveRight, MayEnd, EndRight}
 use Rattle.step_runner.specs.Driver.{Driver, FuelRight, RoomRight, KeepsStep}
 use Rattle.step_runner.specs.Union.{lift_out, lift_origin, lift_open, IsMine, SameOn}
 
@@ -188,6 +188,10 @@ module _ {S C U E : Type 0} (g : Setting S C) (b : Setting U E) (put : S → U) 
   halves-lifted (Called c) = lies.halves c
   halves-lifted (Entered l) = refl
 
+  together-lifted : (p : Origin C) (inside : Bool) (since : List Move) (acts : Bool) (made : Move) → WindowRight (is_beside_act g.machine p) inside since acts made → WindowRight (is_beside_act b.machine (lift_origin k p)) inside since acts made
+  together-lifted (Called c) inside since acts made h = subst (λ x. WindowRight (is_beside x) inside since acts made) (sym (lies.services c)) h
+  together-lifted (Entered l) inside since acts made h = h
+
   shows-first : (owed : List Owing) (chip : Chip) (p : Origin C) → IsMine mine p → ShowsFirst (g.shows p) chip s owed → ShowsFirst (b.shows (lift_origin k p)) chip (put s) owed
   shows-first [] chip p m h = tt
   shows-first (x ∷ xs) chip p m h = λ e. lies.shows p x.notice chip m (h e)
@@ -231,6 +235,8 @@ module _ {S C U E : Type 0} (g : Setting S C) (b : Setting U E) (put : S → U) 
     owed = owed_after owed made;
     report = report_after report made;
     inside = inside_after o.inside made;
+    since = since_after o.since made;
+    acts_since = acts_after o.acts_since made e;
     steps = o.steps + 1;
     window = window_after o.inside o.window made;
     noted = is_note made;
@@ -283,6 +289,7 @@ lift-keeps d big put k into mine chip w s f later o missed st Kept Big lies fuel
       event = event-lifted g b put k mine w s lies o missed chip st st.event m h.event;
       sends = subst (λ a. SendsRight chip a st.made) (sym (ap begun_by is ∙ same-begun put x)) h.sends;
       halves = subst (λ a. HalvesRight (halves_of b (lift_origin k o.origin)) a.reads a.acted_at) (sym o_is) (subst (λ a. HalvesRight a o1.reads o1.acted_at) (sym (halves-lifted g b put k mine w s lies o.origin)) h.halves);
+      together = together-lifted g b put k mine w s lies o.origin o.inside o.since (o.acts_since || is_act st.event) st.made h.together;
       errors = subst (λ a. ErrorsRight a.wrote a.acted_at) (sym o_is) h.errors;
       shows = shows-lifted g b put k mine w s lies o.owed chip o.origin st.made m h.shows;
       stays = h.stays;

@@ -1,6 +1,6 @@
 -- The deeds for which a chip and a stack stand: all that was done since power on.
-use Rattle.std.specs.Prelude.{◌≡◌, ℕ, ◌+◌, ◌<◌, ◌≤◌, Bool, true, false, List, [], ◌∷◌, Result, Ok, Err}
-use Rattle.chip_model.specs.Chip.{Chip, reset_chip, is_masked}
+use Rattle.std.specs.Prelude.{◌≡◌, ℕ, ◌+◌, ◌<◌, ◌≤◌, Bool, true, false, List, [], ◌∷◌, Option, Some, None, Result, Ok, Err}
+use Rattle.chip_model.specs.Chip.{Chip, incoming_at, reset_chip, is_masked}
 use Rattle.mcal_base.specs.Bits.{has_bit}
 use Rattle.mcal_base.specs.declared.directive.Reason.TheVariants.{PowerOn}
 use Rattle.run_model.specs.declared.class.Tag.{Tag}
@@ -8,8 +8,9 @@ use Rattle.run_model.specs.Causes.{none_above, tags_of}
 use Rattle.irq_control.specs.declared.held.Held.{Held}
 use Rattle.run_model.specs.declared.item.Stepped.{Stepped}
 use Rattle.run_model.specs.World.{world_start}
-use Rattle.run_model.specs.Frame.{Open}
-use Rattle.run_model.specs.Moment.{Moment, Deed, Steps, start_moment, after_all}
+use Rattle.run_model.specs.declared.class.Class.{Class}
+use Rattle.run_model.specs.Frame.{Origin, Called, Entered, Open}
+use Rattle.run_model.specs.Moment.{Setting, Moment, Deed, Steps, start_moment, after_all}
 use Rattle.run_model.specs.Legal.{IsLegal}
 use Rattle.run_model.specs.Outside.{StandsIn}
 use Rattle.step_runner.specs.Driver.{Driver, Covers}
@@ -22,10 +23,16 @@ paired [] os = []
 paired (u ∷ us) [] = []
 paired (u ∷ us) (o ∷ os) = (u.frame, o) ∷ paired us os
 
+-- the class of a call; a handler has none
+abbrev pub class_by : {State Call : Type 0} → Setting State Call → Origin Call → Option Class
+class_by g (Called c) = Some (g.class_of c)
+class_by g (Entered l) = None
+
 -- A frame of a stack is this one of a run, and within its bounds.
 pub record IsFrameOf {State Call Frame : Type 0} (d : Driver State Call Frame) (u : Under Frame) (o : Open Call) : Type 0 where
   pub tag : u.tag ≡ o.tag
   pub noted : u.noted ≡ o.noted
+  pub class : u.tag.class ≡ class_by d.setting o.origin
   -- the steps that it made, and those that it has left
   pub steps : o.steps + d.fuel u.frame ≤ d.setting.steps_of o.origin
   -- the moves of its window, and those that this has left
@@ -69,9 +76,10 @@ pub record Matches {State Call Frame : Type 0} (d : Driver State Call Frame) (ch
   -- no line is enabled that isn't one of the driver's
   pub enabled : (line : ℕ) → d.lines line ≡ false → has_bit m.chip.control.enabled line ≡ false
 
--- A chip as at power on: no time went by outside, no serial device is there, and it is as that reset leaves it.
+-- A chip as at power on: no time went by outside, no serial device is there, no word waits to come in, and it is as that reset leaves it.
 pub record IsFirst (chip : Chip) : Type 0 where
   pub outside : StandsIn chip (world_start 0)
+  pub waits : (u : ℕ) → (incoming_at chip u).waiting ≡ []
   pub is_reset : reset_chip chip PowerOn ≡ chip
 
 -- A chip and the frames of a stack stand for a list of deeds, from power on with this chip: those are a legal run, and lead to them.

@@ -1,5 +1,5 @@
 -- Two drivers as one: the product of their machines, with the frames of both.
-use Rattle.std.specs.Prelude.{◌≡◌, ℕ, ◌+◌, min, Bool, true, false, cond, not, ◌||◌, List, [], ◌∷◌, Option, Some, None, IsSome, is_some, MatchBool}
+use Rattle.std.specs.Prelude.{◌≡◌, ℕ, ◌+◌, min, Bool, true, false, cond, not, ◌&&◌, ◌||◌, List, [], ◌∷◌, Option, Some, None, IsSome, is_some, MatchBool}
 use Rattle.std.specs.List.{list_all}
 use Rattle.chip_model.specs.Chip.{Chip, chip_after}
 use Rattle.mcal_base.specs.declared.moves.Move.{Move}
@@ -114,7 +114,7 @@ second_origins ours (Entered l ∷ os) = cond (ours l) (second_origins ours os) 
 
 -- a member's frame as one of the union, which misses other lines
 abbrev pub lift_open : {C E : Type 0} → (C → E) → (ℕ → Bool) → Open C → Open E
-lift_open k missed o = record { origin = lift_origin k o.origin; tag = o.tag; acted = o.acted; acted_at = o.acted_at; polled = o.polled; served = o.served; missed = missed; committed = o.committed; reads = o.reads; wrote = o.wrote; owed = o.owed; report = o.report; inside = o.inside; steps = o.steps; window = o.window; noted = o.noted }
+lift_open k missed o = record { origin = lift_origin k o.origin; tag = o.tag; acted = o.acted; acted_at = o.acted_at; polled = o.polled; served = o.served; missed = missed; committed = o.committed; reads = o.reads; wrote = o.wrote; owed = o.owed; report = o.report; inside = o.inside; since = o.since; acts_since = o.acts_since; steps = o.steps; window = o.window; noted = o.noted }
 
 -- the line that was entered is one of these
 abbrev pub IsMine : {C : Type 0} → (ℕ → Bool) → Origin C → Type 0
@@ -160,7 +160,7 @@ pub record AreApart {S T C D F G : Type 0} (d : Driver S C F) (e : Driver T D G)
   -- what a frame of the one may do is nothing that the other owns
   pub may : (p : Origin C) (q : Origin D) (made : Move) → d.setting.may p made ≡ true → e.owns q made ≡ false
   pub may_other : (p : Origin C) (q : Origin D) (made : Move) → e.setting.may q made ≡ true → d.owns p made ≡ false
-  -- a call polls lines of its own
+  -- a call of the first polls lines that it handles, and one of the second none of those
   pub polls : (w : World) (s : S) (c : C) → list_all (has_handler d) (d.setting.machine.polls w s c) ≡ true
   pub polls_other : (w : World) (t : T) (c : D) → list_all (others (has_handler d)) (e.setting.machine.polls w t c) ≡ true
   -- the first allows no start and no abort that the second does
@@ -183,7 +183,7 @@ union_setting ours g h = record {
   may = by_origin ours g.may h.may;
   halves = either g.halves h.halves;
   fills = λ c. g.fills c || h.fills c;
-  fill_busy = λ w s origins c. g.fill_busy w s.0 (first_origins ours origins) c || h.fill_busy w s.1 (second_origins ours origins) c;
+  in_use = λ w s c. g.fills c && g.in_use w s.0 c || h.fills c && h.in_use w s.1 c;
   rest = λ chip w s. g.rest chip w s.0 × h.rest chip w s.1;
   unmasked = λ chip w s origins. g.unmasked chip w s.0 (first_origins ours origins) × h.unmasked chip w s.1 (second_origins ours origins);
   shows = UnionShows ours g.shows h.shows;

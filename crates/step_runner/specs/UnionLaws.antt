@@ -2,7 +2,7 @@
 use Rattle.std.proofs.Common.{◌≡◌, ℕ, ◌+◌, ◌<◌, ◌≤◌, nat_lt, nat_le, Bool, true, false, cond, not, ◌&&◌, ◌||◌, List, [], ◌∷◌, Option, Some, None, is_some, refl, sym, ◌∙◌, ap, subst, arith}
 use Rattle.std.proofs.Math.Nat.{min-le_left, min-le_right}
 use Rattle.std.specs.Prelude.{IsSome}
-use Rattle.std.specs.List.{list_all}
+use Rattle.std.specs.List.{list_any, list_all}
 use Rattle.chip_model.specs.Chip.{Chip, value_of, chip_after, happened, reset_chip, is_masked, is_pending}
 use Rattle.mcal_base.specs.Bits.{has_bit}
 use Rattle.mcal_base.specs.Reach.{CanApply}
@@ -21,7 +21,7 @@ use Rattle.run_model.specs.World.{World, world_after}
 use Rattle.run_model.specs.Machine.{Happening, Acts, Serves, Starts, Aborts, Moves, Restarts, Outcome, outcome, tells_nothing, ErrorLeaves}
 use Rattle.run_model.specs.Frame.{Origin, Called, Entered, Open, opened, outcome_at, state_by, state_after, top_after, is_shared}
 use Rattle.run_model.specs.Causes.{may_reenter, blocks, none_above, all_below}
-use Rattle.run_model.specs.Moment.{Setting, call_tag, line_tag}
+use Rattle.run_model.specs.Moment.{Setting, reads_from, call_tag, line_tag}
 use Rattle.run_model.specs.Legal.{ReceivedRight}
 use Rattle.step_runner.specs.Driver.{Driver, most_steps, IsLawful, AllOutside, tags_in, origins_in, TicksFit, IsFree, KeepsStep, stepped}
 use Rattle.step_runner.specs.Lifts.{and-left, and-right, LiesIn, lift-keeps, out-at, same-state}
@@ -59,11 +59,31 @@ one-of : {X : Type 0} (a b : Bool) → a || b ≡ true → (a ≡ true → X) �
 one-of true b e f g = f refl
 one-of false b e f g = g e
 
--- a fill is free for both
-neither : (m a b : Bool) → m || (a || b) ≡ false → (m || a ≡ false) × (m || b ≡ false)
-neither true a b e = cc
-neither false true b e = cc
-neither false false b e = (refl, e)
+-- an array that isn't busy for both is free for each: a and b tell which have it, u and v whether they use it, and x and y whether their calls read it
+or-none : (a b : Bool) → a || b ≡ false → (a ≡ false) × (b ≡ false)
+or-none true b e = cc
+or-none false b e = (refl, e)
+
+free-first : (m a b u v x y : Bool) → m || ((a || b) && ((a && u || b && v) || (x || y))) ≡ false → m || (a && (u || x)) ≡ false
+free-first true a b u v x y e = cc
+free-first false false b u v x y e = refl
+free-first false true b true v x y e = cc
+free-first false true b false v x y e = (or-none x y (or-none (b && v) (x || y) e).1).0
+
+free-second : (m a b u v x y : Bool) → m || ((a || b) && ((a && u || b && v) || (x || y))) ≡ false → m || (b && (v || y)) ≡ false
+free-second true a b u v x y e = cc
+free-second false a false u v x y e = refl
+free-second false true true u v x y e = let k = or-none (u || v) (x || y) e in rw ((or-none u v k.0).1, (or-none x y k.1).1) refl
+free-second false false true u v x y e = let k = or-none v (x || y) e in rw (k.0, (or-none x y k.1).1) refl
+
+or-onto : (r x y : Bool) → r || (x || y) ≡ (r || x) || y
+or-onto true x y = refl
+or-onto false x y = refl
+
+or-into : (r x y : Bool) → r || (x || y) ≡ x || (r || y)
+or-into true true y = refl
+or-into true false y = refl
+or-into false x y = refl
 
 -- ticks within both times
 ticks-split : (n : ℕ) (x y : Option ℕ) → TicksFit n (sooner x y) → TicksFit n x × TicksFit n y
@@ -193,7 +213,7 @@ second-right ours (Called c) os m = refl
 second-right ours (Entered l) os m = let x = not-true (ours l) m in rw x refl
 
 module _ {C D F G : Type 0} (ours : ℕ → Bool) where
-  outside-split : (ps : List (Either F G × Open (Either C D))) (fs : List (F × Open C)) (gs : List (G × Open D)) → Splits ours ps fs gs → AllOutside ps → AllOutside fs × AllOutside gs
+  pub outside-split : (ps : List (Either F G × Open (Either C D))) (fs : List (F × Open C)) (gs : List (G × Open D)) → Splits ours ps fs gs → AllOutside ps → AllOutside fs × AllOutside gs
   outside-split ps fs gs Nothing_open h = (tt, tt)
   outside-split ps fs gs (Left_open f o missed qs fs1 gs1 m all same sp) h = let k = outside-split qs fs1 gs1 sp h.1 in ((h.0, k.0), k.1)
   outside-split ps fs gs (Right_open g o missed qs fs1 gs1 m all same sp) h = let k = outside-split qs fs1 gs1 sp h.1 in (k.0, (h.0, k.1))
@@ -399,10 +419,36 @@ module _ {S T C D F G : Type 0} (d : Driver S C F) (e : Driver T D G) (move_a : 
       }))
   u-enters chip w ps s line u None None is_x is_y is masked pending out under h = cc
 
+  reads-left : (c : ℕ) (p : Origin C) → reads_from g c (lift_origin Left p) ≡ reads_from d.setting c p
+  reads-left c (Called x) = refl
+  reads-left c (Entered l) = refl
+
+  reads-right : (c : ℕ) (p : Origin D) → reads_from g c (lift_origin Right p) ≡ reads_from e.setting c p
+  reads-right c (Called x) = refl
+  reads-right c (Entered l) = refl
+
+  -- a call under way that reads an array is a member's
+  reads-split : (c : ℕ) (ps : List (Either F G × Open (Either C D))) (fs : List (F × Open C)) (gs : List (G × Open D)) → Splits ours ps fs gs → list_any (reads_from g c) (origins_in ps) ≡ (list_any (reads_from d.setting c) (origins_in fs) || list_any (reads_from e.setting c) (origins_in gs))
+  reads-split c ps fs gs Nothing_open = refl
+  reads-split c ps fs gs (Left_open f o missed qs fs1 gs1 m all same sp) =
+      ap (λ r. r || list_any (reads_from g c) (origins_in qs)) (reads-left c o.origin)
+      ∙ ap (λ r. reads_from d.setting c o.origin || r) (reads-split c qs fs1 gs1 sp)
+      ∙ or-onto (reads_from d.setting c o.origin) (list_any (reads_from d.setting c) (origins_in fs1)) (list_any (reads_from e.setting c) (origins_in gs1))
+  reads-split c ps fs gs (Right_open y o missed qs fs1 gs1 m all same sp) =
+      ap (λ r. r || list_any (reads_from g c) (origins_in qs)) (reads-right c o.origin)
+      ∙ ap (λ r. reads_from e.setting c o.origin || r) (reads-split c qs fs1 gs1 sp)
+      ∙ or-into (reads_from e.setting c o.origin) (list_any (reads_from d.setting c) (origins_in fs1)) (list_any (reads_from e.setting c) (origins_in gs1))
+
   free-split : (masked : Bool) (w : World) (ps : List (Either F G × Open (Either C D))) (s : S) (t : T) (fs : List (F × Open C)) (gs : List (G × Open D)) (order : Order) → Splits ours ps fs gs → IsFree g masked w (s, t) (origins_in ps) order → IsFree d.setting masked w s (origins_in fs) order × IsFree e.setting masked w t (origins_in gs) order
   free-split masked w ps s t fs gs (orders.Fill c ws) sp h =
-      let k = neither masked (d.setting.fill_busy w s (first_origins ours (origins_in ps)) c) (e.setting.fill_busy w t (second_origins ours (origins_in ps)) c) h.0 in
-      ((subst (λ x. masked || d.setting.fill_busy w s x c ≡ false) (first-same ours ps fs gs sp) k.0, h.1), (subst (λ x. masked || e.setting.fill_busy w t x c ≡ false) (second-same ours ps fs gs sp) k.1, h.1))
+      let x = list_any (reads_from d.setting c) (origins_in fs) in
+      let y = list_any (reads_from e.setting c) (origins_in gs) in
+      let a = d.setting.fills c in
+      let b = e.setting.fills c in
+      let u = d.setting.in_use w s c in
+      let v = e.setting.in_use w t c in
+      let k = subst (λ r. masked || ((a || b) && ((a && u || b && v) || r)) ≡ false) (reads-split c ps fs gs sp) h.0 in
+      ((free-first masked a b u v x y k, h.1), (free-second masked a b u v x y k, h.1))
   free-split masked w ps s t fs gs (orders.Tick n) sp h = ticks-split n (d.setting.machine.expires w s) (e.setting.machine.expires w t) h
   free-split masked w ps s t fs gs _ sp h = (tt, tt)
 

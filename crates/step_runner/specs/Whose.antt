@@ -116,6 +116,10 @@ abbrev pub is_of : (ModuleName → Bool) → Option ModuleName → Bool
 is_of mine None = false
 is_of mine (Some m) = mine m
 
+-- the line is one of these modules'
+abbrev pub is_line_of : (ModuleName → Bool) → ℕ → Bool
+is_line_of mine l = is_of mine (module_of_line l)
+
 -- ---- moves
 
 -- the enable bits are for lines of these modules alone
@@ -161,7 +165,7 @@ NamesOthers mine _ = Unit {0}
 pub record KeepsTo {S C F : Type 0} (mine : ModuleName → Bool) (d : Driver S C F) : Type 0 where
   pub may : (o : Origin C) (made : Move) → d.setting.may o made ≡ true → NamesWithin mine made
   pub owns : (o : Origin C) (made : Move) → NamesOthers mine made → d.owns o made ≡ false
-  pub handlers : (l : ℕ) → has_handler d l ≡ true → is_of mine (module_of_line l) ≡ true
-  pub polls : (w : World) (s : S) (c : C) → list_all (has_handler d) (d.setting.machine.polls w s c) ≡ true
+  pub handlers : (l : ℕ) → has_handler d l ≡ true → is_line_of mine l ≡ true
+  pub polls : (w : World) (s : S) (c : C) → list_all (is_line_of mine) (d.setting.machine.polls w s c) ≡ true
   pub starts : (w : World) (s : S) (u : units.Unit) (r : ℕ) → IsSome (d.setting.machine.happens w s (Starts u r)) → mine (module_of_unit u) ≡ true
   pub aborts : (w : World) (s : S) (u : units.Unit) → IsSome (d.setting.machine.happens w s (Aborts u)) → mine (module_of_unit u) ≡ true

@@ -1,6 +1,9 @@
-ghost use Rattle.std.specs.Prelude.{◌≡◌, ℕ, Option};
-ghost use Rattle.step_runner.specs.Driver.{Driver, IsLawful};
+ghost use Rattle.std.specs.Prelude.{◌≡◌, ◌<◌, ℕ, List, Option, IfSome, is_some};
+ghost use Rattle.run_model.specs.Frame.{Open};
+ghost use Rattle.run_model.specs.World.{World};
+ghost use Rattle.step_runner.specs.Driver.{Driver, IsLawful, AllOutside};
 
+use chip_model::Bus;
 use mcal_base::{ModuleName, Routine};
 use run_model::Class;
 
@@ -37,6 +40,15 @@ pub trait Module {
     /// The module to which the handler of a line belongs.
     fn owner(&self, line: u32) -> ModuleName
         ensures { result ≡ (spec self.now).setting.owner_of line };
+
+    /// Whether the machine has the source array of a serial channel in use, while the mask is open; none where there is no
+    /// such channel.
+    fn source_use(&self, bus: &Bus, channel: u32) -> Option<bool>
+        ensures there { is_some result ≡ (spec self.now).setting.fills channel }
+        ensures few { IfSome result (λ used. channel < 16) }
+        ensures used { (w : World) (ps : List (Self.Frame × Open Self.Call)) (s : Self.State) → (spec self.now).fits →
+            AllOutside ps → (spec self.now).relates bus.now w ps s →
+            IfSome result (λ used. used ≡ (spec self.now).setting.in_use w s channel) };
 
     /// What it owes.
     ghost laws: { (m : Self) → (spec m).fits → IsLawful (spec m) Self.Frame.move_of Self.Frame.left Self.Frame.gave };

@@ -1,10 +1,11 @@
-ghost use Rattle.std.specs.Prelude.{◌≡◌, ◌<◌, ◌&&◌, List, [], ◌∷◌, ◌++◌, length, None, is_some};
+ghost use Rattle.std.specs.Prelude.{◌≡◌, ◌<◌, ◌&&◌, ℕ, List, [], ◌∷◌, ◌++◌, length, None, is_some};
 ghost use Rattle.chip_model.specs.Chip.{Chip, is_masked, is_pending, happened, CanHappen, reset_chip};
 ghost use Rattle.run_model.specs.Causes.{call_cause, line_cause};
+ghost use Rattle.mcal_base.specs.declared.directive.Order.TheVariants.{Fill};
 ghost use Rattle.run_model.specs.Legal.{hardware_held};
 ghost use Rattle.run_model.specs.Moment.{Deed, Begins, Enters, Happens, Resets, call_tag, line_tag, start_moment, after_all};
 ghost use Rattle.step_runner.specs.Stands.{Stands, done, step_done, FuelFalls};
-ghost use Rattle.step_runner.specs.Kept.{tags_under, top_is_noted, cause_of, beginning, put_by, enter_by, written_by, CanStep, TakesStep};
+ghost use Rattle.step_runner.specs.Kept.{tags_under, top_is_noted, cause_of, beginning, put_by, enter_by, fill_by, written_by, CanStep, TakesStep};
 
 use crate::{Module, Stack};
 use chip_model::Bus;
@@ -113,6 +114,31 @@ pub fn step_into<M: Module>(
         FuelFalls (M.spec driver).fuel stack.old.frames stack.new.frames (written_by result stepped.new) }
 {
     stack.step_top(bus, stepped)
+}
+
+/// Why a fill is held: there is no such array, or the mask is closed, or the array is used or read.
+fn fill_cause(used: Option<bool>, masked: bool, read: bool) -> Option<Held>
+    ensures { result ≡ fill_by used masked read }
+{
+    match used {
+        None => Some(Held::Unknown),
+        Some(used) if masked || used || read => Some(Held::Busy),
+        Some(_) => None,
+    }
+}
+
+/// Why a fill of a serial channel's source array is held, if it is; one that isn't may happen.
+pub fn fill_held<M: Module>(stack: &Stack<M>, driver: &M, bus: &Bus, channel: u32) -> Option<Held>
+    ensures cause { (first : Chip) (h : List (Deed M.Call)) (words : List ℕ) → (M.spec driver.now).fits →
+        Stands (M.spec driver.now) first bus.now stack.now.frames h →
+        let setting = (M.spec driver.now).setting in
+        result ≡ hardware_held setting (after_all setting (start_moment setting first) h) (Fill channel words) }
+    ensures free { (first : Chip) (h : List (Deed M.Call)) (words : List ℕ) → (M.spec driver.now).fits →
+        Stands (M.spec driver.now) first bus.now stack.now.frames h →
+        result ≡ None → CanHappen bus.now (Fill channel words) }
+{
+    let used = driver.source_use(bus, channel);
+    fill_cause(used, bus.masked(), stack.is_read(channel))
 }
 
 /// A hardware event of the script.

@@ -1,13 +1,13 @@
 ghost use Rattle.std.specs.Prelude.{◌≡◌, ◌<◌, [], ◌∷◌, not, length, IfOk, OnOk, None};
-ghost use Rattle.std.specs.List.{list_all};
+ghost use Rattle.std.specs.List.{list_all, list_any};
 ghost use Rattle.std.specs.Bool.{OnFalse};
 ghost use Rattle.mcal_base.specs.Names.{module_number};
-ghost use Rattle.run_model.specs.Causes.{kind_number, same_key, kind_blocks, class_blocks, blocks, may_reenter, call_level_allows, line_level_allows, call_cause, line_cause, is_full};
+ghost use Rattle.run_model.specs.Causes.{kind_number, same_key, reads_source, kind_blocks, class_blocks, blocks, may_reenter, call_level_allows, line_level_allows, call_cause, line_cause, is_full};
 ghost use Rattle.chip_model.specs.Chip.{Chip, value_of, received_of, chip_after};
 ghost use Rattle.mcal_base.specs.Reach.{CanApply};
 ghost use Rattle.step_runner.specs.Driver.{stepped as step_of, Covers};
 ghost use Rattle.step_runner.specs.Stands.{IsFirst, Stands};
-ghost use Rattle.step_runner.specs.Kept.{kept_empty, tags_under, top_is_noted, cause_of, beginning, moved, written_by, CanStep, TakesStep};
+ghost use Rattle.step_runner.specs.Kept.{kept_empty, is_read, tags_under, top_is_noted, cause_of, beginning, moved, written_by, CanStep, TakesStep};
 
 use crate::Module;
 use chip_model::Bus;
@@ -55,7 +55,7 @@ fn kind_number_of(kind: KeyKind) -> u32
     match kind {
         KeyKind::Section => 0,
         KeyKind::Pin => 1,
-        KeyKind::Channel => 2,
+        KeyKind::Channel | KeyKind::Source => 2,
         KeyKind::Group => 3,
         KeyKind::Sequence => 4,
         KeyKind::Clock => 5,
@@ -94,6 +94,26 @@ fn class_is_blocked(new: &Class, there: Option<Class>) -> bool
         None => matches!(new.kind, Kind::Exclusive),
         Some(there) => kind_is_blocked(new.kind, there.kind, have_same_key(new.key, there.key)),
     }
+}
+
+/// Whether a call of this class reads the source array of a serial channel.
+fn reads_source(channel: u32, class: Option<Class>) -> bool
+    ensures { result ≡ reads_source channel class }
+{
+    match class {
+        Some(class) => match class.key {
+            Some(key) => matches!(key.kind, KeyKind::Source) && key.number == channel,
+            None => false,
+        },
+        None => false,
+    }
+}
+
+/// Whether one of these frames is of a call that does.
+fn one_reads<F: Drop>(channel: u32, frames: &[Under<F>]) -> bool
+    ensures { result ≡ list_any (λ u. reads_source channel u.tag.class) frames.now }
+{
+    frames.iter().any(|u| reads_source(channel, u.tag.class))
 }
 
 /// Whether a call may not begin over a frame with this tag.
@@ -246,6 +266,13 @@ impl<M: Module> Stack<M> {
             return Err(Held::Full);
         }
         Ok(())
+    }
+
+    /// Whether a call under way reads the source array of a serial channel.
+    pub(crate) fn is_read(&self, channel: u32) -> bool
+        ensures { result ≡ is_read channel self.now.frames }
+    {
+        one_reads(channel, &self.frames)
     }
 
     /// Puts a frame on.

@@ -1,4 +1,8 @@
+ghost use Rattle.std.specs.Prelude.{◌≡◌};
+ghost use Rattle.step_runner.specs.Kept.{used_by};
+
 use crate::{Either, Module};
+use chip_model::Bus;
 use mcal_base::ModuleName;
 use run_model::Class;
 
@@ -61,8 +65,25 @@ impl<A: Module, B: Module> Module for Union<A, B> {
         }
     }
 
+    fn source_use(&self, bus: &Bus, channel: u32) -> Option<bool> {
+        let first = self.first.source_use(bus, channel);
+        let second = self.second.source_use(bus, channel);
+        either_use(first, second)
+    }
+
     ghost laws = { λ m fits. union-lawful
         (A.spec m.first) (B.spec m.second)
         A.Frame.move_of A.Frame.left A.Frame.gave B.Frame.move_of B.Frame.left B.Frame.gave
         (A.laws m.first fits.0) (B.laws m.second fits.1) fits.2 };
+}
+
+/// Whether one of two modules uses an array, of those that have it.
+fn either_use(first: Option<bool>, second: Option<bool>) -> Option<bool>
+    ensures { result ≡ used_by first second }
+{
+    match (first, second) {
+        (Some(first), Some(second)) => Some(first || second),
+        (Some(first), None) => Some(first),
+        (None, second) => second,
+    }
 }

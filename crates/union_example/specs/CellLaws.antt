@@ -102,6 +102,7 @@ module _ (word : ℕ) (fits : word < SOURCES) where
     event = (refl, tt, refl);
     sends = tt;
     halves = tt;
+    together = tt;
     errors = tt;
     move = tt;
     shows = tt;
@@ -117,6 +118,7 @@ module _ (word : ℕ) (fits : word < SOURCES) where
     event = (refl, tt, refl);
     sends = tt;
     halves = tt;
+    together = tt;
     errors = tt;
     move = tt;
     shows = tt;

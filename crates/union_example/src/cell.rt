@@ -1,3 +1,4 @@
+use chip_model::Bus;
 use mcal_base::{Answer, Event, Head, ModuleName, Move, Routine, Short, Taken};
 use run_model::{Class, Kind};
 use step_runner::Module;
@@ -102,6 +103,10 @@ impl Module for Cell {
 
     fn owner(&self, _line: u32) -> ModuleName {
         ModuleName::Gpt
+    }
+
+    fn source_use(&self, _bus: &Bus, _channel: u32) -> Option<bool> {
+        None
     }
 
     ghost laws = { λ m fits. cell_lawful m.word fits };

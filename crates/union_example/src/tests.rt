@@ -94,7 +94,7 @@ impl Module for Bells {
         may = λ o made. false;
         halves = λ c. None;
         fills = λ c. false;
-        fill_busy = λ w s origins c. false;
+        in_use = λ w s c. false;
         rest = λ chip w s. Unit {0};
         unmasked = λ chip w s origins. Unit {0};
         shows = λ origin n chip s. Unit {0};
@@ -136,6 +136,10 @@ impl Module for Bells {
 
     fn owner(&self, _line: u32) -> ModuleName {
         ModuleName::Gpt
+    }
+
+    fn source_use(&self, _bus: &Bus, _channel: u32) -> Option<bool> {
+        None
     }
 
     ghost laws = { λ m fits. absurd fits };

@@ -10,21 +10,21 @@ use Rattle.mcal_base.specs.declared.answer_name.AnswerName.TheVariants.{SpiSeqOk
 use Rattle.mcal_base.specs.declared.error_name.ErrorName.{ErrorName}
 use Rattle.run_model.specs.Frame.{state_by}
 use Rattle.run_model.specs.Machine.{Happening, Acts, Serves, Starts, Aborts, Moves, Restarts, Outcome}
-use Rattle.spi_sequences.specs.Machine.{spi_machine}
-use Rattle.spi_sequences.specs.Numbered.{with_item}
-use Rattle.spi_sequences.specs.Pending as lists
-use Rattle.spi_sequences.specs.Pending.{Pending, is_of as is_entry, changed, without, starts, goes_to_next, cancels, sequence_result, requested}
-use Rattle.spi_sequences.specs.Runs.{Occurrence, after_all}
-use Rattle.spi_sequences.specs.Runs as runs
-use Rattle.spi_sequences.specs.State.{SpiState, first_state, is_off}
-use Rattle.spi_sequences.specs.Table.{sequence_of, notifies_sequence}
-use Rattle.spi_sequences.specs.declared.call.Call.{Call}
-use Rattle.spi_sequences.specs.declared.call.Call.TheVariants.{Init, DeInit, SetAsyncMode, MainFunctionHandling, Channel, Sequence, Get}
-use Rattle.spi_sequences.specs.declared.call.SequenceCall.TheVariants.{AsyncTransmit, Cancel}
-use Rattle.spi_sequences.specs.declared.driver.SpiDriver.{SpiDriver}
-use Rattle.spi_sequences.proofs.Idle.{idle-run}
-use Rattle.spi_sequences.proofs.Numbers.{same_or_other, item-same, item-other}
-use Rattle.spi_sequences.proofs.Turns.{pending-changed, pending-without}
+use Rattle.spi_machine.specs.Machine.{spi_machine}
+use Rattle.spi_machine.specs.Numbered.{with_item}
+use Rattle.spi_machine.specs.Pending as lists
+use Rattle.spi_machine.specs.Pending.{Pending, is_of as is_entry, changed, without, starts, goes_to_next, cancels, sequence_result, requested}
+use Rattle.spi_machine.specs.Runs.{Occurrence, after_all}
+use Rattle.spi_machine.specs.Runs as runs
+use Rattle.spi_machine.specs.State.{SpiState, first_state, is_off}
+use Rattle.spi_machine.specs.Table.{sequence_of, notifies_sequence}
+use Rattle.spi_machine.specs.declared.call.Call.{Call}
+use Rattle.spi_machine.specs.declared.call.Call.TheVariants.{Init, DeInit, SetAsyncMode, MainFunctionHandling, Channel, Sequence, Get}
+use Rattle.spi_machine.specs.declared.call.SequenceCall.TheVariants.{AsyncTransmit, Cancel}
+use Rattle.spi_machine.specs.declared.table.SpiTable.{SpiTable}
+use Rattle.spi_machine.proofs.Idle.{idle-run}
+use Rattle.spi_machine.proofs.Numbers.{same_or_other, item-same, item-other}
+use Rattle.spi_machine.proofs.Turns.{pending-changed, pending-without}
 use Rattle.whole_runs.specs.Runs.{Event, state_after, AreAllowed, NoneOf, told_by, is_restart, is_of}
 use Rattle.whole_runs.specs.SequenceRuns.{Seen, seen_between, seen_of, begins_by, is_accepted, accepts, is_begun, initialises, is_reset, is_pending, is_end, starts_job, ends_job, is_starting, is_serving}
 use Rattle.whole_runs.specs.Ends.{ResultGoes, Stays, Becomes, Ends, Begins, Reset, TellsEnd, IsEnded, AreEnded, HasOneEnd}
@@ -81,7 +81,7 @@ abbrev once : Bool → ℕ
 once b = cond b 1 0
 
 -- what comes of it for one sequence
-pub record Comes (d : SpiDriver) (q : ℕ) (e : Seen) (t : SpiState) : Type 0 where
+pub record Comes (d : SpiTable) (q : ℕ) (e : Seen) (t : SpiState) : Type 0 where
   pub result : ResultGoes q e
   pub told : TellsEnd d q e
   pub agrees : is_pending (sequence_result t.sequence_results q) ≡ lists.is_pending q t.pending
@@ -95,10 +95,10 @@ no_end q e same = rw same (none (is_reset e) (is_pending (e.had q)))
     none false true = refl
     none false false = refl
 
-tells_none : (d : SpiDriver) (q : ℕ) (e : Seen) → is_end q e ≡ false → ends_told q e ≡ 0 → TellsEnd d q e
+tells_none : (d : SpiTable) (q : ℕ) (e : Seen) → is_end q e ≡ false → ends_told q e ≡ 0 → TellsEnd d q e
 tells_none d q e none told = told ∙ rw none refl
 
-stays : (d : SpiDriver) (q : ℕ) (e : Seen) (s t : SpiState) → accepts q e ≡ false → e.had q ≡ sequence_result s.sequence_results q → e.has q ≡ sequence_result t.sequence_results q
+stays : (d : SpiTable) (q : ℕ) (e : Seen) (s t : SpiState) → accepts q e ≡ false → e.had q ≡ sequence_result s.sequence_results q → e.has q ≡ sequence_result t.sequence_results q
     → sequence_result t.sequence_results q ≡ sequence_result s.sequence_results q → lists.is_pending q t.pending ≡ lists.is_pending q s.pending → ends_told q e ≡ 0 → Agrees s → Comes d q e t
 stays d q e s t accept had has same pending told agrees =
     let still : e.has q ≡ e.had q = has ∙ same ∙ sym had in
@@ -108,7 +108,7 @@ stays d q e s t accept had has same pending told agrees =
 abbrev Between : ℕ → Seen → SpiState → SpiState → Type 0
 Between q e s t = (e.had q ≡ sequence_result s.sequence_results q) × (e.has q ≡ sequence_result t.sequence_results q)
 
-accepted : (d : SpiDriver) (q k : ℕ) (e : Seen) (s t : SpiState) (x : Pending) → Between q e s t → accepts q e ≡ (k == q) → lists.is_pending k s.pending ≡ false → x.sequence ≡ k → t.pending ≡ s.pending ++ x ∷ []
+accepted : (d : SpiTable) (q k : ℕ) (e : Seen) (s t : SpiState) (x : Pending) → Between q e s t → accepts q e ≡ (k == q) → lists.is_pending k s.pending ≡ false → x.sequence ≡ k → t.pending ≡ s.pending ++ x ∷ []
     → t.sequence_results ≡ with_item SpiSeqOk s.sequence_results k SpiSeqPending → ends_told q e ≡ 0 → Agrees s → (q ≡ k) ⊎ (q ≢ k) → Comes d q e t
 accepted d q k e s t x views accept free own pending results told agrees (inl at) =
     let has : e.has q ≡ SpiSeqPending = views.1 ∙ ap (λ rs. sequence_result rs q) results ∙ rw at (item-same SpiSeqOk s.sequence_results k SpiSeqPending) in
@@ -136,7 +136,7 @@ end_over x (suc (suc (suc n)), within, is) = absurd (omega (arith, within))
 ends_now : (q : ℕ) (e : Seen) → is_reset e ≡ false → is_pending (e.had q) ≡ true → is_pending (e.has q) ≡ false → is_end q e ≡ true
 ends_now q e calm had has = rw (calm, had, has) refl
 
-ended : (d : SpiDriver) (q k : ℕ) (e : Seen) (s t : SpiState) (x : AnswerName) → Between q e s t → accepts q e ≡ false → is_reset e ≡ false → lists.is_pending k s.pending ≡ true → Contains end_results x
+ended : (d : SpiTable) (q k : ℕ) (e : Seen) (s t : SpiState) (x : AnswerName) → Between q e s t → accepts q e ≡ false → is_reset e ≡ false → lists.is_pending k s.pending ≡ true → Contains end_results x
     → t.pending ≡ without k s.pending → t.sequence_results ≡ with_item SpiSeqOk s.sequence_results k x
     → ends_told q e ≡ cond (notifies_sequence (sequence_of d k) && (k == q)) 1 0 → Agrees s → (q ≡ k) ⊎ (q ≢ k) → Comes d q e t
 ended d q k e s t x views accept calm there one pending results told agrees (inl at) =
@@ -164,7 +164,7 @@ ended d q k e s t x views accept calm there one pending results told agrees (inr
     and_false true = refl
     and_false false = refl
 
-pub comes : (d : SpiDriver) (q : ℕ) (e : Seen) (s t : SpiState) → Goes d e s t → Between q e s t → Agrees s → IsIdle s → Comes d q e t
+pub comes : (d : SpiTable) (q : ℕ) (e : Seen) (s t : SpiState) → Goes d e s t → Between q e s t → Agrees s → IsIdle s → Comes d q e t
 comes d q e s t (Leaves calm reset pending results requests told) views agrees idle =
     stays d q e s t (calm.accepts q) views.0 views.1 (ap (λ rs. sequence_result rs q) results) (ap (λ ps. lists.is_pending q ps) pending) (told q) agrees
 comes d q e s t (Accepts k had accept reset free pending results requests told) views agrees idle =
@@ -202,33 +202,33 @@ abbrev occurrences : List (Event Call) → List Occurrence
 occurrences [] = []
 occurrences (e ∷ past) = occurrences past ++ record { world = e.world; what = e.what } ∷ []
 
-abbrev state_of : SpiDriver → List (Event Call) → SpiState
+abbrev state_of : SpiTable → List (Event Call) → SpiState
 state_of d past = state_after (spi_machine d) first_state past
 
-one_more : (d : SpiDriver) (s : SpiState) (xs : List Occurrence) (x : Occurrence) → after_all d s (xs ++ x ∷ []) ≡ runs.state_after d x.world (after_all d s xs) x.what
+one_more : (d : SpiTable) (s : SpiState) (xs : List Occurrence) (x : Occurrence) → after_all d s (xs ++ x ∷ []) ≡ runs.state_after d x.world (after_all d s xs) x.what
 one_more d s [] x = refl
 one_more d s (y ∷ xs) x = one_more d (runs.state_after d y.world s y.what) xs x
 
-same_state : (d : SpiDriver) (past : List (Event Call)) → after_all d first_state (occurrences past) ≡ state_of d past
+same_state : (d : SpiTable) (past : List (Event Call)) → after_all d first_state (occurrences past) ≡ state_of d past
 same_state d [] = refl
 same_state d (e ∷ past) =
     one_more d first_state (occurrences past) (record { world = e.world; what = e.what })
     ∙ ap (λ s. runs.state_after d e.world s e.what) (same_state d past)
 
-run_idle : (d : SpiDriver) (past : List (Event Call)) → IsIdle (state_of d past)
+run_idle : (d : SpiTable) (past : List (Event Call)) → IsIdle (state_of d past)
 run_idle d past = subst IsIdle (same_state d past) (idle-run d (occurrences past))
 
-abbrev After : SpiDriver → SpiState → Event Call → Option (Outcome SpiState) → Type 0
+abbrev After : SpiTable → SpiState → Event Call → Option (Outcome SpiState) → Type 0
 After d s e o = let x : Seen = seen_between d s (state_by s o) e.what (told_by o) (begins_by o) in IsEnded d x × Agrees (state_by s o)
 
-event_ends : (d : SpiDriver) (s : SpiState) (e : Event Call) (o : Option (Outcome SpiState)) → (spi_machine d).happens e.world s e.what ≡ o → IsSome o → Agrees s → IsIdle s → After d s e o
+event_ends : (d : SpiTable) (s : SpiState) (e : Event Call) (o : Option (Outcome SpiState)) → (spi_machine d).happens e.world s e.what ≡ o → IsSome o → Agrees s → IsIdle s → After d s e o
 event_ends d s e None at some agrees idle = absurd (cc some)
 event_ends d s e (Some out) at some agrees idle =
     let goes : Goes d (seen d e.what s out) s out.state = happens_goes d e.world s e.what out at in
     let all = λ (q : ℕ). comes d q (seen d e.what s out) s out.state goes (refl, refl) agrees idle in
     (record { results = λ q. (all q).result; told = λ q. (all q).told }, λ q. (all q).agrees)
 
-run_ends : (d : SpiDriver) (past : List (Event Call)) → AreAllowed (spi_machine d) first_state past → AreEnded d (seen_of d past) × Agrees (state_of d past)
+run_ends : (d : SpiTable) (past : List (Event Call)) → AreAllowed (spi_machine d) first_state past → AreEnded d (seen_of d past) × Agrees (state_of d past)
 run_ends d [] allowed = (tt, λ q. refl)
 run_ends d (e ∷ past) allowed =
     let before = run_ends d past allowed.1 in
@@ -236,10 +236,10 @@ run_ends d (e ∷ past) allowed =
     event_ends d (state_of d past) e ((spi_machine d).happens e.world (state_of d past) e.what) refl allowed.0 before.1 (run_idle d past) in
     ((after.0, before.0), after.1)
 
-pub all_end : (d : SpiDriver) (past : List (Event Call)) → AreAllowed (spi_machine d) first_state past → AreEnded d (seen_of d past)
+pub all_end : (d : SpiTable) (past : List (Event Call)) → AreAllowed (spi_machine d) first_state past → AreEnded d (seen_of d past)
 all_end d past allowed = (run_ends d past allowed).0
 
-pub run_agrees : (d : SpiDriver) (past : List (Event Call)) → AreAllowed (spi_machine d) first_state past → Agrees (state_of d past)
+pub run_agrees : (d : SpiTable) (past : List (Event Call)) → AreAllowed (spi_machine d) first_state past → Agrees (state_of d past)
 run_agrees d past allowed = (run_ends d past allowed).1
 
 -- ---- counts
@@ -258,7 +258,7 @@ linked_later : (q : ℕ) (later past : List Seen) → Linked q (later ++ past) �
 linked_later q [] past h = h
 linked_later q (e ∷ later) past h = linked_later q later past h.2
 
-run_linked : (d : SpiDriver) (q : ℕ) (past : List (Event Call)) → AreEnded d (seen_of d past) → Linked q (seen_of d past)
+run_linked : (d : SpiTable) (q : ℕ) (past : List (Event Call)) → AreEnded d (seen_of d past) → Linked q (seen_of d past)
 run_linked d q [] h = tt
 run_linked d q (e ∷ []) h = (refl, h.0.results q, tt)
 run_linked d q (e ∷ x ∷ past) h = (refl, h.0.results q, run_linked d q (x ∷ past) h.1)
@@ -410,5 +410,5 @@ one_end q log links = record {
       at_most (count_by (is_end q) between) (result_now q (between ++ first ∷ before)) c.most;
 }
 
-pub end_once : (d : SpiDriver) (past : List (Event Call)) (q : ℕ) → AreAllowed (spi_machine d) first_state past → HasOneEnd q (seen_of d past)
+pub end_once : (d : SpiTable) (past : List (Event Call)) (q : ℕ) → AreAllowed (spi_machine d) first_state past → HasOneEnd q (seen_of d past)
 end_once d past q allowed = one_end q (seen_of d past) (run_linked d q past (all_end d past allowed))

@@ -7,18 +7,18 @@ use Rattle.mcal_base.specs.declared.directive.Order.TheVariants as orders
 use Rattle.mcal_base.specs.declared.moves.Unit as units
 use Rattle.run_model.specs.World.{World}
 use Rattle.run_model.specs.Machine.{Happening, Acts, Serves, Starts, Aborts, Moves, Restarts, Outcome, outcome, tells_nothing}
-use Rattle.adc_groups.specs.Groups.{GroupState, Request, Round, is_continuous, is_full, trigger_input, values_of, with_round_of}
-use Rattle.adc_groups.specs.Machine.{acts, happens, ready, served, served_round, served_values, after_round, with_values, is_unit_line, starting, starts_on, aborting, aborts_on, moved}
-use Rattle.adc_groups.specs.Table.{group_of}
-use Rattle.adc_groups.specs.Triggers.{listener, with_mark, with_trigger_off, requested_unless_turn, served_trigger}
-use Rattle.adc_groups.specs.Turns.{AdcState, first_state, group_at, round_at, with_group, with_round, with_waiting, requested, has_turn, number_of, next_group, is_on, starts, starts_by, started, begun, aborts, aborted, kept_of}
-use Rattle.adc_groups.specs.declared.call.Call.{Call}
-use Rattle.adc_groups.specs.declared.driver.AdcDriver.{AdcDriver}
-use Rattle.adc_groups.specs.declared.driver.Group as configured
-use Rattle.adc_groups.proofs.Aborted.{abort_is}
-use Rattle.adc_groups.proofs.Next.{next_is}
-use Rattle.adc_groups.proofs.Parts.{group_same, group_other}
-use Rattle.adc_groups.proofs.Stopped.{unmarked_group, unmarked_round}
+use Rattle.adc_machine.specs.Groups.{GroupState, Request, Round, is_continuous, is_full, trigger_input, values_of, with_round_of}
+use Rattle.adc_machine.specs.Machine.{acts, happens, ready, served, served_round, served_values, after_round, with_values, is_unit_line, starting, starts_on, aborting, aborts_on, moved}
+use Rattle.adc_machine.specs.Table.{group_of}
+use Rattle.adc_machine.specs.Triggers.{listener, with_mark, with_trigger_off, requested_unless_turn, served_trigger}
+use Rattle.adc_machine.specs.Turns.{AdcState, first_state, group_at, round_at, with_group, with_round, with_waiting, requested, has_turn, number_of, next_group, is_on, starts, starts_by, started, begun, aborts, aborted, kept_of}
+use Rattle.adc_machine.specs.declared.call.Call.{Call}
+use Rattle.adc_machine.specs.declared.table.AdcTable.{AdcTable}
+use Rattle.adc_machine.specs.declared.table.Group as configured
+use Rattle.adc_machine.proofs.Aborted.{abort_is}
+use Rattle.adc_machine.proofs.Next.{next_is}
+use Rattle.adc_machine.proofs.Parts.{group_same, group_other}
+use Rattle.adc_machine.proofs.Stopped.{unmarked_group, unmarked_round}
 use Rattle.whole_runs.specs.GroupRuns.{Seen, stops, begins, requests, starts_on as starts_of, serves_on, serves, is_on as on_unit}
 use Rattle.whole_runs.proofs.GroupSteps.{is_completed, WaitGoes, Over, Made, Again, Back, Dropped, Same, Added, Cleared, GroupGoes, UnitGoes, Begun, Freed, seen, Goes, same_number, other_number, same_or_other, left_group, went, left_unit, act_goes}
 
@@ -43,13 +43,13 @@ freed_unit (suc (suc v)) u e s none stop = Freed refl
 -- ---- a serving of a unit's line
 
 -- the turn after a round leaves the units
-turn_unit : (d : AdcDriver) (t : AdcState) (g n v : ℕ) (full continuous : Bool) → round_at (after_round d t g n full continuous) v ≡ round_at t v
+turn_unit : (d : AdcTable) (t : AdcState) (g n v : ℕ) (full continuous : Bool) → round_at (after_round d t g n full continuous) v ≡ round_at t v
 turn_unit d t g n v true continuous = unmarked_round (with_group t g (record (group_at t g) { trigger = false })) v (trigger_input (group_of d g))
 turn_unit d t g n v false true = refl
 turn_unit d t g n v false false = refl
 
 -- and the other groups
-turn_other : (d : AdcDriver) (t : AdcState) (h n g : ℕ) (full continuous : Bool) → g < 16 → g ≢ h → group_at (after_round d t h n full continuous) g ≡ group_at t g
+turn_other : (d : AdcTable) (t : AdcState) (h n g : ℕ) (full continuous : Bool) → g < 16 → g ≢ h → group_at (after_round d t h n full continuous) g ≡ group_at t g
 turn_other d t h n g true continuous lt ne =
     unmarked_group (with_group t h (record (group_at t h) { trigger = false })) g (trigger_input (group_of d h)) ∙ group_other t h (record (group_at t h) { trigger = false }) g lt ne
 turn_other d t h n g false true lt ne = group_other t h (record (group_at t h) { waiting = Some (record { number = n; kept = [] }) }) g lt ne
@@ -59,7 +59,7 @@ turn_other d t h n g false false lt ne = refl
 abbrev pub Settled : ℕ → GroupState → GroupState → Type 0
 Settled n x y = (y.rounds ≡ x.rounds) × ((y.waiting ≡ x.waiting) ⊎ (y.waiting ≡ Some (record { number = n; kept = [] })))
 
-pub turn_own : (d : AdcDriver) (t : AdcState) (g n : ℕ) (full continuous : Bool) → g < 16 → Settled n (group_at t g) (group_at (after_round d t g n full continuous) g)
+pub turn_own : (d : AdcTable) (t : AdcState) (g n : ℕ) (full continuous : Bool) → g < 16 → Settled n (group_at t g) (group_at (after_round d t g n full continuous) g)
 turn_own d t g n true continuous lt =
     let same : group_at (with_trigger_off d t g) g ≡ record (group_at t g) { trigger = false } =
     unmarked_group (with_group t g (record (group_at t g) { trigger = false })) g (trigger_input (group_of d g)) ∙ group_same t g (record (group_at t g) { trigger = false }) lt in
@@ -70,17 +70,17 @@ turn_own d t g n false true lt =
 turn_own d t g n false false lt = (refl, inl refl)
 
 -- the state before the turn is settled
-abbrev pub stored : AdcDriver → AdcState → (unit : ℕ) → Round → List ℕ → AdcState
+abbrev pub stored : AdcTable → AdcState → (unit : ℕ) → Round → List ℕ → AdcState
 stored d s u r values = record (with_group (with_round s u None) r.group (with_values (group_of d r.group) (group_at s r.group) values)) {
   results = with_round_of (group_of d r.group) (length (group_at s r.group).rounds) r.group (group_at s r.group).chosen values s.results;
 }
 
-settled_wait : (d : AdcDriver) (g n u : ℕ) (r : Round) (e : Seen) (s : AdcState) (x y : GroupState) → serves_on u g e ≡ true → stops g e ≡ false → round_at s u ≡ Some r → r.group ≡ g
+settled_wait : (d : AdcTable) (g n u : ℕ) (r : Round) (e : Seen) (s : AdcState) (x y : GroupState) → serves_on u g e ≡ true → stops g e ≡ false → round_at s u ≡ Some r → r.group ≡ g
     → (y.waiting ≡ x.waiting) ⊎ (y.waiting ≡ Some (record { number = n; kept = [] })) → WaitGoes d g e s x y
 settled_wait d g n u r e s x y serve stop at own (inl same) = Over u r serve at own same
 settled_wait d g n u r e s x y serve stop at own (inr again) = Again u n r serve at own again
 
-served_own : (d : AdcDriver) (w : World) (s : AdcState) (u : ℕ) (r : Round) (e : Seen) → r.group < 16 → serves_on u r.group e ≡ true → stops r.group e ≡ false → round_at s u ≡ Some r → e.world ≡ w
+served_own : (d : AdcTable) (w : World) (s : AdcState) (u : ℕ) (r : Round) (e : Seen) → r.group < 16 → serves_on u r.group e ≡ true → stops r.group e ≡ false → round_at s u ≡ Some r → e.world ≡ w
     → GroupGoes d r.group e s (group_at s r.group) (group_at (served_values d s u r (values_of w (group_of d r.group) r)) r.group)
 served_own d w s u r e lt serve stop at now =
     let k : Option configured.Group = group_of d r.group in
@@ -94,12 +94,12 @@ served_own d w s u r e lt serve stop at now =
       rounds = Added u r serve at refl (turned.0 ∙ ap (λ (z : GroupState). z.rounds) own ∙ ap (λ v. (group_at s r.group).rounds ++ values_of v k r ∷ []) (sym now));
     }
 
-pub served_other : (d : AdcDriver) (s : AdcState) (u g : ℕ) (r : Round) (values : List ℕ) → g < 16 → g ≢ r.group → group_at (served_values d s u r values) g ≡ group_at s g
+pub served_other : (d : AdcTable) (s : AdcState) (u g : ℕ) (r : Round) (values : List ℕ) → g < 16 → g ≢ r.group → group_at (served_values d s u r values) g ≡ group_at s g
 served_other d s u g r values lt ne =
     turn_other d (stored d s u r values) r.group r.request.number g (is_full (group_of d r.group) (length (group_at s r.group).rounds + 1)) (is_continuous (group_of d r.group)) lt ne
     ∙ group_other (with_round s u None) r.group (with_values (group_of d r.group) (group_at s r.group) values) g lt ne
 
-served_unit : (d : AdcDriver) (s : AdcState) (u v : ℕ) (r : Round) (values : List ℕ) (e : Seen) → ((v ≢ u) → on_unit v e ≡ false) → ((g : ℕ) → stops g e ≡ false)
+served_unit : (d : AdcTable) (s : AdcState) (u v : ℕ) (r : Round) (values : List ℕ) (e : Seen) → ((v ≢ u) → on_unit v e ≡ false) → ((g : ℕ) → stops g e ≡ false)
     → UnitGoes v e s (round_at s v) (round_at (served_values d s u r values) v)
 served_unit d s u v r values e none stop =
     subst (λ q. UnitGoes v e s (round_at s v) q)
@@ -107,7 +107,7 @@ served_unit d s u v r values e none stop =
     (freed_unit v u e s none stop)
 
 -- a group by whether the round is one of it
-round_group_goes : (d : AdcDriver) (w : World) (s : AdcState) (l received : ℕ) (r : Round) (g : ℕ) → is_unit_line l ≡ true → round_at s (l - 24) ≡ Some r → g < 16 → (r.group ≡ g) ⊎ (r.group ≢ g)
+round_group_goes : (d : AdcTable) (w : World) (s : AdcState) (l received : ℕ) (r : Round) (g : ℕ) → is_unit_line l ≡ true → round_at s (l - 24) ≡ Some r → g < 16 → (r.group ≡ g) ⊎ (r.group ≢ g)
     → GroupGoes d g (seen d w (Serves l received) s (served_round d w s (l - 24) (Some r))) s (group_at s g) (group_at (served_round d w s (l - 24) (Some r)).state g)
 round_group_goes d w s l received r g line at lt (inl same) =
     subst (λ k. GroupGoes d k (seen d w (Serves l received) s (served_round d w s (l - 24) (Some r))) s (group_at s k) (group_at (served_round d w s (l - 24) (Some r)).state k)) same
@@ -115,7 +115,7 @@ round_group_goes d w s l received r g line at lt (inl same) =
 round_group_goes d w s l received r g line at lt (inr ne) =
     left_group d g _ s _ _ refl (rw (line, at, other_number r.group g ne) refl) refl (rw (line, at, other_number r.group g ne) refl) (served_other d s (l - 24) g r (values_of w (group_of d r.group) r) lt (λ h. ne (sym h)))
 
-round_goes : (d : AdcDriver) (w : World) (s : AdcState) (l received : ℕ) (q : Option Round) → is_unit_line l ≡ true → round_at s (l - 24) ≡ q → Goes d w (Serves l received) s (served_round d w s (l - 24) q)
+round_goes : (d : AdcTable) (w : World) (s : AdcState) (l received : ℕ) (q : Option Round) → is_unit_line l ≡ true → round_at s (l - 24) ≡ q → Goes d w (Serves l received) s (served_round d w s (l - 24) q)
 round_goes d w s l received None line at = record {
   groups = λ g lt. left_group d g _ s _ _ refl (rw (line, at) refl) refl (rw (line, at) refl) refl;
   units = λ v. by_unit v (same_or_other v (l - 24));
@@ -135,7 +135,7 @@ round_goes d w s l received (Some r) line at = record {
 abbrev pulsed_state : AdcState → ℕ → AdcState
 pulsed_state s i = with_mark s i false
 
-requested_own : (d : AdcDriver) (g : ℕ) (e : Seen) (s t : AdcState) → g < 16 → requests g e ≡ true → serves g e ≡ false → begins g e ≡ false → group_at t g ≡ group_at s g
+requested_own : (d : AdcTable) (g : ℕ) (e : Seen) (s t : AdcState) → g < 16 → requests g e ≡ true → serves g e ≡ false → begins g e ≡ false → group_at t g ≡ group_at s g
     → GroupGoes d g e s (group_at s g) (group_at (requested t g) g)
 requested_own d g e s t lt request serve begin same =
     let made : GroupState = record (group_at t g) { waiting = Some (record { number = t.requests + 1; kept = [] }) } in
@@ -146,7 +146,7 @@ requested_own d g e s t lt request serve begin same =
     }
 
 -- the trigger's line of this group, where it has no turn
-trigger_group : (d : AdcDriver) (w : World) (s : AdcState) (l received h g : ℕ) → is_unit_line l ≡ false → listener d s (l - 28) ≡ Some h → has_turn s h ≡ false → g < 16 → (h ≡ g) ⊎ (h ≢ g)
+trigger_group : (d : AdcTable) (w : World) (s : AdcState) (l received h g : ℕ) → is_unit_line l ≡ false → listener d s (l - 28) ≡ Some h → has_turn s h ≡ false → g < 16 → (h ≡ g) ⊎ (h ≢ g)
     → GroupGoes d g (seen d w (Serves l received) s (outcome (requested (with_mark s (l - 28) false) h) tells_nothing)) s (group_at s g) (group_at (requested (with_mark s (l - 28) false) h) g)
 trigger_group d w s l received h g line at turn lt (inl same) =
     subst (λ k. GroupGoes d k (seen d w (Serves l received) s (outcome (requested (with_mark s (l - 28) false) h) tells_nothing)) s (group_at s k) (group_at (requested (with_mark s (l - 28) false) h) k)) same
@@ -154,7 +154,7 @@ trigger_group d w s l received h g line at turn lt (inl same) =
 trigger_group d w s l received h g line at turn lt (inr ne) =
     left_group d g _ s _ _ refl (rw line refl) refl (rw (line, at, turn, other_number h g ne) refl) (group_other (with_mark s (l - 28) false) h _ g lt (λ same. ne (sym same)))
 
-turn_goes : (d : AdcDriver) (w : World) (s : AdcState) (l received h : ℕ) (b : Bool) → is_unit_line l ≡ false → listener d s (l - 28) ≡ Some h → has_turn s h ≡ b
+turn_goes : (d : AdcTable) (w : World) (s : AdcState) (l received h : ℕ) (b : Bool) → is_unit_line l ≡ false → listener d s (l - 28) ≡ Some h → has_turn s h ≡ b
     → Goes d w (Serves l received) s (outcome (cond b (with_mark s (l - 28) false) (requested (with_mark s (l - 28) false) h)) tells_nothing)
 turn_goes d w s l received h true line at turn = record {
   groups = λ g lt. left_group d g _ s _ _ refl (rw line refl) refl (rw (line, at, turn) refl) refl;
@@ -165,7 +165,7 @@ turn_goes d w s l received h false line at turn = record {
   units = λ v. left_unit v _ s _ _ (rw line refl) (λ g. refl) refl;
 }
 
-trigger_goes : (d : AdcDriver) (w : World) (s : AdcState) (l received : ℕ) (o : Option ℕ) → is_unit_line l ≡ false → listener d s (l - 28) ≡ o
+trigger_goes : (d : AdcTable) (w : World) (s : AdcState) (l received : ℕ) (o : Option ℕ) → is_unit_line l ≡ false → listener d s (l - 28) ≡ o
     → Goes d w (Serves l received) s (outcome (requested_unless_turn (with_mark s (l - 28) false) o) tells_nothing)
 trigger_goes d w s l received None line at = record {
   groups = λ g lt. left_group d g _ s _ _ refl (rw line refl) refl (rw (line, at) refl) refl;
@@ -175,12 +175,12 @@ trigger_goes d w s l received (Some h) line at = turn_goes d w s l received h (h
 
 -- ---- servings
 
-serve_by : (d : AdcDriver) (w : World) (s : AdcState) (l received : ℕ) (b : Bool) → is_unit_line l ≡ b
+serve_by : (d : AdcTable) (w : World) (s : AdcState) (l received : ℕ) (b : Bool) → is_unit_line l ≡ b
     → Goes d w (Serves l received) s (cond b (served_round d w s (l - 24) (round_at s (l - 24))) (outcome (served_trigger d s (l - 28)) tells_nothing))
 serve_by d w s l received true line = round_goes d w s l received (round_at s (l - 24)) line refl
 serve_by d w s l received false line = trigger_goes d w s l received (listener d s (l - 28)) line refl
 
-pub serve_goes : (d : AdcDriver) (w : World) (s : AdcState) (l received : ℕ) (b : Bool) (out : Outcome AdcState) → cond b (Some (served d w s l)) None ≡ Some out → Goes d w (Serves l received) s out
+pub serve_goes : (d : AdcTable) (w : World) (s : AdcState) (l received : ℕ) (b : Bool) (out : Outcome AdcState) → cond b (Some (served d w s l)) None ≡ Some out → Goes d w (Serves l received) s out
 serve_goes d w s l received true out e = went (Goes d w (Serves l received) s) (served d w s l) out e (serve_by d w s l received (is_unit_line l) refl)
 serve_goes d w s l received false out e = absurd (cc e)
 
@@ -194,14 +194,14 @@ pub both : (a b : Bool) → (a && b) ≡ true → (a ≡ true) × (b ≡ true)
 both true b e = (refl, e)
 both false b e = absurd (cc e)
 
-known_below : (d : AdcDriver) (u g : ℕ) → is_on u (group_of d g) ≡ true → g < 16
+known_below : (d : AdcTable) (u g : ℕ) → is_on u (group_of d g) ≡ true → g < 16
 known_below d u g on = by_test (nat_lt g 16) refl on
   where
     by_test : (b : Bool) → nat_lt g 16 ≡ b → is_on u (if b then slice_index_or d.groups g None else None) ≡ true → g < 16
     by_test true e f = grind (arith, nat_tests)
     by_test false e f = absurd (cc f)
 
-start_group : (d : AdcDriver) (w : World) (s : AdcState) (unit : units.Unit) (received u h g : ℕ) → number_of unit ≡ Some u → starts d s u ≡ Some h → g < 16 → (h ≡ g) ⊎ (h ≢ g)
+start_group : (d : AdcTable) (w : World) (s : AdcState) (unit : units.Unit) (received u h g : ℕ) → number_of unit ≡ Some u → starts d s u ≡ Some h → g < 16 → (h ≡ g) ⊎ (h ≢ g)
     → GroupGoes d g (seen d w (Starts unit received) s (outcome (started w s u h) tells_nothing)) s (group_at s g) (group_at (started w s u h) g)
 start_group d w s unit received u h g num at lt (inl same) =
     let own : group_at (started w s u g) g ≡ record (group_at s g) { waiting = None } = group_same s g (record (group_at s g) { waiting = None }) lt in
@@ -234,7 +234,7 @@ start_unit w e s u zero h none stop waits lt start now = start_by w e s u 0 h (r
 start_unit w e s u (suc zero) h none stop waits lt start now = start_by w e s u 1 h (round_at s 1) none stop waits lt start now
 start_unit w e s u (suc (suc v)) h none stop waits lt start now = Freed refl
 
-starting_goes : (d : AdcDriver) (w : World) (s : AdcState) (unit : units.Unit) (received u : ℕ) (o : Option ℕ) (out : Outcome AdcState) → number_of unit ≡ Some u → starts d s u ≡ o
+starting_goes : (d : AdcTable) (w : World) (s : AdcState) (unit : units.Unit) (received u : ℕ) (o : Option ℕ) (out : Outcome AdcState) → number_of unit ≡ Some u → starts d s u ≡ o
     → starting w s u o ≡ Some out → Goes d w (Starts unit received) s out
 starting_goes d w s unit received u None out num at e = absurd (cc e)
 starting_goes d w s unit received u (Some h) out num at e =
@@ -244,13 +244,13 @@ starting_goes d w s unit received u (Some h) out num at e =
       units = λ v. start_unit w _ s u v h (λ ne. rw (num, other_number u v (λ k. ne (sym k))) refl) (λ g. refl) waits.1 (known_below d u h waits.0) (rw (num, at, same_number u, same_number h) refl) refl;
     })
 
-pub start_goes : (d : AdcDriver) (w : World) (s : AdcState) (unit : units.Unit) (received : ℕ) (o : Option ℕ) (out : Outcome AdcState) → number_of unit ≡ o → starts_on d w s o ≡ Some out → Goes d w (Starts unit received) s out
+pub start_goes : (d : AdcTable) (w : World) (s : AdcState) (unit : units.Unit) (received : ℕ) (o : Option ℕ) (out : Outcome AdcState) → number_of unit ≡ o → starts_on d w s o ≡ Some out → Goes d w (Starts unit received) s out
 start_goes d w s unit received None out num e = absurd (cc e)
 start_goes d w s unit received (Some u) out num e = starting_goes d w s unit received u (starts d s u) out num refl e
 
 -- ---- aborts
 
-abort_group : (d : AdcDriver) (w : World) (s : AdcState) (unit : units.Unit) (u : ℕ) (r : Round) (g : ℕ) → number_of unit ≡ Some u → round_at s u ≡ Some r → g < 16 → (r.group ≡ g) ⊎ (r.group ≢ g)
+abort_group : (d : AdcTable) (w : World) (s : AdcState) (unit : units.Unit) (u : ℕ) (r : Round) (g : ℕ) → number_of unit ≡ Some u → round_at s u ≡ Some r → g < 16 → (r.group ≡ g) ⊎ (r.group ≢ g)
     → GroupGoes d g (seen d w (Aborts unit) s (outcome (aborted d w s u r) tells_nothing)) s (group_at s g) (group_at (aborted d w s u r) g)
 abort_group d w s unit u r g num at lt (inl same) =
     let back : GroupState = record (group_at s r.group) { waiting = Some (record { number = r.request.number; kept = kept_of w (group_of d r.group) r }) } in
@@ -262,7 +262,7 @@ abort_group d w s unit u r g num at lt (inl same) =
     })
 abort_group d w s unit u r g num at lt (inr ne) = left_group d g _ s _ _ refl refl refl (rw (num, at, other_number r.group g ne) refl) (group_other s r.group _ g lt (λ same. ne (sym same)))
 
-aborting_goes : (d : AdcDriver) (w : World) (s : AdcState) (unit : units.Unit) (u : ℕ) (o : Option Round) (out : Outcome AdcState) → number_of unit ≡ Some u → aborts d w s u ≡ o
+aborting_goes : (d : AdcTable) (w : World) (s : AdcState) (unit : units.Unit) (u : ℕ) (o : Option Round) (out : Outcome AdcState) → number_of unit ≡ Some u → aborts d w s u ≡ o
     → aborting d w s u o ≡ Some out → Goes d w (Aborts unit) s out
 aborting_goes d w s unit u None out num at e = absurd (cc e)
 aborting_goes d w s unit u (Some r) out num at e =
@@ -272,21 +272,21 @@ aborting_goes d w s unit u (Some r) out num at e =
       units = λ v. freed_unit v u _ s (λ ne. rw (num, other_number u v (λ k. ne (sym k))) refl) (λ g. refl);
     })
 
-pub abort_goes : (d : AdcDriver) (w : World) (s : AdcState) (unit : units.Unit) (o : Option ℕ) (out : Outcome AdcState) → number_of unit ≡ o → aborts_on d w s o ≡ Some out → Goes d w (Aborts unit) s out
+pub abort_goes : (d : AdcTable) (w : World) (s : AdcState) (unit : units.Unit) (o : Option ℕ) (out : Outcome AdcState) → number_of unit ≡ o → aborts_on d w s o ≡ Some out → Goes d w (Aborts unit) s out
 abort_goes d w s unit None out num e = absurd (cc e)
 abort_goes d w s unit (Some u) out num e = aborting_goes d w s unit u (aborts d w s u) out num refl e
 
 -- ---- all else
 
-pulse_goes : (d : AdcDriver) (w : World) (s : AdcState) (order : Order) (i : ℕ) (b : Bool) → Goes d w (Moves order) s (outcome (cond b (with_mark s i true) s) tells_nothing)
+pulse_goes : (d : AdcTable) (w : World) (s : AdcState) (order : Order) (i : ℕ) (b : Bool) → Goes d w (Moves order) s (outcome (cond b (with_mark s i true) s) tells_nothing)
 pulse_goes d w s order i true = record { groups = λ g lt. left_group d g _ s _ _ refl refl refl refl refl; units = λ v. left_unit v _ s _ _ refl (λ g. refl) refl }
 pulse_goes d w s order i false = record { groups = λ g lt. left_group d g _ s _ _ refl refl refl refl refl; units = λ v. left_unit v _ s _ _ refl (λ g. refl) refl }
 
-moved_goes : (d : AdcDriver) (w : World) (s : AdcState) (order : Order) → Goes d w (Moves order) s (outcome (moved d s order) tells_nothing)
+moved_goes : (d : AdcTable) (w : World) (s : AdcState) (order : Order) → Goes d w (Moves order) s (outcome (moved d s order) tells_nothing)
 moved_goes d w s (orders.Trigger i) = pulse_goes d w s (orders.Trigger i) i (is_some (listener d s i))
 moved_goes d w s order = record { groups = λ g lt. left_group d g _ s _ _ refl refl refl refl refl; units = λ v. left_unit v _ s _ _ refl (λ g. refl) refl }
 
-pub happens_goes : (d : AdcDriver) (w : World) (s : AdcState) (h : Happening Call) (out : Outcome AdcState) → happens d w s h ≡ Some out → Goes d w h s out
+pub happens_goes : (d : AdcTable) (w : World) (s : AdcState) (h : Happening Call) (out : Outcome AdcState) → happens d w s h ≡ Some out → Goes d w h s out
 happens_goes d w s (Acts call times) out e = went (Goes d w (Acts call times) s) (acts d s call) out e (act_goes d w s call times)
 happens_goes d w s (Serves l received) out e = serve_goes d w s l received (ready d w s l) out e
 happens_goes d w s (Starts u received) out e = start_goes d w s u received (number_of u) out refl e

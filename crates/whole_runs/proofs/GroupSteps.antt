@@ -4,19 +4,19 @@ use Rattle.std.proofs.lemmas.Bool.Decides.{nat_tests}
 use Rattle.mcal_base.specs.declared.error_name.ErrorName.{ErrorName}
 use Rattle.run_model.specs.World.{World}
 use Rattle.run_model.specs.Machine.{Happening, Acts, Outcome}
-use Rattle.adc_groups.specs.Checks.{error_by}
-use Rattle.adc_groups.specs.Groups.{Status, Idle, Busy, Completed, StreamCompleted, GroupState, Request, Round, untouched, trigger_input, status_read, ends_with_stream, values_of}
-use Rattle.adc_groups.specs.Machine.{acts, acts_by, group_work, circumstances, closed, begun_stream, stopped, reads, read_from, points}
-use Rattle.adc_groups.specs.Table.{group_of}
-use Rattle.adc_groups.specs.Turns.{AdcState, group_at, round_at, kept_of, unless_of}
-use Rattle.adc_groups.specs.declared.call.Call.{Call}
-use Rattle.adc_groups.specs.declared.call.Call.TheVariants.{Init, DeInit, Group}
-use Rattle.adc_groups.specs.declared.call.GroupCall.{GroupCall}
-use Rattle.adc_groups.specs.declared.call.GroupCall.TheVariants.{SetupResultBuffer, StartGroupConversion, StopGroupConversion, ReadGroup, EnableHardwareTrigger, DisableHardwareTrigger, Notification, GetGroupStatus, GetStreamLastPointer}
-use Rattle.adc_groups.specs.declared.driver.AdcDriver.{AdcDriver}
-use Rattle.adc_groups.proofs.Others.{other_group}
-use Rattle.adc_groups.proofs.Parts.{of_group, group_same}
-use Rattle.adc_groups.proofs.Stopped.{unmarked_group, unmarked_round, quiet, idle, off}
+use Rattle.adc_machine.specs.Checks.{error_by}
+use Rattle.adc_machine.specs.Groups.{Status, Idle, Busy, Completed, StreamCompleted, GroupState, Request, Round, untouched, trigger_input, status_read, ends_with_stream, values_of}
+use Rattle.adc_machine.specs.Machine.{acts, acts_by, group_work, circumstances, closed, begun_stream, stopped, reads, read_from, points}
+use Rattle.adc_machine.specs.Table.{group_of}
+use Rattle.adc_machine.specs.Turns.{AdcState, group_at, round_at, kept_of, unless_of}
+use Rattle.adc_machine.specs.declared.call.Call.{Call}
+use Rattle.adc_machine.specs.declared.call.Call.TheVariants.{Init, DeInit, Group}
+use Rattle.adc_machine.specs.declared.call.GroupCall.{GroupCall}
+use Rattle.adc_machine.specs.declared.call.GroupCall.TheVariants.{SetupResultBuffer, StartGroupConversion, StopGroupConversion, ReadGroup, EnableHardwareTrigger, DisableHardwareTrigger, Notification, GetGroupStatus, GetStreamLastPointer}
+use Rattle.adc_machine.specs.declared.table.AdcTable.{AdcTable}
+use Rattle.adc_machine.proofs.Others.{other_group}
+use Rattle.adc_machine.proofs.Parts.{of_group, group_same}
+use Rattle.adc_machine.proofs.Stopped.{unmarked_group, unmarked_round, quiet, idle, off}
 use Rattle.whole_runs.specs.GroupRuns.{Seen, seen_between, stops, begins, requests, starts_on as starts_of, aborts_on as aborts_of, serves_on, serves, is_on as on_unit, touches, call_by, is_start, is_enabling, is_stop, is_whole}
 
 -- ---- what an event may do
@@ -29,7 +29,7 @@ is_completed Completed = true
 is_completed StreamCompleted = true
 
 -- what an event does to the request of a group
-pub data WaitGoes (d : AdcDriver) (g : ℕ) (e : Seen) (s : AdcState) (x y : GroupState) : Type 0 where
+pub data WaitGoes (d : AdcTable) (g : ℕ) (e : Seen) (s : AdcState) (x y : GroupState) : Type 0 where
   Stands : stops g e ≡ false → touches g e ≡ false → y.waiting ≡ x.waiting → WaitGoes d g e s x y
   Over : (u : ℕ) (r : Round) → serves_on u g e ≡ true → round_at s u ≡ Some r → r.group ≡ g → y.waiting ≡ x.waiting → WaitGoes d g e s x y
   Made : (n : ℕ) → requests g e ≡ true → y.waiting ≡ Some (record { number = n; kept = [] }) → WaitGoes d g e s x y
@@ -39,12 +39,12 @@ pub data WaitGoes (d : AdcDriver) (g : ℕ) (e : Seen) (s : AdcState) (x y : Gro
   Dropped : y.waiting ≡ None → WaitGoes d g e s x y
 
 -- what it does to the rounds of a group
-pub data RoundsGo (d : AdcDriver) (g : ℕ) (e : Seen) (s : AdcState) (x y : GroupState) : Type 0 where
+pub data RoundsGo (d : AdcTable) (g : ℕ) (e : Seen) (s : AdcState) (x y : GroupState) : Type 0 where
   Same : serves g e ≡ false → begins g e ≡ false → y.rounds ≡ x.rounds → (is_completed y.status ≡ true → is_completed x.status ≡ true) → RoundsGo d g e s x y
   Added : (u : ℕ) (r : Round) → serves_on u g e ≡ true → round_at s u ≡ Some r → r.group ≡ g → y.rounds ≡ x.rounds ++ values_of e.world (group_of d g) r ∷ [] → RoundsGo d g e s x y
   Cleared : begins g e ≡ true → y.rounds ≡ [] → is_completed y.status ≡ false → RoundsGo d g e s x y
 
-pub record GroupGoes (d : AdcDriver) (g : ℕ) (e : Seen) (s : AdcState) (x y : GroupState) : Type 0 where
+pub record GroupGoes (d : AdcTable) (g : ℕ) (e : Seen) (s : AdcState) (x y : GroupState) : Type 0 where
   pub waiting : WaitGoes d g e s x y
   pub rounds : RoundsGo d g e s x y
 
@@ -55,10 +55,10 @@ pub data UnitGoes (u : ℕ) (e : Seen) (s : AdcState) (p q : Option Round) : Typ
   Freed : q ≡ None → UnitGoes u e s p q
 
 -- an event as it is seen where it is allowed
-abbrev pub seen : AdcDriver → World → Happening Call → AdcState → Outcome AdcState → Seen
+abbrev pub seen : AdcTable → World → Happening Call → AdcState → Outcome AdcState → Seen
 seen d w h s out = seen_between d s out.state (record { world = w; what = h }) out.told
 
-pub record Goes (d : AdcDriver) (w : World) (h : Happening Call) (s : AdcState) (out : Outcome AdcState) : Type 0 where
+pub record Goes (d : AdcTable) (w : World) (h : Happening Call) (s : AdcState) (out : Outcome AdcState) : Type 0 where
   pub groups : (g : ℕ) → g < 16 → GroupGoes d g (seen d w h s out) s (group_at s g) (group_at out.state g)
   pub units : (u : ℕ) → UnitGoes u (seen d w h s out) s (round_at s u) (round_at out.state u)
 
@@ -79,11 +79,11 @@ same_or_other n m = by_test (n == m) refl
 
 -- ---- groups that an event leaves
 
-pub same_group : (d : AdcDriver) (g : ℕ) (e : Seen) (s : AdcState) (x y : GroupState) → stops g e ≡ false → serves g e ≡ false → begins g e ≡ false → touches g e ≡ false → y.waiting ≡ x.waiting → y.rounds ≡ x.rounds
+pub same_group : (d : AdcTable) (g : ℕ) (e : Seen) (s : AdcState) (x y : GroupState) → stops g e ≡ false → serves g e ≡ false → begins g e ≡ false → touches g e ≡ false → y.waiting ≡ x.waiting → y.rounds ≡ x.rounds
     → (is_completed y.status ≡ true → is_completed x.status ≡ true) → GroupGoes d g e s x y
 same_group d g e s x y stop serve begin touch waiting rounds status = record { waiting = Stands stop touch waiting; rounds = Same serve begin rounds status }
 
-pub left_group : (d : AdcDriver) (g : ℕ) (e : Seen) (s : AdcState) (x y : GroupState) → stops g e ≡ false → serves g e ≡ false → begins g e ≡ false → touches g e ≡ false → y ≡ x → GroupGoes d g e s x y
+pub left_group : (d : AdcTable) (g : ℕ) (e : Seen) (s : AdcState) (x y : GroupState) → stops g e ≡ false → serves g e ≡ false → begins g e ≡ false → touches g e ≡ false → y ≡ x → GroupGoes d g e s x y
 left_group d g e s x y stop serve begin touch same =
     same_group d g e s x y stop serve begin touch (ap (λ (z : GroupState). z.waiting) same) (ap (λ (z : GroupState). z.rounds) same) (λ h. ap (λ (z : GroupState). is_completed z.status) (sym same) ∙ h)
 
@@ -113,10 +113,10 @@ calls_other g h GetGroupStatus None times ne = (refl, refl, refl)
 calls_other g h GetStreamLastPointer None times ne = (refl, refl, refl)
 
 -- what a call without an error does to its own group
-abbrev Own : AdcDriver → World → AdcState → ℕ → GroupCall → (ℕ → ℕ) → Outcome AdcState → Type 0
+abbrev Own : AdcTable → World → AdcState → ℕ → GroupCall → (ℕ → ℕ) → Outcome AdcState → Type 0
 Own d w s g call times out = GroupGoes d g (seen d w (Acts (Group g call) times) s out) s (group_at s g) (group_at out.state g)
 
-pub changed_group : (d : AdcDriver) (g : ℕ) (e : Seen) (s : AdcState) (x y z : GroupState) → stops g e ≡ false → serves g e ≡ false → begins g e ≡ false → touches g e ≡ false → y ≡ z → z.waiting ≡ x.waiting → z.rounds ≡ x.rounds
+pub changed_group : (d : AdcTable) (g : ℕ) (e : Seen) (s : AdcState) (x y z : GroupState) → stops g e ≡ false → serves g e ≡ false → begins g e ≡ false → touches g e ≡ false → y ≡ z → z.waiting ≡ x.waiting → z.rounds ≡ x.rounds
     → (is_completed z.status ≡ true → is_completed x.status ≡ true) → GroupGoes d g e s x y
 changed_group d g e s x y z stop serve begin touch same waiting rounds status =
     subst (λ a. GroupGoes d g e s x a) (sym same) (same_group d g e s x z stop serve begin touch waiting rounds status)
@@ -132,21 +132,21 @@ read_none false Completed = refl
 read_none false StreamCompleted = refl
 
 -- a group whose newest round was read
-abbrev pub read_group : AdcDriver → AdcState → ℕ → GroupState
+abbrev pub read_group : AdcTable → AdcState → ℕ → GroupState
 read_group d s g = record (group_at s g) { status = status_read (ends_with_stream (group_of d g)) (group_at s g).status }
 
-read_own : (d : AdcDriver) (g : ℕ) (e : Seen) (s : AdcState) → g < 16 → stops g e ≡ false → serves g e ≡ false → begins g e ≡ false → touches g e ≡ false → GroupGoes d g e s (group_at s g) (group_at (read_from d s g) g)
+read_own : (d : AdcTable) (g : ℕ) (e : Seen) (s : AdcState) → g < 16 → stops g e ≡ false → serves g e ≡ false → begins g e ≡ false → touches g e ≡ false → GroupGoes d g e s (group_at s g) (group_at (read_from d s g) g)
 read_own d g e s lt stop serve begin touch =
     changed_group d g e s (group_at s g) (group_at (read_from d s g) g) (read_group d s g) stop serve begin touch (group_same s g (read_group d s g) lt) refl refl
     (λ h. not_so (is_completed (read_group d s g).status) (is_completed (group_at s g).status) (read_none (ends_with_stream (group_of d g)) (group_at s g).status) h)
 
-reads_own : (d : AdcDriver) (w : World) (s : AdcState) (g : ℕ) (times : ℕ → ℕ) (x : Status) → g < 16 → Own d w s g ReadGroup times (reads d s g x)
+reads_own : (d : AdcTable) (w : World) (s : AdcState) (g : ℕ) (times : ℕ → ℕ) (x : Status) → g < 16 → Own d w s g ReadGroup times (reads d s g x)
 reads_own d w s g times Idle lt = read_own d g _ s lt refl refl refl refl
 reads_own d w s g times Busy lt = left_group d g _ s _ _ refl refl refl refl refl
 reads_own d w s g times Completed lt = read_own d g _ s lt refl refl refl refl
 reads_own d w s g times StreamCompleted lt = read_own d g _ s lt refl refl refl refl
 
-points_own : (d : AdcDriver) (w : World) (s : AdcState) (g : ℕ) (times : ℕ → ℕ) (x : Status) → g < 16 → Own d w s g GetStreamLastPointer times (points d s g x)
+points_own : (d : AdcTable) (w : World) (s : AdcState) (g : ℕ) (times : ℕ → ℕ) (x : Status) → g < 16 → Own d w s g GetStreamLastPointer times (points d s g x)
 points_own d w s g times Idle lt = read_own d g _ s lt refl refl refl refl
 points_own d w s g times Busy lt = left_group d g _ s _ _ refl refl refl refl refl
 points_own d w s g times Completed lt = read_own d g _ s lt refl refl refl refl
@@ -159,18 +159,18 @@ begun_group s g trigger = record (group_at s g) { status = Busy; rounds = []; tr
 abbrev pub stopped_group : GroupState → GroupState
 stopped_group x = record x { status = Idle; notification = false; waiting = None; trigger = false }
 
-pub stopped_is : (d : AdcDriver) (s : AdcState) (g : ℕ) → g < 16 → group_at (stopped d s g) g ≡ stopped_group (group_at s g)
+pub stopped_is : (d : AdcTable) (s : AdcState) (g : ℕ) → g < 16 → group_at (stopped d s g) g ≡ stopped_group (group_at s g)
 stopped_is d s g lt =
     unmarked_group (off s g) g (trigger_input (group_of d g))
     ∙ group_same (idle s g) g (record (group_at (idle s g) g) { trigger = false }) lt
     ∙ ap (λ (x : GroupState). record x { trigger = false }) (group_same (quiet s g) g (record (group_at (quiet s g) g) { waiting = None }) lt)
     ∙ ap (λ (x : GroupState). record x { waiting = None; trigger = false }) (group_same s g (record (group_at s g) { status = Idle; notification = false }) lt)
 
-stopped_own : (d : AdcDriver) (g : ℕ) (e : Seen) (s : AdcState) → g < 16 → serves g e ≡ false → begins g e ≡ false → GroupGoes d g e s (group_at s g) (group_at (stopped d s g) g)
+stopped_own : (d : AdcTable) (g : ℕ) (e : Seen) (s : AdcState) → g < 16 → serves g e ≡ false → begins g e ≡ false → GroupGoes d g e s (group_at s g) (group_at (stopped d s g) g)
 stopped_own d g e s lt serve begin =
     subst (λ a. GroupGoes d g e s (group_at s g) a) (sym (stopped_is d s g lt)) (record { waiting = Dropped refl; rounds = Same serve begin refl (λ h. not_so false (is_completed (group_at s g).status) refl h) })
 
-work_own : (d : AdcDriver) (w : World) (s : AdcState) (g : ℕ) (call : GroupCall) (times : ℕ → ℕ) → g < 16 → Own d w s g call times (group_work d s g call)
+work_own : (d : AdcTable) (w : World) (s : AdcState) (g : ℕ) (call : GroupCall) (times : ℕ → ℕ) → g < 16 → Own d w s g call times (group_work d s g call)
 work_own d w s g (SetupResultBuffer b) times lt = changed_group d g _ s _ _ (record (group_at s g) { chosen = b }) refl refl refl refl (group_same s g (record (group_at s g) { chosen = b }) lt) refl refl (λ h. h)
 work_own d w s g StartGroupConversion times lt = record {
   waiting = Made (s.requests + 1) (rw (same_number g) refl) (ap (λ (x : GroupState). x.waiting) (group_same (begun_stream s g false) g made lt));
@@ -192,15 +192,15 @@ work_own d w s g (Notification on) times lt = changed_group d g _ s _ _ (record 
 work_own d w s g GetGroupStatus times lt = left_group d g _ s _ _ refl refl refl refl refl
 work_own d w s g GetStreamLastPointer times lt = points_own d w s g times (group_at s g).status lt
 
-own_by : (d : AdcDriver) (w : World) (s : AdcState) (g : ℕ) (call : GroupCall) (times : ℕ → ℕ) (o : Option ErrorName) → g < 16 → Own d w s g call times (acts_by d s (Group g call) o)
+own_by : (d : AdcTable) (w : World) (s : AdcState) (g : ℕ) (call : GroupCall) (times : ℕ → ℕ) (o : Option ErrorName) → g < 16 → Own d w s g call times (acts_by d s (Group g call) o)
 own_by d w s g call times None lt = work_own d w s g call times lt
 own_by d w s g call times (Some x) lt = left_group d g _ s _ _ refl refl refl refl refl
 
 -- what a call about a group does to any group
-abbrev acted : AdcDriver → AdcState → ℕ → GroupCall → Outcome AdcState
+abbrev acted : AdcTable → AdcState → ℕ → GroupCall → Outcome AdcState
 acted d s h call = acts d s (Group h call)
 
-any_group : (d : AdcDriver) (w : World) (s : AdcState) (g h : ℕ) (call : GroupCall) (times : ℕ → ℕ) → g < 16 → (h ≡ g) ⊎ (h ≢ g)
+any_group : (d : AdcTable) (w : World) (s : AdcState) (g h : ℕ) (call : GroupCall) (times : ℕ → ℕ) → g < 16 → (h ≡ g) ⊎ (h ≢ g)
     → GroupGoes d g (seen d w (Acts (Group h call) times) s (acted d s h call)) s (group_at s g) (group_at (acted d s h call).state g)
 any_group d w s g h call times lt (inl same) =
     subst (λ k. GroupGoes d g (seen d w (Acts (Group k call) times) s (acted d s k call)) s (group_at s g) (group_at (acted d s k call).state g)) (sym same)
@@ -226,7 +226,7 @@ unless_unit u h e s (Some r) none stop = by_test (r.group == h) refl
         differ : (x : Round) → Some r ≡ Some x → h ≡ x.group → ⊥
         differ x is same = let one : r ≡ x = cc in let at_one : (x.group == h) ≡ false = rw (← one) at in grind (arith, nat_tests, same, at_one)
 
-stopped_unit : (d : AdcDriver) (u h : ℕ) (e : Seen) (s : AdcState) → on_unit u e ≡ false → ((g : ℕ) → h ≢ g → stops g e ≡ false) → UnitGoes u e s (round_at s u) (round_at (stopped d s h) u)
+stopped_unit : (d : AdcTable) (u h : ℕ) (e : Seen) (s : AdcState) → on_unit u e ≡ false → ((g : ℕ) → h ≢ g → stops g e ≡ false) → UnitGoes u e s (round_at s u) (round_at (stopped d s h) u)
 stopped_unit d u h e s none stop = subst (λ q. UnitGoes u e s (round_at s u) q) (sym (unmarked_round (off s h) u (trigger_input (group_of d h)))) (by_unit u none)
   where
     by_unit : (v : ℕ) → on_unit v e ≡ false → UnitGoes v e s (round_at s v) (round_at (off s h) v)
@@ -234,19 +234,19 @@ stopped_unit d u h e s none stop = subst (λ q. UnitGoes u e s (round_at s u) q)
     by_unit (suc zero) none = unless_unit 1 h e s (round_at s 1) none stop
     by_unit (suc (suc v)) none = Freed refl
 
-reads_unit : (d : AdcDriver) (w : World) (s : AdcState) (h u : ℕ) (times : ℕ → ℕ) (x : Status) → UnitGoes u (seen d w (Acts (Group h ReadGroup) times) s (reads d s h x)) s (round_at s u) (round_at (reads d s h x).state u)
+reads_unit : (d : AdcTable) (w : World) (s : AdcState) (h u : ℕ) (times : ℕ → ℕ) (x : Status) → UnitGoes u (seen d w (Acts (Group h ReadGroup) times) s (reads d s h x)) s (round_at s u) (round_at (reads d s h x).state u)
 reads_unit d w s h u times Idle = left_unit u _ s _ _ refl (λ g. refl) refl
 reads_unit d w s h u times Busy = left_unit u _ s _ _ refl (λ g. refl) refl
 reads_unit d w s h u times Completed = left_unit u _ s _ _ refl (λ g. refl) refl
 reads_unit d w s h u times StreamCompleted = left_unit u _ s _ _ refl (λ g. refl) refl
 
-points_unit : (d : AdcDriver) (w : World) (s : AdcState) (h u : ℕ) (times : ℕ → ℕ) (x : Status) → UnitGoes u (seen d w (Acts (Group h GetStreamLastPointer) times) s (points d s h x)) s (round_at s u) (round_at (points d s h x).state u)
+points_unit : (d : AdcTable) (w : World) (s : AdcState) (h u : ℕ) (times : ℕ → ℕ) (x : Status) → UnitGoes u (seen d w (Acts (Group h GetStreamLastPointer) times) s (points d s h x)) s (round_at s u) (round_at (points d s h x).state u)
 points_unit d w s h u times Idle = left_unit u _ s _ _ refl (λ g. refl) refl
 points_unit d w s h u times Busy = left_unit u _ s _ _ refl (λ g. refl) refl
 points_unit d w s h u times Completed = left_unit u _ s _ _ refl (λ g. refl) refl
 points_unit d w s h u times StreamCompleted = left_unit u _ s _ _ refl (λ g. refl) refl
 
-work_unit : (d : AdcDriver) (w : World) (s : AdcState) (h u : ℕ) (call : GroupCall) (times : ℕ → ℕ) → UnitGoes u (seen d w (Acts (Group h call) times) s (group_work d s h call)) s (round_at s u) (round_at (group_work d s h call).state u)
+work_unit : (d : AdcTable) (w : World) (s : AdcState) (h u : ℕ) (call : GroupCall) (times : ℕ → ℕ) → UnitGoes u (seen d w (Acts (Group h call) times) s (group_work d s h call)) s (round_at s u) (round_at (group_work d s h call).state u)
 work_unit d w s h u (SetupResultBuffer b) times = left_unit u _ s _ _ refl (λ g. refl) refl
 work_unit d w s h u StartGroupConversion times = left_unit u _ s _ _ refl (λ g. refl) refl
 work_unit d w s h u EnableHardwareTrigger times = left_unit u _ s _ _ refl (λ g. refl) refl
@@ -257,21 +257,21 @@ work_unit d w s h u (Notification on) times = left_unit u _ s _ _ refl (λ g. re
 work_unit d w s h u GetGroupStatus times = left_unit u _ s _ _ refl (λ g. refl) refl
 work_unit d w s h u GetStreamLastPointer times = points_unit d w s h u times (group_at s h).status
 
-any_unit : (d : AdcDriver) (w : World) (s : AdcState) (h u : ℕ) (call : GroupCall) (times : ℕ → ℕ) (o : Option ErrorName)
+any_unit : (d : AdcTable) (w : World) (s : AdcState) (h u : ℕ) (call : GroupCall) (times : ℕ → ℕ) (o : Option ErrorName)
     → UnitGoes u (seen d w (Acts (Group h call) times) s (acts_by d s (Group h call) o)) s (round_at s u) (round_at (acts_by d s (Group h call) o).state u)
 any_unit d w s h u call times None = work_unit d w s h u call times
 any_unit d w s h u call times (Some x) = left_unit u _ s _ _ refl (λ g. refl) refl
 
 -- ---- acts
 
-whole_by : (d : AdcDriver) (w : World) (s : AdcState) (times : ℕ → ℕ) (o : Option ErrorName) → Goes d w (Acts Init times) s (acts_by d s Init o)
+whole_by : (d : AdcTable) (w : World) (s : AdcState) (times : ℕ → ℕ) (o : Option ErrorName) → Goes d w (Acts Init times) s (acts_by d s Init o)
 whole_by d w s times None = record { groups = λ g lt. record { waiting = Dropped refl; rounds = Cleared refl refl refl }; units = λ u. Freed refl }
 whole_by d w s times (Some x) = record { groups = λ g lt. left_group d g _ s _ _ refl refl refl refl refl; units = λ u. left_unit u _ s _ _ refl (λ g. refl) refl }
 
 pub closed_group : (s : AdcState) (g : ℕ) → g < 16 → group_at (closed s) g ≡ record untouched { chosen = (group_at s g).chosen }
 closed_group s g lt = of_group (λ h. record untouched { chosen = (group_at s h).chosen }) g lt
 
-end_by : (d : AdcDriver) (w : World) (s : AdcState) (times : ℕ → ℕ) (o : Option ErrorName) → Goes d w (Acts DeInit times) s (acts_by d s DeInit o)
+end_by : (d : AdcTable) (w : World) (s : AdcState) (times : ℕ → ℕ) (o : Option ErrorName) → Goes d w (Acts DeInit times) s (acts_by d s DeInit o)
 end_by d w s times None = record {
   groups = λ g lt. record {
     waiting = Dropped (ap (λ (x : GroupState). x.waiting) (closed_group s g lt));
@@ -281,7 +281,7 @@ end_by d w s times None = record {
 }
 end_by d w s times (Some x) = record { groups = λ g lt. left_group d g _ s _ _ refl refl refl refl refl; units = λ u. left_unit u _ s _ _ refl (λ g. refl) refl }
 
-pub act_goes : (d : AdcDriver) (w : World) (s : AdcState) (call : Call) (times : ℕ → ℕ) → Goes d w (Acts call times) s (acts d s call)
+pub act_goes : (d : AdcTable) (w : World) (s : AdcState) (call : Call) (times : ℕ → ℕ) → Goes d w (Acts call times) s (acts d s call)
 act_goes d w s Init times = whole_by d w s times (error_by d Init (circumstances d s Init))
 act_goes d w s DeInit times = end_by d w s times (error_by d DeInit (circumstances d s DeInit))
 act_goes d w s (Group h call) times = record {

@@ -10,16 +10,16 @@ use Rattle.mcal_base.specs.declared.moves.Unit as units
 use Rattle.run_model.specs.Frame.{state_by}
 use Rattle.run_model.specs.World.{World}
 use Rattle.run_model.specs.Machine.{Happening, Acts, Serves, Starts, Aborts, Moves, Restarts, Outcome}
-use Rattle.spi_sequences.specs.Laws.{HasPriorities, IsNext, Yields, ToStarted, ToPriority, ToEarlier}
-use Rattle.spi_sequences.specs.Machine.{spi_machine, start_by, next_at, number_of}
-use Rattle.spi_sequences.specs.Pending as lists
-use Rattle.spi_sequences.specs.Pending.{Pending, is_of as is_entry, is_for, changed, without, starts, goes_to_next, cancels, next_job, keeps_unit, priority_of, requested, sequence_result}
-use Rattle.spi_sequences.specs.State.{SpiState, first_state}
-use Rattle.spi_sequences.specs.Table.{jobs_of, job_of, sequence_of, priority_by, is_interruptible, is_on_unit}
-use Rattle.spi_sequences.specs.declared.call.Call.{Call}
-use Rattle.spi_sequences.specs.declared.driver.SpiDriver.{SpiDriver}
-use Rattle.spi_sequences.proofs.Best.{next_is}
-use Rattle.spi_sequences.proofs.Runs.{start-on}
+use Rattle.spi_machine.specs.Promised.{HasPriorities, IsNext, Yields, ToStarted, ToPriority, ToEarlier}
+use Rattle.spi_machine.specs.Machine.{spi_machine, start_by, next_at, number_of}
+use Rattle.spi_machine.specs.Pending as lists
+use Rattle.spi_machine.specs.Pending.{Pending, is_of as is_entry, is_for, changed, without, starts, goes_to_next, cancels, next_job, keeps_unit, priority_of, requested, sequence_result}
+use Rattle.spi_machine.specs.State.{SpiState, first_state}
+use Rattle.spi_machine.specs.Table.{jobs_of, job_of, sequence_of, priority_by, is_interruptible, is_on_unit}
+use Rattle.spi_machine.specs.declared.call.Call.{Call}
+use Rattle.spi_machine.specs.declared.table.SpiTable.{SpiTable}
+use Rattle.spi_machine.proofs.Best.{next_is}
+use Rattle.spi_machine.proofs.Runs.{start-on}
 use Rattle.whole_runs.specs.Runs.{Event, state_after, AreAllowed, told_by}
 use Rattle.whole_runs.specs.SequenceRuns.{Seen, seen_between, seen_of, begins_by, accepts, is_pending, starts_job, ends_job, requested_at, jobs_ended, has_started}
 use Rattle.whole_runs.specs.Order.{job_in, priority_in, keeps_unit_in, GoesFirst, Started, Priority, Earlier, StartsNext, InOrderBy, AreInOrder}
@@ -137,7 +137,7 @@ not_true : (b : Bool) → (b ≡ true → ⊥) → b ≡ false
 not_true true h = absurd (h refl)
 not_true false h = refl
 
-entries_go : (d : SpiDriver) (e : Seen) (s t : SpiState) → Goes d e s t → (x : Pending) → Contains t.pending x → EntryGoes e s x
+entries_go : (d : SpiTable) (e : Seen) (s t : SpiState) → Goes d e s t → (x : Pending) → Contains t.pending x → EntryGoes e s x
 entries_go d e s t (Leaves calm reset pending results requests told) x has =
     let there : Contains s.pending x = subst (λ ps. Contains ps x) pending has in
     same_entry e s x there (calm.accepts x.sequence) (calm.starts x.sequence) (calm.ends x there)
@@ -206,7 +206,7 @@ bound_same e s t x accept same = (omega (arith, same), λ h. absurd (clash h (ac
     clash : {b : Bool} → b ≡ true → b ≡ false → ⊥
     clash a b = absurd (cc (a, b))
 
-bound : (d : SpiDriver) (e : Seen) (s t : SpiState) → Goes d e s t → (x : Pending) → Contains t.pending x → Bound e s t x
+bound : (d : SpiTable) (e : Seen) (s t : SpiState) → Goes d e s t → (x : Pending) → Contains t.pending x → Bound e s t x
 bound d e s t (Leaves calm reset pending results requests told) x has = bound_same e s t x calm.accepts requests
 bound d e s t (Accepts k had accept reset free pending results requests told) x has = (omega (arith, requests), λ h. requests)
 bound d e s t (Starting k accept reset start end pending results requests told) x has = bound_same e s t x accept requests
@@ -283,7 +283,7 @@ order_after e past s x y (New none new request accept) (New none2 new2 request2 
     let n = at_new e past y.sequence accept2 in
     omega (arith, m, n)
 
-pub ordered_after : (d : SpiDriver) (e : Seen) (past : List Seen) (s t : SpiState) → Goes d e s t → Ordered past s → Ordered (e ∷ past) t
+pub ordered_after : (d : SpiTable) (e : Seen) (past : List Seen) (s t : SpiState) → Goes d e s t → Ordered past s → Ordered (e ∷ past) t
 ordered_after d e past s t goes h = record {
   next = λ x has. next_after e past s x (entries_go d e s t goes x has) h;
   started = λ x has. started_after e past s x (entries_go d e s t goes x has) h;
@@ -298,16 +298,16 @@ pending_is SpiSeqPending h = refl
 pending_is x h = absurd (cc h)
 
 -- the next job of an entry, its priority, and whether it keeps its unit, by the run
-job_is : (d : SpiDriver) (past : List Seen) (s : SpiState) (p : Pending) → Ordered past s → Contains s.pending p → next_job d p ≡ job_in d p.sequence past
+job_is : (d : SpiTable) (past : List Seen) (s : SpiState) (p : Pending) → Ordered past s → Contains s.pending p → next_job d p ≡ job_in d p.sequence past
 job_is d past s p h there = ap (λ n. slice_index_or (jobs_of d p.sequence) n 0) (h.next p there)
 
-priority_is : (d : SpiDriver) (past : List Seen) (s : SpiState) (p : Pending) → Ordered past s → Contains s.pending p → priority_of d p ≡ priority_in d p.sequence past
+priority_is : (d : SpiTable) (past : List Seen) (s : SpiState) (p : Pending) → Ordered past s → Contains s.pending p → priority_of d p ≡ priority_in d p.sequence past
 priority_is d past s p h there = ap (λ j. priority_by (job_of d j)) (job_is d past s p h there)
 
-keeps_is : (d : SpiDriver) (past : List Seen) (s : SpiState) (p : Pending) → Ordered past s → Contains s.pending p → keeps_unit d p ≡ keeps_unit_in d p.sequence past
+keeps_is : (d : SpiTable) (past : List Seen) (s : SpiState) (p : Pending) → Ordered past s → Contains s.pending p → keeps_unit d p ≡ keeps_unit_in d p.sequence past
 keeps_is d past s p h there = ap (λ b. b && not (is_interruptible (sequence_of d p.sequence))) (h.started p there)
 
-goes_first : (d : SpiDriver) (past : List Seen) (s : SpiState) (q p : Pending) → Ordered past s → Contains s.pending q → Contains s.pending p → Yields d q p → GoesFirst d past p.sequence q.sequence
+goes_first : (d : SpiTable) (past : List Seen) (s : SpiState) (q p : Pending) → Ordered past s → Contains s.pending q → Contains s.pending p → Yields d q p → GoesFirst d past p.sequence q.sequence
 goes_first d past s q p h has there (ToStarted keeps free) = Started (sym (keeps_is d past s p h there) ∙ keeps) (sym (keeps_is d past s q h has) ∙ free)
 goes_first d past s q p h has there (ToPriority other own less) =
     let a = priority_is d past s q h has in
@@ -320,7 +320,7 @@ goes_first d past s q p h has there (ToEarlier same both le) =
     by_both (inl keeps) = inl (sym (keeps_is d past s p h there) ∙ same ∙ keeps)
     by_both (inr equal) = inr (sym (priority_is d past s p h there) ∙ sym equal ∙ priority_is d past s q h has)
 
-start_next : (d : SpiDriver) (past : List Seen) (s : SpiState) (e : Seen) (u : ℕ) (p : Pending) → HasPriorities d → Ordered past s → Agrees s → next_at d s (Some u) ≡ Some p
+start_next : (d : SpiTable) (past : List Seen) (s : SpiState) (e : Seen) (u : ℕ) (p : Pending) → HasPriorities d → Ordered past s → Agrees s → next_at d s (Some u) ≡ Some p
     → e.sequence ≡ Some p.sequence → e.job ≡ Some (next_job d p) → ((q : ℕ) → e.had q ≡ sequence_result s.sequence_results q) → StartsNext d u e past
 start_next d past s e u p fits h agrees at named job had =
     let best : IsNext d u s.pending p = next_is d u s.pending p fits (start-on d s u p at) in
@@ -338,13 +338,13 @@ start_next d past s e u p fits h agrees at named job had =
         let for_unit : is_for d u q ≡ true = ap (λ j. is_on_unit u (job_of d j)) (job_is d past s q h there) ∙ ap (λ n. is_on_unit u (job_of d (job_in d n past))) same ∙ on in
         subst (λ n. GoesFirst d past p.sequence n) same (goes_first d past s q p h there best.among (each_at (λ q. is_for d u q ≡ true → Yields d q p) s.pending q best.first there for_unit))
 
-start_by_next : (d : SpiDriver) (w : World) (past : List Seen) (s : SpiState) (unit : units.Unit) (received u : ℕ) (o : Option Pending) (out : Outcome SpiState) → HasPriorities d → Ordered past s → Agrees s
+start_by_next : (d : SpiTable) (w : World) (past : List Seen) (s : SpiState) (unit : units.Unit) (received u : ℕ) (o : Option Pending) (out : Outcome SpiState) → HasPriorities d → Ordered past s → Agrees s
     → number_of unit ≡ Some u → next_at d s (Some u) ≡ o → start_by d w s (Some u) received o ≡ Some out → StartsNext d u (seen d (Starts unit received) s out) past
 start_by_next d w past s unit received u None out fits h agrees num at e = absurd (cc e)
 start_by_next d w past s unit received u (Some p) out fits h agrees num at e =
     start_next d past s (seen d (Starts unit received) s out) u p fits h agrees at (rw (num, at) refl) (rw (num, at) refl) (λ q. refl)
 
-in_order : (d : SpiDriver) (w : World) (past : List Seen) (s : SpiState) (h : Happening Call) (out : Outcome SpiState) → HasPriorities d → Ordered past s → Agrees s → (spi_machine d).happens w s h ≡ Some out
+in_order : (d : SpiTable) (w : World) (past : List Seen) (s : SpiState) (h : Happening Call) (out : Outcome SpiState) → HasPriorities d → Ordered past s → Agrees s → (spi_machine d).happens w s h ≡ Some out
     → InOrderBy d (seen d h s out) past h
 in_order d w past s (Acts call times) out fits o agrees e = tt
 in_order d w past s (Serves l received) out fits o agrees e = tt
@@ -356,10 +356,10 @@ in_order d w past s (Restarts reason) out fits o agrees e = tt
 
 -- ---- a run
 
-abbrev After : SpiDriver → SpiState → Event Call → List Seen → Option (Outcome SpiState) → Type 0
+abbrev After : SpiTable → SpiState → Event Call → List Seen → Option (Outcome SpiState) → Type 0
 After d s e past o = let x : Seen = seen_between d s (state_by s o) e.what (told_by o) (begins_by o) in InOrderBy d x past e.what × Ordered (x ∷ past) (state_by s o)
 
-event_order : (d : SpiDriver) (s : SpiState) (e : Event Call) (past : List Seen) (o : Option (Outcome SpiState)) → HasPriorities d → (spi_machine d).happens e.world s e.what ≡ o → IsSome o → Ordered past s → Agrees s → After d s e past o
+event_order : (d : SpiTable) (s : SpiState) (e : Event Call) (past : List Seen) (o : Option (Outcome SpiState)) → HasPriorities d → (spi_machine d).happens e.world s e.what ≡ o → IsSome o → Ordered past s → Agrees s → After d s e past o
 event_order d s e past None fits at some h agrees = absurd (cc some)
 event_order d s e past (Some out) fits at some h agrees =
     (in_order d e.world past s e.what out fits h agrees at, ordered_after d (seen d e.what s out) past s out.state (happens_goes d e.world s e.what out at) h)
@@ -375,7 +375,7 @@ none_ordered = record {
     none : (p : Pending) → Contains {X = Pending} [] p → ⊥
     none p (n, within, is) = omega (arith, within)
 
-run_order : (d : SpiDriver) (past : List (Event Call)) → HasPriorities d → AreAllowed (spi_machine d) first_state past
+run_order : (d : SpiTable) (past : List (Event Call)) → HasPriorities d → AreAllowed (spi_machine d) first_state past
     → AreInOrder d (seen_of d past) × Ordered (seen_of d past) (state_after (spi_machine d) first_state past)
 run_order d [] fits allowed = (tt, none_ordered)
 run_order d (e ∷ past) fits allowed =
@@ -385,5 +385,5 @@ run_order d (e ∷ past) fits allowed =
     event_order d s e (seen_of d past) ((spi_machine d).happens e.world s e.what) fits refl allowed.0 before.1 (run_agrees d past allowed.1) in
     ((after.0, before.0), after.1)
 
-pub all_in_order : (d : SpiDriver) (past : List (Event Call)) → HasPriorities d → AreAllowed (spi_machine d) first_state past → AreInOrder d (seen_of d past)
+pub all_in_order : (d : SpiTable) (past : List (Event Call)) → HasPriorities d → AreAllowed (spi_machine d) first_state past → AreInOrder d (seen_of d past)
 all_in_order d past fits allowed = (run_order d past fits allowed).0

@@ -9,16 +9,16 @@ use Rattle.mcal_base.specs.declared.moves.Unit.TheVariants.{Adc0, Adc1, Spi0, Sp
 use Rattle.mcal_base.specs.declared.error_name.ErrorName.{ErrorName}
 use Rattle.run_model.specs.World.{World}
 use Rattle.run_model.specs.Machine.{Happening, Acts, Serves, Starts, Aborts, Moves, Restarts, Outcome, outcome, tells_nothing}
-use Rattle.adc_groups.specs.Groups.{Idle, GroupState, Request, Round, values_of, trigger_input}
-use Rattle.adc_groups.specs.Machine.{acts, happens, ready, served, served_round, is_unit_line, starting, starts_on, aborting, aborts_on, moved}
-use Rattle.adc_groups.specs.Table.{group_of}
-use Rattle.adc_groups.specs.Triggers.{listener, with_mark, requested_unless_turn, served_trigger}
-use Rattle.adc_groups.specs.Turns.{AdcState, first_state, group_at, round_at, requested, has_turn, number_of, next_group, with_waiting, is_on as is_on_unit, starts, started, aborts, aborted, kept_of, is_round_of}
-use Rattle.adc_groups.specs.declared.call.Call.{Call}
-use Rattle.adc_groups.specs.declared.driver.AdcDriver.{AdcDriver}
-use Rattle.adc_groups.specs.declared.driver.Group as configured
-use Rattle.adc_groups.proofs.Next.{next_is}
-use Rattle.adc_groups.proofs.Parts.{group_same, group_other}
+use Rattle.adc_machine.specs.Groups.{Idle, GroupState, Request, Round, values_of, trigger_input}
+use Rattle.adc_machine.specs.Machine.{acts, happens, ready, served, served_round, is_unit_line, starting, starts_on, aborting, aborts_on, moved}
+use Rattle.adc_machine.specs.Table.{group_of}
+use Rattle.adc_machine.specs.Triggers.{listener, with_mark, requested_unless_turn, served_trigger}
+use Rattle.adc_machine.specs.Turns.{AdcState, first_state, group_at, round_at, requested, has_turn, number_of, next_group, with_waiting, is_on as is_on_unit, starts, started, aborts, aborted, kept_of, is_round_of}
+use Rattle.adc_machine.specs.declared.call.Call.{Call}
+use Rattle.adc_machine.specs.declared.table.AdcTable.{AdcTable}
+use Rattle.adc_machine.specs.declared.table.Group as configured
+use Rattle.adc_machine.proofs.Next.{next_is}
+use Rattle.adc_machine.proofs.Parts.{group_same, group_other}
 use Rattle.whole_runs.specs.Runs.{is_of}
 use Rattle.whole_runs.specs.GroupRuns.{Seen, requests, starts_on as starts_of, aborts_on as aborts_of, serves_on, is_on as on_unit, touches, call_by, is_start, is_triggering, unit_started, unit_aborted, unit_served, started_group}
 use Rattle.whole_runs.proofs.GroupServes.{next_of, both, served_other}
@@ -27,78 +27,78 @@ use Rattle.whole_runs.proofs.TurnSteps.{is_quiet, IsDeaf, Single, MadeFree, made
 
 -- ---- statuses and triggers, for every event
 
-abbrev Quiet : AdcDriver → World → AdcState → Happening Call → ℕ → Outcome AdcState → Type 0
+abbrev Quiet : AdcTable → World → AdcState → Happening Call → ℕ → Outcome AdcState → Type 0
 Quiet d w s h g out = QuietGoes d g (seen d w h s out) s out.state (group_at s g) (group_at out.state g)
 
-round_quiet : (d : AdcDriver) (w : World) (s : AdcState) (l received : ℕ) (r : Round) (g : ℕ) → is_unit_line l ≡ true → round_at s (l - 24) ≡ Some r → g < 16 → (r.group ≡ g) ⊎ (r.group ≢ g) → Quiet d w s (Serves l received) g (served_round d w s (l - 24) (Some r))
+round_quiet : (d : AdcTable) (w : World) (s : AdcState) (l received : ℕ) (r : Round) (g : ℕ) → is_unit_line l ≡ true → round_at s (l - 24) ≡ Some r → g < 16 → (r.group ≡ g) ⊎ (r.group ≢ g) → Quiet d w s (Serves l received) g (served_round d w s (l - 24) (Some r))
 round_quiet d w s l received r g line at lt (inl same) =
     subst (λ k. Quiet d w s (Serves l received) k (served_round d w s (l - 24) (Some r))) same
     (served_quiet d (seen d w (Serves l received) s (served_round d w s (l - 24) (Some r))) s (l - 24) r (values_of w (group_of d r.group) r) (subst (λ k. k < 16) (sym same) lt) (rw (line, at, same_number (l - 24), same_number r.group) refl) at)
 round_quiet d w s l received r g line at lt (inr ne) = left_quiet d g _ s _ _ _ (served_other d s (l - 24) g r (values_of w (group_of d r.group) r) lt (λ h. ne (sym h)))
 
-unit_quiet : (d : AdcDriver) (w : World) (s : AdcState) (l received : ℕ) (q : Option Round) (g : ℕ) → is_unit_line l ≡ true → round_at s (l - 24) ≡ q → g < 16 → Quiet d w s (Serves l received) g (served_round d w s (l - 24) q)
+unit_quiet : (d : AdcTable) (w : World) (s : AdcState) (l received : ℕ) (q : Option Round) (g : ℕ) → is_unit_line l ≡ true → round_at s (l - 24) ≡ q → g < 16 → Quiet d w s (Serves l received) g (served_round d w s (l - 24) q)
 unit_quiet d w s l received None g line at lt = left_quiet d g _ s _ _ _ refl
 unit_quiet d w s l received (Some r) g line at lt = round_quiet d w s l received r g line at lt (same_or_other r.group g)
 
-request_quiet : (d : AdcDriver) (g : ℕ) (e : Seen) (s t u : AdcState) (h : ℕ) → g < 16 → (h ≡ g) ⊎ (h ≢ g) → group_at t g ≡ group_at s g → QuietGoes d g e s u (group_at s g) (group_at (requested t h) g)
+request_quiet : (d : AdcTable) (g : ℕ) (e : Seen) (s t u : AdcState) (h : ℕ) → g < 16 → (h ≡ g) ⊎ (h ≢ g) → group_at t g ≡ group_at s g → QuietGoes d g e s u (group_at s g) (group_at (requested t h) g)
 request_quiet d g e s t u h lt (inl same) before =
     let made : GroupState = record (group_at t g) { waiting = Some (record { number = t.requests + 1; kept = [] }) } in
     subst (λ k. QuietGoes d g e s u (group_at s g) (group_at (requested t k) g)) (sym same)
     (kept_quiet d g e s u (group_at s g) _ made (group_same t g made lt) (ap (λ (x : GroupState). x.status) before) (ap (λ (x : GroupState). x.trigger) before))
 request_quiet d g e s t u h lt (inr ne) before = left_quiet d g e s u _ _ (group_other t h _ g lt (λ same. ne (sym same)) ∙ before)
 
-turn_quiet : (d : AdcDriver) (g : ℕ) (e : Seen) (s t u : AdcState) (h : ℕ) (b : Bool) → g < 16 → group_at t g ≡ group_at s g → QuietGoes d g e s u (group_at s g) (group_at (cond b t (requested t h)) g)
+turn_quiet : (d : AdcTable) (g : ℕ) (e : Seen) (s t u : AdcState) (h : ℕ) (b : Bool) → g < 16 → group_at t g ≡ group_at s g → QuietGoes d g e s u (group_at s g) (group_at (cond b t (requested t h)) g)
 turn_quiet d g e s t u h true lt before = left_quiet d g e s u _ _ before
 turn_quiet d g e s t u h false lt before = request_quiet d g e s t u h lt (same_or_other h g) before
 
-trigger_quiet : (d : AdcDriver) (g : ℕ) (e : Seen) (s t u : AdcState) (o : Option ℕ) → g < 16 → group_at t g ≡ group_at s g → QuietGoes d g e s u (group_at s g) (group_at (requested_unless_turn t o) g)
+trigger_quiet : (d : AdcTable) (g : ℕ) (e : Seen) (s t u : AdcState) (o : Option ℕ) → g < 16 → group_at t g ≡ group_at s g → QuietGoes d g e s u (group_at s g) (group_at (requested_unless_turn t o) g)
 trigger_quiet d g e s t u None lt before = left_quiet d g e s u _ _ before
 trigger_quiet d g e s t u (Some h) lt before = turn_quiet d g e s t u h (has_turn t h) lt before
 
-serve_quiet_by : (d : AdcDriver) (w : World) (s : AdcState) (l received : ℕ) (g : ℕ) (b : Bool) → is_unit_line l ≡ b → g < 16
+serve_quiet_by : (d : AdcTable) (w : World) (s : AdcState) (l received : ℕ) (g : ℕ) (b : Bool) → is_unit_line l ≡ b → g < 16
     → Quiet d w s (Serves l received) g (cond b (served_round d w s (l - 24) (round_at s (l - 24))) (outcome (served_trigger d s (l - 28)) tells_nothing))
 serve_quiet_by d w s l received g true line lt = unit_quiet d w s l received (round_at s (l - 24)) g line refl lt
 serve_quiet_by d w s l received g false line lt = trigger_quiet d g _ s (with_mark s (l - 28) false) _ (listener d s (l - 28)) lt refl
 
-serve_quiet : (d : AdcDriver) (w : World) (s : AdcState) (l received : ℕ) (g : ℕ) (b : Bool) (out : Outcome AdcState) → g < 16 → cond b (Some (served d w s l)) None ≡ Some out → Quiet d w s (Serves l received) g out
+serve_quiet : (d : AdcTable) (w : World) (s : AdcState) (l received : ℕ) (g : ℕ) (b : Bool) (out : Outcome AdcState) → g < 16 → cond b (Some (served d w s l)) None ≡ Some out → Quiet d w s (Serves l received) g out
 serve_quiet d w s l received g true out lt e = went (Quiet d w s (Serves l received) g) (served d w s l) out e (serve_quiet_by d w s l received g (is_unit_line l) refl lt)
 serve_quiet d w s l received g false out lt e = absurd (cc e)
 
 -- a change of what waits
-waits_quiet : (d : AdcDriver) (g h : ℕ) (e : Seen) (s u : AdcState) (o : Option Request) → g < 16 → (h ≡ g) ⊎ (h ≢ g) → QuietGoes d g e s u (group_at s g) (group_at (with_waiting s h o) g)
+waits_quiet : (d : AdcTable) (g h : ℕ) (e : Seen) (s u : AdcState) (o : Option Request) → g < 16 → (h ≡ g) ⊎ (h ≢ g) → QuietGoes d g e s u (group_at s g) (group_at (with_waiting s h o) g)
 waits_quiet d g h e s u o lt (inl same) =
     subst (λ k. QuietGoes d g e s u (group_at s g) (group_at (with_waiting s k o) g)) (sym same)
     (kept_quiet d g e s u (group_at s g) _ (record (group_at s g) { waiting = o }) (group_same s g (record (group_at s g) { waiting = o }) lt) refl refl)
 waits_quiet d g h e s u o lt (inr ne) = left_quiet d g e s u _ _ (group_other s h _ g lt (λ same. ne (sym same)))
 
-start_quiet : (d : AdcDriver) (w : World) (s : AdcState) (unit : units.Unit) (received g u : ℕ) (o : Option ℕ) (out : Outcome AdcState) → g < 16 → starting w s u o ≡ Some out → Quiet d w s (Starts unit received) g out
+start_quiet : (d : AdcTable) (w : World) (s : AdcState) (unit : units.Unit) (received g u : ℕ) (o : Option ℕ) (out : Outcome AdcState) → g < 16 → starting w s u o ≡ Some out → Quiet d w s (Starts unit received) g out
 start_quiet d w s unit received g u None out lt e = absurd (cc e)
 start_quiet d w s unit received g u (Some h) out lt e =
     went (Quiet d w s (Starts unit received) g) (outcome (started w s u h) tells_nothing) out e (waits_quiet d g h _ s _ None lt (same_or_other h g))
 
-starts_quiet : (d : AdcDriver) (w : World) (s : AdcState) (unit : units.Unit) (received g : ℕ) (o : Option ℕ) (out : Outcome AdcState) → g < 16 → starts_on d w s o ≡ Some out → Quiet d w s (Starts unit received) g out
+starts_quiet : (d : AdcTable) (w : World) (s : AdcState) (unit : units.Unit) (received g : ℕ) (o : Option ℕ) (out : Outcome AdcState) → g < 16 → starts_on d w s o ≡ Some out → Quiet d w s (Starts unit received) g out
 starts_quiet d w s unit received g None out lt e = absurd (cc e)
 starts_quiet d w s unit received g (Some u) out lt e = start_quiet d w s unit received g u (starts d s u) out lt e
 
-abort_quiet : (d : AdcDriver) (w : World) (s : AdcState) (unit : units.Unit) (g u : ℕ) (o : Option Round) (out : Outcome AdcState) → g < 16 → aborting d w s u o ≡ Some out → Quiet d w s (Aborts unit) g out
+abort_quiet : (d : AdcTable) (w : World) (s : AdcState) (unit : units.Unit) (g u : ℕ) (o : Option Round) (out : Outcome AdcState) → g < 16 → aborting d w s u o ≡ Some out → Quiet d w s (Aborts unit) g out
 abort_quiet d w s unit g u None out lt e = absurd (cc e)
 abort_quiet d w s unit g u (Some r) out lt e =
     went (Quiet d w s (Aborts unit) g) (outcome (aborted d w s u r) tells_nothing) out e
     (waits_quiet d g r.group _ s _ (Some (record { number = r.request.number; kept = kept_of w (group_of d r.group) r })) lt (same_or_other r.group g))
 
-aborts_quiet : (d : AdcDriver) (w : World) (s : AdcState) (unit : units.Unit) (g : ℕ) (o : Option ℕ) (out : Outcome AdcState) → g < 16 → aborts_on d w s o ≡ Some out → Quiet d w s (Aborts unit) g out
+aborts_quiet : (d : AdcTable) (w : World) (s : AdcState) (unit : units.Unit) (g : ℕ) (o : Option ℕ) (out : Outcome AdcState) → g < 16 → aborts_on d w s o ≡ Some out → Quiet d w s (Aborts unit) g out
 aborts_quiet d w s unit g None out lt e = absurd (cc e)
 aborts_quiet d w s unit g (Some u) out lt e = abort_quiet d w s unit g u (aborts d w s u) out lt e
 
-pulse_quiet : (d : AdcDriver) (w : World) (s : AdcState) (order : Order) (g i : ℕ) (b : Bool) → Quiet d w s (Moves order) g (outcome (cond b (with_mark s i true) s) tells_nothing)
+pulse_quiet : (d : AdcTable) (w : World) (s : AdcState) (order : Order) (g i : ℕ) (b : Bool) → Quiet d w s (Moves order) g (outcome (cond b (with_mark s i true) s) tells_nothing)
 pulse_quiet d w s order g i true = left_quiet d g _ s _ _ _ refl
 pulse_quiet d w s order g i false = left_quiet d g _ s _ _ _ refl
 
-moved_quiet : (d : AdcDriver) (w : World) (s : AdcState) (order : Order) (g : ℕ) → Quiet d w s (Moves order) g (outcome (moved d s order) tells_nothing)
+moved_quiet : (d : AdcTable) (w : World) (s : AdcState) (order : Order) (g : ℕ) → Quiet d w s (Moves order) g (outcome (moved d s order) tells_nothing)
 moved_quiet d w s (orders.Trigger i) g = pulse_quiet d w s (orders.Trigger i) g i (is_some (listener d s i))
 moved_quiet d w s order g = left_quiet d g _ s _ _ _ refl
 
-pub quiet_goes : (d : AdcDriver) (w : World) (s : AdcState) (h : Happening Call) (out : Outcome AdcState) (g : ℕ) → g < 16 → happens d w s h ≡ Some out → Quiet d w s h g out
+pub quiet_goes : (d : AdcTable) (w : World) (s : AdcState) (h : Happening Call) (out : Outcome AdcState) (g : ℕ) → g < 16 → happens d w s h ≡ Some out → Quiet d w s h g out
 quiet_goes d w s (Acts call times) out g lt e = went (Quiet d w s (Acts call times) g) (acts d s call) out e (act_quiet d g _ s call lt)
 quiet_goes d w s (Serves l received) out g lt e = serve_quiet d w s l received g (ready d w s l) out lt e
 quiet_goes d w s (Starts u received) out g lt e = starts_quiet d w s u received g (number_of u) out lt e
@@ -109,7 +109,7 @@ quiet_goes d w s (Restarts reason) out g lt e = went (Quiet d w s (Restarts reas
 -- ---- where a unit starts
 
 -- A start is of a group of the unit, and a unit is one of two.
-pub record StartsOn (d : AdcDriver) (u g : ℕ) : Type 0 where
+pub record StartsOn (d : AdcTable) (u g : ℕ) : Type 0 where
   pub on : is_on_unit u (group_of d g) ≡ true
   pub few : u < 2
 
@@ -123,7 +123,7 @@ of_is : (n : ℕ) (o : Option ℕ) → is_of n o ≡ true → o ≡ Some n
 of_is n None h = absurd (cc h)
 of_is n (Some m) h = ap (λ k. Some k) (grind (arith, nat_tests, h))
 
-start_on : (d : AdcDriver) (w : World) (s : AdcState) (unit : units.Unit) (received : ℕ) (out : Outcome AdcState) (u g : ℕ) → starts_of u g (seen d w (Starts unit received) s out) ≡ true → StartsOn d u g
+start_on : (d : AdcTable) (w : World) (s : AdcState) (unit : units.Unit) (received : ℕ) (out : Outcome AdcState) (u g : ℕ) → starts_of u g (seen d w (Starts unit received) s out) ≡ true → StartsOn d u g
 start_on d w s unit received out u g h =
     let parts = both (is_of u (number_of unit)) (is_of g (started_group d s (number_of unit))) h in
     let num : number_of unit ≡ Some u = of_is u (number_of unit) parts.0 in
@@ -133,7 +133,7 @@ start_on d w s unit received out u g h =
       few = unit_few unit u num;
     }
 
-starts_there : (d : AdcDriver) (w : World) (s : AdcState) (h : Happening Call) (out : Outcome AdcState) (u g : ℕ) → starts_of u g (seen d w h s out) ≡ true → StartsOn d u g
+starts_there : (d : AdcTable) (w : World) (s : AdcState) (h : Happening Call) (out : Outcome AdcState) (u g : ℕ) → starts_of u g (seen d w h s out) ≡ true → StartsOn d u g
 starts_there d w s (Starts unit received) out u g h = start_on d w s unit received out u g h
 starts_there d w s (Acts call times) out u g h = absurd (cc h)
 starts_there d w s (Serves l received) out u g h = absurd (cc h)
@@ -246,7 +246,7 @@ runs_turn s g (suc (suc u)) r few at own none = omega (arith, few)
 -- ---- what an event leaves
 
 -- a group that didn't wait doesn't, where nothing of its own makes it
-wait_none : (d : AdcDriver) (g : ℕ) (e : Seen) (s : AdcState) (x y : GroupState) → WaitGoes d g e s x y → x.waiting ≡ None → (requests g e ≡ true → ⊥)
+wait_none : (d : AdcTable) (g : ℕ) (e : Seen) (s : AdcState) (x y : GroupState) → WaitGoes d g e s x y → x.waiting ≡ None → (requests g e ≡ true → ⊥)
     → ((u : ℕ) (r : Round) → serves_on u g e ≡ true → round_at s u ≡ Some r → r.group ≡ g → ⊥) → ((u : ℕ) (r : Round) → aborts_of u g e ≡ true → round_at s u ≡ Some r → r.group ≡ g → ⊥) → y.waiting ≡ None
 wait_none d g e s x y (Stands calm touch same) none made served back = same ∙ none
 wait_none d g e s x y (Over u r serve at own same) none made served back = same ∙ none
@@ -256,7 +256,7 @@ wait_none d g e s x y (Back u r abort at own is) none made served back = absurd 
 wait_none d g e s x y (Dropped is) none made served back = is
 
 -- and one that a unit starts doesn't
-start_none : (d : AdcDriver) (g : ℕ) (e : Seen) (s : AdcState) (x y : GroupState) → WaitGoes d g e s x y → IsStartAlone g e → y.waiting ≡ None
+start_none : (d : AdcTable) (g : ℕ) (e : Seen) (s : AdcState) (x y : GroupState) → WaitGoes d g e s x y → IsStartAlone g e → y.waiting ≡ None
 start_none d g e s x y (Stands calm touch same) alone = absurd (clash alone.touches touch)
 start_none d g e s x y (Over u r serve at own same) alone = absurd (clash serve (alone.serves u))
 start_none d g e s x y (Made n request is) alone = absurd (clash request alone.requests)
@@ -268,7 +268,7 @@ round_same : {x y : Round} → Some x ≡ Some y → x ≡ y
 round_same h = cc h
 
 -- no request is made of a group that a unit runs
-not_made : (d : AdcDriver) (g u : ℕ) (r : Round) (s : AdcState) (y : GroupState) → Single d s → g < 16 → round_at s u ≡ Some r → r.group ≡ g → MadeFree d g s y → ⊥
+not_made : (d : AdcTable) (g u : ℕ) (r : Round) (s : AdcState) (y : GroupState) → Single d s → g < 16 → round_at s u ≡ Some r → r.group ≡ g → MadeFree d g s y → ⊥
 not_made d g u r s y single lt at own made = by_free made.free
   where
     by_free : (has_turn s g ≡ false) ⊎ ((group_at s g).status ≡ Idle) → ⊥
@@ -276,11 +276,11 @@ not_made d g u r s y single lt at own made = by_free made.free
     by_free (inr idle) = single.still g u r lt (ap (λ z. is_quiet d g z) idle) at own
 
 -- another unit doesn't have a round of the group
-same_unit : (d : AdcDriver) (g u v : ℕ) (r k : Round) (s : AdcState) → Single d s → round_at s u ≡ Some r → r.group ≡ g → round_at s v ≡ Some k → k.group ≡ g → v ≡ u
+same_unit : (d : AdcTable) (g u v : ℕ) (r k : Round) (s : AdcState) → Single d s → round_at s u ≡ Some r → r.group ≡ g → round_at s v ≡ Some k → k.group ≡ g → v ≡ u
 same_unit d g u v r k s single at own there mine =
     one_unit (group_of d g) v u (subst (λ n. is_on_unit v (group_of d n) ≡ true) mine (single.placed v k there)) (subst (λ n. is_on_unit u (group_of d n) ≡ true) own (single.placed u r at))
 
-module _ (d : AdcDriver) (w : World) (s : AdcState) (h : Happening Call) (out : Outcome AdcState) (e : happens d w s h ≡ Some out) (goes : Goes d w h s out) (single : Single d s) where
+module _ (d : AdcTable) (w : World) (s : AdcState) (h : Happening Call) (out : Outcome AdcState) (e : happens d w s h ≡ Some out) (goes : Goes d w h s out) (single : Single d s) where
   abbrev Now : Seen
   Now = seen d w h s out
 
@@ -375,7 +375,7 @@ module _ (d : AdcDriver) (w : World) (s : AdcState) (h : Happening Call) (out : 
     deaf = λ g lt quiet. (all_rest g lt quiet).deaf;
   }
 
-pub first_single : (d : AdcDriver) → Single d first_state
+pub first_single : (d : AdcTable) → Single d first_state
 first_single d = record {
   alone = λ g u r lt at own. absurd (cc at);
   placed = λ u r at. absurd (cc at);

@@ -5,12 +5,12 @@ use Rattle.std.proofs.lemmas.List.Folds.{list_any-append}
 use Rattle.mcal_base.specs.declared.error_name.ErrorName.{ErrorName}
 use Rattle.run_model.specs.World.{World}
 use Rattle.run_model.specs.Machine.{Happening, Acts, Serves, Starts, Aborts, Moves, Restarts, Outcome}
-use Rattle.adc_groups.specs.Groups.{GroupState, Request, Round, inputs_of, suspends, levels_from, newest, values_of}
-use Rattle.adc_groups.specs.Machine.{happens}
-use Rattle.adc_groups.specs.Table.{group_of}
-use Rattle.adc_groups.specs.Turns.{AdcState, group_at, round_at, kept_of}
-use Rattle.adc_groups.specs.declared.call.Call.{Call}
-use Rattle.adc_groups.specs.declared.driver.AdcDriver.{AdcDriver}
+use Rattle.adc_machine.specs.Groups.{GroupState, Request, Round, inputs_of, suspends, levels_from, newest, values_of}
+use Rattle.adc_machine.specs.Machine.{happens}
+use Rattle.adc_machine.specs.Table.{group_of}
+use Rattle.adc_machine.specs.Turns.{AdcState, group_at, round_at, kept_of}
+use Rattle.adc_machine.specs.declared.call.Call.{Call}
+use Rattle.adc_machine.specs.declared.table.AdcTable.{AdcTable}
 use Rattle.whole_runs.specs.GroupRuns.{Seen, stops, begins, starts_on, aborts_on, serves_on, serves, is_on, unit_started, unit_aborted, unit_served, newest_of, newest_in, is_whole, is_stop, call_by}
 use Rattle.whole_runs.specs.Runs.{NoneOf, is_of, is_restart}
 use Rattle.whole_runs.specs.Rounds.{inputs_after, Stretch, values_since, Keeps, Requested, Served, Aborted, Stands as StandsOn, IsRound, HasRequest, HandsOut}
@@ -24,7 +24,7 @@ some_same h = cc h
 -- ---- what the state says
 
 -- The round of a unit was started for a request that stood.
-pub record IsRunning (d : AdcDriver) (u : ℕ) (r : Round) (past : List Seen) : Type 0 where
+pub record IsRunning (d : AdcTable) (u : ℕ) (r : Round) (past : List Seen) : Type 0 where
   pub earlier : List Seen
   pub start : Seen
   pub stretch : Stretch u r.group past earlier start
@@ -32,7 +32,7 @@ pub record IsRunning (d : AdcDriver) (u : ℕ) (r : Round) (past : List Seen) : 
   pub at : r.start ≡ start.world.now
   pub below : r.group < 16
 
-pub record Tells (d : AdcDriver) (past : List Seen) (s : AdcState) : Type 0 where
+pub record Tells (d : AdcTable) (past : List Seen) (s : AdcState) : Type 0 where
   pub waiting : (g : ℕ) → g < 16 → (q : Request) → (group_at s g).waiting ≡ Some q → Keeps d g past q.kept
   pub running : (u : ℕ) (r : Round) → round_at s u ≡ Some r → IsRunning d u r past
   pub newest : (g : ℕ) → g < 16 → (values : List ℕ) → newest_in s g ≡ Some values → HandsOut d g past values
@@ -42,12 +42,12 @@ pub record Tells (d : AdcDriver) (past : List Seen) (s : AdcState) : Type 0 wher
 -- ---- a round that is served
 
 -- its values, by the time at which it was started
-served_values : (d : AdcDriver) (e start : Seen) (r : Round) → r.start ≡ start.world.now
+served_values : (d : AdcTable) (e start : Seen) (r : Round) → r.start ≡ start.world.now
     → values_of e.world (group_of d r.group) r ≡ r.request.kept ++ levels_from e.world.samples start.world.now (inputs_after d r.group (length r.request.kept))
 served_values d e start r at = ap (λ t. r.request.kept ++ levels_from e.world.samples t (drop (length r.request.kept) (inputs_of (group_of d r.group)))) at
 
 -- what an abort keeps, by the time at which the round was started
-kept_since : (d : AdcDriver) (e start : Seen) (r : Round) → r.start ≡ start.world.now
+kept_since : (d : AdcTable) (e start : Seen) (r : Round) → r.start ≡ start.world.now
     → cond (suspends (group_of d r.group)) (r.request.kept ++ values_since d r.group start e r.request.kept) [] ≡ kept_of e.world (group_of d r.group) r
 kept_since d e start r at =
     ap (λ t. cond (suspends (group_of d r.group)) (r.request.kept ++ levels_from e.world.samples t (take ((e.world.now - t) / 4) (drop (length r.request.kept) (inputs_of (group_of d r.group))))) []) (sym at)
@@ -119,13 +119,13 @@ later g e past calm h = record {
   unstopped = none_more (stops g) e h.since calm h.unstopped;
 }
 
-pub was_requested : (d : AdcDriver) (g : ℕ) (past : List Seen) (kept : List ℕ) → Keeps d g past kept → HasRequest g past
+pub was_requested : (d : AdcTable) (g : ℕ) (past : List Seen) (kept : List ℕ) → Keeps d g past kept → HasRequest g past
 was_requested d g past kept (Requested e older h) = record { since = []; request = e; before = older; is = refl; requested = h; unstopped = refl }
 was_requested d g past kept (Served e older earlier start had u h s stood) = later g e older (serving_calm u g e h) (through u g older earlier start s (was_requested d g earlier had stood))
 was_requested d g past kept (Aborted e older earlier start had u h s stood) = later g e older (abort_calm u g e h) (through u g older earlier start s (was_requested d g earlier had stood))
 was_requested d g past kept (StandsOn e older had calm touch stood) = later g e older calm (was_requested d g older had stood)
 
-pub is_round : (d : AdcDriver) (u : ℕ) (r : Round) (e : Seen) (past : List Seen) → serves_on u r.group e ≡ true → IsRunning d u r past → IsRound d r.group e past (values_of e.world (group_of d r.group) r)
+pub is_round : (d : AdcTable) (u : ℕ) (r : Round) (e : Seen) (past : List Seen) → serves_on u r.group e ≡ true → IsRunning d u r past → IsRound d r.group e past (values_of e.world (group_of d r.group) r)
 is_round d u r e past serve runs = record {
   unit = u;
   start = runs.start;
@@ -141,7 +141,7 @@ is_round d u r e past serve runs = record {
 -- ---- what an event leaves of it
 
 -- the request of a group
-waiting_after : (d : AdcDriver) (g : ℕ) (e : Seen) (past : List Seen) (s : AdcState) (x y : GroupState) → WaitGoes d g e s x y → ((q : Request) → x.waiting ≡ Some q → Keeps d g past q.kept)
+waiting_after : (d : AdcTable) (g : ℕ) (e : Seen) (past : List Seen) (s : AdcState) (x y : GroupState) → WaitGoes d g e s x y → ((q : Request) → x.waiting ≡ Some q → Keeps d g past q.kept)
     → ((u : ℕ) (r : Round) → round_at s u ≡ Some r → IsRunning d u r past) → ((u : ℕ) (r : Round) → round_at s u ≡ Some r → r.group ≡ g → x.waiting ≡ None) → (q : Request) → y.waiting ≡ Some q → Keeps d g (e ∷ past) q.kept
 waiting_after d g e past s x y (Stands calm touch same) had runs alone q at = StandsOn e past q.kept calm touch (had q (sym same ∙ at))
 waiting_after d g e past s x y (Over u r serve there own same) had runs alone q at =
@@ -175,7 +175,7 @@ longer u g e past earlier start away calm s = record {
   unstopped = none_more (stops g) e s.running calm s.unstopped;
 }
 
-running_after : (d : AdcDriver) (u : ℕ) (e : Seen) (past : List Seen) (s : AdcState) (p q : Option Round) → UnitGoes u e s p q → ((r : Round) → p ≡ Some r → IsRunning d u r past)
+running_after : (d : AdcTable) (u : ℕ) (e : Seen) (past : List Seen) (s : AdcState) (p q : Option Round) → UnitGoes u e s p q → ((r : Round) → p ≡ Some r → IsRunning d u r past)
     → ((g : ℕ) → g < 16 → (x : Request) → (group_at s g).waiting ≡ Some x → Keeps d g past x.kept) → (r : Round) → q ≡ Some r → IsRunning d u r (e ∷ past)
 running_after d u e past s p q (Remains away calm same) had waits r at =
     let was : p ≡ Some r = sym same ∙ at in
@@ -208,7 +208,7 @@ newest_added (x ∷ xs) v = ap (λ w. Some w) (last_of (x ∷ xs) v)
         there [] v = refl
         there (x ∷ xs) v = there xs v
 
-newest_after : (d : AdcDriver) (g : ℕ) (e : Seen) (past : List Seen) (s : AdcState) (x y : GroupState) → RoundsGo d g e s x y → ((values : List ℕ) → newest_of x.rounds ≡ Some values → HandsOut d g past values)
+newest_after : (d : AdcTable) (g : ℕ) (e : Seen) (past : List Seen) (s : AdcState) (x y : GroupState) → RoundsGo d g e s x y → ((values : List ℕ) → newest_of x.rounds ≡ Some values → HandsOut d g past values)
     → ((u : ℕ) (r : Round) → round_at s u ≡ Some r → IsRunning d u r past) → (values : List ℕ) → newest_of y.rounds ≡ Some values → HandsOut d g (e ∷ past) values
 newest_after d g e past s x y (Same serve begin same status) had runs values at =
     let out : HandsOut d g past values = had values (ap (λ rs. newest_of rs) (sym same) ∙ at) in
@@ -225,13 +225,13 @@ newest_after d g e past s x y (Added u r serve there own is) had runs values at 
     }
 newest_after d g e past s x y (Cleared begin none status) had runs values at = absurd (cc (ap (λ rs. newest_of rs) none, at))
 
-completed_after : (d : AdcDriver) (g : ℕ) (e : Seen) (s : AdcState) (x y : GroupState) → RoundsGo d g e s x y → (is_completed x.status ≡ true → is_some (newest_of x.rounds) ≡ true)
+completed_after : (d : AdcTable) (g : ℕ) (e : Seen) (s : AdcState) (x y : GroupState) → RoundsGo d g e s x y → (is_completed x.status ≡ true → is_some (newest_of x.rounds) ≡ true)
     → is_completed y.status ≡ true → is_some (newest_of y.rounds) ≡ true
 completed_after d g e s x y (Same serve begin same status) had at = ap (λ rs. is_some (newest_of rs)) same ∙ had (status at)
 completed_after d g e s x y (Added u r serve there own is) had at = ap (λ o. is_some o) (ap (λ rs. newest_of rs) is ∙ newest_added x.rounds (values_of e.world (group_of d g) r))
 completed_after d g e s x y (Cleared begin none status) had at = absurd (cc (status, at))
 
-pub tells_after : (d : AdcDriver) (w : World) (h : Happening Call) (s : AdcState) (out : Outcome AdcState) (past : List Seen) → happens d w s h ≡ Some out → Goes d w h s out → Tells d past s → Tells d (seen d w h s out ∷ past) out.state
+pub tells_after : (d : AdcTable) (w : World) (h : Happening Call) (s : AdcState) (out : Outcome AdcState) (past : List Seen) → happens d w s h ≡ Some out → Goes d w h s out → Tells d past s → Tells d (seen d w h s out ∷ past) out.state
 tells_after d w h s out past e goes t = record {
   waiting = λ g lt. waiting_after d g (seen d w h s out) past s (group_at s g) (group_at out.state g) (goes.groups g lt).waiting (t.waiting g lt) t.running (λ u r at own. t.single.alone g u r lt at own);
   running = λ u. running_after d u (seen d w h s out) past s (round_at s u) (round_at out.state u) (goes.units u) (t.running u) t.waiting;

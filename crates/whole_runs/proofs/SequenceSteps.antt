@@ -13,27 +13,27 @@ use Rattle.mcal_base.specs.declared.moves.Unit as units
 use Rattle.mcal_base.specs.declared.service.Service.TheVariants as services
 use Rattle.run_model.specs.World.{World}
 use Rattle.run_model.specs.Machine.{Happening, Acts, Serves, Starts, Aborts, Moves, Restarts, Outcome, outcome, tells_nothing}
-use Rattle.spi_sequences.specs.Checks.{error_by}
-use Rattle.spi_sequences.specs.Laws.{names_end}
-use Rattle.spi_sequences.specs.Machine.{spi_machine, acts, acts_by, unless_busy, cancelled, cancelled_by, finds_held, after_last, sequence_after, job_over, served_by, served, unit_of, run_of, ready, started, start_by, next_at, number_of, moved}
-use Rattle.spi_sequences.specs.Numbered.{with_item}
-use Rattle.spi_sequences.specs.Pending as lists
-use Rattle.spi_sequences.specs.Pending.{Pending, is_of as is_entry, changed, without, starts, goes_to_next, cancels, is_held, shares_job, end_by, has_further, next_job, requested}
-use Rattle.spi_sequences.specs.State.{SpiState, first_state, is_busy, is_off, is_running, job_notice, sequence_notice}
-use Rattle.spi_sequences.specs.Table.{sequence_of, notifies_sequence, job_of, notifies_job}
-use Rattle.spi_sequences.specs.Transfers.{Run, goes_on, word_of}
-use Rattle.spi_sequences.specs.declared.call.Call.{Call}
-use Rattle.spi_sequences.specs.declared.call.Call.TheVariants.{Init, DeInit, SetAsyncMode, MainFunctionHandling, Channel, Sequence, Get}
-use Rattle.spi_sequences.specs.declared.call.ChannelCall.TheVariants.{WriteIb, ReadIb, SetupEb}
-use Rattle.spi_sequences.specs.declared.call.SequenceCall.TheVariants.{AsyncTransmit, Cancel}
-use Rattle.spi_sequences.specs.declared.driver.SpiDriver.{SpiDriver}
-use Rattle.spi_sequences.proofs.Runs.{stored-seen, after_last-seen, serve_by, some_same}
-use Rattle.spi_sequences.proofs.Turns.{found}
+use Rattle.spi_machine.specs.Checks.{error_by}
+use Rattle.spi_machine.specs.Promised.{names_end}
+use Rattle.spi_machine.specs.Machine.{spi_machine, acts, acts_by, unless_busy, cancelled, cancelled_by, finds_held, after_last, sequence_after, job_over, served_by, served, unit_of, run_of, ready, started, start_by, next_at, number_of, moved}
+use Rattle.spi_machine.specs.Numbered.{with_item}
+use Rattle.spi_machine.specs.Pending as lists
+use Rattle.spi_machine.specs.Pending.{Pending, is_of as is_entry, changed, without, starts, goes_to_next, cancels, is_held, shares_job, end_by, has_further, next_job, requested}
+use Rattle.spi_machine.specs.State.{SpiState, first_state, is_busy, is_off, is_running, job_notice, sequence_notice}
+use Rattle.spi_machine.specs.Table.{sequence_of, notifies_sequence, job_of, notifies_job}
+use Rattle.spi_machine.specs.Transfers.{Run, goes_on, word_of}
+use Rattle.spi_machine.specs.declared.call.Call.{Call}
+use Rattle.spi_machine.specs.declared.call.Call.TheVariants.{Init, DeInit, SetAsyncMode, MainFunctionHandling, Channel, Sequence, Get}
+use Rattle.spi_machine.specs.declared.call.ChannelCall.TheVariants.{WriteIb, ReadIb, SetupEb}
+use Rattle.spi_machine.specs.declared.call.SequenceCall.TheVariants.{AsyncTransmit, Cancel}
+use Rattle.spi_machine.specs.declared.table.SpiTable.{SpiTable}
+use Rattle.spi_machine.proofs.Runs.{stored-seen, after_last-seen, serve_by, some_same}
+use Rattle.spi_machine.proofs.Turns.{found}
 use Rattle.whole_runs.specs.Runs.{is_of}
 use Rattle.whole_runs.specs.SequenceRuns.{Seen, seen_between, is_accepted, accepts, initialises, is_reset, starts_job, ends_job, sequence_seen}
 
 -- an event as it is seen where it is allowed
-abbrev pub seen : SpiDriver → Happening Call → SpiState → Outcome SpiState → Seen
+abbrev pub seen : SpiTable → Happening Call → SpiState → Outcome SpiState → Seen
 seen d h s out = seen_between d s out.state h out.told (is_some out.begins)
 
 -- so many notices of the end of a sequence
@@ -51,7 +51,7 @@ pub record IsCalm (e : Seen) (ps : List Pending) : Type 0 where
   pub ends : (p : Pending) → Contains ps p → ends_job p.sequence e ≡ false
 
 -- What an event does to the pending sequences and to the results.
-pub data Goes (d : SpiDriver) (e : Seen) (s t : SpiState) : Type 0 where
+pub data Goes (d : SpiTable) (e : Seen) (s t : SpiState) : Type 0 where
   Leaves : IsCalm e s.pending → is_reset e ≡ false → t.pending ≡ s.pending → t.sequence_results ≡ s.sequence_results → t.requests ≡ s.requests → ((q : ℕ) → ends_told q e ≡ 0) → Goes d e s t
   Accepts : (k : ℕ) (had : List AnswerName) → ((q : ℕ) → accepts q e ≡ (k == q)) → is_reset e ≡ false → lists.is_pending k s.pending ≡ false → t.pending ≡ s.pending ++ requested k (s.requests + 1) had ∷ []
       → t.sequence_results ≡ with_item SpiSeqOk s.sequence_results k SpiSeqPending → t.requests ≡ s.requests + 1 → ((q : ℕ) → ends_told q e ≡ 0) → Goes d e s t
@@ -68,11 +68,11 @@ pub data Goes (d : SpiDriver) (e : Seen) (s t : SpiState) : Type 0 where
 
 -- ---- notices
 
-told_job : (d : SpiDriver) (q j : ℕ) (b : Bool) → notifies_job (job_of d j) ≡ b → count_by (names_end q) (job_notice d j) ≡ 0
+told_job : (d : SpiTable) (q j : ℕ) (b : Bool) → notifies_job (job_of d j) ≡ b → count_by (names_end q) (job_notice d j) ≡ 0
 told_job d q j true e = rw e refl
 told_job d q j false e = rw e refl
 
-told_sequence : (d : SpiDriver) (q k : ℕ) (b : Bool) → notifies_sequence (sequence_of d k) ≡ b → count_by (names_end q) (sequence_notice d k) ≡ cond (b && (k == q)) 1 0
+told_sequence : (d : SpiTable) (q k : ℕ) (b : Bool) → notifies_sequence (sequence_of d k) ≡ b → count_by (names_end q) (sequence_notice d k) ≡ cond (b && (k == q)) 1 0
 told_sequence d q k true e = rw e (by_test (k == q))
   where
     by_test : (b : Bool) → 0 + cond b 1 0 ≡ cond b 1 0
@@ -83,7 +83,7 @@ told_sequence d q k false e = rw e refl
 second_alone : (a b c : ℕ) → a ≡ 0 → b ≡ c → a + b ≡ c
 second_alone a b c e f = omega (arith, e, f)
 
-told_both : (d : SpiDriver) (q j k : ℕ) → count_by (names_end q) (job_notice d j ++ sequence_notice d k) ≡ cond (notifies_sequence (sequence_of d k) && (k == q)) 1 0
+told_both : (d : SpiTable) (q j k : ℕ) → count_by (names_end q) (job_notice d j ++ sequence_notice d k) ≡ cond (notifies_sequence (sequence_of d k) && (k == q)) 1 0
 told_both d q j k =
     sum_by-append (λ n. cond (names_end q n) 1 0) (job_notice d j) (sequence_notice d k)
     ∙ second_alone _ _ _ (told_job d q j (notifies_job (job_of d j)) refl) (told_sequence d q k (notifies_sequence (sequence_of d k)) refl)
@@ -101,13 +101,13 @@ not_accepted q (Channel c call) times x = refl
 not_accepted q (Get query) times x = refl
 
 -- a call that leaves the sequences
-abbrev ActGoes : SpiDriver → SpiState → Call → (ℕ → ℕ) → Outcome SpiState → Type 0
+abbrev ActGoes : SpiTable → SpiState → Call → (ℕ → ℕ) → Outcome SpiState → Type 0
 ActGoes d s call times out = Goes d (seen d (Acts call times) s out) s out.state
 
-refused : (d : SpiDriver) (s : SpiState) (call : Call) (times : ℕ → ℕ) (x : ErrorName) → ActGoes d s call times (acts_by d s call (Some x))
+refused : (d : SpiTable) (s : SpiState) (call : Call) (times : ℕ → ℕ) (x : ErrorName) → ActGoes d s call times (acts_by d s call (Some x))
 refused d s call times x = Leaves (record { accepts = λ q. not_accepted q call times x; starts = λ q. refl; ends = λ p at. refl }) refl refl refl refl (λ q. refl)
 
-unless_goes : (d : SpiDriver) (s after : SpiState) (call : Call) (times : ℕ → ℕ) (b : Bool) → ((q : ℕ) → is_accepted q (Acts call times) None ≡ false) → after.pending ≡ s.pending → after.sequence_results ≡ s.sequence_results
+unless_goes : (d : SpiTable) (s after : SpiState) (call : Call) (times : ℕ → ℕ) (b : Bool) → ((q : ℕ) → is_accepted q (Acts call times) None ≡ false) → after.pending ≡ s.pending → after.sequence_results ≡ s.sequence_results
     → after.requests ≡ s.requests → ActGoes d s call times (unless_busy b s after)
 unless_goes d s after call times true none e f g = Leaves (record { accepts = none; starts = λ q. refl; ends = λ p at. refl }) refl refl refl refl (λ q. refl)
 unless_goes d s after call times false none e f g = Leaves (record { accepts = none; starts = λ q. refl; ends = λ p at. refl }) refl e f g (λ q. refl)
@@ -123,7 +123,7 @@ not_held_by true b c h = absurd (cc h)
 not_held_by false true c h = absurd (cc h)
 not_held_by false false c h = (refl, h)
 
-not_held : (d : SpiDriver) (k : ℕ) (ps : List Pending) → is_held d k ps ≡ false → lists.is_pending k ps ≡ false
+not_held : (d : SpiTable) (k : ℕ) (ps : List Pending) → is_held d k ps ≡ false → lists.is_pending k ps ≡ false
 not_held d k [] h = refl
 not_held d k (p ∷ ps) h =
     let parts = not_held_by (p.sequence == k) (shares_job d k p.sequence) (is_held d k ps) h in
@@ -136,7 +136,7 @@ off_init false h = absurd (cc h)
 last_result : Contains end_results SpiSeqCanceled
 last_result = (2, omega arith, refl)
 
-cancel_by : (d : SpiDriver) (s : SpiState) (k : ℕ) (times : ℕ → ℕ) (p : Pending) (b : Bool) → lists.is_pending p.sequence s.pending ≡ true → ActGoes d s (Sequence k Cancel) times (cancelled_by d s p b)
+cancel_by : (d : SpiTable) (s : SpiState) (k : ℕ) (times : ℕ → ℕ) (p : Pending) (b : Bool) → lists.is_pending p.sequence s.pending ≡ true → ActGoes d s (Sequence k Cancel) times (cancelled_by d s p b)
 cancel_by d s k times p true there = Marks p.sequence (record { accepts = λ q. refl; starts = λ q. refl; ends = λ x at. refl }) refl refl refl refl (λ q. refl)
 cancel_by d s k times p false there =
     Ending p.sequence SpiSeqCanceled (λ q. refl) refl (λ q. refl) (λ q ne. refl) there last_result refl refl refl (λ q. told_sequence d q p.sequence (notifies_sequence (sequence_of d p.sequence)) refl)
@@ -144,11 +144,11 @@ cancel_by d s k times p false there =
 pending_found : (k : ℕ) (p : Pending) (ps : List Pending) → find (is_entry k) ps ≡ Some p → lists.is_pending p.sequence ps ≡ true
 pending_found k p ps at = let has = found k p ps at in subst (λ n. lists.is_pending n ps ≡ true) (sym has.0) has.1
 
-cancel_goes : (d : SpiDriver) (s : SpiState) (k : ℕ) (times : ℕ → ℕ) (o : Option Pending) → find (is_entry k) s.pending ≡ o → ActGoes d s (Sequence k Cancel) times (cancelled d s o)
+cancel_goes : (d : SpiTable) (s : SpiState) (k : ℕ) (times : ℕ → ℕ) (o : Option Pending) → find (is_entry k) s.pending ≡ o → ActGoes d s (Sequence k Cancel) times (cancelled d s o)
 cancel_goes d s k times None at = Leaves (record { accepts = λ q. refl; starts = λ q. refl; ends = λ p at. refl }) refl refl refl refl (λ q. refl)
 cancel_goes d s k times (Some p) at = cancel_by d s k times p (is_running s p.sequence) (pending_found k p s.pending at)
 
-act_by : (d : SpiDriver) (s : SpiState) (call : Call) (times : ℕ → ℕ) (o : Option ErrorName) → error_by d call (is_off s.mode) (finds_held d s call) ≡ o → ActGoes d s call times (acts_by d s call o)
+act_by : (d : SpiTable) (s : SpiState) (call : Call) (times : ℕ → ℕ) (o : Option ErrorName) → error_by d call (is_off s.mode) (finds_held d s call) ≡ o → ActGoes d s call times (acts_by d s call o)
 act_by d s call times (Some x) at = refused d s call times x
 act_by d s Init times None at = Initialising refl (λ q. refl) refl (off_init (is_off s.mode) at) refl refl (λ q. refl)
 act_by d s DeInit times None at = unless_goes d s _ DeInit times (is_busy s) (λ q. refl) refl refl refl
@@ -164,7 +164,7 @@ act_by d s (Get query) times None at = Leaves (record { accepts = λ q. refl; st
 
 -- ---- servings
 
-abbrev ServeGoes : SpiDriver → SpiState → (line received : ℕ) → Outcome SpiState → Type 0
+abbrev ServeGoes : SpiTable → SpiState → (line received : ℕ) → Outcome SpiState → Type 0
 ServeGoes d s l received out = Goes d (seen d (Serves l received) s out) s out.state
 
 and_false : (b : Bool) → (b && false) ≡ false
@@ -197,7 +197,7 @@ end_is false false true x e = absurd (cc e)
 end_is false false false x e = subst (λ y. Contains end_results y) (some_same SpiSeqOk x e) (0, omega arith, refl)
 
 -- a job's end, by what comes of its sequence
-after_goes : (d : SpiDriver) (s t : SpiState) (l received : ℕ) (r : Run) (p : Pending) (x : Option AnswerName) → run_of s (unit_of l) ≡ Some r → p.sequence ≡ r.sequence → lists.is_pending p.sequence s.pending ≡ true
+after_goes : (d : SpiTable) (s t : SpiState) (l received : ℕ) (r : Run) (p : Pending) (x : Option AnswerName) → run_of s (unit_of l) ≡ Some r → p.sequence ≡ r.sequence → lists.is_pending p.sequence s.pending ≡ true
     → t.pending ≡ s.pending → t.sequence_results ≡ s.sequence_results → t.requests ≡ s.requests → ((y : AnswerName) → x ≡ Some y → Contains end_results y) → ServeGoes d s l received (sequence_after d t p x)
 after_goes d s t l received r p None at own there e f g ends =
     Advances p.sequence (λ q. refl) refl (λ q. refl) (λ q. rw (at, own) (and_true (r.sequence == q))) (ap (λ ps. changed p.sequence goes_to_next ps) e) f g (λ q. told_job d q (next_job d p) (notifies_job (job_of d (next_job d p))) refl)
@@ -205,14 +205,14 @@ after_goes d s t l received r p (Some y) at own there e f g ends =
     Ending p.sequence y (λ q. refl) refl (λ q. refl) (λ q ne. rw at (and_true (r.sequence == q) ∙ ap (λ k. k == q) (sym own) ∙ ne)) there (ends y refl) (ap (λ ps. without p.sequence ps) e) (ap (λ rs. with_item SpiSeqOk rs p.sequence y) f) g
     (λ q. told_both d q (next_job d p) p.sequence)
 
-over_goes : (d : SpiDriver) (s t : SpiState) (l received u : ℕ) (failed : Bool) (r : Run) (o : Option Pending) → run_of s (unit_of l) ≡ Some r → find (is_entry r.sequence) s.pending ≡ o
+over_goes : (d : SpiTable) (s t : SpiState) (l received u : ℕ) (failed : Bool) (r : Run) (o : Option Pending) → run_of s (unit_of l) ≡ Some r → find (is_entry r.sequence) s.pending ≡ o
     → t.pending ≡ s.pending → t.sequence_results ≡ s.sequence_results → t.requests ≡ s.requests → ServeGoes d s l received (job_over d t u failed o)
 over_goes d s t l received u failed r None at none e f g =
     Leaves (record { accepts = λ q. refl; starts = λ q. refl; ends = λ p has. rw at (and_true (r.sequence == p.sequence) ∙ not_found r.sequence s.pending p none has) }) refl e f g (λ q. refl)
 over_goes d s t l received u failed r (Some p) at there e f g =
     after_goes d s _ l received r p (end_by p.cancelled failed (has_further d p)) at (found r.sequence p s.pending there).0 (pending_found r.sequence p s.pending there) e f g (λ y. end_is p.cancelled failed (has_further d p) y)
 
-served_by_goes : (d : SpiDriver) (w : World) (s : SpiState) (l u received : ℕ) (r : Run) (b : Bool) → run_of s (unit_of l) ≡ Some r → ServeGoes d s l received (served_by d w s u received r b)
+served_by_goes : (d : SpiTable) (w : World) (s : SpiState) (l u received : ℕ) (r : Run) (b : Bool) → run_of s (unit_of l) ≡ Some r → ServeGoes d s l received (served_by d w s u received r b)
 served_by_goes d w s l u received r true at =
     Leaves (record { accepts = λ q. refl; starts = λ q. refl; ends = λ p has. and_false (is_of p.sequence (sequence_seen d s (Serves l received))) }) refl
     (stored-seen (λ s. s.pending) (λ s c x. refl) s (word_of r) (word_of r).goes r.transfer.incoming)
@@ -224,17 +224,17 @@ served_by_goes d w s l u received r false at =
     (after_last-seen (λ s. s.sequence_results) (λ s c x. refl) s r r.transfer.failed)
     (after_last-seen (λ s. s.requests) (λ s c x. refl) s r r.transfer.failed)
 
-idle_goes : (d : SpiDriver) (s : SpiState) (l received : ℕ) → run_of s (unit_of l) ≡ None → ServeGoes d s l received (outcome s tells_nothing)
+idle_goes : (d : SpiTable) (s : SpiState) (l received : ℕ) → run_of s (unit_of l) ≡ None → ServeGoes d s l received (outcome s tells_nothing)
 idle_goes d s l received at = Leaves (record { accepts = λ q. refl; starts = λ q. refl; ends = λ p has. rw at refl }) refl refl refl refl (λ q. refl)
 
-served_goes : (d : SpiDriver) (w : World) (s : SpiState) (l received : ℕ) (k : Option ℕ) (o : Option Run) → unit_of l ≡ k → run_of s k ≡ o → ServeGoes d s l received (served d w s k received o)
+served_goes : (d : SpiTable) (w : World) (s : SpiState) (l received : ℕ) (k : Option ℕ) (o : Option Run) → unit_of l ≡ k → run_of s k ≡ o → ServeGoes d s l received (served d w s k received o)
 served_goes d w s l received None o unit at = idle_goes d s l received (ap (λ k. run_of s k) unit)
 served_goes d w s l received (Some u) None unit at = idle_goes d s l received (ap (λ k. run_of s k) unit ∙ at)
 served_goes d w s l received (Some u) (Some r) unit at = served_by_goes d w s l u received r (goes_on r) (ap (λ k. run_of s k) unit ∙ at)
 
 -- ---- all else
 
-start_goes : (d : SpiDriver) (w : World) (s : SpiState) (unit : units.Unit) (k : Option ℕ) (received : ℕ) (o : Option Pending) (out : Outcome SpiState) → next_at d s (number_of unit) ≡ o
+start_goes : (d : SpiTable) (w : World) (s : SpiState) (unit : units.Unit) (k : Option ℕ) (received : ℕ) (o : Option Pending) (out : Outcome SpiState) → next_at d s (number_of unit) ≡ o
     → start_by d w s k received o ≡ Some out → Goes d (seen d (Starts unit received) s out) s out.state
 start_goes d w s unit None received o out at e = absurd (cc e)
 start_goes d w s unit (Some u) received None out at e = absurd (cc e)
@@ -242,16 +242,16 @@ start_goes d w s unit (Some u) received (Some p) out at e =
     subst (λ (x : Outcome SpiState). Goes d (seen d (Starts unit received) s x) s x.state) (some_same (started d w s u received p) out e)
     (Starting p.sequence (λ q. refl) refl (λ q. rw at refl) (λ q. refl) refl refl refl (λ q. refl))
 
-calm_move : (d : SpiDriver) (w : World) (s : SpiState) (order : Order) → (moved d w s order).pending ≡ s.pending → (moved d w s order).sequence_results ≡ s.sequence_results → (moved d w s order).requests ≡ s.requests
+calm_move : (d : SpiTable) (w : World) (s : SpiState) (order : Order) → (moved d w s order).pending ≡ s.pending → (moved d w s order).sequence_results ≡ s.sequence_results → (moved d w s order).requests ≡ s.requests
     → Goes d (seen d (Moves order) s (outcome (moved d w s order) tells_nothing)) s (moved d w s order)
 calm_move d w s order e f g = Leaves (record { accepts = λ q. refl; starts = λ q. refl; ends = λ p at. refl }) refl e f g (λ q. refl)
 
-move_goes : (d : SpiDriver) (w : World) (s : SpiState) (order : Order) → Goes d (seen d (Moves order) s (outcome (moved d w s order) tells_nothing)) s (moved d w s order)
+move_goes : (d : SpiTable) (w : World) (s : SpiState) (order : Order) → Goes d (seen d (Moves order) s (outcome (moved d w s order) tells_nothing)) s (moved d w s order)
 move_goes d w s (Fill c ws) = calm_move d w s (Fill c ws) refl refl refl
 move_goes d w s (SpiFault u) = calm_move d w s (SpiFault u) refl refl refl
 move_goes d w s order = calm_move d w s order refl refl refl
 
-pub happens_goes : (d : SpiDriver) (w : World) (s : SpiState) (h : Happening Call) (out : Outcome SpiState) → (spi_machine d).happens w s h ≡ Some out → Goes d (seen d h s out) s out.state
+pub happens_goes : (d : SpiTable) (w : World) (s : SpiState) (h : Happening Call) (out : Outcome SpiState) → (spi_machine d).happens w s h ≡ Some out → Goes d (seen d h s out) s out.state
 happens_goes d w s (Acts call times) out e =
     subst (λ (x : Outcome SpiState). Goes d (seen d (Acts call times) s x) s x.state) (some_same (acts d s call) out e) (act_by d s call times (error_by d call (is_off s.mode) (finds_held d s call)) refl)
 happens_goes d w s (Serves l received) out e =

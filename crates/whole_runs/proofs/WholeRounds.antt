@@ -11,20 +11,20 @@ use Rattle.run_model.specs.Frame.{state_by}
 use Rattle.run_model.specs.World.{World, with_at}
 use Rattle.run_model.specs.Machine.{Happening, Acts, Serves, Starts, Aborts, Moves, Restarts, Outcome, outcome, tells_nothing}
 use Rattle.service_outline.specs.Done.{named_with}
-use Rattle.adc_groups.specs.Checks.{error_by}
-use Rattle.adc_groups.specs.Groups.{Status, Idle, Busy, Completed, StreamCompleted, GroupState, Round, Results, is_idle, newest, values_of, is_continuous, is_full, place_in, samples_of, stored_from, is_same, with_round_of, trigger_input}
-use Rattle.adc_groups.specs.Machine.{adc_machine, acts, acts_by, circumstances, happens, ready, reads, served, served_round, served_values, after_round, is_unit_line, with_values}
-use Rattle.adc_groups.specs.Table.{group_of}
-use Rattle.adc_groups.specs.Triggers.{without_mark, served_trigger}
-use Rattle.adc_groups.specs.Turns.{AdcState, first_state, group_at, round_at, with_group, with_round}
-use Rattle.adc_groups.specs.declared.call.Call.{Call}
-use Rattle.adc_groups.specs.declared.call.Call.TheVariants.{Init, DeInit, Group}
-use Rattle.adc_groups.specs.declared.call.GroupCall.TheVariants.{SetupResultBuffer, StartGroupConversion, StopGroupConversion, ReadGroup, EnableHardwareTrigger, DisableHardwareTrigger, Notification, GetGroupStatus, GetStreamLastPointer}
-use Rattle.adc_groups.specs.declared.call.ResultBuffer.{ResultBuffer}
-use Rattle.adc_groups.specs.declared.call.ResultBuffer.TheVariants.{Zero, One}
-use Rattle.adc_groups.specs.declared.driver.AdcDriver.{AdcDriver}
-use Rattle.adc_groups.specs.declared.driver.Group as configured
-use Rattle.adc_groups.proofs.Places.{leaves_results}
+use Rattle.adc_machine.specs.Checks.{error_by}
+use Rattle.adc_machine.specs.Groups.{Status, Idle, Busy, Completed, StreamCompleted, GroupState, Round, Results, is_idle, newest, values_of, is_continuous, is_full, place_in, samples_of, stored_from, is_same, with_round_of, trigger_input}
+use Rattle.adc_machine.specs.Machine.{adc_machine, acts, acts_by, circumstances, happens, ready, reads, served, served_round, served_values, after_round, is_unit_line, with_values}
+use Rattle.adc_machine.specs.Table.{group_of}
+use Rattle.adc_machine.specs.Triggers.{without_mark, served_trigger}
+use Rattle.adc_machine.specs.Turns.{AdcState, first_state, group_at, round_at, with_group, with_round}
+use Rattle.adc_machine.specs.declared.call.Call.{Call}
+use Rattle.adc_machine.specs.declared.call.Call.TheVariants.{Init, DeInit, Group}
+use Rattle.adc_machine.specs.declared.call.GroupCall.TheVariants.{SetupResultBuffer, StartGroupConversion, StopGroupConversion, ReadGroup, EnableHardwareTrigger, DisableHardwareTrigger, Notification, GetGroupStatus, GetStreamLastPointer}
+use Rattle.adc_machine.specs.declared.call.ResultBuffer.{ResultBuffer}
+use Rattle.adc_machine.specs.declared.call.ResultBuffer.TheVariants.{Zero, One}
+use Rattle.adc_machine.specs.declared.table.AdcTable.{AdcTable}
+use Rattle.adc_machine.specs.declared.table.Group as configured
+use Rattle.adc_machine.proofs.Places.{leaves_results}
 use Rattle.whole_runs.specs.Runs.{Event, state_after, AreAllowed, told_by}
 use Rattle.whole_runs.specs.GroupRuns.{Seen, seen_between, seen_of, serves_on, newest_of, newest_in}
 use Rattle.whole_runs.specs.Rounds.{IsRound, HandsOut, Reads, PlaceGoes, Left, Taken, Reset, NewestGoes, Stays, Becomes, Lost, PlacesGo, IsWhole, AreWhole}
@@ -42,7 +42,7 @@ found false true idle e = absurd (cc e)
 found false false true e = absurd (cc e)
 found false false false e = (refl, refl)
 
-known_below : (d : AdcDriver) (g : ℕ) → not (is_some (group_of d g)) ≡ false → g < 16
+known_below : (d : AdcTable) (g : ℕ) → not (is_some (group_of d g)) ≡ false → g < 16
 known_below d g known = by_test (nat_lt g 16) refl known
   where
     by_test : (b : Bool) → nat_lt g 16 ≡ b → not (is_some (if b then slice_index_or d.groups g None else None)) ≡ false → g < 16
@@ -53,14 +53,14 @@ newest_is : (rounds : List (List ℕ)) (values : List ℕ) → is_some (newest_o
 newest_is [] values some e = absurd (cc some)
 newest_is (r ∷ rs) values some e = ap (λ v. Some v) e
 
-reads_newest : (d : AdcDriver) (s : AdcState) (g : ℕ) (x : Status) (values : List ℕ) → (group_at s g).status ≡ x → (is_completed (group_at s g).status ≡ true → is_some (newest_in s g) ≡ true)
+reads_newest : (d : AdcTable) (s : AdcState) (g : ℕ) (x : Status) (values : List ℕ) → (group_at s g).status ≡ x → (is_completed (group_at s g).status ≡ true → is_some (newest_in s g) ≡ true)
     → is_idle (group_at s g).status ≡ false → (reads d s g x).told.answer ≡ named_with EOk values → newest_in s g ≡ Some values
 reads_newest d s g Idle values at completed idle e = absurd (cc (ap (λ y. is_idle y) at, idle))
 reads_newest d s g Busy values at completed idle e = absurd (cc (ap (λ (a : Answer). a.head) e))
 reads_newest d s g Completed values at completed idle e = newest_is (group_at s g).rounds values (completed (ap (λ y. is_completed y) at)) (ap (λ (a : Answer). a.words) e)
 reads_newest d s g StreamCompleted values at completed idle e = newest_is (group_at s g).rounds values (completed (ap (λ y. is_completed y) at)) (ap (λ (a : Answer). a.words) e)
 
-read_by : (d : AdcDriver) (s : AdcState) (past : List Seen) (g : ℕ) (values : List ℕ) (o : Option ErrorName) → error_by d (Group g ReadGroup) (circumstances d s (Group g ReadGroup)) ≡ o → Tells d past s
+read_by : (d : AdcTable) (s : AdcState) (past : List Seen) (g : ℕ) (values : List ℕ) (o : Option ErrorName) → error_by d (Group g ReadGroup) (circumstances d s (Group g ReadGroup)) ≡ o → Tells d past s
     → (acts_by d s (Group g ReadGroup) o).told.answer ≡ named_with EOk values → HandsOut d g past values
 read_by d s past g values (Some x) at t e = absurd (cc (ap (λ (a : Answer). a.head) e))
 read_by d s past g values None at t e =
@@ -68,7 +68,7 @@ read_by d s past g values None at t e =
     let lt : g < 16 = known_below d g fine.0 in
     t.newest g lt values (reads_newest d s g (group_at s g).status values refl (t.completed g lt) fine.1 e)
 
-reads_by : (d : AdcDriver) (w : World) (h : Happening Call) (s : AdcState) (out : Outcome AdcState) (past : List Seen) (g : ℕ) (values : List ℕ) → happens d w s h ≡ Some out → Tells d past s → Reads g h
+reads_by : (d : AdcTable) (w : World) (h : Happening Call) (s : AdcState) (out : Outcome AdcState) (past : List Seen) (g : ℕ) (values : List ℕ) → happens d w s h ≡ Some out → Tells d past s → Reads g h
     → out.told.answer ≡ named_with EOk values → HandsOut d g past values
 reads_by d w (Acts (Group k ReadGroup) times) s out past g values e t is answer =
     subst (λ n. HandsOut d n past values) is
@@ -133,7 +133,7 @@ round_or k r h (Some c) vs held g b p = by_test (g == h) (is_same b c) refl refl
     by_test false true e f = inl refl
     by_test false false e f = inl refl
 
-turn_results : (d : AdcDriver) (t : AdcState) (g n : ℕ) (full continuous : Bool) → (after_round d t g n full continuous).results ≡ t.results
+turn_results : (d : AdcTable) (t : AdcState) (g n : ℕ) (full continuous : Bool) → (after_round d t g n full continuous).results ≡ t.results
 turn_results d t g n true continuous = unmarked (with_group t g (record (group_at t g) { trigger = false })) (trigger_input (group_of d g))
   where
     unmarked : (s : AdcState) (o : Option ℕ) → (without_mark s o).results ≡ s.results
@@ -143,10 +143,10 @@ turn_results d t g n false true = refl
 turn_results d t g n false false = refl
 
 -- what a serving of a unit's line does to a place
-abbrev Places : AdcDriver → List Seen → Seen → ℕ → ResultBuffer → ℕ → Type 0
+abbrev Places : AdcTable → List Seen → Seen → ℕ → ResultBuffer → ℕ → Type 0
 Places d past e g b p = PlaceGoes d g e past (e.held g b p) (e.holds g b p)
 
-served_place : (d : AdcDriver) (w : World) (s : AdcState) (l received : ℕ) (r : Round) (past : List Seen) (g : ℕ) (b : ResultBuffer) (p : ℕ) → is_unit_line l ≡ true → round_at s (l - 24) ≡ Some r → Tells d past s
+served_place : (d : AdcTable) (w : World) (s : AdcState) (l received : ℕ) (r : Round) (past : List Seen) (g : ℕ) (b : ResultBuffer) (p : ℕ) → is_unit_line l ≡ true → round_at s (l - 24) ≡ Some r → Tells d past s
     → Places d past (seen d w (Serves l received) s (served_round d w s (l - 24) (Some r))) g b p
 served_place d w s l received r past g b p line at t =
     let e : Seen = seen d w (Serves l received) s (served_round d w s (l - 24) (Some r)) in
@@ -164,7 +164,7 @@ served_place d w s l received r past g b p line at t =
     by_place e values round (inl same) = Left same
     by_place e values round (inr here) = Taken values (subst (λ n. IsRound d n e past values) here.0 round) here.1
 
-round_place : (d : AdcDriver) (w : World) (s : AdcState) (l received : ℕ) (q : Option Round) (past : List Seen) (g : ℕ) (b : ResultBuffer) (p : ℕ) → is_unit_line l ≡ true → round_at s (l - 24) ≡ q → Tells d past s
+round_place : (d : AdcTable) (w : World) (s : AdcState) (l received : ℕ) (q : Option Round) (past : List Seen) (g : ℕ) (b : ResultBuffer) (p : ℕ) → is_unit_line l ≡ true → round_at s (l - 24) ≡ q → Tells d past s
     → Places d past (seen d w (Serves l received) s (served_round d w s (l - 24) q)) g b p
 round_place d w s l received None past g b p line at t = Left refl
 round_place d w s l received (Some r) past g b p line at t = served_place d w s l received r past g b p line at t
@@ -173,7 +173,7 @@ allowed_is : (b : Bool) (x out : Outcome AdcState) → cond b (Some x) None ≡ 
 allowed_is true x out e = cc
 allowed_is false x out e = absurd (cc e)
 
-serve_place : (d : AdcDriver) (w : World) (s : AdcState) (l received : ℕ) (out : Outcome AdcState) (past : List Seen) (g : ℕ) (b : ResultBuffer) (p : ℕ) (unit : Bool) → is_unit_line l ≡ unit
+serve_place : (d : AdcTable) (w : World) (s : AdcState) (l received : ℕ) (out : Outcome AdcState) (past : List Seen) (g : ℕ) (b : ResultBuffer) (p : ℕ) (unit : Bool) → is_unit_line l ≡ unit
     → happens d w s (Serves l received) ≡ Some out → Tells d past s → Places d past (seen d w (Serves l received) s out) g b p
 serve_place d w s l received out past g b p true line e t =
     let is : served_round d w s (l - 24) (round_at s (l - 24)) ≡ out =
@@ -181,7 +181,7 @@ serve_place d w s l received out past g b p true line e t =
     subst (λ (x : Outcome AdcState). Places d past (seen d w (Serves l received) s x) g b p) is (round_place d w s l received (round_at s (l - 24)) past g b p line refl t)
 serve_place d w s l received out past g b p false line e t = Left (ap (λ (x : Results). x g b p) (leaves_results d w s (Serves l received) out e line))
 
-place_goes : (d : AdcDriver) (w : World) (s : AdcState) (h : Happening Call) (out : Outcome AdcState) (past : List Seen) → happens d w s h ≡ Some out → Tells d past s → PlacesGo d (seen d w h s out) past
+place_goes : (d : AdcTable) (w : World) (s : AdcState) (h : Happening Call) (out : Outcome AdcState) (past : List Seen) → happens d w s h ≡ Some out → Tells d past s → PlacesGo d (seen d w h s out) past
 place_goes d w s (Acts call times) out past e t g b p = Left (ap (λ (x : Results). x g b p) (leaves_results d w s (Acts call times) out e tt))
 place_goes d w s (Serves l received) out past e t g b p = serve_place d w s l received out past g b p (is_unit_line l) refl e t
 place_goes d w s (Starts u received) out past e t g b p = Left (ap (λ (x : Results). x g b p) (leaves_results d w s (Starts u received) out e tt))
@@ -194,7 +194,7 @@ place_goes d w s (Restarts reason) out past e t g b p = Reset refl (sym (ap (λ 
 
 -- ---- newest rounds
 
-newest_goes : (d : AdcDriver) (g : ℕ) (e : Seen) (past : List Seen) (s : AdcState) (x y : GroupState) → RoundsGo d g e s x y → Tells d past s → NewestGoes d g e past (newest_of x.rounds) (newest_of y.rounds)
+newest_goes : (d : AdcTable) (g : ℕ) (e : Seen) (past : List Seen) (s : AdcState) (x y : GroupState) → RoundsGo d g e s x y → Tells d past s → NewestGoes d g e past (newest_of x.rounds) (newest_of y.rounds)
 newest_goes d g e past s x y (Same serve begin same status) t = Stays (ap (λ rs. newest_of rs) same)
 newest_goes d g e past s x y (Added u r serve there own is) t =
     Becomes (values_of e.world (group_of d g) r) (subst (λ h. serves_on u h e ≡ true → IsRound d h e past (values_of e.world (group_of d h) r)) own (λ f. is_round d u r e past f (t.running u r there)) serve)
@@ -203,15 +203,15 @@ newest_goes d g e past s x y (Cleared begin none status) t = Lost begin (ap (λ 
 
 -- ---- a run
 
-first_tells : (d : AdcDriver) → Tells d [] first_state
+first_tells : (d : AdcTable) → Tells d [] first_state
 first_tells d = record { waiting = λ g lt q e. absurd (cc e); running = λ u r e. absurd (cc e); newest = λ g lt values e. absurd (cc e); completed = λ g lt e. absurd (cc e); single = first_single d }
 
 -- what holds after an event, by what came of it
-abbrev After : AdcDriver → AdcState → Event Call → List Seen → Option (Outcome AdcState) → Type 0
+abbrev After : AdcTable → AdcState → Event Call → List Seen → Option (Outcome AdcState) → Type 0
 After d s e past o =
     Tells d (seen_between d s (state_by s o) e (told_by o) ∷ past) (state_by s o) × IsWhole d (seen_between d s (state_by s o) e (told_by o)) past
 
-event_whole : (d : AdcDriver) (s : AdcState) (e : Event Call) (past : List Seen) (o : Option (Outcome AdcState)) → happens d e.world s e.what ≡ o → IsSome o → Tells d past s → After d s e past o
+event_whole : (d : AdcTable) (s : AdcState) (e : Event Call) (past : List Seen) (o : Option (Outcome AdcState)) → happens d e.world s e.what ≡ o → IsSome o → Tells d past s → After d s e past o
 event_whole d s e past None at some t = absurd (cc some)
 event_whole d s e past (Some out) at some t =
     let goes : Goes d e.world e.what s out = happens_goes d e.world s e.what out at in (
@@ -223,7 +223,7 @@ event_whole d s e past (Some out) at some t =
       },
     )
 
-run_whole : (d : AdcDriver) (past : List (Event Call)) → AreAllowed (adc_machine d) first_state past → Tells d (seen_of d past) (state_after (adc_machine d) first_state past) × AreWhole d (seen_of d past)
+run_whole : (d : AdcTable) (past : List (Event Call)) → AreAllowed (adc_machine d) first_state past → Tells d (seen_of d past) (state_after (adc_machine d) first_state past) × AreWhole d (seen_of d past)
 run_whole d [] allowed = (first_tells d, tt)
 run_whole d (e ∷ past) allowed =
     let before = run_whole d past allowed.1 in
@@ -231,5 +231,5 @@ run_whole d (e ∷ past) allowed =
     let after : After d s e (seen_of d past) (happens d e.world s e.what) = event_whole d s e (seen_of d past) (happens d e.world s e.what) refl allowed.0 before.0 in
     (after.0, (after.1, before.1))
 
-pub whole_rounds : (d : AdcDriver) (past : List (Event Call)) → AreAllowed (adc_machine d) first_state past → AreWhole d (seen_of d past)
+pub whole_rounds : (d : AdcTable) (past : List (Event Call)) → AreAllowed (adc_machine d) first_state past → AreWhole d (seen_of d past)
 whole_rounds d past allowed = (run_whole d past allowed).1

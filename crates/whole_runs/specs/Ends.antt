@@ -1,9 +1,9 @@
 -- One end for each request of a sequence.
 use Rattle.std.specs.Prelude.{◌≡◌, ℕ, ◌≤◌, true, false, ◌&&◌, cond, List, [], ◌∷◌, ◌++◌, Contains, count_by}
 use Rattle.mcal_base.specs.declared.answer_name.AnswerName.TheVariants.{SpiSeqOk, SpiSeqPending, SpiSeqFailed, SpiSeqCanceled}
-use Rattle.spi_sequences.specs.Laws.{names_end}
-use Rattle.spi_sequences.specs.Table.{sequence_of, notifies_sequence}
-use Rattle.spi_sequences.specs.declared.driver.SpiDriver.{SpiDriver}
+use Rattle.spi_machine.specs.Promised.{names_end}
+use Rattle.spi_machine.specs.Table.{sequence_of, notifies_sequence}
+use Rattle.spi_machine.specs.declared.table.SpiTable.{SpiTable}
 use Rattle.whole_runs.specs.Runs.{NoneOf}
 use Rattle.whole_runs.specs.SequenceRuns.{Seen, accepts, initialises, is_reset, is_pending, is_end}
 
@@ -19,14 +19,14 @@ pub data ResultGoes (q : ℕ) (e : Seen) : Type 0 where
   Reset : is_reset e ≡ true → e.has q ≡ SpiSeqOk → ResultGoes q e
 
 -- where a notice is configured an end tells it once, and no other event tells it
-abbrev pub TellsEnd : SpiDriver → ℕ → Seen → Type 0
+abbrev pub TellsEnd : SpiTable → ℕ → Seen → Type 0
 TellsEnd d q e = count_by (names_end q) e.told.notices ≡ cond (is_end q e && notifies_sequence (sequence_of d q)) 1 0
 
-pub record IsEnded (d : SpiDriver) (e : Seen) : Type 0 where
+pub record IsEnded (d : SpiTable) (e : Seen) : Type 0 where
   pub results : (q : ℕ) → ResultGoes q e
   pub told : (q : ℕ) → TellsEnd d q e
 
-abbrev pub AreEnded : SpiDriver → List Seen → Type 0
+abbrev pub AreEnded : SpiTable → List Seen → Type 0
 AreEnded d [] = Unit {0}
 AreEnded d (e ∷ past) = IsEnded d e × AreEnded d past
 

@@ -3,14 +3,14 @@ use Rattle.std.specs.Prelude.{ℕ, ◌-◌, ◌==◌, Bool, true, false, ◌&&�
 use Rattle.mcal_base.specs.declared.error_name.ErrorName.{ErrorName}
 use Rattle.run_model.specs.World.{World}
 use Rattle.run_model.specs.Machine.{Happening, Acts, Serves, Starts, Aborts, Moves, Restarts, Told}
-use Rattle.adc_groups.specs.Groups.{Round, Results, newest}
-use Rattle.adc_groups.specs.Machine.{adc_machine, is_unit_line}
-use Rattle.adc_groups.specs.Triggers.{listener}
-use Rattle.adc_groups.specs.Turns.{AdcState, first_state, group_at, round_at, has_turn, number_of, starts}
-use Rattle.adc_groups.specs.declared.call.Call.{Call}
-use Rattle.adc_groups.specs.declared.call.Call.TheVariants.{Init, DeInit, Group}
-use Rattle.adc_groups.specs.declared.call.GroupCall.TheVariants.{StartGroupConversion, StopGroupConversion, EnableHardwareTrigger, DisableHardwareTrigger}
-use Rattle.adc_groups.specs.declared.driver.AdcDriver.{AdcDriver}
+use Rattle.adc_machine.specs.Groups.{Round, Results, newest}
+use Rattle.adc_machine.specs.Machine.{adc_machine, is_unit_line}
+use Rattle.adc_machine.specs.Triggers.{listener}
+use Rattle.adc_machine.specs.Turns.{AdcState, first_state, group_at, round_at, has_turn, number_of, starts}
+use Rattle.adc_machine.specs.declared.call.Call.{Call}
+use Rattle.adc_machine.specs.declared.call.Call.TheVariants.{Init, DeInit, Group}
+use Rattle.adc_machine.specs.declared.call.GroupCall.TheVariants.{StartGroupConversion, StopGroupConversion, EnableHardwareTrigger, DisableHardwareTrigger}
+use Rattle.adc_machine.specs.declared.table.AdcTable.{AdcTable}
 use Rattle.whole_runs.specs.Runs.{Event, state_after, told_by, is_restart, is_of}
 
 -- An event as it is seen.
@@ -36,7 +36,7 @@ round_group None = None
 round_group (Some r) = Some r.group
 
 -- the group that a unit starts
-abbrev pub started_group : AdcDriver → AdcState → Option ℕ → Option ℕ
+abbrev pub started_group : AdcTable → AdcState → Option ℕ → Option ℕ
 started_group d s None = None
 started_group d s (Some u) = starts d s u
 
@@ -49,10 +49,10 @@ abbrev pub requesting_group : AdcState → Option ℕ → Option ℕ
 requesting_group s None = None
 requesting_group s (Some g) = cond (has_turn s g) None (Some g)
 
-abbrev pub served_group : AdcDriver → AdcState → (line : ℕ) → Option ℕ
+abbrev pub served_group : AdcTable → AdcState → (line : ℕ) → Option ℕ
 served_group d s l = cond (is_unit_line l) (round_group (round_at s (l - 24))) (requesting_group s (listener d s (l - 28)))
 
-abbrev pub group_seen : AdcDriver → AdcState → Happening Call → Option ℕ
+abbrev pub group_seen : AdcTable → AdcState → Happening Call → Option ℕ
 group_seen d s (Acts call times) = None
 group_seen d s (Serves l received) = served_group d s l
 group_seen d s (Starts u received) = started_group d s (number_of u)
@@ -69,11 +69,11 @@ abbrev pub newest_in : AdcState → ℕ → Option (List ℕ)
 newest_in s g = newest_of (group_at s g).rounds
 
 -- an event as it is seen, from the state before it and the state after it
-abbrev pub seen_between : AdcDriver → AdcState → AdcState → Event Call → Told → Seen
+abbrev pub seen_between : AdcTable → AdcState → AdcState → Event Call → Told → Seen
 seen_between d s after e told = record { world = e.world; what = e.what; told = told; group = group_seen d s e.what; held = s.results; holds = after.results; had_newest = newest_in s; has_newest = newest_in after }
 
 -- the events as they are seen, the newest first
-abbrev pub seen_of : AdcDriver → List (Event Call) → List Seen
+abbrev pub seen_of : AdcTable → List (Event Call) → List Seen
 seen_of d [] = []
 seen_of d (e ∷ past) =
     let s : AdcState = state_after (adc_machine d) first_state past in

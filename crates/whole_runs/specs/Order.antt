@@ -2,25 +2,25 @@
 use Rattle.std.specs.Prelude.{◌≡◌, ℕ, ◌<◌, ◌≤◌, ◌⊎◌, Bool, true, false, ◌&&◌, not, List, [], ◌∷◌, Some, slice_index_or}
 use Rattle.mcal_base.specs.declared.answer_name.AnswerName.TheVariants.{SpiSeqPending}
 use Rattle.run_model.specs.Machine.{Happening, Starts}
-use Rattle.spi_sequences.specs.Machine.{number_of}
-use Rattle.spi_sequences.specs.Table.{job_of, jobs_of, sequence_of, priority_by, is_interruptible, is_on_unit}
-use Rattle.spi_sequences.specs.declared.call.Call.{Call}
-use Rattle.spi_sequences.specs.declared.driver.SpiDriver.{SpiDriver}
+use Rattle.spi_machine.specs.Machine.{number_of}
+use Rattle.spi_machine.specs.Table.{job_of, jobs_of, sequence_of, priority_by, is_interruptible, is_on_unit}
+use Rattle.spi_machine.specs.declared.call.Call.{Call}
+use Rattle.spi_machine.specs.declared.table.SpiTable.{SpiTable}
 use Rattle.whole_runs.specs.SequenceRuns.{Seen, requested_at, jobs_ended, has_started}
 
 -- the next job of a sequence: the one at the place that says how many have ended
-abbrev pub job_in : SpiDriver → ℕ → List Seen → ℕ
+abbrev pub job_in : SpiTable → ℕ → List Seen → ℕ
 job_in d q past = slice_index_or (jobs_of d q) (jobs_ended q past) 0
 
 -- its priority, and whether its sequence has started and isn't interruptible
-abbrev pub priority_in : SpiDriver → ℕ → List Seen → ℕ
+abbrev pub priority_in : SpiTable → ℕ → List Seen → ℕ
 priority_in d q past = priority_by (job_of d (job_in d q past))
 
-abbrev pub keeps_unit_in : SpiDriver → ℕ → List Seen → Bool
+abbrev pub keeps_unit_in : SpiTable → ℕ → List Seen → Bool
 keeps_unit_in d q past = has_started q past && not (is_interruptible (sequence_of d q))
 
 -- The next job of a sequence goes before that of another one, or is it.
-pub data GoesFirst (d : SpiDriver) (past : List Seen) (q other : ℕ) : Type 0 where
+pub data GoesFirst (d : SpiTable) (past : List Seen) (q other : ℕ) : Type 0 where
   -- it has started and isn't interruptible, and the other isn't such
   Started : keeps_unit_in d q past ≡ true → keeps_unit_in d other past ≡ false → GoesFirst d past q other
   -- neither is such, and its job has the higher priority
@@ -30,7 +30,7 @@ pub data GoesFirst (d : SpiDriver) (past : List Seen) (q other : ℕ) : Type 0 w
       → requested_at q past ≤ requested_at other past → GoesFirst d past q other
 
 -- A unit starts the next job: that of a pending sequence whose next job is for the unit, and which goes before all others of which that holds.
-pub record StartsNext (d : SpiDriver) (u : ℕ) (e : Seen) (past : List Seen) : Type 0 where
+pub record StartsNext (d : SpiTable) (u : ℕ) (e : Seen) (past : List Seen) : Type 0 where
   pub sequence : ℕ
   pub named : e.sequence ≡ Some sequence
   pub job : e.job ≡ Some (job_in d sequence past)
@@ -39,10 +39,10 @@ pub record StartsNext (d : SpiDriver) (u : ℕ) (e : Seen) (past : List Seen) : 
   pub first : (other : ℕ) → e.had other ≡ SpiSeqPending → is_on_unit u (job_of d (job_in d other past)) ≡ true → GoesFirst d past sequence other
 
 -- each start on a serial unit starts the next job
-abbrev pub InOrderBy : SpiDriver → Seen → List Seen → Happening Call → Type 0
+abbrev pub InOrderBy : SpiTable → Seen → List Seen → Happening Call → Type 0
 InOrderBy d e past (Starts unit received) = (u : ℕ) → number_of unit ≡ Some u → StartsNext d u e past
 InOrderBy d e past _ = Unit {0}
 
-abbrev pub AreInOrder : SpiDriver → List Seen → Type 0
+abbrev pub AreInOrder : SpiTable → List Seen → Type 0
 AreInOrder d [] = Unit {0}
 AreInOrder d (e ∷ past) = InOrderBy d e past e.what × AreInOrder d past

@@ -2,11 +2,11 @@
 use Rattle.std.specs.Prelude.{ℕ, List, []}
 use Rattle.chip_model.specs.Chip.{Chip}
 use Rattle.run_model.specs.Moment.{Setting, Deed, start_moment}
-use Rattle.adc_groups.specs.declared.call.Call as converter
-use Rattle.adc_groups.specs.declared.driver.AdcDriver.{AdcDriver}
-use Rattle.spi_sequences.specs.Laws.{HasPriorities}
-use Rattle.spi_sequences.specs.declared.call.Call as serial
-use Rattle.spi_sequences.specs.declared.driver.SpiDriver.{SpiDriver}
+use Rattle.adc_machine.specs.declared.call.Call as converter
+use Rattle.adc_machine.specs.declared.table.AdcTable.{AdcTable}
+use Rattle.spi_machine.specs.Promised.{HasPriorities}
+use Rattle.spi_machine.specs.declared.call.Call as serial
+use Rattle.spi_machine.specs.declared.table.SpiTable.{SpiTable}
 use Rattle.whole_runs.specs.Ends.{AreEnded, HasOneEnd}
 use Rattle.whole_runs.specs.GroupRuns as groups
 use Rattle.whole_runs.specs.Journals.{events_of, AllSaid}
@@ -25,11 +25,11 @@ abbrev pub part_events : {S C U E : Type 0} → Setting U E → Place S C U E �
 part_events g p chip ds = own_events g.machine g.first p (journal_events g chip ds)
 
 -- What is promised of the converter groups' part of a journal.
-pub record GroupsKeep (d : AdcDriver) (past : List (Event converter.Call)) : Type 0 where
+pub record GroupsKeep (d : AdcTable) (past : List (Event converter.Call)) : Type 0 where
   pub whole : AreWhole d (groups.seen_of d past)
 
 -- What is promised of the serial driver's part.
-pub record SequencesKeep (d : SpiDriver) (past : List (Event serial.Call)) : Type 0 where
+pub record SequencesKeep (d : SpiTable) (past : List (Event serial.Call)) : Type 0 where
   pub results : AreEnded d (sequences.seen_of d past)
   pub ends : (q : ℕ) → HasOneEnd q (sequences.seen_of d past)
   pub order : HasPriorities d → AreInOrder d (sequences.seen_of d past)

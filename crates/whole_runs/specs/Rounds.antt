@@ -3,20 +3,20 @@ use Rattle.std.specs.Prelude.{◌≡◌, ℕ, ◌-◌, ◌/◌, ◌<◌, true, f
 use Rattle.mcal_base.specs.declared.answer_name.AnswerName.TheVariants.{EOk}
 use Rattle.run_model.specs.Machine.{Happening, Acts}
 use Rattle.service_outline.specs.Done.{named_with}
-use Rattle.adc_groups.specs.Groups.{inputs_of, suspends, levels_from}
-use Rattle.adc_groups.specs.Table.{group_of}
-use Rattle.adc_groups.specs.declared.call.Call.{Call}
-use Rattle.adc_groups.specs.declared.call.Call.TheVariants.{Group}
-use Rattle.adc_groups.specs.declared.call.GroupCall.TheVariants.{ReadGroup}
-use Rattle.adc_groups.specs.declared.call.ResultBuffer.{ResultBuffer}
-use Rattle.adc_groups.specs.declared.driver.AdcDriver.{AdcDriver}
+use Rattle.adc_machine.specs.Groups.{inputs_of, suspends, levels_from}
+use Rattle.adc_machine.specs.Table.{group_of}
+use Rattle.adc_machine.specs.declared.call.Call.{Call}
+use Rattle.adc_machine.specs.declared.call.Call.TheVariants.{Group}
+use Rattle.adc_machine.specs.declared.call.GroupCall.TheVariants.{ReadGroup}
+use Rattle.adc_machine.specs.declared.call.ResultBuffer.{ResultBuffer}
+use Rattle.adc_machine.specs.declared.table.AdcTable.{AdcTable}
 use Rattle.whole_runs.specs.Runs.{NoneOf}
 use Rattle.whole_runs.specs.GroupRuns.{Seen, is_reset, stops, begins, requests, starts_on, aborts_on, serves_on, serves, is_on, touches}
 
 -- ---- one round
 
 -- the inputs of a group that come after so many
-abbrev pub inputs_after : AdcDriver → (group count : ℕ) → List ℕ
+abbrev pub inputs_after : AdcTable → (group count : ℕ) → List ℕ
 inputs_after d g n = drop n (inputs_of (group_of d g))
 
 -- A stretch of a round: a unit starts the group, and then nothing happens on that unit and the group isn't stopped. What was there before the start stands behind it.
@@ -28,11 +28,11 @@ pub record Stretch (u g : ℕ) (past earlier : List Seen) (start : Seen) : Type 
   pub unstopped : NoneOf (stops g) running
 
 -- the values that a stretch adds up to a time: the levels of the group's inputs after those that are kept, each 4 ticks after the one before, the first one 4 ticks after the start
-abbrev pub values_since : AdcDriver → (group : ℕ) → (start now : Seen) → (kept : List ℕ) → List ℕ
+abbrev pub values_since : AdcTable → (group : ℕ) → (start now : Seen) → (kept : List ℕ) → List ℕ
 values_since d g start now kept = levels_from now.world.samples start.world.now (take ((now.world.now - start.world.now) / 4) (inputs_after d g (length kept)))
 
 -- A request of a group stands, and these values of its round are kept for it.
-pub data Keeps (d : AdcDriver) (g : ℕ) : (past : List Seen) → (kept : List ℕ) → Type 0 where
+pub data Keeps (d : AdcTable) (g : ℕ) : (past : List Seen) → (kept : List ℕ) → Type 0 where
   -- none at the request
   Requested : (e : Seen) (past : List Seen) → requests g e ≡ true → Keeps d g (e ∷ past) []
   -- and none after a serving of a round of a continuous group, whose request stands on
@@ -53,7 +53,7 @@ pub record HasRequest (g : ℕ) (past : List Seen) : Type 0 where
   pub unstopped : NoneOf (stops g) since
 
 -- A serving serves a round of the group with these values: a unit started it for a request of the group, which had not been stopped or disabled since, and wasn't since the start either; and the values are those that were kept for the request and then the levels of all further inputs.
-pub record IsRound (d : AdcDriver) (g : ℕ) (serving : Seen) (past : List Seen) (values : List ℕ) : Type 0 where
+pub record IsRound (d : AdcTable) (g : ℕ) (serving : Seen) (past : List Seen) (values : List ℕ) : Type 0 where
   pub unit : ℕ
   pub start : Seen
   pub earlier : List Seen
@@ -67,7 +67,7 @@ pub record IsRound (d : AdcDriver) (g : ℕ) (serving : Seen) (past : List Seen)
 -- ---- what a read hands out
 
 -- A read hands out the newest served round: the values are those of one round, which was served, and since then no other round of the group was, and the group was neither started nor its trigger enabled, and no Adc_Init, Adc_DeInit or reset came.
-pub record HandsOut (d : AdcDriver) (g : ℕ) (past : List Seen) (values : List ℕ) : Type 0 where
+pub record HandsOut (d : AdcTable) (g : ℕ) (past : List Seen) (values : List ℕ) : Type 0 where
   pub since : List Seen
   pub serving : Seen
   pub before : List Seen
@@ -81,13 +81,13 @@ Reads g (Acts (Group h ReadGroup) times) = h ≡ g
 Reads g _ = ⊥
 
 -- an `E_OK` of Adc_ReadGroup hands out the newest served round of the group
-abbrev pub ReadsNewest : AdcDriver → Seen → List Seen → Type 0
+abbrev pub ReadsNewest : AdcTable → Seen → List Seen → Type 0
 ReadsNewest d e past = (g : ℕ) (values : List ℕ) → Reads g e.what → e.told.answer ≡ named_with EOk values → HandsOut d g past values
 
 -- ---- what changes places and newest rounds
 
 -- What an event does to a place of a buffer of a group.
-pub data PlaceGoes (d : AdcDriver) (g : ℕ) (e : Seen) (past : List Seen) (before after : ℕ) : Type 0 where
+pub data PlaceGoes (d : AdcTable) (g : ℕ) (e : Seen) (past : List Seen) (before after : ℕ) : Type 0 where
   Left : after ≡ before → PlaceGoes d g e past before after
   -- it takes a value of a round, which is served
   Taken : (values : List ℕ) → IsRound d g e past values → Contains values after → PlaceGoes d g e past before after
@@ -95,7 +95,7 @@ pub data PlaceGoes (d : AdcDriver) (g : ℕ) (e : Seen) (past : List Seen) (befo
   Reset : is_reset e ≡ true → after ≡ 0 → PlaceGoes d g e past before after
 
 -- What an event does to the newest round of a group.
-pub data NewestGoes (d : AdcDriver) (g : ℕ) (e : Seen) (past : List Seen) (before after : Option (List ℕ)) : Type 0 where
+pub data NewestGoes (d : AdcTable) (g : ℕ) (e : Seen) (past : List Seen) (before after : Option (List ℕ)) : Type 0 where
   Stays : after ≡ before → NewestGoes d g e past before after
   -- it is a round that is served
   Becomes : (values : List ℕ) → IsRound d g e past values → after ≡ Some values → NewestGoes d g e past before after
@@ -103,20 +103,20 @@ pub data NewestGoes (d : AdcDriver) (g : ℕ) (e : Seen) (past : List Seen) (bef
   Lost : begins g e ≡ true → after ≡ None → NewestGoes d g e past before after
 
 -- a place takes a value, and a group, of the numbers 0 to 15, gets a newest round, only by the serving of a round that was started for a request of that group
-abbrev pub PlacesGo : AdcDriver → Seen → List Seen → Type 0
+abbrev pub PlacesGo : AdcTable → Seen → List Seen → Type 0
 PlacesGo d e past = (g : ℕ) (b : ResultBuffer) (place : ℕ) → PlaceGoes d g e past (e.held g b place) (e.holds g b place)
 
-abbrev pub NewestGo : AdcDriver → Seen → List Seen → Type 0
+abbrev pub NewestGo : AdcTable → Seen → List Seen → Type 0
 NewestGo d e past = (g : ℕ) → g < 16 → NewestGoes d g e past (e.had_newest g) (e.has_newest g)
 
 -- ---- a whole run
 
 -- Each event of a run, with what came before it.
-pub record IsWhole (d : AdcDriver) (e : Seen) (past : List Seen) : Type 0 where
+pub record IsWhole (d : AdcTable) (e : Seen) (past : List Seen) : Type 0 where
   pub reads : ReadsNewest d e past
   pub places : PlacesGo d e past
   pub newest : NewestGo d e past
 
-abbrev pub AreWhole : AdcDriver → List Seen → Type 0
+abbrev pub AreWhole : AdcTable → List Seen → Type 0
 AreWhole d [] = Unit {0}
 AreWhole d (e ∷ past) = IsWhole d e past × AreWhole d past

@@ -4,14 +4,14 @@ use Rattle.mcal_base.specs.declared.answer_name.AnswerName.{AnswerName}
 use Rattle.mcal_base.specs.declared.answer_name.AnswerName.TheVariants.{SpiSeqPending}
 use Rattle.mcal_base.specs.declared.error_name.ErrorName.{ErrorName}
 use Rattle.run_model.specs.Machine.{Happening, Acts, Serves, Starts, Aborts, Moves, Restarts, Told, Outcome}
-use Rattle.spi_sequences.specs.Machine.{spi_machine, number_of, next_at, unit_of, run_of}
-use Rattle.spi_sequences.specs.Pending.{Pending, next_job, sequence_result}
-use Rattle.spi_sequences.specs.State.{SpiState, first_state}
-use Rattle.spi_sequences.specs.Transfers.{Run}
-use Rattle.spi_sequences.specs.declared.call.Call.{Call}
-use Rattle.spi_sequences.specs.declared.call.Call.TheVariants.{Init, Sequence}
-use Rattle.spi_sequences.specs.declared.call.SequenceCall.TheVariants.{AsyncTransmit}
-use Rattle.spi_sequences.specs.declared.driver.SpiDriver.{SpiDriver}
+use Rattle.spi_machine.specs.Machine.{spi_machine, number_of, next_at, unit_of, run_of}
+use Rattle.spi_machine.specs.Pending.{Pending, next_job, sequence_result}
+use Rattle.spi_machine.specs.State.{SpiState, first_state}
+use Rattle.spi_machine.specs.Transfers.{Run}
+use Rattle.spi_machine.specs.declared.call.Call.{Call}
+use Rattle.spi_machine.specs.declared.call.Call.TheVariants.{Init, Sequence}
+use Rattle.spi_machine.specs.declared.call.SequenceCall.TheVariants.{AsyncTransmit}
+use Rattle.spi_machine.specs.declared.table.SpiTable.{SpiTable}
 use Rattle.whole_runs.specs.Runs.{Event, state_after, told_by, is_restart, is_of}
 
 -- An event as it is seen.
@@ -33,7 +33,7 @@ abbrev pub sequence_of_next : Option Pending → Option ℕ
 sequence_of_next None = None
 sequence_of_next (Some p) = Some p.sequence
 
-abbrev pub job_of_next : SpiDriver → Option Pending → Option ℕ
+abbrev pub job_of_next : SpiTable → Option Pending → Option ℕ
 job_of_next d None = None
 job_of_next d (Some p) = Some (next_job d p)
 
@@ -41,7 +41,7 @@ abbrev pub sequence_of_run : Option Run → Option ℕ
 sequence_of_run None = None
 sequence_of_run (Some r) = Some r.sequence
 
-abbrev pub sequence_seen : SpiDriver → SpiState → Happening Call → Option ℕ
+abbrev pub sequence_seen : SpiTable → SpiState → Happening Call → Option ℕ
 sequence_seen d s (Acts call times) = None
 sequence_seen d s (Serves l received) = sequence_of_run (run_of s (unit_of l))
 sequence_seen d s (Starts u received) = sequence_of_next (next_at d s (number_of u))
@@ -49,7 +49,7 @@ sequence_seen d s (Aborts u) = None
 sequence_seen d s (Moves order) = None
 sequence_seen d s (Restarts reason) = None
 
-abbrev pub job_seen : SpiDriver → SpiState → Happening Call → Option ℕ
+abbrev pub job_seen : SpiTable → SpiState → Happening Call → Option ℕ
 job_seen d s (Starts u received) = job_of_next d (next_at d s (number_of u))
 job_seen d s _ = None
 
@@ -58,11 +58,11 @@ begins_by None = false
 begins_by (Some out) = is_some out.begins
 
 -- an event as it is seen, from the state before it and the state after it
-abbrev pub seen_between : SpiDriver → SpiState → SpiState → Happening Call → Told → (begins : Bool) → Seen
+abbrev pub seen_between : SpiTable → SpiState → SpiState → Happening Call → Told → (begins : Bool) → Seen
 seen_between d s after h told begins = record { what = h; told = told; begins = begins; sequence = sequence_seen d s h; job = job_seen d s h; had = sequence_result s.sequence_results; has = sequence_result after.sequence_results }
 
 -- the events as they are seen, the newest first
-abbrev pub seen_of : SpiDriver → List (Event Call) → List Seen
+abbrev pub seen_of : SpiTable → List (Event Call) → List Seen
 seen_of d [] = []
 seen_of d (e ∷ past) =
     let s : SpiState = state_after (spi_machine d) first_state past in

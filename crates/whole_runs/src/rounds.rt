@@ -1,10 +1,10 @@
 //! Whole rounds of the converter groups.
 
 ghost use Rattle.std.specs.Prelude.{List};
-ghost use Rattle.adc_groups.specs.Machine.{adc_machine};
-ghost use Rattle.adc_groups.specs.Turns.{first_state};
-ghost use Rattle.adc_groups.specs.declared.call.Call.{Call};
-ghost use Rattle.adc_groups.specs.declared.driver.AdcDriver.{AdcDriver};
+ghost use Rattle.adc_machine.specs.Machine.{adc_machine};
+ghost use Rattle.adc_machine.specs.Turns.{first_state};
+ghost use Rattle.adc_machine.specs.declared.call.Call.{Call};
+ghost use Rattle.adc_machine.specs.declared.table.AdcTable.{AdcTable};
 ghost use Rattle.whole_runs.specs.GroupRuns.{seen_of};
 ghost use Rattle.whole_runs.specs.Rounds.{AreWhole};
 ghost use Rattle.whole_runs.specs.Runs.{Event, AreAllowed};
@@ -15,5 +15,5 @@ ghost use Rattle.whole_runs.specs.Runs.{Event, AreAllowed};
 /// that only a reset changes a place, to 0, and only a start, the enabling of a trigger, `Adc_Init`, `Adc_DeInit` and a
 /// reset leave a group without its newest round.
 pub fn rounds_are_whole()
-    ensures { (d : AdcDriver) (past : List (Event Call)) → AreAllowed (adc_machine d) first_state past → AreWhole d (seen_of d past) }
+    ensures { (d : AdcTable) (past : List (Event Call)) → AreAllowed (adc_machine d) first_state past → AreWhole d (seen_of d past) }
 {}

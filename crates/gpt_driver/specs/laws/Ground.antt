@@ -315,7 +315,6 @@ ground_right d = record {
   resets = λ gap chip w s reason h. (outcome first_state tells_nothing, refl, reset_agrees d chip w reason h.outside);
   agrees_later = λ gap chip w s order free h. later_agrees d gap chip w s order free h;
   agrees_apart = λ gap chip w s made received e h. apart_agrees d gap chip w s made received (e (Called Init)) h;
-  foot_apart = λ chip made received e. ap (λ (t : Timers). record t { time = 0 }) (timers_apart chip made received (e (Called Init)));
   may_owns = λ o made e. may_owned made (both_of (may_name made) (names_there made) e).0;
   owns_plain = λ o made e. owned_plain made e;
   may_there = λ o made e. move_there made (both_of (may_name made) (names_there made) e).1;

@@ -7,7 +7,9 @@ use Rattle.service_outline.specs.declared.body.Looked.{Looked}
 use Rattle.service_outline.specs.declared.body.Looked.TheVariants.{Goes}
 use Rattle.service_outline.specs.declared.short.Short.{Short}
 use Rattle.service_outline.specs.Both.{either}
-use Rattle.service_outline.specs.Outline.{Outlined, IsOutlined, LooksRight, CanEnter}
+use Rattle.service_outline.specs.Outline.{At, Outlined, IsOutlined, LooksRight, CanEnter}
+use Rattle.service_outline.specs.Seen.{Starts}
+use Rattle.service_outline.specs.declared.body.Or.TheVariants.{First, Second}
 use Rattle.service_outline.specs.ShortServices.{driver_of}
 use Rattle.service_outline.specs.laws.Either.{either_right}
 use Rattle.step_runner.specs.Driver.{Covers}
@@ -33,6 +35,7 @@ use Rattle.gpt_driver.specs.laws.Serve.{serve_bodies, serve_right}
 use Rattle.gpt_driver.specs.laws.Start.{start_bodies, start_right}
 use Rattle.gpt_driver.specs.laws.Stop.{stop_bodies, stop_right}
 use Rattle.gpt_driver.specs.laws.Switch.{switch_bodies, switch_right}
+use Rattle.gpt_driver.specs.laws.Windows.{gpt_seen, gpt_sees, count_unseen}
 
 abbrev pub gpt_bodies : (d : GptDriver) → Bodies (gpt_ground d) GptBody
 gpt_bodies d = either (either (init_bodies d) (either (deinit_bodies d) (mode_bodies d))) (either (either (either (count_bodies d) (start_bodies d)) (either (stop_bodies d) (switch_bodies d))) (serve_bodies d))
@@ -46,6 +49,7 @@ abbrev pub gpt : GptDriver → Outlined GptState Call Asked GptBody
 gpt d = record {
   basis = gpt_ground d;
   bodies = gpt_bodies d;
+  seen = gpt_seen;
   fits = FitsGpt d;
   can = λ call. Unit {0};
   word = STATE;
@@ -57,6 +61,11 @@ gpt d = record {
 
 bodies_right : (d : GptDriver) → AreRight (gpt_ground d) (gpt_bodies d)
 bodies_right d = let g = gpt_ground d in either_right g _ _ (either_right g _ _ (init_right d) (either_right g _ _ (deinit_right d) (mode_right d))) (either_right g _ _ (either_right g _ _ (either_right g _ _ (count_right d) (start_right d)) (either_right g _ _ (stop_right d) (switch_right d))) (serve_right d))
+
+-- a body that begins has read nothing
+unseen : (d : GptDriver) (chip : Chip) (w : World) (s : GptState) (k : GptBody) (call : Call) → At (gpt_ground d) (gpt_bodies d) chip w s k (Called call) None → Starts (gpt_seen k)
+unseen d chip w s (Second (First (First (First k)))) call h = count_unseen d ((gpt_ground d).foot chip) s k (Called call) h.1
+unseen d chip w s _ call h = tt
 
 -- ---- what the load of the state word decides
 
@@ -141,7 +150,7 @@ module _ (d : GptDriver) (fits : FitsGpt d) where
   entered_by line k (Some ch) e is = (within d line (ap (λ x. is_some x) e), ap (λ n. serve_body (Look n)) (sym (fits.number line ch e)) ∙ cc)
 
   enter_by : (line : ℕ) (k : GptBody) → (line < 8) × (serve_body (Look line) ≡ k) → CanEnter (gpt d) k (Entered line)
-  enter_by line k a = subst (λ x. CanEnter (gpt d) x (Entered line)) a.1 (record { at = λ chip w s h. (h, ((Is_serving, a.0), λ time le. tt)); room = omega arith })
+  enter_by line k a = subst (λ x. CanEnter (gpt d) x (Entered line)) a.1 (record { at = λ chip w s h. (h, ((Is_serving, a.0), λ time le. tt)); unseen = tt; room = omega arith })
 
   steps_by : (line : ℕ) (k : GptBody) → (line < 8) × (serve_body (Look line) ≡ k) → 6 + (gpt d).bodies.fuel k ≤ 64
   steps_by line k a = subst (λ x. 6 + (gpt d).bodies.fuel x ≤ 64) a.1 (omega arith)
@@ -155,6 +164,8 @@ module _ (d : GptDriver) (fits : FitsGpt d) where
   lawful = record {
     basis = ground_right d;
     bodies = bodies_right d;
+    windows = λ chip w s k o t h. gpt_sees k _;
+    unseen = unseen d;
     looks = λ chip w s call can h. looks d fits chip w s h call;
     own_word = λ o. refl;
     word_there = omega arith;

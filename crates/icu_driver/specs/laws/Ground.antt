@@ -155,13 +155,6 @@ enabled_apart d chip (Read r) received c e lt = ap (λ k. has_bit k.enabled (16 
 enabled_apart d chip (Write r v) received c e lt = written_enabled chip r v received c e lt
 enabled_apart d chip _ received c e lt = refl
 
--- how far channels came with their stamps stays too
-marks_apart : (d : IcuDriver) (chip : Chip) (made : Move) (received : ℕ) → icu_owns d made ≡ false → marks_of (chip_after chip made received) ≡ marks_of chip
-marks_apart d chip made received e = same_marks (λ j. word_of (chip_after chip made received) j) (λ j. word_of chip j) (λ j low high. word_apart (owned_word d) chip made received j (unstored d made e) (or_first (is_own_word d j) (is_stamp d j) (own_word d j low high)))
-
-foot_apart : (d : IcuDriver) (chip : Chip) (made : Move) (received : ℕ) → icu_owns d made ≡ false → (icu_ground d).foot (chip_after chip made received) ≡ (icu_ground d).foot chip
-foot_apart d chip made received e = ap (λ b. (bare_block b, marks_of (chip_after chip made received))) (captures_apart d chip made received e) ∙ ap (λ ms. (bare_block chip.captures, ms)) (marks_apart d chip made received e)
-
 apart_agrees : (d : IcuDriver) (gap : Gap) (chip : Chip) (w : World) (s : IcuState) (made : Move) (received : ℕ) → icu_owns d made ≡ false → IcuAgrees d gap chip w s → IcuAgrees d gap (chip_after chip made received) w s
 apart_agrees d gap chip w s made received e h =
     let same = captures_apart d chip made received e in
@@ -380,7 +373,6 @@ ground_right d fits = record {
   resets = λ gap chip w s reason h. (outcome first_state tells_nothing, refl, reset_agrees d chip w reason h.outside h.wired);
   agrees_later = λ gap chip w s order free h. later_agrees d fits gap chip w s order free h;
   agrees_apart = λ gap chip w s made received e h. apart_agrees d gap chip w s made received (e (Called Init)) h;
-  foot_apart = λ chip made received e. foot_apart d chip made received (e (Called Init));
   may_owns = λ o made e. (may_parts d made e).0;
   owns_plain = λ o made e. owned_plain d made e;
   may_there = λ o made e. move_there made (may_parts d made e).1;

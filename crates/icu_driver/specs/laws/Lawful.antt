@@ -11,8 +11,10 @@ use Rattle.run_model.specs.Frame.{Open, Called, Entered}
 use Rattle.run_model.specs.World.{World}
 use Rattle.service_outline.specs.Both.{either}
 use Rattle.service_outline.specs.Done.{tells_error}
-use Rattle.service_outline.specs.Outline.{Bodies, AreRight, Outlined, IsOutlined, LooksRight, CanEnter, Is_before, Is_serving}
+use Rattle.service_outline.specs.Outline.{Bodies, At, AreRight, Outlined, IsOutlined, LooksRight, CanEnter, Is_before, Is_serving}
 use Rattle.service_outline.specs.ShortServices.{driver_of}
+use Rattle.service_outline.specs.Seen.{Starts}
+use Rattle.service_outline.specs.declared.body.Or.TheVariants.{First, Second}
 use Rattle.service_outline.specs.declared.body.Looked.{Looked}
 use Rattle.service_outline.specs.declared.short.Short.{Short}
 use Rattle.service_outline.specs.laws.Either.{either_right}
@@ -50,6 +52,11 @@ use Rattle.icu_driver.specs.laws.Look.{icu_looked, looked_by, begins, begun_on, 
 use Rattle.icu_driver.specs.laws.Measure.{measure_bodies, measure_right}
 use Rattle.icu_driver.specs.laws.Sampling.{sample_bodies, sample_right}
 use Rattle.icu_driver.specs.laws.Stamp.{stamp_bodies, stamp_right}
+use Rattle.service_outline.specs.laws.Seen.{never_after, never_serving}
+use Rattle.icu_driver.specs.laws.Windows.{icu_seen, icu_sees}
+use Rattle.icu_driver.specs.declared.service.count.CountBody.TheVariants as counts
+use Rattle.icu_driver.specs.declared.service.keep.KeepBody.TheVariants as keeps
+use Rattle.icu_driver.specs.declared.service.sample.SampleBody.TheVariants as samples
 
 abbrev pub icu_bodies : (d : IcuDriver) → Bodies (icu_ground d) IcuBody
 icu_bodies d = either (either (either (init_bodies d) (deinit_bodies d)) (either (detect_bodies d) (either (keep_bodies d) (sample_bodies d)))) (either (either (change_bodies d) (either (count_bodies d) (gate_bodies d))) (either (stamp_bodies d) (either (measure_bodies d) (duty_bodies d))))
@@ -59,6 +66,7 @@ abbrev pub icu : IcuDriver → Outlined IcuState Call Asked IcuBody
 icu d = record {
   basis = icu_ground d;
   bodies = icu_bodies d;
+  seen = icu_seen;
   fits = FitsIcu d;
   can = IsSmall;
   word = STATE;
@@ -74,6 +82,13 @@ bodies_right d =
     either_right g _ _
     (either_right g _ _ (either_right g _ _ (init_right d) (deinit_right d)) (either_right g _ _ (detect_right d) (either_right g _ _ (keep_right d) (sample_right d))))
     (either_right g _ _ (either_right g _ _ (change_right d) (either_right g _ _ (count_right d) (gate_right d))) (either_right g _ _ (stamp_right d) (either_right g _ _ (measure_right d) (duty_right d))))
+
+-- a body that begins has read nothing
+unseen : (d : IcuDriver) (chip : Chip) (w : World) (s : IcuState) (k : IcuBody) (call : Call) → At (icu_ground d) (icu_bodies d) chip w s k (Called call) None → Starts (icu_seen k)
+unseen d chip w s (First (Second (Second (First (keeps.High r))))) call h = never_serving call (Called call) None refl h.1.0.0
+unseen d chip w s (First (Second (Second (Second (samples.High r))))) call h = never_serving call (Called call) None refl h.1.0.0
+unseen d chip w s (Second (First (Second (First (counts.High c low))))) call h = never_after (Called call) None refl h.1.0.0
+unseen d chip w s _ call h = tt
 
 -- ---- what the load of the state word decides
 
@@ -181,14 +196,14 @@ module _ (d : IcuDriver) (fits : FitsIcu d) where
 
   -- the handler of a channel, by what it is for
   enter_by : (c : ℕ) (k : Channel) → channel_of d c ≡ Some k → (m : IcuMeasurementMode) → k.mode ≡ m → CanEnter (icu d) (handler_by m (record k { number = c })) (Entered (16 + c))
-  enter_by c k e SignalEdgeDetect mode = record { at = λ chip w s h. (h, ((Is_serving, k, e, ap (λ z. is_detection z || is_counter z) mode, within d c (ap (λ x. is_some x) e)), tt)); room = omega arith }
-  enter_by c k e EdgeCounter mode = record { at = λ chip w s h. (h, ((Is_serving, k, e, ap (λ z. is_detection z || is_counter z) mode, within d c (ap (λ x. is_some x) e)), tt)); room = omega arith }
-  enter_by c k e Timestamp mode = record { at = λ chip w s h. (h, ((Is_serving, record { k = k; known = e; mode = mode; lt = within d c (ap (λ x. is_some x) e); linear = refl }), tt)); room = omega arith }
+  enter_by c k e SignalEdgeDetect mode = record { at = λ chip w s h. (h, ((Is_serving, k, e, ap (λ z. is_detection z || is_counter z) mode, within d c (ap (λ x. is_some x) e)), tt)); unseen = tt; room = omega arith }
+  enter_by c k e EdgeCounter mode = record { at = λ chip w s h. (h, ((Is_serving, k, e, ap (λ z. is_detection z || is_counter z) mode, within d c (ap (λ x. is_some x) e)), tt)); unseen = tt; room = omega arith }
+  enter_by c k e Timestamp mode = record { at = λ chip w s h. (h, ((Is_serving, record { k = k; known = e; mode = mode; lt = within d c (ap (λ x. is_some x) e); linear = refl }), tt)); unseen = tt; room = omega arith }
   enter_by c k e SignalMeasurement mode = by_property k.measured refl (fits.property c k e (ap (λ z. is_measurement z) mode))
     where
       by_property : (p : Option IcuSignalMeasurementProperty) → k.measured ≡ p → is_some k.measured ≡ true → CanEnter (icu d) (handler_by SignalMeasurement (record k { number = c })) (Entered (16 + c))
       by_property None i some = absurd (let f = sym some ∙ ap (λ x. is_some x) i in cc)
-      by_property (Some p) i some = record { at = λ chip w s h. (h, ((Is_serving, record { k = k; known = e; mode = mode; lt = within d c (ap (λ x. is_some x) e); property = p; measured = i; first = ap (λ z. first_of z (record k { number = c })) i ∙ first_is p k c; whole = ap (λ z. is_whole z) i; duty = ap (λ z. is_duty_cycle z) i }), tt)); room = omega arith }
+      by_property (Some p) i some = record { at = λ chip w s h. (h, ((Is_serving, record { k = k; known = e; mode = mode; lt = within d c (ap (λ x. is_some x) e); property = p; measured = i; first = ap (λ z. first_of z (record k { number = c })) i ∙ first_is p k c; whole = ap (λ z. is_whole z) i; duty = ap (λ z. is_duty_cycle z) i }), tt)); unseen = tt; room = omega arith }
 
   enters : (line : ℕ) (k : IcuBody) → Handles d line k → CanEnter (icu d) k (Entered line)
   enters line k a = subst (λ b. CanEnter (icu d) b (Entered line)) a.is (subst (λ l. CanEnter (icu d) (handler_of (record a.channel { number = a.number })) (Entered l)) (sym a.at) (enter_by a.number a.channel a.known a.channel.mode refl))
@@ -213,6 +228,8 @@ module _ (d : IcuDriver) (fits : FitsIcu d) where
   lawful = record {
     basis = ground_right d fits;
     bodies = bodies_right d;
+    windows = λ chip w s k o t h. icu_sees k _;
+    unseen = unseen d;
     looks = λ chip w s call can h. looks d fits chip w s h call can;
     own_word = λ o. ap (λ q. (q || is_stamp d STATE) && nat_lt STATE 147456) (own_word d STATE (omega arith) (omega arith));
     word_there = omega arith;

@@ -5,6 +5,12 @@ use Rattle.std.proofs.lemmas.Bool.Decides.{nat_tests}
 use Rattle.chip_model.specs.Chip.{Chip, word_of}
 use Rattle.mcal_base.specs.declared.error_name.ErrorName.{ErrorName}
 use Rattle.mcal_base.specs.declared.moves.Event.TheVariants.{Act}
+use Rattle.mcal_base.specs.declared.moves.Move.{Move}
+use Rattle.mcal_base.specs.declared.moves.Move.TheVariants.{Read, Write}
+use Rattle.mcal_base.specs.declared.register.Reg.TheVariants.{TimerHigh, PulseCommit, PulseIdle, CaptureCountHigh, CaptureTimeHigh}
+use Rattle.service_outline.specs.Seen.{is_windowed, Plain}
+use Rattle.service_outline.specs.laws.Seen.{free_windows}
+use Rattle.step_runner.specs.Lifts.{and-left}
 use Rattle.run_model.specs.World.{World}
 use Rattle.run_model.specs.Machine.{outcome}
 use Rattle.run_model.specs.Frame.{Called, Open, asks_reset}
@@ -20,7 +26,8 @@ use Rattle.service_outline.specs.declared.short.Short.{Short}
 use Rattle.service_outline.specs.declared.short.Short.TheVariants.{Calling, Loading, Entering, Inside, Opening, Telling, Returning}
 use Rattle.service_outline.specs.laws.Both.{both_right}
 use Rattle.service_outline.specs.laws.Reports.{error_told}
-use Rattle.mcu_driver.specs.Bounds.{class_of, size_of, call_steps, mcu_setting}
+use Rattle.service_outline.specs.There.{names_there}
+use Rattle.mcu_driver.specs.Bounds.{class_of, size_of, owns, call_steps, mcu_setting}
 use Rattle.mcu_driver.specs.Checks.{error_by, answer_refused}
 use Rattle.mcu_driver.specs.Ground.{Holds, McuAgrees, mcu_basis}
 use Rattle.mcu_driver.specs.Machine.{McuState, is_locked, acts_by, mcu_machine}
@@ -60,6 +67,7 @@ abbrev pub mcu : McuDriver → Services McuState Call Asked McuBody
 mcu d = record {
   basis = mcu_basis d;
   bodies = mcu_bodies d;
+  seen = λ k. Plain;
   fits = FitsMcu d;
   can = λ call. Unit {0};
   word = STATE;
@@ -151,10 +159,21 @@ call_steps_by d Init = omega arith
 call_steps_by d (InitRamSection n) = omega arith
 call_steps_by d _ = omega arith
 
+-- it reads no high half, and sets no output
+no_windows : (made : Move) → owns made ≡ true → is_windowed made ≡ false
+no_windows (Read (TimerHigh c)) e = absurd (cc)
+no_windows (Read (CaptureCountHigh c)) e = absurd (cc)
+no_windows (Read (CaptureTimeHigh c)) e = absurd (cc)
+no_windows (Write (PulseCommit c) v) e = absurd (cc)
+no_windows (Write (PulseIdle c) v) e = absurd (cc)
+no_windows _ e = refl
+
 pub lawful : (d : McuDriver) → FitsMcu d → AreServices (mcu d)
 lawful d fits = record {
   basis = basis_right d;
   bodies = bodies_right d fits;
+  windows = free_windows (mcu d) (bodies_right d fits) (λ k. refl) (λ o made h. no_windows made (and-left (owns made) (names_there made) h));
+  unseen = λ below chip w s k call h. tt;
   looks = λ below chip w s call can l h. looks d fits below chip w s h call l;
   own_word = λ o. refl;
   word_there = omega arith;

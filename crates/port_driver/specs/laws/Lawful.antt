@@ -1,5 +1,5 @@
 -- The driver of the pins, as the outline and the runner see it, and that it is lawful.
-use Rattle.std.proofs.Common.{◌≡◌, ℕ, List, ◌+◌, ◌≤◌, true, false, ◌==◌, not, [], ◌∷◌, Option, Some, None, refl, sym, ◌∙◌, ap, subst, arith}
+use Rattle.std.proofs.Common.{◌≡◌, ℕ, List, ◌+◌, ◌≤◌, true, false, ◌==◌, ◌||◌, not, [], ◌∷◌, Option, Some, None, refl, sym, ◌∙◌, ap, subst, arith}
 use Rattle.chip_model.specs.Chip.{Chip, word_of}
 use Rattle.mcal_base.specs.declared.error_name.ErrorName.{ErrorName}
 use Rattle.mcal_base.specs.declared.moves.Event.TheVariants.{Act}
@@ -17,8 +17,14 @@ use Rattle.service_outline.specs.laws.Both.{both_right}
 use Rattle.service_outline.specs.laws.Lawful.{services_lawful}
 use Rattle.service_outline.specs.laws.Reports.{error_told}
 use Rattle.step_runner.specs.Driver.{IsLawful, Covers}
-use Rattle.mcal_base.specs.declared.moves.Move.TheVariants.{Load}
-use Rattle.port_driver.specs.Bounds.{class_of, call_steps, port_setting}
+use Rattle.mcal_base.specs.declared.moves.Move.{Move}
+use Rattle.mcal_base.specs.declared.moves.Move.TheVariants.{Read, Write, Load}
+use Rattle.mcal_base.specs.declared.register.Reg.TheVariants.{TimerHigh, PulseCommit, PulseIdle, CaptureCountHigh, CaptureTimeHigh}
+use Rattle.service_outline.specs.Seen.{is_windowed, Plain}
+use Rattle.service_outline.specs.laws.Seen.{free_windows}
+use Rattle.step_runner.specs.Lifts.{and-left}
+use Rattle.service_outline.specs.There.{names_there}
+use Rattle.port_driver.specs.Bounds.{class_of, owns, may, is_of_init, writes_latches, call_steps, port_setting}
 use Rattle.port_driver.specs.Checks.{error_by}
 use Rattle.port_driver.specs.Ground.{Holds, HeldRight, Alone, Is_alone, PortAgrees, port_basis}
 use Rattle.port_driver.specs.Machine.{PortState, acts_by, port_machine}
@@ -51,6 +57,7 @@ abbrev pub port : PortDriver → Services PortState Call Asked PortBody
 port d = record {
   basis = port_basis d;
   bodies = port_bodies d;
+  seen = λ k. Plain;
   fits = FitsPort d;
   can = λ c. Unit {0};
   word = STATE;
@@ -101,6 +108,15 @@ module _ (d : PortDriver) (below : Holds) (chip : Chip) (w : World) (s : PortSta
   looks : (call : Call) → Beside (port_setting d) (Called call) below → Decides (port d) below chip w s call (port_looked (record { call = call; driver = d }) (word_of chip STATE))
   looks call beside = subst (λ q. Decides (port d) below chip w s call (looked_by (record { call = call; driver = d }) (error_by d call q))) (sym (ap (λ v. v == 0) h.word ∙ asked_word s.initialised)) (look_by call (alone d call below h.right beside) (error_by d call (not s.initialised)) refl)
 
+-- it reads no high half, and sets no output
+no_windows : (made : Move) → owns made ≡ true → is_windowed made ≡ false
+no_windows (Read (TimerHigh c)) e = absurd (cc)
+no_windows (Read (CaptureCountHigh c)) e = absurd (cc)
+no_windows (Read (CaptureTimeHigh c)) e = absurd (cc)
+no_windows (Write (PulseCommit c) v) e = absurd (cc)
+no_windows (Write (PulseIdle c) v) e = absurd (cc)
+no_windows _ e = refl
+
 module _ (d : PortDriver) where
   bodies_right : AreLong (port_basis d) (port_bodies d)
   bodies_right = both_right (port_basis d) (init_bodies d) (both (refresh_bodies d) (pin_bodies d)) (init_right d) (both_right (port_basis d) (refresh_bodies d) (pin_bodies d) (refresh_right d) (pin_right d))
@@ -114,6 +130,8 @@ module _ (d : PortDriver) where
   port_right = record {
     basis = basis_right d;
     bodies = bodies_right;
+    windows = free_windows (port d) bodies_right (λ k. refl) (λ o made h. no_windows made (and-left (owns made) (names_there made) (and-left (may made) (is_of_init o || not (writes_latches made)) h)));
+    unseen = λ below chip w s k c h. tt;
     looks = λ below chip w s c can beside h. looks d below chip w s h c beside;
     own_word = λ o. may_dry o (Load STATE) refl refl;
     word_there = omega arith;

@@ -14,13 +14,16 @@ use Rattle.service_outline.specs.declared.short.Short.{Short}
 use Rattle.service_outline.specs.Both.{both}
 use Rattle.service_outline.specs.Done.{tells_error}
 use Rattle.service_outline.specs.Outline.{Is_before, Is_serving}
-use Rattle.service_outline.specs.Past.{Is_being}
-use Rattle.service_outline.specs.Services.{Services, LongBodies, AreLong, AreServices, AllLet, Beside, CanBegin, Decides, mark_of, services_driver}
+use Rattle.service_outline.specs.Past.{nothing_yet, Is_being}
+use Rattle.service_outline.specs.Seen.{Starts, SeesTo}
+use Rattle.service_outline.specs.declared.body.Or.TheVariants.{First, Second}
+use Rattle.service_outline.specs.Services.{Services, LongBodies, Stand, is_closed, AreLong, AreServices, AllLet, Beside, CanBegin, Decides, mark_of, services_driver}
 use Rattle.service_outline.specs.Short.{short_move, short_left, short_gave}
 use Rattle.service_outline.specs.laws.Both.{both_right}
 use Rattle.service_outline.specs.laws.Lawful.{services_lawful}
 use Rattle.service_outline.specs.laws.Reports.{error_told}
 use Rattle.service_outline.specs.laws.StepKinds.{asks_no}
+use Rattle.service_outline.specs.laws.Seen.{plain_sees, begun_after}
 use Rattle.step_runner.specs.Driver.{IsLawful, Covers}
 use Rattle.pwm_driver.specs.Bounds.{class_of, steps_of, pwm_setting}
 use Rattle.pwm_driver.specs.Checks.{error_by, answer_refused}
@@ -34,6 +37,8 @@ use Rattle.pwm_driver.specs.declared.call.ChannelCall.{ChannelCall}
 use Rattle.pwm_driver.specs.declared.call.ChannelCall.TheVariants.{SetDutyCycle, SetPeriodAndDuty, SetOutputToIdle, EnableNotification, DisableNotification}
 use Rattle.pwm_driver.specs.declared.driver.Channel.{Channel}
 use Rattle.pwm_driver.specs.declared.driver.PwmDriver.{PwmDriver}
+use Rattle.pwm_driver.specs.declared.service.deinit.DeInitBody.TheVariants as deinits
+use Rattle.pwm_driver.specs.declared.service.output.OutputBody.TheVariants as outputs
 use Rattle.pwm_driver.specs.declared.service.serve.ServeBody.TheVariants.{Kinds}
 use Rattle.pwm_driver.specs.declared.words.TheConstants.{STATE}
 use Rattle.pwm_driver.specs.laws.Base.{asks_none}
@@ -43,11 +48,12 @@ use Rattle.pwm_driver.specs.laws.Ground.{basis_right}
 use Rattle.pwm_driver.specs.laws.Init.{Alone, Is_alone, Is_setup, begin_bodies}
 use Rattle.pwm_driver.specs.laws.InitRight.{init_right, begins_setup}
 use Rattle.pwm_driver.specs.laws.Look.{pwm_looked, looked_by, begins, begun_on, begun_asking, Passed, MayAct, off_of, on_of, asked_there, channel_there, asked_word}
-use Rattle.pwm_driver.specs.laws.Notify.{notify_bodies, notify_right}
+use Rattle.pwm_driver.specs.laws.Notify.{notify_work, notify_takes, notify_bodies, notify_right}
 use Rattle.pwm_driver.specs.laws.Output.{output_bodies, output_right}
 use Rattle.pwm_driver.specs.laws.Parts.{Is_own, known_within}
 use Rattle.pwm_driver.specs.laws.Rest.{rest_bodies, rest_right}
-use Rattle.pwm_driver.specs.laws.Serve.{serve_bodies, serve_right}
+use Rattle.pwm_driver.specs.laws.Serve.{serve_work, serve_takes, serve_bodies, serve_right}
+use Rattle.pwm_driver.specs.laws.Windows.{pwm_seen, setup_sees, setup_unseen, deinit_sees, output_sees, rest_sees, notify_plain, serve_plain}
 
 abbrev pub pwm_bodies : (d : PwmDriver) → LongBodies (pwm_basis d) PwmBody
 pwm_bodies d = both (both (begin_bodies d) (deinit_bodies d)) (both (both (output_bodies d) (both (rest_bodies d) (notify_bodies d))) (serve_bodies d))
@@ -68,6 +74,7 @@ abbrev pub pwm : PwmDriver → Services PwmState Call Asked PwmBody
 pwm d = record {
   basis = pwm_basis d;
   bodies = pwm_bodies d;
+  seen = pwm_seen;
   fits = FitsPwm d;
   can = λ call. Unit {0};
   word = STATE;
@@ -86,6 +93,27 @@ bodies_right d =
     let of_channel = both_right g (output_bodies d) (both (rest_bodies d) (notify_bodies d)) (output_right d) plain in
     let others = both_right g (both (output_bodies d) (both (rest_bodies d) (notify_bodies d))) (serve_bodies d) of_channel (serve_right d) in
     both_right g (both (begin_bodies d) (deinit_bodies d)) (both (both (output_bodies d) (both (rest_bodies d) (notify_bodies d))) (serve_bodies d)) whole others
+
+-- ---- windows
+
+sees : (d : PwmDriver) (k : PwmBody) (x : ℕ) → SeesTo pwm_seen (is_closed ((pwm_bodies d).spot k)) ((pwm_bodies d).work_of k) k ((pwm_bodies d).takes k x)
+sees d (First (First k)) x = setup_sees d k x
+sees d (First (Second k)) x = deinit_sees k x
+sees d (Second (First (First k))) x = output_sees k x
+sees d (Second (First (Second (First k)))) x = rest_sees k x
+sees d (Second (First (Second (Second k)))) x = let p = notify_takes k x in plain_sees true (notify_work k) p.1.event p.1.done (notify_plain k)
+sees d (Second (Second k)) x = let p = serve_takes k x in plain_sees true (serve_work k) p.1.event p.1.done (serve_plain k)
+
+-- a call that begins hasn't acted
+unseen : (d : PwmDriver) (below : Holds) (chip : Chip) (w : World) (s : PwmState) (k : PwmBody) (call : Call) → Stand (pwm_basis d) (pwm_bodies d) below chip w s k (Called call) nothing_yet → Starts (pwm_seen k)
+unseen d below chip w s (First (First k)) call h = setup_unseen k.place
+unseen d below chip w s (First (Second (deinits.Store e))) call h = tt
+unseen d below chip w s (First (Second (deinits.Disable e))) call h = begun_after (pwm_machine d) (Called call) h.1.told _ h.1.is h.1.at.0
+unseen d below chip w s (First (Second (deinits.Choose e))) call h = begun_after (pwm_machine d) (Called call) h.1.told _ h.1.is h.1.at.0
+unseen d below chip w s (First (Second (deinits.Keep e))) call h = begun_after (pwm_machine d) (Called call) h.1.told _ h.1.is h.1.at.0
+unseen d below chip w s (First (Second (deinits.Rest e c))) call h = begun_after (pwm_machine d) (Called call) h.1.told _ h.1.is h.1.at.0
+unseen d below chip w s (Second (First (First (outputs.Keep r)))) call h = begun_after (pwm_machine d) (Called call) h.1.told _ h.1.is h.1.at.0
+unseen d below chip w s _ call h = tt
 
 -- ---- what the load of the state word decides
 
@@ -176,7 +204,7 @@ module _ (d : PwmDriver) (fits : FitsPwm d) where
       by false i f = record { number = line - 8; at = back line i; channel = x; known = f; is = given (line - 8) f }
 
   enters : (line : ℕ) (k : PwmBody) → Handles d line k → CanBegin (pwm d) k (Entered line)
-  enters line k a = subst (λ b. CanBegin (pwm d) b (Entered line)) a.is (subst (λ l. CanBegin (pwm d) (serve_body (Kinds a.number)) (Entered l)) (sym a.at) (record { at = λ below chip w s beside h. (h, record { told = None; is = refl; at = (Is_serving, known_within d a.number a.channel a.known, a.channel, a.known) }); closed = refl; room = omega arith }))
+  enters line k a = subst (λ b. CanBegin (pwm d) b (Entered line)) a.is (subst (λ l. CanBegin (pwm d) (serve_body (Kinds a.number)) (Entered l)) (sym a.at) (record { at = λ below chip w s beside h. (h, record { told = None; is = refl; at = (Is_serving, known_within d a.number a.channel a.known, a.channel, a.known) }); closed = refl; unseen = tt; room = omega arith }))
 
   line_steps : (line : ℕ) (k : PwmBody) → Handles d line k → 6 + (pwm d).bodies.fuel k ≤ 64
   line_steps line k a = subst (λ b. 6 + (pwm d).bodies.fuel b ≤ 64) a.is (omega arith)
@@ -192,6 +220,8 @@ module _ (d : PwmDriver) (fits : FitsPwm d) where
   pwm_right = record {
     basis = basis_right d;
     bodies = bodies_right d;
+    windows = λ below chip w s k o past h. sees d k _;
+    unseen = unseen d;
     looks = λ below chip w s call can beside h. looks d fits below chip w s h call beside;
     own_word = λ o. refl;
     word_there = omega arith;

@@ -39,7 +39,7 @@ module _ {State Call Asked Body : Type 0} (d : Services State Call Asked Body) {
   wait_at held chip w s (Inside k) o e h =
       let outside : is_closed (d.bodies.spot k) ≡ false = sym (ap (λ x. x.inside) h.form) ∙ e in (
         subst (λ x. d.basis.agrees (with_holds o.origin x (holds_at (d.bodies.spot k)) held) d.basis.settled chip w s) (sym (ap (λ x. x.acted) h.form)) (subst (λ x. d.basis.agrees (with_holds o.origin h.past.acted (holds_at (d.bodies.spot k)) held) x chip w s) (settled_at (d.bodies.spot k) outside) h.at.0),
-        record { past = h.past; form = h.form; behaves = h.behaves; opened = outside; place = λ f1 w1 s1. stays_at (d.bodies.spot k) held (d.basis.foot chip) f1 w w1 s s1 o.origin h.past outside h.at.1 },
+        record { past = h.past; form = h.form; behaves = h.behaves; window = h.window; opened = outside; place = λ f1 w1 s1. stays_at (d.bodies.spot k) held (d.basis.foot chip) f1 w w1 s s1 o.origin h.past outside h.at.1 },
       )
   wait_at held chip w s (Opening n) o e h = let i = h.1.inside in absurd (cc)
   wait_at held chip w s (Telling n) o e h = (h.0, h.1)
@@ -100,14 +100,14 @@ module _ {State Call Asked Body : Type 0} (d : Services State Call Asked Body) {
   begins : (chip : Chip) (w : World) (ps : List (Short Asked Body × Open Call)) (s : State) (c : Call) (level : ℕ) → d.can c → AllOutside ps → may_reenter (d.basis.setting.class_of c) (tags_in ps) ≡ true → Relates d chip w ps s → Relates d chip w ((Calling (d.asked c), opened (Called c) (call_tag d.basis.setting c level)) ∷ ps) s
   begins chip w ps s c level can out enter h =
       let k = all_wait chip w ps s out h in
-      ((k.0, record { call = c; asks = refl; form = refl; fresh = record { wrote = refl; reads = refl; acted = refl }; can = can }), record { tagged = λ new. refl; leveled = tt; beside = all_let (d.basis.setting.class_of c) ps enter k.1 }, k.1)
+      ((k.0, record { call = c; asks = refl; form = refl; fresh = record { wrote = refl; reads = refl; acted = refl; since = refl }; can = can }), record { tagged = λ new. refl; leveled = tt; beside = all_let (d.basis.setting.class_of c) ps enter k.1 }, k.1)
 
   enters_by : (chip : Chip) (w : World) (ps : List (Short Asked Body × Open Call)) (s : State) (line : ℕ) (f : Short Asked Body) (q : Option Body) → d.body_of line ≡ q → entering q ≡ Some f → AllOutside ps → all_below (tags_in ps) (d.basis.setting.level_of line) ≡ true → Relates d chip w ps s → Relates d chip w ((f, opened (Entered line) (line_tag d.basis.setting line)) ∷ ps) s
   enters_by chip w ps s line f None e is out under h = absurd (cc)
   enters_by chip w ps s line f (Some k) e is out under h =
       let i = all_wait chip w ps s out h in
       let at : Entering k ≡ f = cc in
-      subst (λ x. Relates d chip w ((x, opened (Entered line) (line_tag d.basis.setting line)) ∷ ps) s) at ((i.0, record { form = refl; fresh = record { wrote = refl; reads = refl; acted = refl }; can = law.enters line k e }), record { tagged = λ new. refl; leveled = refl; beside = all_lower (d.basis.setting.level_of line) ps under i.1 }, i.1)
+      subst (λ x. Relates d chip w ((x, opened (Entered line) (line_tag d.basis.setting line)) ∷ ps) s) at ((i.0, record { form = refl; fresh = record { wrote = refl; reads = refl; acted = refl; since = refl }; can = law.enters line k e }), record { tagged = λ new. refl; leveled = refl; beside = all_lower (d.basis.setting.level_of line) ps under i.1 }, i.1)
 
   -- the hardware moves. What is held is held by frames under way
   nothing_among : (p : Origin Call → Bool) → list_any p (owners {Hold = d.basis.Hold} []) ≡ false
@@ -149,6 +149,7 @@ module _ {State Call Asked Body : Type 0} (d : Services State Call Asked Body) {
         past = h.past;
         form = h.form;
         behaves = h.behaves;
+        window = h.window;
         at = (law.basis.agrees_later (with_holds o.origin h.past.acted (holds_at (d.bodies.spot k)) held) (gap_at (d.bodies.spot k)) chip w s order come (λ e. settled_at (d.bodies.spot k) (opened e)) h.at.0, law.bodies.later held chip w s order k o.origin h.past come opened h.at);
       }
   top_later ps chip w s order (Calling c) o free shut h = (law.basis.agrees_later (holds_in d ps) d.basis.settled chip w s order (comes chip w s order (Calling c) o ps _ free refl) (λ e. refl) h.0, h.1)
@@ -199,6 +200,7 @@ module _ {State Call Asked Body : Type 0} (d : Services State Call Asked Body) {
         past = h.past;
         form = h.form;
         behaves = h.behaves;
+        window = h.window;
         at = (
           subst (λ x. d.basis.agrees all x (chip_after chip made received) w s) settled (law.basis.agrees_apart all chip w s made received e (subst (λ x. d.basis.agrees all x chip w s) (sym settled) h.at.0)),
           stays_at (d.bodies.spot k) held (d.basis.foot chip) (d.basis.foot (chip_after chip made received)) w w s s o.origin h.past outside h.at.1,

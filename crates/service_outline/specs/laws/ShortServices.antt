@@ -19,7 +19,8 @@ use Rattle.service_outline.specs.Fuel.{ShortensTo}
 use Rattle.service_outline.specs.ShortServices.{Places, above, short, AsksNone, IsCalm, unheld, services_of, driver_of}
 use Rattle.service_outline.specs.laws.Lawful.{services_lawful}
 use Rattle.service_outline.specs.Outline.{Ground, Bodies, At, AreRight, GoesOn, StepsRight, StepsTo, TellsAs, notices_in, error_in, IsGround, Outlined, IsOutlined, LooksRight}
-use Rattle.service_outline.specs.Past.{Past, past_of}
+use Rattle.service_outline.specs.Past.{Past, nothing_yet, past_of}
+use Rattle.service_outline.specs.Seen.{Starts}
 use Rattle.service_outline.specs.Services.{Held, Basis, Shown, AreShown, MayStop, over, IsBasis, Steady, LongBodies, Stand, AreLong, Continues, Works, Makes, Right, KeepsMask, TurnsMask, TurnsTo, AreServices, Decides, CanBegin}
 use Rattle.service_outline.specs.Short.{short_move, short_left, short_gave}
 use Rattle.service_outline.specs.laws.StepKinds.{or_true, same_line, asks_no, silent_sends, silent_received}
@@ -199,7 +200,7 @@ module _ {State Call Asked Body : Type 0} (d : Outlined State Call Asked Body) (
   decides below chip w s c (Goes k) h = record { at = (h.0.0, record { told = None; is = refl; at = h.0.1 }); closed = refl; fuel = h.1; room = h.1 }
 
   enters : (line : ℕ) (k : Body) → d.body_of line ≡ Some k → CanBegin (services_of d) k (Entered line)
-  enters line k e = let h = law.enters line k e in record { at = λ below chip w s beside i. let x = h.at chip w s i in (x.0, record { told = None; is = refl; at = x.1 }); closed = refl; room = h.room }
+  enters line k e = let h = law.enters line k e in record { at = λ below chip w s beside i. let x = h.at chip w s i in (x.0, record { told = None; is = refl; at = x.1 }); closed = refl; unseen = h.unseen; room = h.room }
 
   asks_at : (o : Origin Call) → AsksNone (unheld d.basis) o
   asks_at (Called c) = (law.basis.asks_none c, λ w s. law.basis.polls_none w s c)
@@ -210,10 +211,17 @@ module _ {State Call Asked Body : Type 0} (d : Outlined State Call Asked Body) (
       let may = law.bodies.own chip w s k o t h in
       record { still = law.basis.resets_none o (d.bodies.work_of k) may; silent = law.basis.words_none o (d.bodies.work_of k) may; call = asks_at o }
 
+  -- a call that has done nothing was told nothing
+  unseen_by : (chip : Chip) (w : World) (s : State) (k : Body) (c : Call) (told : Option Told) → d.basis.agrees (d.bodies.gap_of k) chip w s → nothing_yet ≡ past_of d.basis.setting.machine told (Called c) nothing_yet.committed → d.bodies.place (d.basis.foot chip) w s k (Called c) told → Starts (d.seen k)
+  unseen_by chip w s k c None a is at = law.unseen chip w s k c (a, at)
+  unseen_by chip w s k c (Some t) a is at = let e : None ≡ Some t.answer = ap (λ x. x.acted) is in absurd (cc)
+
   pub short_services : AreServices (services_of d)
   short_services = record {
     basis = unheld_right d.basis law.basis;
     bodies = short_right (unheld d.basis) (unheld_right d.basis law.basis) d.bodies (λ below. d.bodies.place) (λ below. law.bodies) (λ below. calm);
+    windows = λ below chip w s k o t h. law.windows chip w s k o h.1.told (h.0, h.1.at);
+    unseen = λ below chip w s k c h. unseen_by chip w s k c h.1.told h.0 h.1.is h.1.at;
     looks = λ below chip w s c can beside h. decides below chip w s c (d.looked (d.asked c) (value_of chip (Load d.word))) (law.looks chip w s c can h);
     own_word = law.own_word;
     word_there = law.word_there;

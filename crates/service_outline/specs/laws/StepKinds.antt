@@ -15,9 +15,9 @@ use Rattle.mcal_base.specs.declared.register.Reg.TheVariants.{SerialData}
 use Rattle.mcal_base.specs.declared.routine.Taken.{Taken}
 use Rattle.run_model.specs.World.{World}
 use Rattle.run_model.specs.Machine.{Told, Begun, Outcome, Machine, no_answer, outcome_with}
-use Rattle.run_model.specs.Frame.{Origin, Called, Entered, Owing, Open, brought_by, happening_of, outcome_of, state_by, begun_by, acted_by, polled_by, committed_after, served_by, owed_by, owed_after, ActedAt, acted_at_by, reads_after, is_write, report_by, report_after, inside_after, window_after, is_note, missed_after, is_shared, resets_chip, begins_word, is_reset_service, asks_reset}
+use Rattle.run_model.specs.Frame.{Origin, Called, Entered, Owing, Open, brought_by, happening_of, outcome_of, state_by, begun_by, acted_by, polled_by, committed_after, served_by, owed_by, owed_after, ActedAt, acted_at_by, reads_after, is_write, report_by, report_after, inside_after, since_after, is_act, acts_after, window_after, is_note, missed_after, is_shared, resets_chip, begins_word, is_reset_service, asks_reset}
 use Rattle.run_model.specs.Moment.{Setting}
-use Rattle.run_model.specs.Legal.{has_line, MayEnd, ReceivedRight, MoveRight, ShowsRight, StandsAt, SendsRight, IsOwnEvent, HalvesRight, halves_of, ErrorsRight}
+use Rattle.run_model.specs.Legal.{has_line, MayEnd, ReceivedRight, MoveRight, ShowsRight, StandsAt, SendsRight, IsOwnEvent, is_beside_act, WindowRight, HalvesRight, halves_of, ErrorsRight}
 use Rattle.step_runner.specs.Driver.{Driver, KeepsStep, RoomRight, stepped}
 use Rattle.step_runner.specs.Lifts.{and-left, and-right}
 use Rattle.service_outline.specs.Short.{goes, does, ends}
@@ -41,6 +41,8 @@ open_with mac w s o made e out = record {
   owed = owed_after (owed_by o.owed e out) made;
   report = report_after (report_by mac o.origin o.report e out) made;
   inside = inside_after o.inside made;
+  since = since_after o.since made;
+  acts_since = acts_after o.acts_since made e;
   steps = o.steps + 1;
   window = window_after o.inside o.window made;
   noted = is_note made;
@@ -62,14 +64,16 @@ open_plain mac w s o made e out = record {
   owed = owed_by o.owed e out;
   report = report_by mac o.origin o.report e out;
   inside = o.inside;
+  since = since_after o.since made;
+  acts_since = acts_after o.acts_since made e;
   steps = o.steps + 1;
   window = window_after o.inside o.window made;
   noted = is_note made;
 }
 
--- the level, misses, commits, reads, writes and counts after a step
+-- the level, misses, commits, reads, writes, window and counts after a step without an event
 abbrev pub rest_after : {State Call : Type 0} → Machine State Call → World → State → Open Call → Move → Open Call
-rest_after mac w s o made = record o { missed = missed_after mac w s o.missed; committed = committed_after w o.committed made; reads = reads_after o.reads made; wrote = o.wrote || is_write made; steps = o.steps + 1; window = window_after o.inside o.window made; noted = is_note made }
+rest_after mac w s o made = record o { missed = missed_after mac w s o.missed; committed = committed_after w o.committed made; reads = reads_after o.reads made; wrote = o.wrote || is_write made; since = since_after o.since made; acts_since = acts_after o.acts_since made None; steps = o.steps + 1; window = window_after o.inside o.window made; noted = is_note made }
 
 -- where a frame acted, after an event that told this
 abbrev pub acted_then : {Call : Type 0} → Origin Call → Move → Event → Told → Option ActedAt → Option ActedAt
@@ -91,7 +95,7 @@ acted_same (Entered l) made (Start u) s t b a = refl
 
 -- the same after an event
 abbrev pub rest_acted : {State Call : Type 0} → Machine State Call → World → State → Open Call → Move → Origin Call → Event → Told → Open Call
-rest_acted mac w s o made origin e t = record (rest_after mac w s o made) { acted_at = acted_then origin made e t o.acted_at }
+rest_acted mac w s o made origin e t = record (rest_after mac w s o made) { acted_at = acted_then origin made e t o.acted_at; acts_since = acts_after o.acts_since made (Some e) }
 
 pub plainly : {State Call : Type 0} (mac : Machine State Call) (w : World) (s : State) (o : Open Call) (made : Move) (e : Option Event) (out : Option (Outcome State)) → is_shared made ≡ false → open_with mac w s o made e out ≡ open_plain mac w s o made e out
 plainly mac w s o (Read r) e out p = refl
@@ -197,12 +201,13 @@ module _ {State Call Frame : Type 0} (d : Driver State Call Frame) (chip : Chip)
   Keeps o made value taken = KeepsStep d (record { chip = chip; world = w; state = s; opens = []; steps = 0 }) f o later (stepped made value received taken) Kept
 
   -- a plain move with no event
-  pub plain_step : (r : Open Call) (origin : Origin Call) (acted : Option Answer) (served : List ℕ) (owed : List Owing) (report : Option DevError) (inside : Bool) (made : Move) (value : ℕ) → is_shared made ≡ false → resets_chip made ≡ false → begins_word made ≡ false → d.setting.may origin made ≡ true → d.fuel later < d.fuel f → (inside ≡ true → d.room later < d.room f) → LeavesRight d.setting origin (reads_after r.reads made) (r.wrote || is_write made) r.acted_at → Kept s (form (rest_after d.setting.machine w s (form r origin acted served owed report inside) made) origin acted served owed report inside) → Keeps (form r origin acted served owed report inside) made value goes
-  plain_step r (Called c) acted served owed report inside made value p still silent own fuel room leaves k = record {
+  pub plain_step : (r : Open Call) (origin : Origin Call) (acted : Option Answer) (served : List ℕ) (owed : List Owing) (report : Option DevError) (inside : Bool) (made : Move) (value : ℕ) → is_shared made ≡ false → resets_chip made ≡ false → begins_word made ≡ false → d.setting.may origin made ≡ true → d.fuel later < d.fuel f → (inside ≡ true → d.room later < d.room f) → LeavesRight d.setting origin (reads_after r.reads made) (r.wrote || is_write made) r.acted_at → WindowRight (is_beside_act d.setting.machine origin) inside r.since (r.acts_since || false) made → Kept s (form (rest_after d.setting.machine w s (form r origin acted served owed report inside) made) origin acted served owed report inside) → Keeps (form r origin acted served owed report inside) made value goes
+  plain_step r (Called c) acted served owed report inside made value p still silent own fuel room leaves together k = record {
     event = tt;
     sends = silent_sends chip made silent;
     halves = leaves.0;
     errors = leaves.1;
+    together = together;
     shows = shows_plain d.setting chip s _ owed made p;
     stays = λ e. refl;
     move = move_plain inside owed report made p;
@@ -213,11 +218,12 @@ module _ {State Call Frame : Type 0} (d : Driver State Call Frame) (chip : Chip)
     room = room_plain (d.setting.window_of (Called c)) inside (d.room f) (d.room later) made p room;
     kept = subst (λ x. Kept s x) (sym (plainly d.setting.machine w s (form r (Called c) acted served owed report inside) made None None p)) k;
   }
-  plain_step r (Entered l) acted served owed report inside made value p still silent own fuel room leaves k = record {
+  plain_step r (Entered l) acted served owed report inside made value p still silent own fuel room leaves together k = record {
     event = tt;
     sends = silent_sends chip made silent;
     halves = leaves.0;
     errors = leaves.1;
+    together = together;
     shows = shows_plain d.setting chip s _ owed made p;
     stays = λ e. refl;
     move = move_plain inside owed report made p;
@@ -236,6 +242,7 @@ module _ {State Call Frame : Type 0} (d : Driver State Call Frame) (chip : Chip)
     sends = tt;
     halves = leaves.0;
     errors = leaves.1;
+    together = tt;
     shows = tt;
     stays = λ e. absurd (cc);
     move = tt;
@@ -251,6 +258,7 @@ module _ {State Call Frame : Type 0} (d : Driver State Call Frame) (chip : Chip)
     sends = tt;
     halves = leaves.0;
     errors = leaves.1;
+    together = tt;
     shows = tt;
     stays = λ e. absurd (cc);
     move = tt;
@@ -264,28 +272,28 @@ module _ {State Call Frame : Type 0} (d : Driver State Call Frame) (chip : Chip)
 
   -- the mask is closed
   pub mask_step : (r : Open Call) (origin : Origin Call) (acted : Option Answer) (served : List ℕ) (owed : List Owing) (report : Option DevError) (value : ℕ) → d.fuel later < d.fuel f → 1 + d.room later ≤ d.setting.window_of origin → LeavesRight d.setting origin (reads_after r.reads Mask) (r.wrote || is_write Mask) r.acted_at → Kept s (form (rest_after d.setting.machine w s (form r origin acted served owed report false) Mask) origin acted served owed report true) → Keeps (form r origin acted served owed report false) Mask value goes
-  mask_step r (Called c) acted served owed report value fuel room leaves k = record { event = tt; sends = tt; halves = leaves.0; errors = leaves.1; shows = tt; stays = λ e. refl; move = refl; ends = tt; own = refl; reset = refl; fuel = fuel; room = room; kept = k }
-  mask_step r (Entered l) acted served owed report value fuel room leaves k = record { event = tt; sends = tt; halves = leaves.0; errors = leaves.1; shows = tt; stays = λ e. refl; move = refl; ends = tt; own = refl; reset = refl; fuel = fuel; room = room; kept = k }
+  mask_step r (Called c) acted served owed report value fuel room leaves k = record { event = tt; sends = tt; halves = leaves.0; errors = leaves.1; together = tt; shows = tt; stays = λ e. refl; move = refl; ends = tt; own = refl; reset = refl; fuel = fuel; room = room; kept = k }
+  mask_step r (Entered l) acted served owed report value fuel room leaves k = record { event = tt; sends = tt; halves = leaves.0; errors = leaves.1; together = tt; shows = tt; stays = λ e. refl; move = refl; ends = tt; own = refl; reset = refl; fuel = fuel; room = room; kept = k }
 
   -- the mask is opened, and the frame goes on
-  pub unmask_step : (r : Open Call) (origin : Origin Call) (acted : Option Answer) (served : List ℕ) (owed : List Owing) (report : Option DevError) (value : ℕ) → d.fuel later < d.fuel f → 1 ≤ d.room f → LeavesRight d.setting origin (reads_after r.reads Unmask) (r.wrote || is_write Unmask) r.acted_at → Kept s (form (rest_after d.setting.machine w s (form r origin acted served owed report true) Unmask) origin acted served owed report false) → Keeps (form r origin acted served owed report true) Unmask value goes
-  unmask_step r (Called c) acted served owed report value fuel room leaves k = record { event = tt; sends = tt; halves = leaves.0; errors = leaves.1; shows = tt; stays = λ e. refl; move = refl; ends = tt; own = refl; reset = refl; fuel = fuel; room = room; kept = k }
-  unmask_step r (Entered l) acted served owed report value fuel room leaves k = record { event = tt; sends = tt; halves = leaves.0; errors = leaves.1; shows = tt; stays = λ e. refl; move = refl; ends = tt; own = refl; reset = refl; fuel = fuel; room = room; kept = k }
+  pub unmask_step : (r : Open Call) (origin : Origin Call) (acted : Option Answer) (served : List ℕ) (owed : List Owing) (report : Option DevError) (value : ℕ) → d.fuel later < d.fuel f → 1 ≤ d.room f → LeavesRight d.setting origin (reads_after r.reads Unmask) (r.wrote || is_write Unmask) r.acted_at → WindowRight (is_beside_act d.setting.machine origin) true r.since (r.acts_since || false) Unmask → Kept s (form (rest_after d.setting.machine w s (form r origin acted served owed report true) Unmask) origin acted served owed report false) → Keeps (form r origin acted served owed report true) Unmask value goes
+  unmask_step r (Called c) acted served owed report value fuel room leaves together k = record { event = tt; sends = tt; halves = leaves.0; errors = leaves.1; together = together; shows = tt; stays = λ e. refl; move = refl; ends = tt; own = refl; reset = refl; fuel = fuel; room = room; kept = k }
+  unmask_step r (Entered l) acted served owed report value fuel room leaves together k = record { event = tt; sends = tt; halves = leaves.0; errors = leaves.1; together = together; shows = tt; stays = λ e. refl; move = refl; ends = tt; own = refl; reset = refl; fuel = fuel; room = room; kept = k }
 
   -- the mask is opened, and the frame ends
-  pub leave_step : (r : Open Call) (origin : Origin Call) (acted : Option Answer) (served : List ℕ) (value : ℕ) (a : Answer) → MayEnd origin (rest_after d.setting.machine w s (form r origin acted served [] None true) Unmask) a → 1 ≤ d.fuel f → 1 ≤ d.room f → LeavesRight d.setting origin (reads_after r.reads Unmask) (r.wrote || is_write Unmask) r.acted_at → Kept s (form (rest_after d.setting.machine w s (form r origin acted served [] None true) Unmask) origin acted served [] None false) → Keeps (form r origin acted served [] None true) Unmask value (ends a)
-  leave_step r (Called c) acted served value a m fuel room leaves k = record { event = tt; sends = tt; halves = leaves.0; errors = leaves.1; shows = tt; stays = λ e. absurd (cc); move = refl; ends = (m, refl, refl, refl, refl); own = refl; reset = refl; fuel = fuel; room = room; kept = k }
-  leave_step r (Entered l) acted served value a m fuel room leaves k = record { event = tt; sends = tt; halves = leaves.0; errors = leaves.1; shows = tt; stays = λ e. absurd (cc); move = refl; ends = (m, refl, refl, refl, refl); own = refl; reset = refl; fuel = fuel; room = room; kept = k }
+  pub leave_step : (r : Open Call) (origin : Origin Call) (acted : Option Answer) (served : List ℕ) (value : ℕ) (a : Answer) → MayEnd origin (rest_after d.setting.machine w s (form r origin acted served [] None true) Unmask) a → 1 ≤ d.fuel f → 1 ≤ d.room f → LeavesRight d.setting origin (reads_after r.reads Unmask) (r.wrote || is_write Unmask) r.acted_at → WindowRight (is_beside_act d.setting.machine origin) true r.since (r.acts_since || false) Unmask → Kept s (form (rest_after d.setting.machine w s (form r origin acted served [] None true) Unmask) origin acted served [] None false) → Keeps (form r origin acted served [] None true) Unmask value (ends a)
+  leave_step r (Called c) acted served value a m fuel room leaves together k = record { event = tt; sends = tt; halves = leaves.0; errors = leaves.1; together = together; shows = tt; stays = λ e. absurd (cc); move = refl; ends = (m, refl, refl, refl, refl); own = refl; reset = refl; fuel = fuel; room = room; kept = k }
+  leave_step r (Entered l) acted served value a m fuel room leaves together k = record { event = tt; sends = tt; halves = leaves.0; errors = leaves.1; together = together; shows = tt; stays = λ e. absurd (cc); move = refl; ends = (m, refl, refl, refl, refl); own = refl; reset = refl; fuel = fuel; room = room; kept = k }
 
   -- a report, the last step of its frame
   pub report_step : (r : Open Call) (origin : Origin Call) (acted : Option Answer) (served : List ℕ) (value : ℕ) (a : Answer) (e : DevError) → MayEnd origin (form r origin acted served [] (Some e) false) a → 1 ≤ d.fuel f → LeavesRight d.setting origin (reads_after r.reads (Report e)) (r.wrote || is_write (Report e)) r.acted_at → Kept s (form (rest_after d.setting.machine w s (form r origin acted served [] (Some e) false) (Report e)) origin acted served [] None false) → Keeps (form r origin acted served [] (Some e) false) (Report e) value (ends a)
-  report_step r (Called c) acted served value a x m fuel leaves k = record { event = tt; sends = tt; halves = leaves.0; errors = leaves.1; shows = tt; stays = λ e. absurd (cc); move = refl; ends = (may_more d.setting.machine w s (form r (Called c) acted served [] (Some x) false) (Report x) (Called c) a m, refl, refl, refl, refl); own = refl; reset = refl; fuel = fuel; room = λ e. absurd (cc); kept = k }
-  report_step r (Entered l) acted served value a x m fuel leaves k = record { event = tt; sends = tt; halves = leaves.0; errors = leaves.1; shows = tt; stays = λ e. absurd (cc); move = refl; ends = (may_more d.setting.machine w s (form r (Entered l) acted served [] (Some x) false) (Report x) (Entered l) a m, refl, refl, refl, refl); own = refl; reset = refl; fuel = fuel; room = λ e. absurd (cc); kept = k }
+  report_step r (Called c) acted served value a x m fuel leaves k = record { event = tt; sends = tt; halves = leaves.0; errors = leaves.1; together = tt; shows = tt; stays = λ e. absurd (cc); move = refl; ends = (may_more d.setting.machine w s (form r (Called c) acted served [] (Some x) false) (Report x) (Called c) a m, refl, refl, refl, refl); own = refl; reset = refl; fuel = fuel; room = λ e. absurd (cc); kept = k }
+  report_step r (Entered l) acted served value a x m fuel leaves k = record { event = tt; sends = tt; halves = leaves.0; errors = leaves.1; together = tt; shows = tt; stays = λ e. absurd (cc); move = refl; ends = (may_more d.setting.machine w s (form r (Entered l) acted served [] (Some x) false) (Report x) (Entered l) a m, refl, refl, refl, refl); own = refl; reset = refl; fuel = fuel; room = λ e. absurd (cc); kept = k }
 
   -- a notice
   pub note_step : (r : Open Call) (origin : Origin Call) (acted : Option Answer) (served : List ℕ) (report : Option DevError) (n : Notice) (by : Bool) (ns : List Owing) (value : ℕ) → d.fuel later < d.fuel f → (by ≡ true → d.setting.shows origin n chip s) → LeavesRight d.setting origin (reads_after r.reads (Note n)) (r.wrote || is_write (Note n)) r.acted_at → Kept s (form (rest_after d.setting.machine w s (form r origin acted served (record { notice = n; served = by } ∷ ns) report false) (Note n)) origin acted served ns report false) → Keeps (form r origin acted served (record { notice = n; served = by } ∷ ns) report false) (Note n) value goes
-  note_step r (Called c) acted served report n by ns value fuel shown leaves k = record { event = tt; sends = tt; halves = leaves.0; errors = leaves.1; shows = shown; stays = λ e. refl; move = (refl, refl); ends = tt; own = refl; reset = refl; fuel = fuel; room = λ e. absurd (cc); kept = k }
-  note_step r (Entered l) acted served report n by ns value fuel shown leaves k = record { event = tt; sends = tt; halves = leaves.0; errors = leaves.1; shows = shown; stays = λ e. refl; move = (refl, refl); ends = tt; own = refl; reset = refl; fuel = fuel; room = λ e. absurd (cc); kept = k }
+  note_step r (Called c) acted served report n by ns value fuel shown leaves k = record { event = tt; sends = tt; halves = leaves.0; errors = leaves.1; together = tt; shows = shown; stays = λ e. refl; move = (refl, refl); ends = tt; own = refl; reset = refl; fuel = fuel; room = λ e. absurd (cc); kept = k }
+  note_step r (Entered l) acted served report n by ns value fuel shown leaves k = record { event = tt; sends = tt; halves = leaves.0; errors = leaves.1; together = tt; shows = shown; stays = λ e. refl; move = (refl, refl); ends = tt; own = refl; reset = refl; fuel = fuel; room = λ e. absurd (cc); kept = k }
 
   own_event : (r : Open Call) (p : Past) (e : Event) (origin : Origin Call) → MayDo d.setting.machine w s p e origin → IsOwnEvent d.setting.machine w s (having r origin p true) e origin
   own_event r p Act (Called c) h = h
@@ -307,8 +315,8 @@ module _ {State Call Frame : Type 0} (d : Driver State Call Frame) (chip : Chip)
   had r p made (Start u) (Entered l) s1 t b may = refl
 
   -- an event, at a plain move in a window
-  pub event_step : (r : Open Call) (origin : Origin Call) (p : Past) (made : Move) (value : ℕ) (e : Event) (s1 : State) (t : Told) (b : Option Begun) → is_shared made ≡ false → resets_chip made ≡ asks_reset d.setting.machine origin (Some e) (Some (outcome_with s1 t b)) → d.setting.may origin made ≡ true → d.fuel later < d.fuel f → d.room later < d.room f → MayDo d.setting.machine w s p e origin → StandsAt e made value → outcome_of d.setting.machine w s (happening_of origin (brought_by w p.committed made received) e) ≡ Some (outcome_with s1 t b) → SendsRight chip b made → LeavesRight d.setting origin (reads_after r.reads made) (r.wrote || is_write made) (acted_then origin made e t r.acted_at) → Kept s1 (having (rest_acted d.setting.machine w s (having r origin p true) made origin e t) origin (past_after d.setting.machine w s origin e t (past_wrote w made p)) true) → Keeps (having r origin p true) made value (does (Some e))
-  event_step r origin p made value e s1 t b plain reset own fuel room may stands is sends leaves k =
+  pub event_step : (r : Open Call) (origin : Origin Call) (p : Past) (made : Move) (value : ℕ) (e : Event) (s1 : State) (t : Told) (b : Option Begun) → is_shared made ≡ false → resets_chip made ≡ asks_reset d.setting.machine origin (Some e) (Some (outcome_with s1 t b)) → d.setting.may origin made ≡ true → d.fuel later < d.fuel f → d.room later < d.room f → MayDo d.setting.machine w s p e origin → StandsAt e made value → outcome_of d.setting.machine w s (happening_of origin (brought_by w p.committed made received) e) ≡ Some (outcome_with s1 t b) → SendsRight chip b made → LeavesRight d.setting origin (reads_after r.reads made) (r.wrote || is_write made) (acted_then origin made e t r.acted_at) → WindowRight (is_beside_act d.setting.machine origin) true r.since (r.acts_since || is_act (Some e)) made → Kept s1 (having (rest_acted d.setting.machine w s (having r origin p true) made origin e t) origin (past_after d.setting.machine w s origin e t (past_wrote w made p)) true) → Keeps (having r origin p true) made value (does (Some e))
+  event_step r origin p made value e s1 t b plain reset own fuel room may stands is sends leaves together k =
       let mac = d.setting.machine in
       let o = having r origin p true in
       let out = outcome_of mac w s (happening_of origin (brought_by w p.committed made received) e) in
@@ -317,6 +325,7 @@ module _ {State Call Frame : Type 0} (d : Driver State Call Frame) (chip : Chip)
         sends = subst (λ x. SendsRight chip (begun_by x) made) (sym is) sends;
         halves = subst (λ x. HalvesRight (halves_of d.setting origin) (reads_after r.reads made) (acted_at_by origin true made r.acted_at (Some e) x)) (sym is) (subst (λ x. HalvesRight (halves_of d.setting origin) (reads_after r.reads made) x) (sym (acted_same origin made e s1 t b r.acted_at)) leaves.0);
         errors = subst (λ x. ErrorsRight (r.wrote || is_write made) (acted_at_by origin true made r.acted_at (Some e) x)) (sym is) (subst (λ x. ErrorsRight (r.wrote || is_write made) x) (sym (acted_same origin made e s1 t b r.acted_at)) leaves.1);
+        together = together;
         shows = shows_plain d.setting chip s origin p.owed made plain;
         stays = λ i. refl;
         move = move_plain true p.owed (report_by mac origin p.report (Some e) out) made plain;

@@ -10,8 +10,8 @@ use Rattle.mcal_base.specs.declared.moves.Move.TheVariants.{Read, Write, Load, S
 use Rattle.mcal_base.specs.declared.notice.Notice.{Notice}
 use Rattle.run_model.specs.World.{World}
 use Rattle.run_model.specs.Machine.{Told}
-use Rattle.run_model.specs.Frame.{Origin, Called, Entered, Owing, Open, owing, reads_after, is_write, missed_after, top_after, is_shared, resets_chip, begins_word}
-use Rattle.run_model.specs.Legal.{ReceivedRight, has_line, MayEnd}
+use Rattle.run_model.specs.Frame.{Origin, Called, Entered, Owing, Open, owing, reads_after, is_write, is_act, since_after, acts_after, missed_after, top_after, is_shared, resets_chip, begins_word}
+use Rattle.run_model.specs.Legal.{ReceivedRight, is_beside_act, WindowRight, has_line, MayEnd}
 use Rattle.std.specs.List.{list_all}
 use Rattle.step_runner.specs.Driver.{most_steps, KeepsStep, stepped}
 use Rattle.service_outline.specs.declared.done.Owed.{Owed}
@@ -29,6 +29,8 @@ use Rattle.service_outline.specs.Past.{Past, nothing_yet, with_past, having, pas
 use Rattle.service_outline.specs.Services.{Held, Basis, AreShown, MayStop, Spot, Within, Outside, Stand, is_closed, holds_at, gap_at, place_at, Elsewhere, Services, AreEndingServices, RightOr, ended_at, IsDone, IsOver, Waits, AllWait, IsTop, Relates, Decides, Continues, Works, Notes, Makes, KeepsMask, TurnsMask, with_holds, holds_by, holds_in, services_driver}
 use Rattle.service_outline.specs.Acts.{KeepsClean, ActsRight, IsFresh, Behaves, LeavesRight}
 use Rattle.service_outline.specs.laws.Acts.{sound_leaves, leaves_on, fresh_leaves, fresh_on, fresh_behaves, goes_behaves, goes_sound, ends_leaves, refused_leaves}
+use Rattle.service_outline.specs.Seen.{IsSeen, MayOpen, Sees}
+use Rattle.service_outline.specs.laws.Seen.{second_true, seen_start, seen_begins, opens_right, window_right, SeesOn, sees_on, not_mask}
 use Rattle.service_outline.specs.laws.StepKinds.{acted_then, rest_acted, Keeps, rest_after, plain_step, last_step, mask_step, unmask_step, leave_step, report_step, note_step, event_step, form_is, may_more}
 
 -- what the law says of a step
@@ -70,6 +72,7 @@ module _ {State Call Asked Body : Type 0} (d : Services State Call Asked Body) {
     past = h.past;
     form = h.form;
     behaves = h.behaves;
+    window = h.window;
     at = (subst (λ x. d.basis.agrees (with_holds o.origin x (holds_at (d.bodies.spot k)) held) (gap_at (d.bodies.spot k)) chip w s) (ap (λ x. x.acted) h.form) (subst (λ x. d.basis.agrees (with_holds o.origin o.acted (holds_at (d.bodies.spot k)) held) x chip w s) (sym (settled_at (d.bodies.spot k) h.opened)) a), h.place (d.basis.foot chip) w s);
   }
   top_of_waits held chip w s (Opening n) o a h = absurd h
@@ -84,28 +87,28 @@ module _ {State Call Asked Body : Type 0} (d : Services State Call Asked Body) {
 -- a step of each kind, over frames that wait
 module _ {State Call Asked Body : Type 0} (d : Services State Call Asked Body) {ends_with : Body → Option Answer} (law : AreEndingServices d ends_with) (ps : List (Short Asked Body × Open Call)) (waits : AllWait d ps) (s : State) (w : World) (r : Open Call) (received : ℕ) where
   -- a frame that may end so is done
-  stop_by : (rest : Open Call) (origin : Origin Call) (p : Past) (n : Done) → MayStop d.basis origin p rest.missed n → LeavesRight d.basis.setting origin rest.reads rest.wrote rest.acted_at → IsDone d.basis (having rest origin p true) n true
-  stop_by rest (Called c) p n h leaves = record { may = h.may; served = h.served; owed = h.owed; shown = h.shown; report = h.report; leaves = leaves; inside = refl }
-  stop_by rest (Entered l) p n h leaves = record { may = h.may; served = h.served; owed = h.owed; shown = h.shown; report = h.report; leaves = leaves; inside = refl }
+  stop_by : (rest : Open Call) (origin : Origin Call) (p : Past) (n : Done) → MayStop d.basis origin p rest.missed n → LeavesRight d.basis.setting origin rest.reads rest.wrote rest.acted_at → MayOpen rest.since rest.acts_since → IsDone d.basis (having rest origin p true) n true
+  stop_by rest (Called c) p n h leaves ok = record { may = h.may; served = h.served; owed = h.owed; shown = h.shown; report = h.report; leaves = leaves; inside = refl; window = λ e. ok }
+  stop_by rest (Entered l) p n h leaves ok = record { may = h.may; served = h.served; owed = h.owed; shown = h.shown; report = h.report; leaves = leaves; inside = refl; window = λ e. ok }
 
   load_by : (chip : Chip) (c : Call) (x : ℕ) (l : Looked Body) → IsFresh r → IsOver d (Called c) r.tag (holds_in d ps) → d.basis.agrees (holds_in d ps) d.basis.settled chip w s → Decides d (holds_in d ps) chip w s c l → Keeps (services_driver d) chip w s received (Loading (d.asked c)) (left_look l) (λ s1 o1. Relates d chip w (top_after (left_look l, o1) (gave_look l).ended ps) s1) (having r (Called c) nothing_yet true) (Load d.word) x (gave_look l)
   load_by chip c x (Refused n) fresh over agrees h =
       let rest = rest_acted d.basis.setting.machine w s (having r (Called c) nothing_yet true) (Load d.word) (Called c) Act h.told in
-      let leaves = refused_leaves d.basis.setting (having r (Called c) nothing_yet true) c d.word h.told n (record { wrote = fresh.wrote; reads = fresh.reads; acted = fresh.acted }) refl in
-      event_step (services_driver d) chip w s received (Loading (d.asked c)) (Opening n) _ r (Called c) nothing_yet (Load d.word) x Act s h.told None refl (sym h.reset) (law.own_word (Called c)) (look_fuel d.most d.bodies.fuel (d.asked c) (Refused n) tt) (look_room d.wide d.bodies.room (d.asked c) (Refused n) tt) refl tt (h.is _) tt leaves ((agrees, stop_by rest (Called c) (past_after d.basis.setting.machine w s (Called c) Act h.told nothing_yet) n (record { may = (ap (λ x. Some x) h.tells.0, ap (list_all (λ l. has_line [] l || rest.missed l)) (h.polls)); served = false; owed = ap (owing false) h.tells.1; shown = λ e. absurd (cc); report = h.tells.2 }) leaves), over, waits)
+      let leaves = refused_leaves d.basis.setting (having r (Called c) nothing_yet true) c d.word h.told n (record { wrote = fresh.wrote; reads = fresh.reads; acted = fresh.acted; since = fresh.since }) refl in
+      event_step (services_driver d) chip w s received (Loading (d.asked c)) (Opening n) _ r (Called c) nothing_yet (Load d.word) x Act s h.told None refl (sym h.reset) (law.own_word (Called c)) (look_fuel d.most d.bodies.fuel (d.asked c) (Refused n) tt) (look_room d.wide d.bodies.room (d.asked c) (Refused n) tt) refl tt (h.is _) tt leaves tt ((agrees, stop_by rest (Called c) (past_after d.basis.setting.machine w s (Called c) Act h.told nothing_yet) n (record { may = (ap (λ x. Some x) h.tells.0, ap (list_all (λ l. has_line [] l || rest.missed l)) (h.polls)); served = false; owed = ap (owing false) h.tells.1; shown = λ e. absurd (cc); report = h.tells.2 }) leaves (λ i. second_true r.acts_since true refl)), over, waits)
   load_by chip c x (Goes k) fresh over agrees h =
       let rest = rest_after d.basis.setting.machine w s (having r (Called c) nothing_yet true) (Load d.word) in
-      let before = fresh_behaves d.basis.setting true (having r (Called c) nothing_yet true) (record { wrote = fresh.wrote; reads = fresh.reads; acted = fresh.acted }) in
-      plain_step (services_driver d) chip w s received (Loading (d.asked c)) (Inside k) _ (with_past r nothing_yet) (Called c) None [] [] None true (Load d.word) x refl refl refl (law.own_word (Called c)) (look_fuel d.most d.bodies.fuel (d.asked c) (Goes k) h.fuel) (λ e. look_room d.wide d.bodies.room (d.asked c) (Goes k) h.room) (sound_leaves d.basis.setting (Called c) _ _ r.acted_at before.acted) (record { past = nothing_yet; form = ap (λ x. having rest (Called c) nothing_yet x) (sym h.closed); behaves = goes_behaves d.basis.setting true (having r (Called c) nothing_yet true) before (Load d.word) (d.bodies.clean k) (having rest (Called c) nothing_yet true) (λ e. (refl, refl)) refl refl refl before.acted; at = h.at }, over, waits)
+      let before = fresh_behaves d.basis.setting true (having r (Called c) nothing_yet true) (record { wrote = fresh.wrote; reads = fresh.reads; acted = fresh.acted; since = fresh.since }) in
+      plain_step (services_driver d) chip w s received (Loading (d.asked c)) (Inside k) _ (with_past r nothing_yet) (Called c) None [] [] None true (Load d.word) x refl refl refl (law.own_word (Called c)) (look_fuel d.most d.bodies.fuel (d.asked c) (Goes k) h.fuel) (λ e. look_room d.wide d.bodies.room (d.asked c) (Goes k) h.room) (sound_leaves d.basis.setting (Called c) _ _ r.acted_at before.acted) tt (record { past = nothing_yet; form = ap (λ x. having rest (Called c) nothing_yet x) (sym h.closed); behaves = goes_behaves d.basis.setting true (having r (Called c) nothing_yet true) before (Load d.word) (d.bodies.clean k) (having rest (Called c) nothing_yet true) (λ e. (refl, refl)) refl refl refl before.acted; window = seen_begins (d.seen k) (Load d.word ∷ r.since) (r.acts_since || false) (law.unseen (holds_in d ps) chip w s k c h.at) fresh.since; at = h.at }, over, waits)
 
   -- what holds of the frame itself where its body goes on, and where it is done
   abbrev KeepsFrame : Open Call → Origin Call → Past → Bool → Body → Option Done → Type 0
   KeepsFrame rest origin past inside k None = Behaves d.basis.setting (d.bodies.clean k) (having rest origin past inside)
   KeepsFrame rest origin past inside k (Some n) = LeavesRight d.basis.setting origin rest.reads rest.wrote rest.acted_at
 
-  continue_by : (chip : Chip) (s1 : State) (rest : Open Call) (origin : Origin Call) (past : Past) (inside : Bool) (k : Body) (left : Option Done) → IsOver d origin rest.tag (holds_in d ps) → StandsMasked inside (is_closed (d.bodies.spot k)) left → KeepsFrame rest origin past inside k left → Continues d.basis d.bodies (holds_in d ps) chip w s1 origin past rest.missed k left → Relates d chip w ((left_body k left, having rest origin past inside) ∷ ps) s1
-  continue_by chip s1 rest origin past inside k None over e kept h = (record { past = past; form = ap (λ x. having rest origin past x) (sym e); behaves = kept; at = h }, over, waits)
-  continue_by chip s1 rest origin past inside k (Some n) over e kept h = ((h.0, subst (λ x. IsDone d.basis (having rest origin past x) n true) (sym e) (stop_by rest origin past n h.1 kept)), over, waits)
+  continue_by : (chip : Chip) (s1 : State) (rest : Open Call) (origin : Origin Call) (past : Past) (inside : Bool) (k : Body) (left : Option Done) → IsOver d origin rest.tag (holds_in d ps) → StandsMasked inside (is_closed (d.bodies.spot k)) left → KeepsFrame rest origin past inside k left → SeesOn (d.seen k) rest.since rest.acts_since left → Continues d.basis d.bodies (holds_in d ps) chip w s1 origin past rest.missed k left → Relates d chip w ((left_body k left, having rest origin past inside) ∷ ps) s1
+  continue_by chip s1 rest origin past inside k None over e kept on h = (record { past = past; form = ap (λ x. having rest origin past x) (sym e); behaves = kept; window = on; at = h }, over, waits)
+  continue_by chip s1 rest origin past inside k (Some n) over e kept on h = ((h.0, subst (λ x. IsDone d.basis (having rest origin past x) n true) (sym e) (stop_by rest origin past n h.1 kept on)), over, waits)
 
   -- a step of a body
   abbrev KeepsBody : Chip → Chip → ℕ → Origin Call → Past → Bool → Move → Body → Body → Option Event → Option Done → Type 0
@@ -119,6 +122,19 @@ module _ {State Call Asked Body : Type 0} (d : Services State Call Asked Body) {
 
   abbrev missed_then : ℕ → Bool
   missed_then = missed_after d.basis.setting.machine w s r.missed
+
+  -- what is seen before the step, what the step owes of that, and what comes of it
+  abbrev SeenAt : Body → Type 0
+  SeenAt k = IsSeen (d.seen k) r.since r.acts_since
+
+  abbrev SeesBy : Body → Bool → Move → Body → Option Event → Option Done → Type 0
+  SeesBy k was made k1 e left = Sees (d.seen k) was made e (d.seen k1) left
+
+  goes_seen : (k k1 : Body) (was : Bool) (made : Move) (e : Option Event) (left : Option Done) → (made ≡ Mask → is_act e ≡ false) → SeesBy k was made k1 e left → SeenAt k → SeesOn (d.seen k1) (since_after r.since made) (acts_after r.acts_since made e) left
+  goes_seen k k1 was made e left n sees seen = sees_on (d.seen k) (d.seen k1) was r.since r.acts_since made e left n sees seen
+
+  stays_together : (origin : Origin Call) (k k1 : Body) (was : Bool) (made : Move) (e : Option Event) (left : Option Done) → SeesBy k was made k1 e left → SeenAt k → WindowRight (is_beside_act d.basis.setting.machine origin) was r.since (r.acts_since || is_act e) made
+  stays_together origin k k1 was made e left sees seen = window_right d.basis.setting.machine origin (d.seen k) (d.seen k1) was r.since r.acts_since made e left sees seen
 
   -- what holds of the frame itself before the step, and after one of each kind
   abbrev Before : Origin Call → Past → Bool → Body → Type 0
@@ -140,76 +156,76 @@ module _ {State Call Asked Body : Type 0} (d : Services State Call Asked Body) {
   kept_event origin past past1 made k k1 e t (Some n) before cleans acts = leaves_event origin past made k k1 e t (Some n) before acts
 
   -- a move of a register or a word
-  works_by : (chip chip1 : Chip) (x : ℕ) (origin : Origin Call) (past : Past) (was : Bool) (made : Move) (k k1 : Body) (e : Option Event) (left : Option Done) → IsOver d origin r.tag (holds_in d ps) → Before origin past was k → KeepsClean (d.bodies.clean k) made (d.bodies.clean k1) left → is_shared made ≡ false → (e ≡ None → (resets_chip made ≡ false) × (begins_word made ≡ false)) → d.basis.setting.may origin made ≡ true → Fueled k k1 left → KeepsMask was (is_closed (d.bodies.spot k1)) (d.bodies.room k) (d.bodies.room k1) e left → Works d.basis d.bodies (holds_in d ps) chip chip1 w s origin made (d.bodies.clean k) x received past missed_then k1 e left → KeepsBody chip chip1 x origin past was made k k1 e left
-  works_by chip chip1 x origin past true made k k1 None left over before cleans p calm own fuel mask h = plain_step (services_driver d) chip w s received (Inside k) (left_body k1 left) _ (with_past r past) origin past.acted past.served past.owed past.report true made x p (calm refl).0 (calm refl).1 own fuel (λ e. body_room d.wide d.bodies.room (d.bodies.room k) k1 left (room_shortens (is_closed (d.bodies.spot k1)) (d.bodies.room k) (d.bodies.room k1) None left mask)) (leaves_plain origin past true k made before) (continue_by chip1 s (RestAfter origin past true made) origin (past_wrote w made past) true k1 left over (stands_masked (is_closed (d.bodies.spot k1)) (d.bodies.room k) (d.bodies.room k1) None left mask) (kept_plain origin past (past_wrote w made past) true true made k k1 left before cleans) h)
-  works_by chip chip1 x origin past true made k k1 (Some e) left over before cleans p calm own fuel mask h = event_step (services_driver d) chip w s received (Inside k) (left_body k1 left) _ r origin past made x e h.state h.told h.begins p h.reset own fuel (body_room d.wide d.bodies.room (d.bodies.room k) k1 left (room_shortens (is_closed (d.bodies.spot k1)) (d.bodies.room k) (d.bodies.room k1) (Some e) left mask)) h.may h.stands h.is h.sends (leaves_event origin past made k k1 e h.told left before h.acts) (continue_by chip1 h.state (rest_acted d.basis.setting.machine w s (having r origin past true) made origin e h.told) origin (past_after d.basis.setting.machine w s origin e h.told (past_wrote w made past)) true k1 left over (stands_masked (is_closed (d.bodies.spot k1)) (d.bodies.room k) (d.bodies.room k1) (Some e) left mask) (kept_event origin past (past_after d.basis.setting.machine w s origin e h.told (past_wrote w made past)) made k k1 e h.told left before cleans h.acts) h.next)
-  works_by chip chip1 x origin past false made k k1 None None over before cleans p calm own fuel mask h = plain_step (services_driver d) chip w s received (Inside k) (Inside k1) _ (with_past r past) origin past.acted past.served past.owed past.report false made x p (calm refl).0 (calm refl).1 own fuel (λ e. absurd (cc)) (leaves_plain origin past false k made before) (continue_by chip1 s (RestAfter origin past false made) origin (past_wrote w made past) false k1 None over mask (kept_plain origin past (past_wrote w made past) false false made k k1 None before cleans) h)
-  works_by chip chip1 x origin past false made k k1 None (Some n) over before cleans p calm own fuel mask h = absurd mask
-  works_by chip chip1 x origin past false made k k1 (Some e) left over before cleans p calm own fuel mask h = absurd mask
+  works_by : (chip chip1 : Chip) (x : ℕ) (origin : Origin Call) (past : Past) (was : Bool) (made : Move) (k k1 : Body) (e : Option Event) (left : Option Done) → IsOver d origin r.tag (holds_in d ps) → SeenAt k → SeesBy k was made k1 e left → Before origin past was k → KeepsClean (d.bodies.clean k) made (d.bodies.clean k1) left → is_shared made ≡ false → (e ≡ None → (resets_chip made ≡ false) × (begins_word made ≡ false)) → d.basis.setting.may origin made ≡ true → Fueled k k1 left → KeepsMask was (is_closed (d.bodies.spot k1)) (d.bodies.room k) (d.bodies.room k1) e left → Works d.basis d.bodies (holds_in d ps) chip chip1 w s origin made (d.bodies.clean k) x received past missed_then k1 e left → KeepsBody chip chip1 x origin past was made k k1 e left
+  works_by chip chip1 x origin past true made k k1 None left over seen sees before cleans p calm own fuel mask h = plain_step (services_driver d) chip w s received (Inside k) (left_body k1 left) _ (with_past r past) origin past.acted past.served past.owed past.report true made x p (calm refl).0 (calm refl).1 own fuel (λ e. body_room d.wide d.bodies.room (d.bodies.room k) k1 left (room_shortens (is_closed (d.bodies.spot k1)) (d.bodies.room k) (d.bodies.room k1) None left mask)) (leaves_plain origin past true k made before) (stays_together origin k k1 true made None left sees seen) (continue_by chip1 s (RestAfter origin past true made) origin (past_wrote w made past) true k1 left over (stands_masked (is_closed (d.bodies.spot k1)) (d.bodies.room k) (d.bodies.room k1) None left mask) (kept_plain origin past (past_wrote w made past) true true made k k1 left before cleans) (goes_seen k k1 true made None left (not_mask made None p) sees seen) h)
+  works_by chip chip1 x origin past true made k k1 (Some e) left over seen sees before cleans p calm own fuel mask h = event_step (services_driver d) chip w s received (Inside k) (left_body k1 left) _ r origin past made x e h.state h.told h.begins p h.reset own fuel (body_room d.wide d.bodies.room (d.bodies.room k) k1 left (room_shortens (is_closed (d.bodies.spot k1)) (d.bodies.room k) (d.bodies.room k1) (Some e) left mask)) h.may h.stands h.is h.sends (leaves_event origin past made k k1 e h.told left before h.acts) (stays_together origin k k1 true made (Some e) left sees seen) (continue_by chip1 h.state (rest_acted d.basis.setting.machine w s (having r origin past true) made origin e h.told) origin (past_after d.basis.setting.machine w s origin e h.told (past_wrote w made past)) true k1 left over (stands_masked (is_closed (d.bodies.spot k1)) (d.bodies.room k) (d.bodies.room k1) (Some e) left mask) (kept_event origin past (past_after d.basis.setting.machine w s origin e h.told (past_wrote w made past)) made k k1 e h.told left before cleans h.acts) (goes_seen k k1 true made (Some e) left (not_mask made (Some e) p) sees seen) h.next)
+  works_by chip chip1 x origin past false made k k1 None None over seen sees before cleans p calm own fuel mask h = plain_step (services_driver d) chip w s received (Inside k) (Inside k1) _ (with_past r past) origin past.acted past.served past.owed past.report false made x p (calm refl).0 (calm refl).1 own fuel (λ e. absurd (cc)) (leaves_plain origin past false k made before) (stays_together origin k k1 false made None None sees seen) (continue_by chip1 s (RestAfter origin past false made) origin (past_wrote w made past) false k1 None over mask (kept_plain origin past (past_wrote w made past) false false made k k1 None before cleans) (goes_seen k k1 false made None None (not_mask made None p) sees seen) h)
+  works_by chip chip1 x origin past false made k k1 None (Some n) over seen sees before cleans p calm own fuel mask h = absurd mask
+  works_by chip chip1 x origin past false made k k1 (Some e) left over seen sees before cleans p calm own fuel mask h = absurd mask
 
   -- the mask is closed
-  shuts_by : (chip chip1 : Chip) (x : ℕ) (origin : Origin Call) (past : Past) (was : Bool) (k k1 : Body) (e : Option Event) (left : Option Done) → IsOver d origin r.tag (holds_in d ps) → Before origin past was k → KeepsClean (d.bodies.clean k) Mask (d.bodies.clean k1) left → Fueled k k1 left → (was ≡ false) × (is_closed (d.bodies.spot k1) ≡ true) × (2 + d.bodies.room k1 ≤ d.basis.setting.window_of origin) × (e ≡ None) × (left ≡ None) → Continues d.basis d.bodies (holds_in d ps) chip1 w s origin past missed_then k1 None → KeepsBody chip chip1 x origin past was Mask k k1 e left
-  shuts_by chip chip1 x origin past true k k1 e left over before cleans fuel m h = let i = m.0 in absurd (cc)
-  shuts_by chip chip1 x origin past false k k1 (Some e) left over before cleans fuel m h = let i = m.3 in absurd (cc)
-  shuts_by chip chip1 x origin past false k k1 None (Some n) over before cleans fuel m h = let i = m.4 in absurd (cc)
-  shuts_by chip chip1 x origin past false k k1 None None over before cleans fuel m h = mask_step (services_driver d) chip w s received (Inside k) (Inside k1) _ (with_past r past) origin past.acted past.served past.owed past.report x fuel (let i = m.2 in omega (arith, i)) (leaves_plain origin past false k Mask before) (continue_by chip1 s (RestAfter origin past false Mask) origin past true k1 None over m.1 (kept_plain origin past past false true Mask k k1 None before cleans) h)
+  shuts_by : (chip chip1 : Chip) (x : ℕ) (origin : Origin Call) (past : Past) (was : Bool) (k k1 : Body) (e : Option Event) (left : Option Done) → IsOver d origin r.tag (holds_in d ps) → SeenAt k → SeesBy k was Mask k1 e left → Before origin past was k → KeepsClean (d.bodies.clean k) Mask (d.bodies.clean k1) left → Fueled k k1 left → (was ≡ false) × (is_closed (d.bodies.spot k1) ≡ true) × (2 + d.bodies.room k1 ≤ d.basis.setting.window_of origin) × (e ≡ None) × (left ≡ None) → Continues d.basis d.bodies (holds_in d ps) chip1 w s origin past missed_then k1 None → KeepsBody chip chip1 x origin past was Mask k k1 e left
+  shuts_by chip chip1 x origin past true k k1 e left over seen sees before cleans fuel m h = let i = m.0 in absurd (cc)
+  shuts_by chip chip1 x origin past false k k1 (Some e) left over seen sees before cleans fuel m h = let i = m.3 in absurd (cc)
+  shuts_by chip chip1 x origin past false k k1 None (Some n) over seen sees before cleans fuel m h = let i = m.4 in absurd (cc)
+  shuts_by chip chip1 x origin past false k k1 None None over seen sees before cleans fuel m h = mask_step (services_driver d) chip w s received (Inside k) (Inside k1) _ (with_past r past) origin past.acted past.served past.owed past.report x fuel (let i = m.2 in omega (arith, i)) (leaves_plain origin past false k Mask before) (continue_by chip1 s (RestAfter origin past false Mask) origin past true k1 None over m.1 (kept_plain origin past past false true Mask k k1 None before cleans) (goes_seen k k1 false Mask None None (λ i. refl) sees seen) h)
 
   -- the mask is opened
-  opens_by : (chip chip1 : Chip) (x : ℕ) (origin : Origin Call) (past : Past) (was : Bool) (k k1 : Body) (e : Option Event) (left : Option Done) → IsOver d origin r.tag (holds_in d ps) → Before origin past was k → KeepsClean (d.bodies.clean k) Unmask (d.bodies.clean k1) left → Fueled k k1 left → (was ≡ true) × (is_closed (d.bodies.spot k1) ≡ false) × (e ≡ None) × (left ≡ None) → Continues d.basis d.bodies (holds_in d ps) chip1 w s origin past missed_then k1 None → KeepsBody chip chip1 x origin past was Unmask k k1 e left
-  opens_by chip chip1 x origin past false k k1 e left over before cleans fuel m h = let i = m.0 in absurd (cc)
-  opens_by chip chip1 x origin past true k k1 (Some e) left over before cleans fuel m h = let i = m.2 in absurd (cc)
-  opens_by chip chip1 x origin past true k k1 None (Some n) over before cleans fuel m h = let i = m.3 in absurd (cc)
-  opens_by chip chip1 x origin past true k k1 None None over before cleans fuel m h = unmask_step (services_driver d) chip w s received (Inside k) (Inside k1) _ (with_past r past) origin past.acted past.served past.owed past.report x fuel (omega arith) (leaves_plain origin past true k Unmask before) (continue_by chip1 s (RestAfter origin past true Unmask) origin past false k1 None over m.1 (kept_plain origin past past true false Unmask k k1 None before cleans) h)
+  opens_by : (chip chip1 : Chip) (x : ℕ) (origin : Origin Call) (past : Past) (was : Bool) (k k1 : Body) (e : Option Event) (left : Option Done) → IsOver d origin r.tag (holds_in d ps) → SeenAt k → SeesBy k was Unmask k1 e left → Before origin past was k → KeepsClean (d.bodies.clean k) Unmask (d.bodies.clean k1) left → Fueled k k1 left → (was ≡ true) × (is_closed (d.bodies.spot k1) ≡ false) × (e ≡ None) × (left ≡ None) → Continues d.basis d.bodies (holds_in d ps) chip1 w s origin past missed_then k1 None → KeepsBody chip chip1 x origin past was Unmask k k1 e left
+  opens_by chip chip1 x origin past false k k1 e left over seen sees before cleans fuel m h = let i = m.0 in absurd (cc)
+  opens_by chip chip1 x origin past true k k1 (Some e) left over seen sees before cleans fuel m h = let i = m.2 in absurd (cc)
+  opens_by chip chip1 x origin past true k k1 None (Some n) over seen sees before cleans fuel m h = let i = m.3 in absurd (cc)
+  opens_by chip chip1 x origin past true k k1 None None over seen sees before cleans fuel m h = unmask_step (services_driver d) chip w s received (Inside k) (Inside k1) _ (with_past r past) origin past.acted past.served past.owed past.report x fuel (omega arith) (leaves_plain origin past true k Unmask before) (stays_together origin k k1 true Unmask None None sees seen) (continue_by chip1 s (RestAfter origin past true Unmask) origin past false k1 None over m.1 (kept_plain origin past past true false Unmask k k1 None before cleans) (goes_seen k k1 true Unmask None None (λ i. refl) sees seen) h)
 
   -- a notice, which is the next one that is owed
   notes_by : (chip chip1 : Chip) (x : ℕ) (rest : Open Call) (origin : Origin Call) (n : Notice) (by : Bool) (acted : Option Answer) (served : List ℕ) (owed others : List Owing) (report : Option DevError) (k k1 : Body) → owed ≡ record { notice = n; served = by } ∷ others → Fueled k k1 None → (by ≡ true → d.basis.setting.shows origin n chip s) → LeavesRight d.basis.setting origin (reads_after rest.reads (Note n)) (rest.wrote || is_write (Note n)) rest.acted_at → Relates d chip1 w ((Inside k1, form (rest_after d.basis.setting.machine w s (form rest origin acted served owed report false) (Note n)) origin acted served others report false) ∷ ps) s → Keeps (services_driver d) chip w s received (Inside k) (Inside k1) (λ s1 o1. Relates d chip1 w ((Inside k1, o1) ∷ ps) s1) (form rest origin acted served owed report false) (Note n) x goes
   notes_by chip chip1 x rest origin n by acted served owed others report k k1 is fuel shown leaves h = subst (λ q. Keeps (services_driver d) chip w s received (Inside k) (Inside k1) (λ s1 o1. Relates d chip1 w ((Inside k1, o1) ∷ ps) s1) (form rest origin acted served q report false) (Note n) x goes) (sym is) (note_step (services_driver d) chip w s received (Inside k) (Inside k1) _ rest origin acted served report n by others x fuel shown leaves h)
 
-  tells_by : (chip chip1 : Chip) (x : ℕ) (origin : Origin Call) (past : Past) (was : Bool) (n : Notice) (k k1 : Body) (e : Option Event) (left : Option Done) → chip1 ≡ chip → IsOver d origin r.tag (holds_in d ps) → Before origin past was k → KeepsClean (d.bodies.clean k) (Note n) (d.bodies.clean k1) left → Fueled k k1 left → (was ≡ false) × (is_closed (d.bodies.spot k1) ≡ false) × (e ≡ None) × (left ≡ None) → Notes d.basis d.bodies (holds_in d ps) chip1 w s origin n k1 past → KeepsBody chip chip1 x origin past was (Note n) k k1 e left
-  tells_by chip chip1 x origin past true n k k1 e left still over before cleans fuel m h = let i = m.0 in absurd (cc)
-  tells_by chip chip1 x origin past false n k k1 (Some e) left still over before cleans fuel m h = let i = m.2 in absurd (cc)
-  tells_by chip chip1 x origin past false n k k1 None (Some q) still over before cleans fuel m h = let i = m.3 in absurd (cc)
-  tells_by chip chip1 x origin past false n k k1 None None still over before cleans fuel m h = notes_by chip chip1 x (with_past r past) origin n h.served past.acted past.served past.owed h.others past.report k k1 h.is fuel (λ q. subst (λ c. d.basis.setting.shows origin n c s) still (h.shown q)) (leaves_plain origin past false k (Note n) before) (continue_by chip1 s (RestAfter origin past false (Note n)) origin (record past { owed = h.others }) false k1 None over m.1 (kept_plain origin past (record past { owed = h.others }) false false (Note n) k k1 None before cleans) h.next)
+  tells_by : (chip chip1 : Chip) (x : ℕ) (origin : Origin Call) (past : Past) (was : Bool) (n : Notice) (k k1 : Body) (e : Option Event) (left : Option Done) → chip1 ≡ chip → IsOver d origin r.tag (holds_in d ps) → SeenAt k → SeesBy k was (Note n) k1 e left → Before origin past was k → KeepsClean (d.bodies.clean k) (Note n) (d.bodies.clean k1) left → Fueled k k1 left → (was ≡ false) × (is_closed (d.bodies.spot k1) ≡ false) × (e ≡ None) × (left ≡ None) → Notes d.basis d.bodies (holds_in d ps) chip1 w s origin n k1 past → KeepsBody chip chip1 x origin past was (Note n) k k1 e left
+  tells_by chip chip1 x origin past true n k k1 e left still over seen sees before cleans fuel m h = let i = m.0 in absurd (cc)
+  tells_by chip chip1 x origin past false n k k1 (Some e) left still over seen sees before cleans fuel m h = let i = m.2 in absurd (cc)
+  tells_by chip chip1 x origin past false n k k1 None (Some q) still over seen sees before cleans fuel m h = let i = m.3 in absurd (cc)
+  tells_by chip chip1 x origin past false n k k1 None None still over seen sees before cleans fuel m h = notes_by chip chip1 x (with_past r past) origin n h.served past.acted past.served past.owed h.others past.report k k1 h.is fuel (λ q. subst (λ c. d.basis.setting.shows origin n c s) still (h.shown q)) (leaves_plain origin past false k (Note n) before) (continue_by chip1 s (RestAfter origin past false (Note n)) origin (record past { owed = h.others }) false k1 None over m.1 (kept_plain origin past (record past { owed = h.others }) false false (Note n) k k1 None before cleans) (goes_seen k k1 false (Note n) None None (λ i. absurd (cc)) sees seen) h.next)
 
   -- a body's step, by its move
-  body_by : (chip chip1 : Chip) (x : ℕ) (origin : Origin Call) (past : Past) (was : Bool) (made : Move) (k k1 : Body) (e : Option Event) (left : Option Done) → chip1 ≡ chip_after chip made received → IsOver d origin r.tag (holds_in d ps) → Before origin past was k → KeepsClean (d.bodies.clean k) made (d.bodies.clean k1) left → is_shared made || d.basis.setting.may origin made ≡ true → (e ≡ None → (resets_chip made ≡ false) × (begins_word made ≡ false)) → Fueled k k1 left → TurnsMask (d.basis.setting.window_of origin) was (is_closed (d.bodies.spot k1)) (d.bodies.room k) (d.bodies.room k1) made e left → Makes d.basis d.bodies (holds_in d ps) chip chip1 w s origin made (d.bodies.clean k) x received past missed_then k1 e left → KeepsBody chip chip1 x origin past was made k k1 e left
-  body_by chip chip1 x origin past was Mask k k1 e left is over before cleans own calm fuel m h = shuts_by chip chip1 x origin past was k k1 e left over before cleans fuel m h
-  body_by chip chip1 x origin past was Unmask k k1 e left is over before cleans own calm fuel m h = opens_by chip chip1 x origin past was k k1 e left over before cleans fuel m h
-  body_by chip chip1 x origin past was (Note n) k k1 e left is over before cleans own calm fuel m h = tells_by chip chip1 x origin past was n k k1 e left is over before cleans fuel m h
-  body_by chip chip1 x origin past was (Report n) k k1 e left is over before cleans own calm fuel m h = absurd h
-  body_by chip chip1 x origin past was (Read n) k k1 e left is over before cleans own calm fuel m h = works_by chip chip1 x origin past was (Read n) k k1 e left over before cleans refl calm own fuel m h
-  body_by chip chip1 x origin past was (Write n v) k k1 e left is over before cleans own calm fuel m h = works_by chip chip1 x origin past was (Write n v) k k1 e left over before cleans refl calm own fuel m h
-  body_by chip chip1 x origin past was (Load n) k k1 e left is over before cleans own calm fuel m h = works_by chip chip1 x origin past was (Load n) k k1 e left over before cleans refl calm own fuel m h
-  body_by chip chip1 x origin past was (Store n v) k k1 e left is over before cleans own calm fuel m h = works_by chip chip1 x origin past was (Store n v) k k1 e left over before cleans refl calm own fuel m h
+  body_by : (chip chip1 : Chip) (x : ℕ) (origin : Origin Call) (past : Past) (was : Bool) (made : Move) (k k1 : Body) (e : Option Event) (left : Option Done) → chip1 ≡ chip_after chip made received → IsOver d origin r.tag (holds_in d ps) → SeenAt k → SeesBy k was made k1 e left → Before origin past was k → KeepsClean (d.bodies.clean k) made (d.bodies.clean k1) left → is_shared made || d.basis.setting.may origin made ≡ true → (e ≡ None → (resets_chip made ≡ false) × (begins_word made ≡ false)) → Fueled k k1 left → TurnsMask (d.basis.setting.window_of origin) was (is_closed (d.bodies.spot k1)) (d.bodies.room k) (d.bodies.room k1) made e left → Makes d.basis d.bodies (holds_in d ps) chip chip1 w s origin made (d.bodies.clean k) x received past missed_then k1 e left → KeepsBody chip chip1 x origin past was made k k1 e left
+  body_by chip chip1 x origin past was Mask k k1 e left is over seen sees before cleans own calm fuel m h = shuts_by chip chip1 x origin past was k k1 e left over seen sees before cleans fuel m h
+  body_by chip chip1 x origin past was Unmask k k1 e left is over seen sees before cleans own calm fuel m h = opens_by chip chip1 x origin past was k k1 e left over seen sees before cleans fuel m h
+  body_by chip chip1 x origin past was (Note n) k k1 e left is over seen sees before cleans own calm fuel m h = tells_by chip chip1 x origin past was n k k1 e left is over seen sees before cleans fuel m h
+  body_by chip chip1 x origin past was (Report n) k k1 e left is over seen sees before cleans own calm fuel m h = absurd h
+  body_by chip chip1 x origin past was (Read n) k k1 e left is over seen sees before cleans own calm fuel m h = works_by chip chip1 x origin past was (Read n) k k1 e left over seen sees before cleans refl calm own fuel m h
+  body_by chip chip1 x origin past was (Write n v) k k1 e left is over seen sees before cleans own calm fuel m h = works_by chip chip1 x origin past was (Write n v) k k1 e left over seen sees before cleans refl calm own fuel m h
+  body_by chip chip1 x origin past was (Load n) k k1 e left is over seen sees before cleans own calm fuel m h = works_by chip chip1 x origin past was (Load n) k k1 e left over seen sees before cleans refl calm own fuel m h
+  body_by chip chip1 x origin past was (Store n v) k k1 e left is over seen sees before cleans own calm fuel m h = works_by chip chip1 x origin past was (Store n v) k k1 e left over seen sees before cleans refl calm own fuel m h
 
   -- a body ends its frame itself, at the opening of the mask
   stopped : (rest : Open Call) (origin : Origin Call) (past : Past) (owed : List Owing) (report : Option DevError) (inside : Bool) (a : Answer) → MayAnswer origin past (missed_after d.basis.setting.machine w s rest.missed) a → MayEnd origin (rest_after d.basis.setting.machine w s (form (with_past rest past) origin past.acted past.served owed report inside) Unmask) a
   stopped rest (Called c) past owed report inside a h = h
   stopped rest (Entered l) past owed report inside a h = h
 
-  leaves_by : (chip chip1 : Chip) (x : ℕ) (origin : Origin Call) (past : Past) (k : Body) (later : Short Asked Body) (owed : List Owing) (report : Option DevError) (a : Answer) → owed ≡ [] → report ≡ None → MayAnswer origin past missed_then a → Before origin past true k → d.basis.agrees (holds_in d ps) d.basis.settled chip1 w s → Keeps (services_driver d) chip w s received (Inside k) later (λ s1 o1. Relates d chip1 w ps s1) (form (with_past r past) origin past.acted past.served owed report true) Unmask x (gave_body None (Some a))
-  leaves_by chip chip1 x origin past k later owed report a e f may before agrees = subst (λ y. Keeps (services_driver d) chip w s received (Inside k) later (λ s1 o1. Relates d chip1 w ps s1) (form (with_past r past) origin past.acted past.served y report true) Unmask x (gave_body None (Some a))) (sym e) (subst (λ y. Keeps (services_driver d) chip w s received (Inside k) later (λ s1 o1. Relates d chip1 w ps s1) (form (with_past r past) origin past.acted past.served [] y true) Unmask x (gave_body None (Some a))) (sym f) (leave_step (services_driver d) chip w s received (Inside k) later _ (with_past r past) origin past.acted past.served x a (stopped r origin past [] None true a may) (omega arith) (omega arith) (leaves_plain origin past true k Unmask before) (below d law chip1 w s ps agrees waits)))
+  leaves_by : (chip chip1 : Chip) (x : ℕ) (origin : Origin Call) (past : Past) (k : Body) (later : Short Asked Body) (owed : List Owing) (report : Option DevError) (a : Answer) → owed ≡ [] → report ≡ None → MayAnswer origin past missed_then a → WindowRight (is_beside_act d.basis.setting.machine origin) true r.since (r.acts_since || false) Unmask → Before origin past true k → d.basis.agrees (holds_in d ps) d.basis.settled chip1 w s → Keeps (services_driver d) chip w s received (Inside k) later (λ s1 o1. Relates d chip1 w ps s1) (form (with_past r past) origin past.acted past.served owed report true) Unmask x (gave_body None (Some a))
+  leaves_by chip chip1 x origin past k later owed report a e f may together before agrees = subst (λ y. Keeps (services_driver d) chip w s received (Inside k) later (λ s1 o1. Relates d chip1 w ps s1) (form (with_past r past) origin past.acted past.served y report true) Unmask x (gave_body None (Some a))) (sym e) (subst (λ y. Keeps (services_driver d) chip w s received (Inside k) later (λ s1 o1. Relates d chip1 w ps s1) (form (with_past r past) origin past.acted past.served [] y true) Unmask x (gave_body None (Some a))) (sym f) (leave_step (services_driver d) chip w s received (Inside k) later _ (with_past r past) origin past.acted past.served x a (stopped r origin past [] None true a may) (omega arith) (omega arith) (leaves_plain origin past true k Unmask before) together (below d law chip1 w s ps agrees waits)))
 
-  ends_by : (chip chip1 : Chip) (x : ℕ) (origin : Origin Call) (past : Past) (was : Bool) (k k1 : Body) (e : Option Event) (left : Option Done) (a : Answer) → Before origin past was k → (was ≡ true) × (is_closed (d.bodies.spot k1) ≡ false) × (e ≡ None) × (left ≡ None) → d.basis.agrees (holds_in d ps) d.basis.settled chip1 w s → MayStop d.basis origin past missed_then (owes_nothing a) → Keeps (services_driver d) chip w s received (Inside k) (left_body k1 left) (λ s1 o1. Relates d chip1 w ps s1) (having r origin past was) Unmask x (gave_body e (Some a))
-  ends_by chip chip1 x origin past false k k1 e left a before m agrees h = let i = m.0 in absurd (cc)
-  ends_by chip chip1 x origin past true k k1 (Some e) left a before m agrees h = let i = m.2 in absurd (cc)
-  ends_by chip chip1 x origin past true k k1 None left a before m agrees h = leaves_by chip chip1 x origin past k (left_body k1 left) past.owed past.report a h.owed h.report h.may before agrees
+  ends_by : (chip chip1 : Chip) (x : ℕ) (origin : Origin Call) (past : Past) (was : Bool) (k k1 : Body) (e : Option Event) (left : Option Done) (a : Answer) → SeenAt k → SeesBy k was Unmask k1 e left → Before origin past was k → (was ≡ true) × (is_closed (d.bodies.spot k1) ≡ false) × (e ≡ None) × (left ≡ None) → d.basis.agrees (holds_in d ps) d.basis.settled chip1 w s → MayStop d.basis origin past missed_then (owes_nothing a) → Keeps (services_driver d) chip w s received (Inside k) (left_body k1 left) (λ s1 o1. Relates d chip1 w ps s1) (having r origin past was) Unmask x (gave_body e (Some a))
+  ends_by chip chip1 x origin past false k k1 e left a seen sees before m agrees h = let i = m.0 in absurd (cc)
+  ends_by chip chip1 x origin past true k k1 (Some e) left a seen sees before m agrees h = let i = m.2 in absurd (cc)
+  ends_by chip chip1 x origin past true k k1 None left a seen sees before m agrees h = leaves_by chip chip1 x origin past k (left_body k1 left) past.owed past.report a h.owed h.report h.may (stays_together origin k k1 true Unmask None left sees seen) before agrees
 
   more_done : (origin : Origin Call) (acted : Option Answer) (served : List ℕ) (owed owed1 : List Owing) (report report1 : Option DevError) (inside inside1 : Bool) (made : Move) (a : Answer) → MayEnd origin (form r origin acted served owed report inside) a → MayEnd origin (form (rest_after d.basis.setting.machine w s (form r origin acted served owed report inside) made) origin acted served owed1 report1 inside1) a
   more_done (Called c) acted served owed owed1 report report1 inside inside1 made a m = may_more d.basis.setting.machine w s (form r (Called c) acted served owed report inside) made (Called c) a m
   more_done (Entered l) acted served owed owed1 report report1 inside inside1 made a m = may_more d.basis.setting.machine w s (form r (Entered l) acted served owed report inside) made (Entered l) a m
 
-  open_by : (chip chip1 : Chip) (x : ℕ) (origin : Origin Call) (a : Answer) (owed : Owed) (by : Bool) (acted : Option Answer) (served : List ℕ) → IsOver d origin r.tag (holds_in d ps) → LeavesRight d.basis.setting origin r.reads r.wrote r.acted_at → MayEnd origin (form r origin acted served (owing by (notices_in owed)) (error_in owed) true) a → (by ≡ true → AreShown d.basis origin (notices_in owed)) → d.basis.agrees (holds_in d ps) d.basis.settled chip1 w s → Keeps (services_driver d) chip w s received (Opening (record { answer = a; owed = owed })) (left_open a owed) (λ s1 o1. Relates d chip1 w (top_after (left_open a owed, o1) (gave_open a owed).ended ps) s1) (form r origin acted served (owing by (notices_in owed)) (error_in owed) true) Unmask x (gave_open a owed)
-  open_by chip chip1 x origin a Nothing by acted served over leaves m shown agrees = leave_step (services_driver d) chip w s received _ _ _ r origin acted served x a (may_more d.basis.setting.machine w s (form r origin acted served [] None true) Unmask origin a m) (omega arith) (omega arith) (leaves_on d.basis.setting origin r.reads r.wrote r.acted_at leaves) (below d law chip1 w s ps agrees waits)
-  open_by chip chip1 x origin a (Error e) by acted served over leaves m shown agrees = unmask_step (services_driver d) chip w s received _ _ _ r origin acted served [] (Some e) x (omega arith) (omega arith) (leaves_on d.basis.setting origin r.reads r.wrote r.acted_at leaves) ((agrees, record { may = more_done origin acted served [] [] (Some e) (Some e) true false Unmask a m; served = by; owed = refl; shown = shown; report = refl; leaves = leaves_on d.basis.setting origin r.reads r.wrote r.acted_at leaves; inside = refl }), over, waits)
-  open_by chip chip1 x origin a (One k) by acted served over leaves m shown agrees = unmask_step (services_driver d) chip w s received _ _ _ r origin acted served (owing by (k ∷ [])) None x (omega arith) (omega arith) (leaves_on d.basis.setting origin r.reads r.wrote r.acted_at leaves) ((agrees, record { may = more_done origin acted served (owing by (k ∷ [])) (owing by (k ∷ [])) None None true false Unmask a m; served = by; owed = refl; shown = shown; report = refl; leaves = leaves_on d.basis.setting origin r.reads r.wrote r.acted_at leaves; inside = refl }), over, waits)
-  open_by chip chip1 x origin a (Two k j) by acted served over leaves m shown agrees = unmask_step (services_driver d) chip w s received _ _ _ r origin acted served (owing by (k ∷ j ∷ [])) None x (omega arith) (omega arith) (leaves_on d.basis.setting origin r.reads r.wrote r.acted_at leaves) ((agrees, record { may = more_done origin acted served (owing by (k ∷ j ∷ [])) (owing by (k ∷ j ∷ [])) None None true false Unmask a m; served = by; owed = refl; shown = shown; report = refl; leaves = leaves_on d.basis.setting origin r.reads r.wrote r.acted_at leaves; inside = refl }), over, waits)
+  open_by : (chip chip1 : Chip) (x : ℕ) (origin : Origin Call) (a : Answer) (owed : Owed) (by : Bool) (acted : Option Answer) (served : List ℕ) → IsOver d origin r.tag (holds_in d ps) → MayOpen r.since r.acts_since → LeavesRight d.basis.setting origin r.reads r.wrote r.acted_at → MayEnd origin (form r origin acted served (owing by (notices_in owed)) (error_in owed) true) a → (by ≡ true → AreShown d.basis origin (notices_in owed)) → d.basis.agrees (holds_in d ps) d.basis.settled chip1 w s → Keeps (services_driver d) chip w s received (Opening (record { answer = a; owed = owed })) (left_open a owed) (λ s1 o1. Relates d chip1 w (top_after (left_open a owed, o1) (gave_open a owed).ended ps) s1) (form r origin acted served (owing by (notices_in owed)) (error_in owed) true) Unmask x (gave_open a owed)
+  open_by chip chip1 x origin a Nothing by acted served over ok leaves m shown agrees = leave_step (services_driver d) chip w s received _ _ _ r origin acted served x a (may_more d.basis.setting.machine w s (form r origin acted served [] None true) Unmask origin a m) (omega arith) (omega arith) (leaves_on d.basis.setting origin r.reads r.wrote r.acted_at leaves) (opens_right d.basis.setting.machine origin r.since r.acts_since false ok) (below d law chip1 w s ps agrees waits)
+  open_by chip chip1 x origin a (Error e) by acted served over ok leaves m shown agrees = unmask_step (services_driver d) chip w s received _ _ _ r origin acted served [] (Some e) x (omega arith) (omega arith) (leaves_on d.basis.setting origin r.reads r.wrote r.acted_at leaves) (opens_right d.basis.setting.machine origin r.since r.acts_since false ok) ((agrees, record { may = more_done origin acted served [] [] (Some e) (Some e) true false Unmask a m; served = by; owed = refl; shown = shown; report = refl; leaves = leaves_on d.basis.setting origin r.reads r.wrote r.acted_at leaves; inside = refl; window = λ e. absurd (cc) }), over, waits)
+  open_by chip chip1 x origin a (One k) by acted served over ok leaves m shown agrees = unmask_step (services_driver d) chip w s received _ _ _ r origin acted served (owing by (k ∷ [])) None x (omega arith) (omega arith) (leaves_on d.basis.setting origin r.reads r.wrote r.acted_at leaves) (opens_right d.basis.setting.machine origin r.since r.acts_since false ok) ((agrees, record { may = more_done origin acted served (owing by (k ∷ [])) (owing by (k ∷ [])) None None true false Unmask a m; served = by; owed = refl; shown = shown; report = refl; leaves = leaves_on d.basis.setting origin r.reads r.wrote r.acted_at leaves; inside = refl; window = λ e. absurd (cc) }), over, waits)
+  open_by chip chip1 x origin a (Two k j) by acted served over ok leaves m shown agrees = unmask_step (services_driver d) chip w s received _ _ _ r origin acted served (owing by (k ∷ j ∷ [])) None x (omega arith) (omega arith) (leaves_on d.basis.setting origin r.reads r.wrote r.acted_at leaves) (opens_right d.basis.setting.machine origin r.since r.acts_since false ok) ((agrees, record { may = more_done origin acted served (owing by (k ∷ j ∷ [])) (owing by (k ∷ j ∷ [])) None None true false Unmask a m; served = by; owed = refl; shown = shown; report = refl; leaves = leaves_on d.basis.setting origin r.reads r.wrote r.acted_at leaves; inside = refl; window = λ e. absurd (cc) }), over, waits)
 
   tell_by : (chip : Chip) (x : ℕ) (origin : Origin Call) (a : Answer) (owed : Owed) (by : Bool) (acted : Option Answer) (served : List ℕ) → IsOver d origin r.tag (holds_in d ps) → LeavesRight d.basis.setting origin r.reads r.wrote r.acted_at → MayEnd origin (form r origin acted served (owing by (notices_in owed)) (error_in owed) false) a → (by ≡ true → AreShown d.basis origin (notices_in owed)) → d.basis.agrees (holds_in d ps) d.basis.settled chip w s → Keeps (services_driver d) chip w s received (Telling (record { answer = a; owed = owed })) (left_told a owed) (λ s1 o1. Relates d (chip_after chip (tells d.word owed) received) w (top_after (left_told a owed, o1) (gave_told a owed).ended ps) s1) (form r origin acted served (owing by (notices_in owed)) (error_in owed) false) (tells d.word owed) x (gave_told a owed)
   tell_by chip x origin a Nothing by acted served over leaves m shown agrees = last_step (services_driver d) chip w s received _ _ _ r origin acted served d.word x a (law.own_word origin) m (omega arith) (leaves_on d.basis.setting origin r.reads r.wrote r.acted_at leaves) (below d law chip w s ps agrees waits)
   tell_by chip x origin a (Error e) by acted served over leaves m shown agrees = report_step (services_driver d) chip w s received _ _ _ r origin acted served x a e m (omega arith) (leaves_on d.basis.setting origin r.reads r.wrote r.acted_at leaves) (below d law chip w s ps agrees waits)
-  tell_by chip x origin a (One k) by acted served over leaves m shown agrees = note_step (services_driver d) chip w s received _ _ _ r origin acted served None k by [] x (omega arith) (λ e. (shown e).0 (holds_in d ps) chip w s agrees) (leaves_on d.basis.setting origin r.reads r.wrote r.acted_at leaves) ((agrees, record { may = more_done origin acted served (owing by (k ∷ [])) [] None None false false (Note k) a m; served = by; owed = refl; shown = λ e. tt; report = refl; leaves = leaves_on d.basis.setting origin r.reads r.wrote r.acted_at leaves; inside = refl }), over, waits)
-  tell_by chip x origin a (Two k j) by acted served over leaves m shown agrees = note_step (services_driver d) chip w s received _ _ _ r origin acted served None k by (owing by (j ∷ [])) x (omega arith) (λ e. (shown e).0 (holds_in d ps) chip w s agrees) (leaves_on d.basis.setting origin r.reads r.wrote r.acted_at leaves) ((agrees, record { may = more_done origin acted served (owing by (k ∷ j ∷ [])) (owing by (j ∷ [])) None None false false (Note k) a m; served = by; owed = refl; shown = λ e. (shown e).1; report = refl; leaves = leaves_on d.basis.setting origin r.reads r.wrote r.acted_at leaves; inside = refl }), over, waits)
+  tell_by chip x origin a (One k) by acted served over leaves m shown agrees = note_step (services_driver d) chip w s received _ _ _ r origin acted served None k by [] x (omega arith) (λ e. (shown e).0 (holds_in d ps) chip w s agrees) (leaves_on d.basis.setting origin r.reads r.wrote r.acted_at leaves) ((agrees, record { may = more_done origin acted served (owing by (k ∷ [])) [] None None false false (Note k) a m; served = by; owed = refl; shown = λ e. tt; report = refl; leaves = leaves_on d.basis.setting origin r.reads r.wrote r.acted_at leaves; inside = refl; window = λ e. absurd (cc) }), over, waits)
+  tell_by chip x origin a (Two k j) by acted served over leaves m shown agrees = note_step (services_driver d) chip w s received _ _ _ r origin acted served None k by (owing by (j ∷ [])) x (omega arith) (λ e. (shown e).0 (holds_in d ps) chip w s agrees) (leaves_on d.basis.setting origin r.reads r.wrote r.acted_at leaves) ((agrees, record { may = more_done origin acted served (owing by (k ∷ j ∷ [])) (owing by (j ∷ [])) None None false false (Note k) a m; served = by; owed = refl; shown = λ e. (shown e).1; report = refl; leaves = leaves_on d.basis.setting origin r.reads r.wrote r.acted_at leaves; inside = refl; window = λ e. absurd (cc) }), over, waits)
 
   last_by : (chip : Chip) (x : ℕ) (origin : Origin Call) (a : Answer) (acted : Option Answer) (served : List ℕ) → LeavesRight d.basis.setting origin r.reads r.wrote r.acted_at → MayEnd origin (form r origin acted served [] None false) a → d.basis.agrees (holds_in d ps) d.basis.settled chip w s → KeepsAt d ends_with chip w received (Returning a) (form r origin acted served [] None false) ps s
   last_by chip x origin a acted served leaves m agrees = last_step (services_driver d) chip w s received _ _ _ r origin acted served d.word (value_of chip (Load d.word)) a (law.own_word origin) m (omega arith) (leaves_on d.basis.setting origin r.reads r.wrote r.acted_at leaves) (below d law chip w s ps agrees waits)
@@ -226,25 +242,25 @@ module _ {State Call Asked Body : Type 0} (d : Services State Call Asked Body) {
   unmask_shared origin = shared_by Unmask refl origin (d.basis.owns origin Unmask) refl
 
   calling : (chip : Chip) (w : World) (received : ℕ) (c : Call) (o : Open Call) (ps : List (Short Asked Body × Open Call)) (s : State) → IsFresh o → d.can c → d.basis.agrees (holds_in d ps) d.basis.settled chip w s → IsOver d (Called c) o.tag (holds_in d ps) → AllWait d ps → KeepsAt d ends_with chip w received (Calling (d.asked c)) (having o (Called c) nothing_yet false) ps s
-  calling chip w received c o ps s fresh can agrees over waits = mask_step (services_driver d) chip w s received (Calling (d.asked c)) (Loading (d.asked c)) _ (with_past o nothing_yet) (Called c) None [] [] None (value_of chip Mask) (omega arith) (let k = law.call_window c can in omega arith) (fresh_leaves d.basis.setting (Called c) o fresh) ((law.basis.agrees_apart (holds_in d ps) chip w s Mask received mask_shared agrees, record { call = c; asks = refl; form = refl; fresh = record { wrote = (fresh_on o fresh).wrote; reads = fresh.reads; acted = fresh.acted }; can = can }), over, waits)
+  calling chip w received c o ps s fresh can agrees over waits = mask_step (services_driver d) chip w s received (Calling (d.asked c)) (Loading (d.asked c)) _ (with_past o nothing_yet) (Called c) None [] [] None (value_of chip Mask) (omega arith) (let k = law.call_window c can in omega arith) (fresh_leaves d.basis.setting (Called c) o fresh) ((law.basis.agrees_apart (holds_in d ps) chip w s Mask received mask_shared agrees, record { call = c; asks = refl; form = refl; fresh = record { wrote = (fresh_on o fresh).wrote; reads = fresh.reads; acted = fresh.acted; since = refl }; can = can }), over, waits)
 
   loading : (chip : Chip) (w : World) (received : ℕ) (c : Call) (o : Open Call) (ps : List (Short Asked Body × Open Call)) (s : State) → IsFresh o → d.can c → d.basis.agrees (holds_in d ps) d.basis.settled chip w s → IsOver d (Called c) o.tag (holds_in d ps) → AllWait d ps → KeepsAt d ends_with chip w received (Loading (d.asked c)) (having o (Called c) nothing_yet true) ps s
   loading chip w received c o ps s fresh can agrees over waits = let x = value_of chip (Load d.word) in load_by d law ps waits s w o received chip c x (d.looked (d.asked c) x) fresh over agrees (law.looks (holds_in d ps) chip w s c can over.beside agrees)
 
   -- a step of a body, which may end its frame with this answer
-  inside : (chip : Chip) (w : World) (received : ℕ) (k : Body) (o : Open Call) (ps : List (Short Asked Body × Open Call)) (s : State) (past : Past) → IsOver d o.origin o.tag (holds_in d ps) → AllWait d ps → Behaves d.basis.setting (d.bodies.clean k) (having o o.origin past (is_closed (d.bodies.spot k))) → Stand d.basis d.bodies (holds_in d ps) chip w s k o.origin past → (q : Option Answer) → RightOr d.basis d.bodies (holds_in d ps) chip w s k o.origin received past o.missed q → let made = d.bodies.work_of k in let t = d.bodies.takes k (value_of chip made) in Keeps (services_driver d) chip w s received (Inside k) (left_body t.0 t.1.done) (λ s1 o1. Relates d (chip_after chip made received) w (top_after (left_body t.0 t.1.done, o1) q ps) s1) (having o o.origin past (is_closed (d.bodies.spot k))) made (value_of chip made) (gave_body t.1.event q)
-  inside chip w received k o ps s past over waits before at None h =
+  inside : (chip : Chip) (w : World) (received : ℕ) (k : Body) (o : Open Call) (ps : List (Short Asked Body × Open Call)) (s : State) (past : Past) → IsOver d o.origin o.tag (holds_in d ps) → AllWait d ps → IsSeen (d.seen k) o.since o.acts_since → Behaves d.basis.setting (d.bodies.clean k) (having o o.origin past (is_closed (d.bodies.spot k))) → Stand d.basis d.bodies (holds_in d ps) chip w s k o.origin past → (q : Option Answer) → RightOr d.basis d.bodies (holds_in d ps) chip w s k o.origin received past o.missed q → let made = d.bodies.work_of k in let t = d.bodies.takes k (value_of chip made) in Keeps (services_driver d) chip w s received (Inside k) (left_body t.0 t.1.done) (λ s1 o1. Relates d (chip_after chip made received) w (top_after (left_body t.0 t.1.done, o1) q ps) s1) (having o o.origin past (is_closed (d.bodies.spot k))) made (value_of chip made) (gave_body t.1.event q)
+  inside chip w received k o ps s past over waits seen before at None h =
       let made = d.bodies.work_of k in
       let x = value_of chip made in
       let t = d.bodies.takes k x in
       let held = holds_in d ps in
-      body_by d law ps waits s w o received chip (chip_after chip made received) x o.origin past (is_closed (d.bodies.spot k)) made k t.0 t.1.event t.1.done refl over before (law.bodies.cleans k x) (law.bodies.own held chip w s k o.origin past at) (law.bodies.calm held chip w s k o.origin past at) (body_fuel d.most d.bodies.fuel (d.bodies.fuel k) t.0 t.1.done (law.bodies.shortens k x)) (law.bodies.turns held chip w s k o.origin past at) h
-  inside chip w received k o ps s past over waits before at (Some a) h =
+      body_by d law ps waits s w o received chip (chip_after chip made received) x o.origin past (is_closed (d.bodies.spot k)) made k t.0 t.1.event t.1.done refl over seen (law.windows held chip w s k o.origin past at) before (law.bodies.cleans k x) (law.bodies.own held chip w s k o.origin past at) (law.bodies.calm held chip w s k o.origin past at) (body_fuel d.most d.bodies.fuel (d.bodies.fuel k) t.0 t.1.done (law.bodies.shortens k x)) (law.bodies.turns held chip w s k o.origin past at) h
+  inside chip w received k o ps s past over waits seen before at (Some a) h =
       let made = d.bodies.work_of k in
       let x = value_of chip made in
       let t = d.bodies.takes k x in
       let was = is_closed (d.bodies.spot k) in
-      subst (λ m. TurnsMask (d.basis.setting.window_of o.origin) was (is_closed (d.bodies.spot t.0)) (d.bodies.room k) (d.bodies.room t.0) m t.1.event t.1.done → Keeps (services_driver d) chip w s received (Inside k) (left_body t.0 t.1.done) (λ s1 o1. Relates d (chip_after chip m received) w ps s1) (having o o.origin past was) m x (gave_body t.1.event (Some a))) (sym h.0) (λ turns. ends_by d law ps waits s w o received chip (chip_after chip Unmask received) x o.origin past was k t.0 t.1.event t.1.done a before turns h.1 h.2) (law.bodies.turns (holds_in d ps) chip w s k o.origin past at)
+      subst (λ m. TurnsMask (d.basis.setting.window_of o.origin) was (is_closed (d.bodies.spot t.0)) (d.bodies.room k) (d.bodies.room t.0) m t.1.event t.1.done → Sees (d.seen k) was m t.1.event (d.seen t.0) t.1.done → Keeps (services_driver d) chip w s received (Inside k) (left_body t.0 t.1.done) (λ s1 o1. Relates d (chip_after chip m received) w ps s1) (having o o.origin past was) m x (gave_body t.1.event (Some a))) (sym h.0) (λ turns sees. ends_by d law ps waits s w o received chip (chip_after chip Unmask received) x o.origin past was k t.0 t.1.event t.1.done a seen sees before turns h.1 h.2) (law.bodies.turns (holds_in d ps) chip w s k o.origin past at) (law.windows (holds_in d ps) chip w s k o.origin past at)
 
   pub short_steps : (chip : Chip) (w : World) (received : ℕ) (f : Short Asked Body) (o : Open Call) (ps : List (Short Asked Body × Open Call)) (s : State) → ReceivedRight chip w (short_move d.word d.bodies.work_of f) received → d.basis.count s < most_steps → Relates d chip w ((f, o) ∷ ps) s → KeepsAt d ends_with chip w received f o ps s
   short_steps chip w received (Calling a) o ps s come few h =
@@ -258,14 +274,14 @@ module _ {State Call Asked Body : Type 0} (d : Services State Call Asked Body) {
   short_steps chip w received (Entering k) o ps s come few h =
       let i = h.0.1 in
       let rest = rest_after d.basis.setting.machine w s (having o o.origin nothing_yet false) Mask in
-      subst (λ x. KeepsAt d ends_with chip w received (Entering k) x ps s) (sym i.form) (mask_step (services_driver d) chip w s received (Entering k) (Inside k) _ (with_past o nothing_yet) o.origin None [] [] None (value_of chip Mask) (omega arith) (let j = i.can.room in omega arith) (fresh_leaves d.basis.setting o.origin o i.fresh) (record { past = nothing_yet; form = ap (λ x. having rest o.origin nothing_yet x) (sym i.can.closed); behaves = fresh_behaves d.basis.setting (d.bodies.clean k) (having rest o.origin nothing_yet true) (record { wrote = (fresh_on o i.fresh).wrote; reads = i.fresh.reads; acted = i.fresh.acted }); at = i.can.at (holds_in d ps) (chip_after chip Mask received) w s h.1.beside (law.basis.agrees_apart (holds_in d ps) chip w s Mask received mask_shared h.0.0) }, h.1, h.2))
+      subst (λ x. KeepsAt d ends_with chip w received (Entering k) x ps s) (sym i.form) (mask_step (services_driver d) chip w s received (Entering k) (Inside k) _ (with_past o nothing_yet) o.origin None [] [] None (value_of chip Mask) (omega arith) (let j = i.can.room in omega arith) (fresh_leaves d.basis.setting o.origin o i.fresh) (record { past = nothing_yet; form = ap (λ x. having rest o.origin nothing_yet x) (sym i.can.closed); behaves = fresh_behaves d.basis.setting (d.bodies.clean k) (having rest o.origin nothing_yet true) (record { wrote = (fresh_on o i.fresh).wrote; reads = i.fresh.reads; acted = i.fresh.acted; since = refl }); window = seen_start (d.seen k) i.can.unseen; at = i.can.at (holds_in d ps) (chip_after chip Mask received) w s h.1.beside (law.basis.agrees_apart (holds_in d ps) chip w s Mask received mask_shared h.0.0) }, h.1, h.2))
   short_steps chip w received (Inside k) o ps s come few h =
       let i = h.0 in
-      subst (λ y. KeepsAt d ends_with chip w received (Inside k) y ps s) (sym i.form) (inside chip w received k o ps s i.past h.1 h.2 (subst (λ x. Behaves d.basis.setting (d.bodies.clean k) x) i.form i.behaves) i.at (ended_at d.bodies ends_with k (value_of chip (d.bodies.work_of k))) (law.bodies.steps (holds_in d ps) chip w s k o.origin received i.past o.missed come few i.at))
+      subst (λ y. KeepsAt d ends_with chip w received (Inside k) y ps s) (sym i.form) (inside chip w received k o ps s i.past h.1 h.2 i.window (subst (λ x. Behaves d.basis.setting (d.bodies.clean k) x) i.form i.behaves) i.at (ended_at d.bodies ends_with k (value_of chip (d.bodies.work_of k))) (law.bodies.steps (holds_in d ps) chip w s k o.origin received i.past o.missed come few i.at))
   short_steps chip w received (Opening n) o ps s come few h =
       let k = h.0.1 in
       let e = form_is o (owing k.served (notices_in n.owed)) (error_in n.owed) true k.owed k.report k.inside in
-      subst (λ x. KeepsAt d ends_with chip w received (Opening n) x ps s) (sym e) (open_by d law ps h.2 s w o received chip (chip_after chip Unmask received) (value_of chip Unmask) o.origin n.answer n.owed k.served o.acted o.served h.1 k.leaves (subst (λ x. MayEnd o.origin x n.answer) e k.may) k.shown (law.basis.agrees_apart (holds_in d ps) chip w s Unmask received unmask_shared h.0.0))
+      subst (λ x. KeepsAt d ends_with chip w received (Opening n) x ps s) (sym e) (open_by d law ps h.2 s w o received chip (chip_after chip Unmask received) (value_of chip Unmask) o.origin n.answer n.owed k.served o.acted o.served h.1 (k.window refl) k.leaves (subst (λ x. MayEnd o.origin x n.answer) e k.may) k.shown (law.basis.agrees_apart (holds_in d ps) chip w s Unmask received unmask_shared h.0.0))
   short_steps chip w received (Telling n) o ps s come few h =
       let k = h.0.1 in
       let e = form_is o (owing k.served (notices_in n.owed)) (error_in n.owed) false k.owed k.report k.inside in

@@ -1,27 +1,13 @@
-use Rattle.run_model.specs.Script.{deeds_of}
 use Rattle.script_runner.specs.Scripts.{chip_for}
 use Rattle.script_runner.specs.Standing.{moment_of}
-use Rattle.script_runner.proofs.Events.{slow_chip, may_happen, none_held, is_noted, words_are, moves}
-use Rattle.std.proofs.Common.{arith}
+use Rattle.script_runner.proofs.Events.{slow_chip, may_happen, none_held}
 use Rattle.script_runner.proofs.hardware.obey_hardware.Goals as goal
 
-pub hardware-requires : goal.hardware-requires
-hardware-requires g c =
-    may_happen c.args.parts.now.bus c.args.directive.now.order c.requires.built
+pub move_hardware-requires-clause-can : goal.move_hardware-requires-clause-can
+move_hardware-requires-clause-can g c =
+    may_happen c.args.parts.now.bus c.args.directive.now.order c.requires.built c.requires.other
     (slow_chip (g.M.Module.spec c.args.course.now.driver) (chip_for c.args.course.now.config c.args.course.now.script.now) (g.M.Caller.call_of c.args.course.now.driver) c.args.course.now.script.now c.args.parts.now.bus c.args.parts.now.stack.frames c.args.parts.now.journal.entries (λ chip w ps s r. g.met.M.Caller.slow c.args.course.now.driver chip w ps s c.requires.fits r) c.requires.stands)
     c.requires.time c.requires.late c.requires.given
 
-pub happened-requires-clause-happening : goal.happened-requires-clause-happening
-happened-requires-clause-happening g c = is_noted c.args.directive.now.order c.requires.hardware
-
-pub happened-requires-clause-words : goal.happened-requires-clause-words
-happened-requires-clause-words g c = omega (arith, words_are c.args.directive.now.order c.requires.built, c.words_by-words.ensures.given, c.words_by-words.ensures.few, c.requires.room.words)
-
-pub returns : goal.returns
-returns g c =
-    moves (g.M.Module.spec c.args.course.now.driver) (chip_for c.args.course.now.config c.args.course.now.script.now) (g.M.Caller.call_of c.args.course.now.driver) c.args.course.now.script.now c.args.course.now.most c.args.directive.now.line c.depth-depth.result c.args.directive.now.order c.args.parts.now.bus c.args.parts.now.stack c.args.parts.now.journal c.hardware.new.bus c.happened.new.self
-    c.requires.room.steps c.requires.hardware c.requires.built (omega (arith, c.words_by-words.ensures.given, c.words_by-words.ensures.few))
-    (slow_chip (g.M.Module.spec c.args.course.now.driver) (chip_for c.args.course.now.config c.args.course.now.script.now) (g.M.Caller.call_of c.args.course.now.driver) c.args.course.now.script.now c.args.parts.now.bus c.args.parts.now.stack.frames c.args.parts.now.journal.entries (λ chip w ps s r. g.met.M.Caller.slow c.args.course.now.driver chip w ps s c.requires.fits r) c.requires.stands)
-    c.depth-depth.ensures c.hardware.ensures.chip c.happened.ensures
-    (c.hardware.ensures.stands c.args.course.now.driver (chip_for c.args.course.now.config c.args.course.now.script.now) (deeds_of (g.M.Caller.call_of c.args.course.now.driver) c.args.course.now.script.now c.args.parts.now.journal.entries) c.requires.fits (none_held (g.M.Module.spec c.args.course.now.driver).setting (moment_of (g.M.Module.spec c.args.course.now.driver) (chip_for c.args.course.now.config c.args.course.now.script.now) (g.M.Caller.call_of c.args.course.now.driver) c.args.course.now.script.now c.args.parts.now.journal.entries) c.args.directive.now.order c.requires.built) c.requires.stands)
-    c.requires.stands
+pub move_hardware-requires-clause-free : goal.move_hardware-requires-clause-free
+move_hardware-requires-clause-free g c = none_held (g.M.Module.spec c.args.course.now.driver).setting (moment_of (g.M.Module.spec c.args.course.now.driver) (chip_for c.args.course.now.config c.args.course.now.script.now) (g.M.Caller.call_of c.args.course.now.driver) c.args.course.now.script.now c.args.parts.now.journal.entries) c.args.directive.now.order c.requires.other

@@ -1,5 +1,5 @@
 -- The laws are proved over the definitions.
-use Rattle.adc_groups.specs.Bounds.{adc_setting}
+use Rattle.adc_machine.specs.Bounds.{adc_setting}
 use Rattle.whole_runs.proofs.Promises.{converter_keeps, journal_says}
 use Rattle.whole_runs.proofs.journals.converter_journals.Goals as goal
 

@@ -1,5 +1,5 @@
 -- The laws are proved over the definitions.
-use Rattle.spi_sequences.specs.Bounds.{spi_setting}
+use Rattle.spi_machine.specs.Bounds.{spi_setting}
 use Rattle.whole_runs.proofs.Promises.{serial_keeps, journal_says}
 use Rattle.whole_runs.proofs.journals.serial_journals.Goals as goal
 

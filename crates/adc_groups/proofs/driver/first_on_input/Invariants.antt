@@ -1,6 +1,0 @@
-use Rattle.std.proofs.Common.{◌≡◌, drop}
-use Rattle.adc_groups.specs.Bounds as bounds
-use Rattle.adc_groups.proofs.driver.first_on_input.Given as goal
-
-abbrev pub invariant-loop-group : goal.invariant-loop-group
-invariant-loop-group l = bounds.first_on_input l.groups l.input ≡ bounds.first_on_input (drop l.group-index l.groups) l.input

@@ -1,6 +1,0 @@
-use Rattle.std.proofs.Common.{◌≡◌, drop}
-use Rattle.adc_groups.specs.Table as spec
-use Rattle.adc_groups.proofs.driver.level_in.Given as goal
-
-abbrev pub invariant-loop-unit : goal.invariant-loop-unit
-invariant-loop-unit l = spec.level_in l.units l.number ≡ spec.level_in (drop l.unit-index l.units) l.number

@@ -1,5 +1,0 @@
-use Rattle.adc_groups.proofs.Aborted.{abort_leaves}
-use Rattle.adc_groups.proofs.laws.aborted_rounds_keep_values.Goals as goal
-
-pub returns : goal.returns
-returns c = abort_leaves

@@ -1,8 +1,0 @@
-use Rattle.adc_groups.proofs.Rounds.{whole_values, values_so_far}
-use Rattle.adc_groups.proofs.laws.values_of_rounds.Goals as goal
-
-pub returns-clause-whole : goal.returns-clause-whole
-returns-clause-whole c = whole_values
-
-pub returns-clause-ended : goal.returns-clause-ended
-returns-clause-ended c = values_so_far

@@ -1,0 +1,15 @@
+pub mod Aborted
+pub mod Cleared
+pub mod Kept
+pub mod Next
+pub mod Numbers
+pub mod Others
+pub mod Parts
+pub mod Places
+pub mod Read
+pub mod Requests
+pub mod Rest
+pub mod Rounds
+pub mod Served
+pub mod Small
+pub mod Stopped

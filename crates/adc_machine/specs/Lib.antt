@@ -1,0 +1,11 @@
+pub mod Bounds
+pub mod Checks
+pub mod Configured
+pub mod Groups
+pub mod Laws
+pub mod Machine
+pub mod Requests
+pub mod Table
+pub mod Triggers
+pub mod Turns
+pub mod Words

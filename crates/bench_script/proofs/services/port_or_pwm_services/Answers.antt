@@ -1,0 +1,52 @@
+use Rattle.std.proofs.Common.{◌≡◌, ◌==◌, false, refl, arith}
+use Rattle.std.proofs.lemmas.Bool.Decides.{nat_tests}
+use Rattle.bench_script.proofs.Fronts.{of_length, none_so_long}
+use Rattle.bench_script.proofs.services.port_or_pwm_services.Goals as goal
+
+pub returns-in-8 : goal.returns-in-8
+returns-in-8 c = rw c.in-8.is (λ rest e. of_length 80 8 rest e)
+
+pub returns-in-9 : goal.returns-in-9
+returns-in-9 c = rw c.in-9.is (λ rest e. of_length 80 9 rest e)
+
+pub returns-in-10 : goal.returns-in-10
+returns-in-10 c = rw c.in-10.is (λ rest e. of_length 80 10 rest e)
+
+pub returns-in-15 : goal.returns-in-15
+returns-in-15 c = rw c.in-15.is (λ rest e. of_length 80 15 rest e)
+
+pub returns-in-16 : goal.returns-in-16
+returns-in-16 c = rw c.in-16.is (λ rest e. of_length 80 16 rest e)
+
+pub returns-in-18 : goal.returns-in-18
+returns-in-18 c = rw c.in-18.is (λ rest e. of_length 80 18 rest e)
+
+pub returns-in-19 : goal.returns-in-19
+returns-in-19 c = rw c.in-19.is (λ rest e. of_length 80 19 rest e)
+
+pub returns-in-20 : goal.returns-in-20
+returns-in-20 c = rw c.in-20.is (λ rest e. of_length 80 20 rest e)
+
+pub returns-in-22 : goal.returns-in-22
+returns-in-22 c = rw c.in-22.is (λ rest e. of_length 80 22 rest e)
+
+pub returns-in-23 : goal.returns-in-23
+returns-in-23 c = rw c.in-23.is (λ rest e. of_length 80 23 rest e)
+
+pub returns-in-25 : goal.returns-in-25
+returns-in-25 c = rw c.in-25.is (λ rest e. of_length 80 25 rest e)
+
+pub returns-in_default : goal.returns-in_default
+returns-in_default c = λ rest e.
+    let not-8 : (c.args.letters == 8) ≡ false = grind (arith, nat_tests, c.in_default) in
+    let not-9 : (c.args.letters == 9) ≡ false = grind (arith, nat_tests, c.in_default) in
+    let not-10 : (c.args.letters == 10) ≡ false = grind (arith, nat_tests, c.in_default) in
+    let not-15 : (c.args.letters == 15) ≡ false = grind (arith, nat_tests, c.in_default) in
+    let not-16 : (c.args.letters == 16) ≡ false = grind (arith, nat_tests, c.in_default) in
+    let not-18 : (c.args.letters == 18) ≡ false = grind (arith, nat_tests, c.in_default) in
+    let not-19 : (c.args.letters == 19) ≡ false = grind (arith, nat_tests, c.in_default) in
+    let not-20 : (c.args.letters == 20) ≡ false = grind (arith, nat_tests, c.in_default) in
+    let not-22 : (c.args.letters == 22) ≡ false = grind (arith, nat_tests, c.in_default) in
+    let not-23 : (c.args.letters == 23) ≡ false = grind (arith, nat_tests, c.in_default) in
+    let not-25 : (c.args.letters == 25) ≡ false = grind (arith, nat_tests, c.in_default) in
+    none_so_long 80 c.args.letters (rw (not-8, not-9, not-10, not-15, not-16, not-18, not-19, not-20, not-22, not-23, not-25) refl) rest e

@@ -1,0 +1,33 @@
+-- The frames of all modules.
+use Rattle.service_outline.specs.declared.short.Short.{Short}
+use Rattle.step_runner.specs.declared.either.Either.{Either}
+use Rattle.mcu_driver.specs.declared.asked.Asked as clock_asked
+use Rattle.mcu_driver.specs.laws.Bodies.{McuBody}
+use Rattle.port_driver.specs.declared.asked.Asked as pin_asked
+use Rattle.port_driver.specs.laws.Bodies.{PortBody}
+use Rattle.gpt_driver.specs.declared.asked.Asked as timer_asked
+use Rattle.gpt_driver.specs.laws.Bodies.{GptBody}
+use Rattle.pwm_driver.specs.declared.asked.Asked as pulse_asked
+use Rattle.pwm_driver.specs.laws.Bodies.{PwmBody}
+use Rattle.icu_driver.specs.declared.asked.Asked as capture_asked
+use Rattle.icu_driver.specs.laws.Bodies.{IcuBody}
+
+-- those of each
+abbrev pub ClockFrame : Type 0
+ClockFrame = Short clock_asked.Asked McuBody
+
+abbrev pub PinFrame : Type 0
+PinFrame = Short pin_asked.Asked PortBody
+
+abbrev pub TimerFrame : Type 0
+TimerFrame = Short timer_asked.Asked GptBody
+
+abbrev pub PulseFrame : Type 0
+PulseFrame = Short pulse_asked.Asked PwmBody
+
+abbrev pub CaptureFrame : Type 0
+CaptureFrame = Short capture_asked.Asked IcuBody
+
+-- the frames of all
+abbrev pub SystemFrame : Type 0
+SystemFrame = Either (Either ClockFrame (Either PinFrame TimerFrame)) (Either PulseFrame CaptureFrame)

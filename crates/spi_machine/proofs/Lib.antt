@@ -1,0 +1,11 @@
+pub mod Acts
+pub mod Begins
+pub mod Best
+pub mod Ends
+pub mod Idle
+pub mod Numbers
+pub mod Results
+pub mod Runs
+pub mod Stored
+pub mod Turns
+pub mod WordLaws

@@ -1,0 +1,14 @@
+pub mod Bounds
+pub mod Channels
+pub mod Checks
+pub mod Fits
+pub mod Machine
+pub mod Numbered
+pub mod Pending
+pub mod Promised
+pub mod Requests
+pub mod Runs
+pub mod State
+pub mod Table
+pub mod Transfers
+pub mod Wiring

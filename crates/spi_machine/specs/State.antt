@@ -1,0 +1,104 @@
+-- The state of the serial driver, and what is told.
+use Rattle.std.specs.Prelude.{ℕ, ◌==◌, nat_eq, Bool, true, false, not, if◌then◌else◌, List, [], ◌∷◌, length, Option, Some, None, slice_index_or}
+use Rattle.std.specs.List.{list_any}
+use Rattle.mcal_base.specs.declared.answer_name.AnswerName.{AnswerName}
+use Rattle.mcal_base.specs.declared.notice.Notice.{Notice}
+use Rattle.mcal_base.specs.declared.notice.NoticeKind.TheVariants.{SpiJobEndNotification, SpiSeqEndNotification}
+use Rattle.run_model.specs.Machine.{Told, no_answer}
+use Rattle.spi_machine.specs.declared.call.AsyncMode.{AsyncMode}
+use Rattle.spi_machine.specs.declared.call.AsyncMode.TheVariants as modes
+use Rattle.spi_machine.specs.declared.table.SpiTable.{SpiTable}
+use Rattle.spi_machine.specs.Channels.{ChannelState, untouched}
+use Rattle.spi_machine.specs.Numbered.{with_item, word_at}
+use Rattle.spi_machine.specs.Pending.{Pending}
+use Rattle.spi_machine.specs.Table.{job_of, sequence_of, notifies_job, notifies_sequence}
+use Rattle.spi_machine.specs.Transfers.{Run}
+
+-- uninitialised, or the asynchronous mode of an initialised module
+pub data Mode : Type 0 where
+  Off : Mode
+  Polling : Mode
+  Interrupt : Mode
+
+-- The module. Lists are by number; what isn't there is as it was at first.
+pub record SpiState : Type 0 where
+  pub mode : Mode
+  pub channels : List ChannelState
+  -- the results of jobs and of sequences
+  pub job_results : List AnswerName
+  pub sequence_results : List AnswerName
+  -- the pending sequences, in the order of their requests, and how many requests there were
+  pub pending : List Pending
+  pub requests : ℕ
+  -- what each unit runs, where it isn't free
+  pub units : List (Option Run)
+  -- each word that was begun since the last reset on each unit: what was sent, and what came in
+  pub wires : List (List (ℕ × ℕ))
+
+-- after power on and after a reset
+abbrev pub first_state : SpiState
+first_state = record { mode = Off; channels = []; job_results = []; sequence_results = []; pending = []; requests = 0; units = []; wires = [] }
+
+abbrev pub is_off : Mode → Bool
+is_off Off = true
+is_off Polling = false
+is_off Interrupt = false
+
+abbrev pub is_polling : Mode → Bool
+is_polling Off = false
+is_polling Polling = true
+is_polling Interrupt = false
+
+abbrev pub is_interrupt : Mode → Bool
+is_interrupt Off = false
+is_interrupt Polling = false
+is_interrupt Interrupt = true
+
+abbrev pub mode_of : AsyncMode → Mode
+mode_of modes.Polling = Polling
+mode_of modes.Interrupt = Interrupt
+
+-- ---- the parts of a state
+
+abbrev pub channel_at : SpiState → ℕ → ChannelState
+channel_at s c = slice_index_or s.channels c untouched
+
+abbrev pub with_channel : SpiState → ℕ → ChannelState → SpiState
+with_channel s c x = record s { channels = with_item untouched s.channels c x }
+
+-- a word of an internal channel by its place: of those that were received, or of those to send
+abbrev pub internal_word : SpiState → (channel : ℕ) → (received : Bool) → (place : ℕ) → ℕ
+internal_word s c received i = word_at (if received then (channel_at s c).received else (channel_at s c).written) i
+
+abbrev pub run_at : SpiState → ℕ → Option Run
+run_at s u = slice_index_or s.units u None
+
+abbrev pub with_run : SpiState → ℕ → Option Run → SpiState
+with_run s u r = record s { units = with_item None s.units u r }
+
+abbrev pub wire_at : SpiState → ℕ → List (ℕ × ℕ)
+wire_at s u = slice_index_or s.wires u []
+
+-- a sequence is pending
+abbrev pub is_busy : SpiState → Bool
+is_busy s = not (nat_eq (length s.pending) 0)
+
+-- a unit runs a job of the sequence
+abbrev pub runs_sequence : (sequence : ℕ) → Option Run → Bool
+runs_sequence q None = false
+runs_sequence q (Some r) = r.sequence == q
+
+abbrev pub is_running : SpiState → (sequence : ℕ) → Bool
+is_running s q = list_any (runs_sequence q) s.units
+
+-- ---- what is told
+
+-- a notice, where it is configured
+abbrev pub job_notice : SpiTable → ℕ → List Notice
+job_notice d j = if notifies_job (job_of d j) then (record { kind = SpiJobEndNotification; id = j }) ∷ [] else []
+
+abbrev pub sequence_notice : SpiTable → ℕ → List Notice
+sequence_notice d q = if notifies_sequence (sequence_of d q) then (record { kind = SpiSeqEndNotification; id = q }) ∷ [] else []
+
+abbrev pub notes : List Notice → Told
+notes ns = record { answer = no_answer; error = None; notices = ns }

@@ -1,6 +1,0 @@
-use Rattle.std.proofs.Common.{◌≡◌, drop}
-use Rattle.spi_sequences.specs.Table as spec
-use Rattle.spi_sequences.proofs.driver.find_sequence.Given as goal
-
-abbrev pub invariant-loop-sequence : goal.invariant-loop-sequence
-invariant-loop-sequence l = spec.sequence_in l.sequences l.number ≡ spec.sequence_in (drop l.sequence-index l.sequences) l.number

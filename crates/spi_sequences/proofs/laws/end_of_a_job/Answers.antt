@@ -1,6 +1,0 @@
--- The law is proved over the definitions.
-use Rattle.spi_sequences.proofs.Ends.{serve-ends}
-use Rattle.spi_sequences.proofs.laws.end_of_a_job.Goals as goal
-
-pub returns : goal.returns
-returns _ = serve-ends

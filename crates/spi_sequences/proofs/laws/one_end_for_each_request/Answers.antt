@@ -1,7 +1,0 @@
--- The law is proved over the definitions.
-use Rattle.spi_sequences.proofs.Idle.{renewed}
-use Rattle.spi_sequences.proofs.Turns.{happens-turn}
-use Rattle.spi_sequences.proofs.laws.one_end_for_each_request.Goals as goal
-
-pub returns : goal.returns
-returns _ = record { turns = happens-turn; initialised = renewed }

@@ -1,0 +1,9 @@
+pub mod Changes
+pub mod Drawing
+pub mod Escapes
+pub mod Laws
+pub mod Moments
+pub mod Pages
+pub mod Program
+pub mod Rows
+pub mod Sentences

@@ -1,0 +1,12 @@
+pub mod Cuts
+pub mod Digits
+pub mod FeedLaws
+pub mod FoundRows
+pub mod Lengths
+pub mod LineByLine
+pub mod LineLaws
+pub mod NameLaws
+pub mod RegisterLaws
+pub mod Splits
+pub mod Steps
+pub mod Whole

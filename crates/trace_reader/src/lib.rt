@@ -1,0 +1,17 @@
+//! Reads the report of a traced run back: what each of its lines tells.
+#![tactic(auto)]
+
+mod guess;
+mod laws;
+mod line;
+mod lists;
+mod names;
+mod numbers;
+mod read;
+mod registers;
+mod tally;
+mod told;
+
+pub use laws::reads_traces;
+pub use read::{TraceFault, read_trace};
+pub use told::{Mark, Step, Told, TraceLine};

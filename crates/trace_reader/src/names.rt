@@ -1,0 +1,171 @@
+ghost use Rattle.std.specs.Prelude.{◌≡◌};
+ghost use Rattle.bench_report.specs.Lines as lines;
+ghost use Rattle.det_errors.specs.Spelling.{error_text};
+ghost use Rattle.irq_control.specs.Spelling.{held_text};
+ghost use Rattle.mcal_base.specs.Names as names;
+ghost use Rattle.bench_script.specs.Words.{named};
+ghost use Rattle.trace_reader.specs.Names as spec;
+
+use bench_report::reason_text;
+use irq_control::Held;
+use mcal_base::{AnswerName, ErrorName, NoticeKind, Reason};
+
+/// The causes for which a directive is held.
+const CAUSES: [Held; 9] = [
+    Held::Masked,
+    Held::Level,
+    Held::Reentry,
+    Held::Idle,
+    Held::Full,
+    Held::Empty,
+    Held::Busy,
+    Held::Unknown,
+    Held::Frames,
+];
+
+/// The reasons of resets.
+const REASONS: [Reason; 3] = [Reason::PowerOn, Reason::Watchdog, Reason::Software];
+
+/// The kinds of notices.
+const NOTICES: [NoticeKind; 9] = [
+    NoticeKind::GptNotification,
+    NoticeKind::EcuMCheckWakeup,
+    NoticeKind::EcuMSetWakeupEvent,
+    NoticeKind::PwmNotification,
+    NoticeKind::IcuSignalNotification,
+    NoticeKind::IcuTimestampNotification,
+    NoticeKind::AdcNotification,
+    NoticeKind::SpiJobEndNotification,
+    NoticeKind::SpiSeqEndNotification,
+];
+
+/// The names that answers begin with.
+const ANSWERS: [AnswerName; 28] = [
+    AnswerName::EOk,
+    AnswerName::ENotOk,
+    AnswerName::McuPllLocked,
+    AnswerName::McuPllUnlocked,
+    AnswerName::McuPllStatusUndefined,
+    AnswerName::McuPowerOnReset,
+    AnswerName::McuWatchdogReset,
+    AnswerName::McuSwReset,
+    AnswerName::McuResetUndefined,
+    AnswerName::PwmHigh,
+    AnswerName::PwmLow,
+    AnswerName::IcuActive,
+    AnswerName::IcuIdle,
+    AnswerName::AdcIdle,
+    AnswerName::AdcBusy,
+    AnswerName::AdcCompleted,
+    AnswerName::AdcStreamCompleted,
+    AnswerName::SpiUninit,
+    AnswerName::SpiIdle,
+    AnswerName::SpiBusy,
+    AnswerName::SpiJobOk,
+    AnswerName::SpiJobPending,
+    AnswerName::SpiJobFailed,
+    AnswerName::SpiJobQueued,
+    AnswerName::SpiSeqOk,
+    AnswerName::SpiSeqPending,
+    AnswerName::SpiSeqFailed,
+    AnswerName::SpiSeqCanceled,
+];
+
+/// The errors, module by module.
+const ERRORS: [ErrorName; 45] = [
+    ErrorName::McuUninit,
+    ErrorName::McuParamRamsection,
+    ErrorName::McuParamClock,
+    ErrorName::McuPllNotLocked,
+    ErrorName::McuParamMode,
+    ErrorName::PortUninit,
+    ErrorName::PortParamPin,
+    ErrorName::PortDirectionUnchangeable,
+    ErrorName::PortParamInvalidMode,
+    ErrorName::PortModeUnchangeable,
+    ErrorName::GptAlreadyInitialized,
+    ErrorName::GptUninit,
+    ErrorName::GptBusy,
+    ErrorName::GptParamChannel,
+    ErrorName::GptParamValue,
+    ErrorName::GptMode,
+    ErrorName::GptParamMode,
+    ErrorName::PwmAlreadyInitialized,
+    ErrorName::PwmUninit,
+    ErrorName::PwmParamChannel,
+    ErrorName::PwmPeriodUnchangeable,
+    ErrorName::IcuAlreadyInitialized,
+    ErrorName::IcuUninit,
+    ErrorName::IcuParamChannel,
+    ErrorName::IcuParamActivation,
+    ErrorName::IcuParamBufferSize,
+    ErrorName::IcuParamNotifyInterval,
+    ErrorName::IcuNotStarted,
+    ErrorName::AdcAlreadyInitialized,
+    ErrorName::AdcUninit,
+    ErrorName::AdcBusy,
+    ErrorName::AdcParamGroup,
+    ErrorName::AdcParamPointer,
+    ErrorName::AdcWrongTriggSrc,
+    ErrorName::AdcBufferUninit,
+    ErrorName::AdcIdle,
+    ErrorName::AdcNotifCapability,
+    ErrorName::SpiAlreadyInitialized,
+    ErrorName::SpiUninit,
+    ErrorName::SpiParamChannel,
+    ErrorName::SpiParamLength,
+    ErrorName::SpiParamSeq,
+    ErrorName::SpiSeqPending,
+    ErrorName::SpiParamJob,
+    ErrorName::SpiParamUnit,
+];
+
+/// The cause that a word spells.
+pub(crate) fn cause_named(word: &[u8]) -> Option<Held>
+    ensures { result ≡ named held_text spec.all_causes word.now }
+{
+    CAUSES
+        .iter()
+        .copied()
+        .find(|cause| cause.text().as_bytes() == word)
+}
+
+/// The reason that a word spells.
+pub(crate) fn reason_named(word: &[u8]) -> Option<Reason>
+    ensures { result ≡ named lines.reason_text spec.all_reasons word.now }
+{
+    REASONS
+        .iter()
+        .copied()
+        .find(|reason| reason_text(*reason).as_bytes() == word)
+}
+
+/// The kind of notice that a word spells.
+pub(crate) fn notice_named(word: &[u8]) -> Option<NoticeKind>
+    ensures { result ≡ named names.notice_text spec.all_notices word.now }
+{
+    NOTICES
+        .iter()
+        .copied()
+        .find(|kind| kind.text().as_bytes() == word)
+}
+
+/// The name of an answer that a word spells.
+pub(crate) fn answer_named(word: &[u8]) -> Option<AnswerName>
+    ensures { result ≡ named names.answer_text spec.all_answers word.now }
+{
+    ANSWERS
+        .iter()
+        .copied()
+        .find(|name| name.text().as_bytes() == word)
+}
+
+/// The error that a word spells.
+pub(crate) fn error_named(word: &[u8]) -> Option<ErrorName>
+    ensures { result ≡ named error_text spec.all_errors word.now }
+{
+    ERRORS
+        .iter()
+        .copied()
+        .find(|error| det_errors::text(*error).as_bytes() == word)
+}
