@@ -1,6 +1,7 @@
 -- The frames of all modules.
 use Rattle.service_outline.specs.declared.short.Short.{Short}
 use Rattle.step_runner.specs.declared.either.Either.{Either}
+use Rattle.step_runner.specs.declared.either.Either.TheVariants.{Left, Right}
 use Rattle.mcu_driver.specs.declared.asked.Asked as clock_asked
 use Rattle.mcu_driver.specs.laws.Bodies.{McuBody}
 use Rattle.port_driver.specs.declared.asked.Asked as pin_asked
@@ -11,6 +12,8 @@ use Rattle.pwm_driver.specs.declared.asked.Asked as pulse_asked
 use Rattle.pwm_driver.specs.laws.Bodies.{PwmBody}
 use Rattle.icu_driver.specs.declared.asked.Asked as capture_asked
 use Rattle.icu_driver.specs.laws.Bodies.{IcuBody}
+use Rattle.mcal_system.specs.declared.frame.ModuleFrame.{ModuleFrame}
+use Rattle.mcal_system.specs.declared.frame.ModuleFrame.TheVariants.{Clock, Pins, Timers, Pulses, Captures}
 
 -- those of each
 abbrev pub ClockFrame : Type 0
@@ -31,3 +34,11 @@ CaptureFrame = Short capture_asked.Asked IcuBody
 -- the frames of all
 abbrev pub SystemFrame : Type 0
 SystemFrame = Either (Either ClockFrame (Either PinFrame TimerFrame)) (Either PulseFrame CaptureFrame)
+
+-- a module's frame among those of all
+abbrev pub in_union : ModuleFrame → SystemFrame
+in_union (Clock f) = Left (Left f)
+in_union (Pins f) = Left (Right (Left f))
+in_union (Timers f) = Left (Right (Right f))
+in_union (Pulses f) = Right (Left f)
+in_union (Captures f) = Right (Right f)

@@ -4,7 +4,7 @@ ghost use Rattle.config_facts.specs.Valid.{IsValid};
 ghost use Rattle.step_runner.specs.Driver.{Covers};
 ghost use Rattle.mcal_system.specs.Drivers.{drivers_of, system};
 
-use crate::frame::Frame;
+use crate::frame::{Frame, ModuleFrame};
 use chip_model::Bus;
 use gpt_driver::GptDriver;
 use icu_driver::IcuDriver;
@@ -87,38 +87,34 @@ impl Module for Drivers {
 
     #[tactic(auto, unfolding(crate::specs::Drivers::as_one))]
     fn frame(&self, call: &Call) -> Frame {
-        let parts = match call {
-            Either::Left(Either::Left(call)) => Either::Left(Either::Left(self.clock.frame(call))),
-            Either::Left(Either::Right(Either::Left(call))) => Either::Left(Either::Right(
-                Either::Left(self.pins.frame(call)),
-            )),
-            Either::Left(Either::Right(Either::Right(call))) => Either::Left(Either::Right(
-                Either::Right(self.timers.frame(call)),
-            )),
-            Either::Right(Either::Left(call)) => Either::Right(Either::Left(
-                self.pulses.frame(call),
-            )),
-            Either::Right(Either::Right(call)) => Either::Right(Either::Right(
-                self.captures.frame(call),
-            )),
+        let frame = match call {
+            Either::Left(Either::Left(call)) => ModuleFrame::Clock(self.clock.frame(call)),
+            Either::Left(Either::Right(Either::Left(call))) => {
+                ModuleFrame::Pins(self.pins.frame(call))
+            }
+            Either::Left(Either::Right(Either::Right(call))) => {
+                ModuleFrame::Timers(self.timers.frame(call))
+            }
+            Either::Right(Either::Left(call)) => ModuleFrame::Pulses(self.pulses.frame(call)),
+            Either::Right(Either::Right(call)) => ModuleFrame::Captures(self.captures.frame(call)),
         };
-        Frame { parts }
+        Frame { frame }
     }
 
     /// Clock and pins have no lines.
     #[tactic(auto, unfolding(crate::specs::Drivers::as_one))]
     fn handler(&self, line: u32) -> Option<Frame> {
-        let parts = match self.timers.handler(line) {
-            Some(frame) => Either::Left(Either::Right(Either::Right(frame))),
+        let frame = match self.timers.handler(line) {
+            Some(frame) => ModuleFrame::Timers(frame),
             None => match self.pulses.handler(line) {
-                Some(frame) => Either::Right(Either::Left(frame)),
+                Some(frame) => ModuleFrame::Pulses(frame),
                 None => match self.captures.handler(line) {
-                    Some(frame) => Either::Right(Either::Right(frame)),
+                    Some(frame) => ModuleFrame::Captures(frame),
                     None => return None,
                 },
             },
         };
-        Some(Frame { parts })
+        Some(Frame { frame })
     }
 
     #[tactic(auto, unfolding(crate::specs::Drivers::as_one))]

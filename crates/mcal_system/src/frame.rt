@@ -5,25 +5,34 @@ use mcu_driver::McuFrame;
 use port_driver::PortFrame;
 use pwm_driver::PwmFrame;
 use std::marker::Model;
-use step_runner::Either;
 
-/// The frame of one of the modules, in their order.
-type Parts = Either<Either<McuFrame, Either<PortFrame, GptFrame>>, Either<PwmFrame, IcuFrame>>;
-
-/// A call or a handler of one of the modules, under way.
+/// A call or a handler of one of the modules, under way. Contracts see the union of their frames.
 #[derive(Drop)]
 pub struct Frame {
-    pub(crate) parts: Parts,
+    pub(crate) frame: ModuleFrame,
+}
+
+/// The frame of one of the modules.
+#[derive(Drop)]
+pub(crate) enum ModuleFrame {
+    /// Of the clock's driver.
+    Clock(McuFrame),
+    /// Of the pins' driver.
+    Pins(PortFrame),
+    /// Of the timers' driver.
+    Timers(GptFrame),
+    /// Of the pulse outputs' driver.
+    Pulses(PwmFrame),
+    /// Of the capture inputs' driver.
+    Captures(IcuFrame),
 }
 
 impl Model for Frame {
-    ghost use Rattle.mcal_system.specs.Frames.{SystemFrame};
+    ghost use Rattle.mcal_system.specs.Frames.{SystemFrame, in_union};
 
     ghost Value = { SystemFrame };
 
-    ghost view = { λ f. f.parts };
-
-    ghost inverse = { λ x. record { parts = x } };
+    ghost view = { λ f. in_union f.frame };
 }
 
 impl Routine for Frame {
@@ -36,32 +45,32 @@ impl Routine for Frame {
     ghost gave = { either_gave (either_gave ⟦<McuFrame as Routine>⟧.gave (either_gave ⟦<PortFrame as Routine>⟧.gave ⟦<GptFrame as Routine>⟧.gave)) (either_gave ⟦<PwmFrame as Routine>⟧.gave ⟦<IcuFrame as Routine>⟧.gave) };
 
     fn next(&self) -> Move {
-        match &self.parts {
-            Either::Left(Either::Left(frame)) => frame.next(),
-            Either::Left(Either::Right(Either::Left(frame))) => frame.next(),
-            Either::Left(Either::Right(Either::Right(frame))) => frame.next(),
-            Either::Right(Either::Left(frame)) => frame.next(),
-            Either::Right(Either::Right(frame)) => frame.next(),
+        match &self.frame {
+            ModuleFrame::Clock(frame) => frame.next(),
+            ModuleFrame::Pins(frame) => frame.next(),
+            ModuleFrame::Timers(frame) => frame.next(),
+            ModuleFrame::Pulses(frame) => frame.next(),
+            ModuleFrame::Captures(frame) => frame.next(),
         }
     }
 
     fn took(&mut self, value: u32) -> Taken {
-        match &mut self.parts {
-            Either::Left(Either::Left(frame)) => frame.took(value),
-            Either::Left(Either::Right(Either::Left(frame))) => frame.took(value),
-            Either::Left(Either::Right(Either::Right(frame))) => frame.took(value),
-            Either::Right(Either::Left(frame)) => frame.took(value),
-            Either::Right(Either::Right(frame)) => frame.took(value),
+        match &mut self.frame {
+            ModuleFrame::Clock(frame) => frame.took(value),
+            ModuleFrame::Pins(frame) => frame.took(value),
+            ModuleFrame::Timers(frame) => frame.took(value),
+            ModuleFrame::Pulses(frame) => frame.took(value),
+            ModuleFrame::Captures(frame) => frame.took(value),
         }
     }
 
     fn took_into(&mut self, value: u32, ended: &mut Option<Answer>) -> Option<Event> {
-        match &mut self.parts {
-            Either::Left(Either::Left(frame)) => frame.took_into(value, ended),
-            Either::Left(Either::Right(Either::Left(frame))) => frame.took_into(value, ended),
-            Either::Left(Either::Right(Either::Right(frame))) => frame.took_into(value, ended),
-            Either::Right(Either::Left(frame)) => frame.took_into(value, ended),
-            Either::Right(Either::Right(frame)) => frame.took_into(value, ended),
+        match &mut self.frame {
+            ModuleFrame::Clock(frame) => frame.took_into(value, ended),
+            ModuleFrame::Pins(frame) => frame.took_into(value, ended),
+            ModuleFrame::Timers(frame) => frame.took_into(value, ended),
+            ModuleFrame::Pulses(frame) => frame.took_into(value, ended),
+            ModuleFrame::Captures(frame) => frame.took_into(value, ended),
         }
     }
 }

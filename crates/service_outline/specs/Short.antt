@@ -16,6 +16,15 @@ use Rattle.service_outline.specs.declared.body.Looked.TheVariants.{Refused, Goes
 use Rattle.service_outline.specs.declared.short.Short.{Short}
 use Rattle.service_outline.specs.declared.short.Short.TheVariants.{Calling, Loading, Entering, Inside, Opening, Telling, Returning}
 
+-- outside its body, and before the load of its state word
+abbrev pub IsOutside : {Call Body : Type 0} → Short Call Body → Type 0
+IsOutside (Inside k) = ⊥
+IsOutside _ = Unit {0}
+
+abbrev pub IsLoading : {Call Body : Type 0} → Short Call Body → Type 0
+IsLoading (Loading c) = Unit {0}
+IsLoading _ = ⊥
+
 -- how it tells what it owes
 abbrev pub tells : ℕ → Owed → Move
 tells word Nothing = Load word

@@ -1,5 +1,7 @@
 ghost use Rattle.std.specs.Prelude.{◌≡◌, None, Some};
 ghost use Rattle.mcal_base.specs.declared.moves.Event.{Event};
+ghost use Rattle.run_model.specs.Machine.{no_answer};
+ghost use Rattle.service_outline.specs.declared.short.Short.TheVariants.{Returning};
 ghost use Rattle.service_outline.specs.Short as spec;
 
 use crate::body::{Body, Looked, Service};
@@ -65,62 +67,45 @@ impl<C: Service> Routine for Short<C, C::Body> {
                 }
                 event
             }
-            Short::Loading(call) => match call.look(value) {
-                Looked::Refused(done) => {
-                    *self = Short::Opening(done);
-                    Some(Event::Act)
-                }
-                Looked::Goes(body) => {
-                    *self = Short::Inside(body);
-                    None
-                }
-            },
-            Short::Opening(done) => {
-                let Done { answer, owed } = *done;
-                match owed {
-                    Owed::Nothing => {
-                        *self = Short::Returning(nothing());
-                        *ended = Some(answer.answer());
-                    }
-                    _ => {
-                        *self = Short::Telling(Done { answer, owed });
-                    }
-                }
-                None
-            }
-            Short::Telling(done) => {
-                let Done { answer, owed } = *done;
-                match owed {
-                    Owed::Nothing | Owed::Error(_) => {
-                        *self = Short::Returning(nothing());
-                        *ended = Some(answer.answer());
-                    }
-                    Owed::One(_) => {
-                        *self = Short::Returning(answer);
-                    }
-                    Owed::Two(_, second) => {
-                        let owed = Owed::One(second);
-                        *self = Short::Telling(Done { answer, owed });
-                    }
-                }
-                None
-            }
-            Short::Returning(answer) => {
-                let answer = *answer;
-                *self = Short::Returning(nothing());
-                *ended = Some(answer.answer());
-                None
-            }
-            Short::Calling(_) | Short::Entering(_) => {
-                self.begins();
-                None
-            }
+            _ => self.outside(value, ended),
         }
     }
 }
 
+/// The steps outside the body. They aren't inlined, so that a step of the body, of which there are most, makes no room
+/// for what they hold.
 impl<C: Service> Short<C, C::Body> {
+    /// A step outside the body.
+    #[inline(never)]
+    fn outside(&mut self, value: u32, ended: &mut Option<Answer>) -> Option<Event>
+        requires outside { spec.IsOutside self.old }
+        requires free { ended.old ≡ None }
+        ensures state { self.new ≡ spec.short_left C.looked_of C.Body.takes self.old value }
+        ensures event { result ≡ (spec.ending_gave C.looked_of C.Body.takes C.ends_with self.old value).event }
+        ensures answer { ended.new ≡ (spec.ending_gave C.looked_of C.Body.takes C.ends_with self.old value).ended }
+    {
+        match self {
+            Short::Calling(_) | Short::Entering(_) => self.begins(),
+            Short::Loading(_) => return self.loaded(value),
+            Short::Inside(_) => unreachable!(),
+            Short::Opening(done) => {
+                let done = *done;
+                self.opened(done, ended);
+            }
+            Short::Telling(done) => {
+                let done = *done;
+                self.told(done, ended);
+            }
+            Short::Returning(answer) => {
+                let answer = *answer;
+                self.returned(answer, ended);
+            }
+        }
+        None
+    }
+
     /// The first step of a call or of a handler.
+    #[inline(never)]
     fn begins(&mut self)
         ensures { self.new ≡ spec.begun self.old }
     {
@@ -129,5 +114,68 @@ impl<C: Service> Short<C, C::Body> {
             Short::Entering(body) => Short::Inside(body),
             other => other,
         };
+    }
+
+    /// The load of the state word, which decides for a call.
+    #[inline(never)]
+    fn loaded(&mut self, value: u32) -> Option<Event>
+        requires loading { spec.IsLoading self.old }
+        ensures state { self.new ≡ spec.short_left C.looked_of C.Body.takes self.old value }
+        ensures event { result ≡ (spec.ending_gave C.looked_of C.Body.takes C.ends_with self.old value).event }
+    {
+        let Short::Loading(call) = self else {
+            unreachable!()
+        };
+        match call.look(value) {
+            Looked::Refused(done) => {
+                *self = Short::Opening(done);
+                Some(Event::Act)
+            }
+            Looked::Goes(body) => {
+                *self = Short::Inside(body);
+                None
+            }
+        }
+    }
+
+    /// The last opening of the mask.
+    #[inline(never)]
+    fn opened(&mut self, done: Done, ended: &mut Option<Answer>)
+        requires free { ended.old ≡ None }
+        ensures state { self.new ≡ spec.left_open done.answer done.owed }
+        ensures answer { ended.new ≡ (spec.gave_open done.answer done.owed).ended }
+    {
+        match done.owed {
+            Owed::Nothing => self.returned(done.answer, ended),
+            _ => *self = Short::Telling(done),
+        }
+    }
+
+    /// One of what it owes is told.
+    #[inline(never)]
+    fn told(&mut self, done: Done, ended: &mut Option<Answer>)
+        requires free { ended.old ≡ None }
+        ensures state { self.new ≡ spec.left_told done.answer done.owed }
+        ensures answer { ended.new ≡ (spec.gave_told done.answer done.owed).ended }
+    {
+        let Done { answer, owed } = done;
+        match owed {
+            Owed::Nothing | Owed::Error(_) => self.returned(answer, ended),
+            Owed::One(_) => *self = Short::Returning(answer),
+            Owed::Two(_, second) => {
+                let owed = Owed::One(second);
+                *self = Short::Telling(Done { answer, owed });
+            }
+        }
+    }
+
+    /// The frame ends with its answer.
+    #[inline(never)]
+    fn returned(&mut self, answer: Reply, ended: &mut Option<Answer>)
+        ensures state { self.new ≡ Returning no_answer }
+        ensures answer { ended.new ≡ Some answer }
+    {
+        *self = Short::Returning(nothing());
+        *ended = Some(answer.answer());
     }
 }

@@ -142,14 +142,12 @@ fn move_frame<F: Routine + Drop>(top: &mut Under<F>, bus: &mut Bus, stepped: &mu
         let value = value_of bus.old made in
         stepped.new ≡ step_of made value (received_of bus.old made) (F.gave top.old.frame value) }
 {
-    let made = top.frame.next();
-    let applied = bus.apply(&made);
-    let value = applied.value;
-    stepped.event = top.frame.took_into(value, &mut stepped.ended);
-    top.noted = matches!(made, Move::Note(_));
-    stepped.made = made;
-    stepped.value = value;
+    stepped.made = top.frame.next();
+    let applied = bus.apply(&stepped.made);
+    stepped.value = applied.value;
     stepped.received = applied.received;
+    top.noted = matches!(stepped.made, Move::Note(_));
+    stepped.event = top.frame.took_into(stepped.value, &mut stepped.ended);
 }
 
 impl<M: Module> Stack<M> {

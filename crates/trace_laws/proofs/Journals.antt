@@ -1,0 +1,39 @@
+-- The items of a journal have the numbers of what it holds.
+use Rattle.std.proofs.Common.{◌≡◌, ℕ, suc, ◌<◌, ◌≤◌, List, [], ◌∷◌, length, Option, Some, None, take, drop, refl, ap, arith}
+use Rattle.std.proofs.lemmas.List.Sums.{count_by-le-length}
+use Rattle.run_model.specs.Entry.{Entry, answer_at, said_at, entry_at, entries}
+use Rattle.run_model.specs.Stops.{is_step, steps_in}
+use Rattle.run_model.specs.declared.item.Item.{Item}
+use Rattle.run_model.specs.declared.item.LoggedAnswer.{LoggedAnswer}
+use Rattle.run_model.specs.declared.item.What.{What}
+use Rattle.run_model.specs.declared.item.What.TheVariants as whats
+use Rattle.trace_reader.specs.Trace.{IsNumber, Each}
+use Rattle.trace_laws.specs.Numbers.{AnswerFits, SaidFits, EntryFits, WhatFits, ItemFits}
+use Rattle.trace_laws.proofs.Within.{each_take, each_drop}
+
+answer_fits : (words : List ℕ) (ended : Option LoggedAnswer) → Each IsNumber words → AnswerFits (answer_at words ended)
+answer_fits words None w = tt
+answer_fits words (Some a) w = each_take IsNumber a.words.count (drop a.words.at words) (each_drop IsNumber a.words.at words w)
+
+said_fits : (words : List ℕ) (what : What) → Each IsNumber words → WhatFits what → SaidFits (said_at words what)
+said_fits words (whats.Happened what) w h = tt
+said_fits words whats.Begun w h = tt
+said_fits words (whats.Held cause) w h = tt
+said_fits words (whats.Stepped step) w h = (h.0, h.1, h.2, h.3, answer_fits words step.ended w)
+said_fits words (whats.Reset reason dropped) w h = h
+
+pub entries_fit : (words : List ℕ) (items : List Item) → Each IsNumber words → Each ItemFits items → Each EntryFits (entries words items)
+entries_fit words [] w h = tt
+entries_fit words (item ∷ items) w h = ((h.0.0, h.0.1, said_fits words item.what w h.0.2), entries_fit words items w h.1)
+
+-- ---- a journal has no more steps than items
+
+entries_counted : (words : List ℕ) (items : List Item) → length (entries words items) ≡ length items
+entries_counted words [] = refl
+entries_counted words (item ∷ items) = ap (λ (n : ℕ). suc n) (entries_counted words items)
+
+fewer : (a b c : ℕ) → a ≤ b → b ≡ c → c < 18446744073709551615 → a < 18446744073709551615
+fewer a b c h e k = omega (arith, h, e, k)
+
+pub few_steps : (words : List ℕ) (items : List Item) → length items < 18446744073709551615 → steps_in (entries words items) < 18446744073709551615
+few_steps words items h = fewer (steps_in (entries words items)) (length (entries words items)) (length items) (count_by-le-length (λ (e : Entry). is_step e.said) (entries words items)) (entries_counted words items) h

@@ -1,0 +1,13 @@
+pub mod Chapters
+pub mod DrawnLaws
+pub mod Entering
+pub mod Giving
+pub mod Journals
+pub mod Opens
+pub mod Promise
+pub mod Read
+pub mod Runs
+pub mod Telling
+pub mod Turns
+pub mod UnionLines
+pub mod Within

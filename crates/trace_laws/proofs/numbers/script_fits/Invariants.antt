@@ -1,0 +1,10 @@
+use Rattle.std.proofs.Common.{length}
+use Rattle.trace_reader.specs.Trace.{Each}
+use Rattle.trace_laws.specs.Numbers.{DirectiveFits}
+use Rattle.trace_laws.proofs.numbers.script_fits.Given as goal
+
+abbrev pub invariant-loop-rest : goal.invariant-loop-rest
+invariant-loop-rest l = Each DirectiveFits l.rest → Each DirectiveFits l.script
+
+abbrev pub decreases-loop-rest : goal.decreases-loop-rest
+decreases-loop-rest l = length l.rest

@@ -1,0 +1,74 @@
+//! The numbers that a journal and a script hold, by their types.
+
+ghost use Rattle.trace_reader.specs.Trace.{Each, IsNumber};
+ghost use Rattle.trace_laws.specs.Numbers.{DirectiveFits, EntryFits, ItemFits, OrderFits};
+
+use mcal_base::{Directive, Order};
+use run_model::{Item, Journal};
+
+/// The numbers of an item.
+fn item_fits(item: Item)
+    ensures { ItemFits item }
+{}
+
+/// The words of a journal.
+fn words_fit(words: &[u32])
+    ensures { Each IsNumber words.now }
+{
+    let mut rest = words;
+    while let [word, behind @ ..] = rest {
+        let _word = *word;
+        rest = behind;
+    }
+}
+
+/// The items of a journal.
+fn items_fit(items: &[Item])
+    ensures { Each ItemFits items.now }
+{
+    let mut rest = items;
+    while let [item, behind @ ..] = rest {
+        item_fits(*item);
+        rest = behind;
+    }
+}
+
+/// The number that an order has for the line of a handler.
+fn order_fits(order: &Order)
+    ensures { OrderFits order.now }
+{
+    match order {
+        Order::Enter(line) | Order::Serve(line) => {
+            let _line = *line;
+        }
+        _ => {}
+    }
+}
+
+/// The numbers of a directive.
+fn directive_fits(directive: &Directive)
+    ensures { DirectiveFits directive.now }
+{
+    let _line = directive.line;
+    order_fits(&directive.order);
+}
+
+/// The numbers of a script.
+pub(crate) fn script_fits(script: &[Directive])
+    ensures { Each DirectiveFits script.now }
+{
+    let mut rest = script;
+    while let [directive, behind @ ..] = rest {
+        directive_fits(directive);
+        rest = behind;
+    }
+}
+
+/// The numbers of a journal.
+#[tactic(auto, using(crate::proofs::Journals::entries_fit))]
+pub(crate) fn journal_fits(journal: &Journal)
+    ensures { Each EntryFits journal.now.entries }
+{
+    words_fit(journal.words());
+    items_fit(journal.items());
+}
