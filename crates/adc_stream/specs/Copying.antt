@@ -1,5 +1,5 @@
 -- Values that are copied one by one: the moves that get and put each, and what comes after each move.
-use Rattle.std.specs.Prelude.{ℕ, ◌+◌, ◌-◌, ◌==◌, ◌&&◌, Bool, true, false, nat_lt, if◌then◌else◌, Option, Some, None, List, ◌++◌, ◌∷◌, [], length}
+use Rattle.std.specs.Prelude.{ℕ, ◌+◌, ◌-◌, ◌==◌, ◌&&◌, not, Bool, true, false, nat_lt, if◌then◌else◌, Option, Some, None, List, ◌++◌, ◌∷◌, [], length}
 use Rattle.mcal_base.specs.declared.moves.Move.{Move}
 use Rattle.mcal_base.specs.declared.moves.Move.TheVariants.{Read, Load, Store}
 use Rattle.mcal_base.specs.declared.register.Reg.TheVariants.{ConverterResult}
@@ -58,4 +58,4 @@ abbrev pub read_more : Reading → ℕ → Reading
 read_more r x = if nat_lt (length r.values) 32 then record r { values = r.values ++ x ∷ [] } else r
 
 abbrev pub has_read : Reading → Bool
-has_read r = if nat_lt (length r.values) r.rounds.inputs then false else true
+has_read r = not (nat_lt (length r.values) r.rounds.inputs && nat_lt (length r.values) 32)

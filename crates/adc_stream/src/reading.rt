@@ -31,6 +31,6 @@ impl Reading {
         if self.values.len() < 32 {
             self.values.push(value);
         }
-        self.values.len() >= usize::from(self.rounds.inputs)
+        self.values.len() >= usize::from(self.rounds.inputs) || self.values.len() >= 32
     }
 }

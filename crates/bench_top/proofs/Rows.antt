@@ -1,5 +1,5 @@
 -- The texts of rows, as rows are added.
-use Rattle.std.proofs.Common.{◌≡◌, ℕ, zero, suc, ◌+◌, ◌≤◌, List, [], ◌∷◌, ◌++◌, refl, ap, ◌∙◌, append-nil, arith, length, take, Some}
+use Rattle.std.proofs.Common.{◌≡◌, ℕ, zero, suc, ◌+◌, ◌≤◌, List, [], ◌∷◌, ◌++◌, refl, sym, ap, ◌∙◌, append_assoc, append-nil, arith, length, take, Some}
 use Rattle.std.specs.Prelude.{flat_map, slice_get}
 use Rattle.std.specs.List.{range_with_len}
 use Rattle.std.proofs.lemmas.Grind.{flat_map-append}
@@ -21,6 +21,20 @@ no_rows xs line = append-nil xs
 
 pub rows-append : (line : ℕ) (xs ys : List Row) → rows_text line (xs ++ ys) ≡ rows_text line xs ++ rows_text line ys
 rows-append line xs ys = flat_map-append (λ row. numbered line (Shows row)) xs ys
+
+-- the rows of two texts, one after the other
+pub rows_joined : (line : ℕ) (xs ys : List Row) → rows_text line xs ++ rows_text line ys ≡ rows_text line (xs ++ ys)
+rows_joined line xs ys = sym (rows-append line xs ys)
+
+-- two rows, and three, one after the other behind a text
+pub rows_two : (xs : List ℕ) (line : ℕ) (a b : Row) → (xs ++ rows_text line (a ∷ [])) ++ rows_text line (b ∷ []) ≡ xs ++ rows_text line (a ∷ b ∷ [])
+rows_two xs line a b = append_assoc xs (rows_text line (a ∷ [])) (rows_text line (b ∷ [])) ∙ ap (λ ys. xs ++ ys) (rows_joined line (a ∷ []) (b ∷ []))
+
+pub rows_three : (xs : List ℕ) (line : ℕ) (a b c : Row) → ((xs ++ rows_text line (a ∷ [])) ++ rows_text line (b ∷ [])) ++ rows_text line (c ∷ []) ≡ xs ++ rows_text line (a ∷ b ∷ c ∷ [])
+rows_three xs line a b c =
+    ap (λ ys. ys ++ rows_text line (c ∷ [])) (rows_two xs line a b)
+    ∙ append_assoc xs (rows_text line (a ∷ b ∷ [])) (rows_text line (c ∷ []))
+    ∙ ap (λ ys. xs ++ ys) (rows_joined line (a ∷ b ∷ []) (c ∷ []))
 
 range_more : (a n : ℕ) → range_with_len a (n + 1) ≡ range_with_len a n ++ (a + n) ∷ []
 range_more a zero = let e : a ≡ a + zero = omega arith in ap (λ (k : ℕ). k ∷ []) e

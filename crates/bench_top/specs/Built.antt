@@ -4,7 +4,7 @@ use Rattle.mcal_base.specs.Names.{module_of}
 use Rattle.mcal_base.specs.declared.config.whole.Config.{Config}
 use Rattle.mcal_base.specs.declared.directive.Directive.{Directive}
 use Rattle.mcal_base.specs.declared.directive.Order.{Order}
-use Rattle.mcal_base.specs.declared.directive.Order.TheVariants.{Call, Do, Enter, Serve, Run, Upto, Finish, Tick, Level, Reset, Show}
+use Rattle.mcal_base.specs.declared.directive.Order.TheVariants.{Call, Do, Enter, Serve, Run, Upto, Finish, Tick, Level, Miso, SpiFault, Fill, Reset, Show}
 use Rattle.mcal_base.specs.declared.directive.Shown.{Shown}
 use Rattle.mcal_base.specs.declared.directive.Shown.TheVariants.{Pins, Ram, Buffers}
 use Rattle.mcal_base.specs.declared.module_name.ModuleName.{ModuleName}
@@ -19,6 +19,7 @@ has_driver Port = true
 has_driver Gpt = true
 has_driver Pwm = true
 has_driver Icu = true
+has_driver Spi = true
 has_driver _ = false
 
 -- the service can be called: one of a module that has a driver
@@ -61,6 +62,9 @@ is_built (Upto stop) = true
 is_built Finish = true
 is_built (Tick n) = true
 is_built (Level pin high) = true
+is_built (Miso unit words) = true
+is_built (SpiFault unit) = true
+is_built (Fill channel words) = true
 is_built (Reset reason) = true
 is_built (Show shown) = is_shown shown
 is_built _ = false

@@ -1,5 +1,5 @@
 -- What `show` prints: the configured objects in the order of their numbers, each as the modules' machines have it.
-use Rattle.std.specs.Prelude.{ℕ, ◌+◌, ◌≤◌, ◌==◌, All, List, [], ◌∷◌, Bool, Option, Some, None, map, flat_map, if◌then◌else◌}
+use Rattle.std.specs.Prelude.{ℕ, ◌+◌, ◌≤◌, ◌==◌, All, List, [], ◌∷◌, ◌++◌, Bool, true, false, Option, Some, None, map, flat_map, if◌then◌else◌}
 use Rattle.std.specs.List.{list_any, range_with_len}
 use Rattle.mcal_base.specs.declared.config.mcu.McuRamSection.{McuRamSection}
 use Rattle.mcal_base.specs.declared.config.whole.Config.{Config}
@@ -7,13 +7,19 @@ use Rattle.mcal_base.specs.declared.directive.Order.{Order}
 use Rattle.mcal_base.specs.declared.directive.Order.TheVariants.{Show}
 use Rattle.mcal_base.specs.declared.directive.Shown.{Shown}
 use Rattle.mcal_base.specs.declared.directive.Shown.TheVariants.{Pins, Ram, Buffers}
+use Rattle.mcal_base.specs.declared.layout.Array.TheVariants.{Source, Destination}
 use Rattle.run_model.specs.World.{World}
 use Rattle.bench_report.specs.Rows.{Row}
+use Rattle.bench_report.specs.declared.rows.RowName.{RowName}
 use Rattle.bench_report.specs.declared.rows.RowName.TheVariants as names
 use Rattle.bench_report.specs.declared.rows.Value.{Value}
 use Rattle.bench_report.specs.declared.rows.Value.TheVariants as values
 use Rattle.mcal_system.specs.Setting.{SystemState}
-use Rattle.mcal_system.specs.Shows.{level_at, ram_at, size_at, stamp_at}
+use Rattle.mcal_system.specs.Shows.{internal_at, level_at, ram_at, serial_channel, size_at, stamp_at, user_at}
+use Rattle.spi_jobs.specs.declared.channel.Channel.{Channel}
+use Rattle.spi_machine.specs.Table.{is_internal_channel}
+use Rattle.bench_top.specs.declared.show.Kept.{Kept}
+use Rattle.bench_top.specs.declared.show.Kept.TheVariants as kept
 
 -- a level as it is printed
 abbrev pub level_value : Bool → ℕ
@@ -58,6 +64,46 @@ stamps_row s c (Some size) = record { name = names.Stamps c; values = stamps s c
 abbrev pub stamps_rows : SystemState → List Row
 stamps_rows s = flat_map (λ c. stamps_row s c (size_at s c)) (range_with_len 0 8)
 
+-- a serial channel keeps this: an external one has no words of its own
+abbrev pub keeps : Option Channel → Kept → Bool
+keeps o kept.Source = true
+keeps o kept.Destination = true
+keeps o kept.Sent = is_internal_channel o
+keeps o kept.Received = is_internal_channel o
+
+abbrev pub kept_at : SystemState → (channel : ℕ) → Kept → (place : ℕ) → ℕ
+kept_at s c kept.Source i = user_at s (Source c) i
+kept_at s c kept.Destination i = user_at s (Destination c) i
+kept_at s c kept.Sent i = internal_at s c false i
+kept_at s c kept.Received i = internal_at s c true i
+
+-- the serial channels: of each that is configured the words that it keeps, the user's arrays first
+abbrev pub kept_words : SystemState → (channel : ℕ) → Kept → (size : ℕ) → List Value
+kept_words s c k size = map (λ i. values.One (kept_at s c k i)) (range_with_len 0 size)
+
+abbrev pub kept_name : (channel : ℕ) → Kept → RowName
+kept_name c kept.Source = names.Source c
+kept_name c kept.Destination = names.Destination c
+kept_name c kept.Sent = names.Transmit c
+kept_name c kept.Received = names.Receive c
+
+abbrev pub kept_row : SystemState → (channel : ℕ) → Kept → (size : ℕ) → Row
+kept_row s c k size = record { name = kept_name c k; values = kept_words s c k size }
+
+abbrev pub channel_rows : SystemState → (number : ℕ) → Option Channel → List Row
+channel_rows s n None = []
+channel_rows s n (Some k) =
+    kept_row s n kept.Source k.length
+    ∷ (if k.internal then kept_row s n kept.Sent k.length ∷ kept_row s n kept.Received k.length ∷ []
+    else kept_row s n kept.Destination k.length ∷ [])
+
+abbrev pub serial_rows : Config → SystemState → List Row
+serial_rows c s = flat_map (λ n. channel_rows s n (serial_channel c n)) (range_with_len 0 16)
+
+-- the buffers: the stamps, and what the serial channels keep
+abbrev pub buffer_rows : Config → SystemState → List Row
+buffer_rows c s = stamps_rows s ++ serial_rows c s
+
 -- what an order shows, where it is a show
 abbrev pub shown_by : Order → Option Shown
 shown_by (Show what) = Some what
@@ -67,5 +113,5 @@ shown_by _ = None
 abbrev pub show_rows : Config → World → SystemState → Shown → List Row
 show_rows c w s Pins = pin_rows c w s
 show_rows c w s Ram = section_rows s 0 c.mcu.ram_sections
-show_rows c w s Buffers = stamps_rows s
+show_rows c w s Buffers = buffer_rows c s
 show_rows c w s _ = []

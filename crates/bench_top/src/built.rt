@@ -20,7 +20,12 @@ fn has_driver(name: ModuleName) -> bool
 {
     matches!(
         name,
-        ModuleName::Mcu | ModuleName::Port | ModuleName::Gpt | ModuleName::Pwm | ModuleName::Icu
+        ModuleName::Mcu
+            | ModuleName::Port
+            | ModuleName::Gpt
+            | ModuleName::Pwm
+            | ModuleName::Icu
+            | ModuleName::Spi
     )
 }
 
@@ -80,6 +85,9 @@ fn is_built(order: &Order) -> bool
         | Order::Finish
         | Order::Tick(_)
         | Order::Level(..)
+        | Order::Miso(..)
+        | Order::SpiFault(_)
+        | Order::Fill(..)
         | Order::Reset(_) => true,
         Order::Show(shown) => is_shown(*shown),
         _ => false,

@@ -1,15 +1,16 @@
-ghost use Rattle.std.specs.Prelude.{◌≡◌, ◌+◌, ◌<◌, ◌≤◌, ◌++◌, ◌∷◌, [], IfOk, OnOk, Some, length, slice_get, string_bytes};
+ghost use Rattle.std.specs.Prelude.{◌≡◌, ◌+◌, ◌<◌, ◌≤◌, ◌++◌, ◌∷◌, [], IfOk, OnOk, Some, length, slice_get, string_bytes, true};
 ghost use Rattle.config_facts.specs.Valid.{IsValid};
 ghost use Rattle.mcal_base.specs.Layout.{length_of};
-ghost use Rattle.mcal_base.specs.declared.layout.Array.TheVariants.{Stamps};
+ghost use Rattle.mcal_base.specs.declared.layout.Array.TheVariants.{Source, Stamps};
 ghost use Rattle.bench_report.specs.Shown.{rows_text};
 ghost use Rattle.mcal_system.specs.Runs.{moment_of};
-ghost use Rattle.mcal_system.specs.Shows.{size_at};
+ghost use Rattle.mcal_system.specs.Shows.{serial_channel, size_at};
 ghost use Rattle.bench_top.specs.Shows as spec;
 
 use bench_report::{RowName, Value, write_row};
-use mcal_base::{Config, McuRamSection, Shown};
+use mcal_base::{Array, Config, McuRamSection, Shown};
 use mcal_system::System;
+use spi_jobs::Channel;
 use std::alloc::{AllocError, Global};
 
 /// The number of pins.
@@ -17,6 +18,9 @@ const PINS: u32 = 64;
 
 /// The number of capture channels.
 const CAPTURES: u32 = 8;
+
+/// The number of serial channels.
+const CHANNELS: u32 = 16;
 
 /// Whether a pin is configured.
 fn has_pin(config: &Config, pin: u32) -> bool
@@ -161,7 +165,7 @@ fn stamps_of(
 {
     let mut values = Vec::new(alloc);
     for place in 0..size {
-        values.push(Value::One(system.stamp(channel, place)))?;
+        values.push(Value::One(system.user(Array::Stamps(channel), place)))?;
     }
     Ok(values)
 }
@@ -204,8 +208,8 @@ fn write_capture(
     }
 }
 
-/// The lines of the buffers: those of the capture channels' stamps.
-fn buffers_text(alloc: Global, system: &System<'_>, line: u32) -> Result<String, AllocError>
+/// The lines of the capture channels' stamps.
+fn stamps_text(alloc: Global, system: &System<'_>, line: u32) -> Result<String, AllocError>
     requires rest { (moment_of system.now).opens ≡ [] }
     ensures { IfOk result (λ text. string_bytes text ≡ rows_text line (spec.stamps_rows (moment_of system.now).state)) }
 {
@@ -213,6 +217,154 @@ fn buffers_text(alloc: Global, system: &System<'_>, line: u32) -> Result<String,
     for channel in 0..CAPTURES {
         write_capture(alloc, &mut text, system, line, channel)?;
     }
+    Ok(text)
+}
+
+/// What a serial channel keeps.
+#[derive(Clone, Copy, Debug, PartialEq, Eq)]
+enum Kept {
+    /// The user's source array.
+    Source,
+    /// The user's destination array.
+    Destination,
+    /// The words that an internal channel sends.
+    Sent,
+    /// The words that may be read of an internal channel.
+    Received,
+}
+
+/// A word that a serial channel keeps.
+fn kept_word(system: &System<'_>, channel: u32, kept: Kept, place: u32) -> u32
+    requires rest { (moment_of system.now).opens ≡ [] }
+    requires there { place < length_of system.now.config (Source channel) }
+    requires keeps { spec.keeps (serial_channel system.now.config channel) kept ≡ true }
+    ensures { result ≡ spec.kept_at (moment_of system.now).state channel kept place }
+{
+    match kept {
+        Kept::Source => system.user(Array::Source(channel), place),
+        Kept::Destination => system.user(Array::Destination(channel), place),
+        Kept::Sent => system.internal(channel, false, place),
+        Kept::Received => system.internal(channel, true, place),
+    }
+}
+
+/// The words that a serial channel keeps.
+fn kept_words(
+    alloc: Global,
+    system: &System<'_>,
+    channel: u32,
+    kept: Kept,
+    size: u32,
+) -> Result<Vec<Value>, AllocError>
+    requires rest { (moment_of system.now).opens ≡ [] }
+    requires inside { size ≤ length_of system.now.config (Source channel) }
+    requires keeps { spec.keeps (serial_channel system.now.config channel) kept ≡ true }
+    ensures { IfOk result (λ values. values.items ≡ spec.kept_words (moment_of system.now).state channel kept size) }
+{
+    let mut values = Vec::new(alloc);
+    for place in 0..size {
+        values.push(Value::One(kept_word(system, channel, kept, place)))?;
+    }
+    Ok(values)
+}
+
+/// What a row of the words that a serial channel keeps is of.
+fn kept_name(channel: u32, kept: Kept) -> RowName
+    ensures { result ≡ spec.kept_name channel kept }
+{
+    match kept {
+        Kept::Source => RowName::Source(channel),
+        Kept::Destination => RowName::Destination(channel),
+        Kept::Sent => RowName::Transmit(channel),
+        Kept::Received => RowName::Receive(channel),
+    }
+}
+
+/// Writes the row of the words that a serial channel keeps.
+#[tactic(auto, using(crate::proofs::Rows::row_alone))]
+fn write_kept(
+    alloc: Global,
+    text: &mut String,
+    system: &System<'_>,
+    line: u32,
+    channel: u32,
+    kept: Kept,
+    size: u32,
+) -> Result<(), AllocError>
+    requires rest { (moment_of system.now).opens ≡ [] }
+    requires inside { size ≤ length_of system.now.config (Source channel) }
+    requires keeps { spec.keeps (serial_channel system.now.config channel) kept ≡ true }
+    ensures { OnOk result (string_bytes text.new ≡ string_bytes text.old ++ rows_text line (spec.kept_row (moment_of system.now).state channel kept size ∷ [])) }
+{
+    let values = kept_words(alloc, system, channel, kept, size)?;
+    write_row(text, line, kept_name(channel, kept), &values)
+}
+
+/// Writes the rows of a configured serial channel.
+#[tactic(auto, using(crate::proofs::Rows::rows_two, crate::proofs::Rows::rows_three))]
+fn write_channel(
+    alloc: Global,
+    text: &mut String,
+    system: &System<'_>,
+    line: u32,
+    number: u32,
+    channel: Channel,
+) -> Result<(), AllocError>
+    requires rest { (moment_of system.now).opens ≡ [] }
+    requires known { serial_channel system.now.config number ≡ Some channel }
+    requires words { channel.length ≡ length_of system.now.config (Source number) }
+    ensures { OnOk result (string_bytes text.new ≡ string_bytes text.old ++ rows_text line (spec.channel_rows (moment_of system.now).state number (Some channel))) }
+{
+    let size = u32::from(channel.length);
+    write_kept(alloc, text, system, line, number, Kept::Source, size)?;
+    if channel.internal {
+        write_kept(alloc, text, system, line, number, Kept::Sent, size)?;
+        write_kept(alloc, text, system, line, number, Kept::Received, size)
+    } else {
+        write_kept(alloc, text, system, line, number, Kept::Destination, size)
+    }
+}
+
+/// Writes the rows of a serial channel, where it is configured.
+#[tactic(auto, using(crate::proofs::Rows::no_rows))]
+fn write_serial(
+    alloc: Global,
+    text: &mut String,
+    system: &System<'_>,
+    line: u32,
+    number: u32,
+) -> Result<(), AllocError>
+    requires rest { (moment_of system.now).opens ≡ [] }
+    ensures { let m = moment_of system.now in
+        OnOk result (string_bytes text.new ≡ string_bytes text.old ++ rows_text line (spec.channel_rows m.state number (serial_channel system.now.config number))) }
+{
+    match system.serial_channel(number) {
+        Some(channel) => write_channel(alloc, text, system, line, number, channel),
+        None => Ok(()),
+    }
+}
+
+/// The lines of the serial channels.
+fn serials_text(alloc: Global, system: &System<'_>, line: u32) -> Result<String, AllocError>
+    requires rest { (moment_of system.now).opens ≡ [] }
+    ensures { IfOk result (λ text. string_bytes text ≡ rows_text line (spec.serial_rows system.now.config (moment_of system.now).state)) }
+{
+    let mut text = String::new(alloc);
+    for number in 0..CHANNELS {
+        write_serial(alloc, &mut text, system, line, number)?;
+    }
+    Ok(text)
+}
+
+/// The lines of the buffers: those of the capture channels' stamps, and of the serial channels.
+#[tactic(auto, using(crate::proofs::Rows::rows_joined))]
+fn buffers_text(alloc: Global, system: &System<'_>, line: u32) -> Result<String, AllocError>
+    requires rest { (moment_of system.now).opens ≡ [] }
+    ensures { IfOk result (λ text. string_bytes text ≡ rows_text line (spec.buffer_rows system.now.config (moment_of system.now).state)) }
+{
+    let mut text = stamps_text(alloc, system, line)?;
+    let serials = serials_text(alloc, system, line)?;
+    text.push_str(&serials)?;
     Ok(text)
 }
 

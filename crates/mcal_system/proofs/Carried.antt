@@ -1,15 +1,16 @@
 -- What an engine over the drivers of a configuration says, said of the modules' setting.
-use Rattle.std.proofs.Common.{◌≡◌, ℕ, ◌<◌, ◌≤◌, Bool, true, false, List, [], length, take, Option, Some, None, refl, ◌∙◌, ap, subst}
+use Rattle.std.proofs.Common.{◌≡◌, ℕ, ◌<◌, ◌≤◌, Bool, true, false, List, [], length, take, Option, Some, None, refl, sym, ◌∙◌, ap, subst}
 use Rattle.std.specs.Prelude.{◌||◌, Result, Ok, Err, OnOk, is_some, slice_index}
 use Rattle.std.specs.Option.{IfSome}
 use Rattle.std.specs.Bool.{OnTrue, OnFalse}
 use Rattle.std.proofs.Math.Path.{fun_ext}
 use Rattle.chip_model.specs.Chip.{Chip, pin_of, word_of}
-use Rattle.config_facts.specs.Valid.{IsPwm, IsIcu}
+use Rattle.config_facts.specs.Valid.{IsPwm, IsIcu, IsSpi, IsValid}
 use Rattle.mcal_base.specs.Layout.{length_of, place_of}
 use Rattle.mcal_base.specs.declared.config.whole.Config.{Config}
 use Rattle.mcal_base.specs.declared.directive.Directive.{Directive}
-use Rattle.mcal_base.specs.declared.layout.Array.TheVariants.{Stamps}
+use Rattle.mcal_base.specs.declared.layout.Array.{Array}
+use Rattle.mcal_base.specs.declared.layout.Array.TheVariants.{Stamps, Source}
 use Rattle.run_model.specs.Entry.{Entry}
 use Rattle.run_model.specs.Follows.{Gives, Follows}
 use Rattle.run_model.specs.Legal.{IsLegal}
@@ -31,21 +32,39 @@ use Rattle.gpt_driver.specs.laws.Lawful.{gpt}
 use Rattle.mcu_driver.specs.laws.Lawful.{mcu}
 use Rattle.port_driver.specs.laws.Lawful.{port}
 use Rattle.pwm_driver.specs.laws.Lawful.{pwm}
+use Rattle.icu_driver.specs.Table as capture_table
+use Rattle.icu_driver.specs.declared.asked.Asked as capture_asked
+use Rattle.icu_driver.specs.declared.driver.Channel as capture_channels
+use Rattle.icu_driver.specs.laws.Handler as capture_laws
 use Rattle.icu_driver.specs.laws.Lawful.{icu}
 use Rattle.pwm_driver.specs.Table as pulse_table
 use Rattle.pwm_driver.specs.declared.asked.Asked as pulse_asked
 use Rattle.pwm_driver.specs.declared.driver.Channel as pulse_channels
 use Rattle.pwm_driver.specs.laws.Lawful as pulse_laws
 use Rattle.icu_driver.specs.Ground.{settled, IcuAgrees}
-use Rattle.mcal_system.specs.Drivers.{clock, pins, timers, pulses, captures, drivers_of, as_one}
+use Rattle.spi_driver.specs.laws.Joined.{joined as serial_of}
+use Rattle.spi_driver.specs.laws.Lawful.{handled_by}
+use Rattle.spi_machine.specs.Bounds.{is_used}
+use Rattle.spi_driver.specs.laws.Fits as serial_fits
+use Rattle.spi_driver.specs.declared.driver.SpiDriver.{SpiDriver}
+use Rattle.spi_jobs.specs.declared.channel.Channel.{Channel}
+use Rattle.spi_machine.specs.Fits.{FitsSpi}
+use Rattle.spi_machine.specs.State.{SpiState, internal_word}
+use Rattle.spi_machine.specs.Table as serial_table
+use Rattle.spi_machine.specs.Table.{channel_of, is_internal_channel, length_by}
+use Rattle.spi_machine.specs.declared.table.SpiTable.{SpiTable}
+use Rattle.spi_sequences.specs.Ground.{SpiAgrees}
+use Rattle.spi_sequences.specs.declared.asked.Asked as serial_asked
+use Rattle.mcal_system.specs.Drivers.{clock, pins, timers, pulses, captures, serial, drivers_of, as_one}
 use Rattle.mcal_system.specs.Frames.{SystemFrame}
 use Rattle.mcal_system.specs.Runs.{SystemRun, most_steps, bound_of, run_start, moment_of, AddsItems}
-use Rattle.mcal_system.specs.Setting.{SystemState, SystemCall, clock_setting, pin_setting, timer_setting, pulse_setting, capture_setting, joined, system_setting, call_of}
-use Rattle.mcal_system.specs.Shows.{level_at, ram_at, size_at, stamp_at}
+use Rattle.mcal_system.specs.Setting.{SystemState, SystemCall, clock_setting, pin_setting, timer_setting, pulse_setting, capture_setting, serial_setting, joined, system_setting, call_of}
+use Rattle.mcal_system.specs.Shows.{internal_at, is_kept, level_at, ram_at, serial_channel, size_at, user_at}
 use Rattle.mcal_system.specs.declared.drivers.Drivers.{Drivers}
+use Rattle.mcal_system.proofs.SoundSerial.{array_length, sound_serial}
 use Rattle.mcal_system.proofs.Stamps.{size_few}
-use Rattle.mcal_system.proofs.Levels.{pin_level, ram_word, stamp_word}
-use Rattle.mcal_system.proofs.Resting.{Rests, rests, related, last_of, opens-some}
+use Rattle.mcal_system.proofs.Levels.{pin_level, ram_word, user_word}
+use Rattle.mcal_system.proofs.Resting.{Rests, rests, related, last_of, middle_of, opens-some}
 
 abbrev pub Inner : Type 0
 Inner = engine.Run Drivers SystemFrame
@@ -71,6 +90,13 @@ pulse_line (Some k) = refl
 pulse_lines : (c : Config) → has_handler (pulses c) ≡ (pulse_setting c).used
 pulse_lines c = fun_ext (λ l. pulse_line (pulse_table.channel_of_line (pulse_table.driver_of c.pwm) l))
 
+capture_line : (k : Option capture_channels.Channel) → is_some (entering {Asked = capture_asked.Asked} (capture_laws.body_by k)) ≡ is_some k
+capture_line None = refl
+capture_line (Some k) = refl
+
+capture_lines : (c : Config) → has_handler (captures c) ≡ (capture_setting c).used
+capture_lines c = fun_ext (λ l. capture_line (capture_table.channel_of_line (capture_table.driver_of c.icu) l))
+
 -- of two as one
 has_either : {F G : Type 0} (x : Option F) (y : Option G) → is_some (either_handler x y) ≡ is_some x || is_some y
 has_either (Some f) y = refl
@@ -93,16 +119,28 @@ same_setting c =
     let first_lines = lines_of (clock c) (union_of (pins c) (timers c)) (clock_setting c) timed refl timed_lines in
     let timed_on = joined_of (pins c) (timers c) (pin_setting c) (timer_setting c) refl refl refl in
     let firsts_on = joined_of (clock c) (union_of (pins c) (timers c)) (clock_setting c) timed refl refl timed_on in
-    let seconds_on = joined_of (pulses c) (captures c) (pulse_setting c) (capture_setting c) (pulse_lines c) refl refl in
-    joined_of (union_of (clock c) (union_of (pins c) (timers c))) (union_of (pulses c) (captures c)) firsts (joined (pulse_setting c) (capture_setting c)) first_lines firsts_on seconds_on
+    let captured = joined (pulse_setting c) (capture_setting c) in
+    let captured_lines = lines_of (pulses c) (captures c) (pulse_setting c) (capture_setting c) (pulse_lines c) (capture_lines c) in
+    let captured_on = joined_of (pulses c) (captures c) (pulse_setting c) (capture_setting c) (pulse_lines c) refl refl in
+    let seconds_on = joined_of (union_of (pulses c) (captures c)) (serial c) captured (serial_setting c) captured_lines captured_on refl in
+    joined_of (union_of (clock c) (union_of (pins c) (timers c))) (union_of (union_of (pulses c) (captures c)) (serial c)) firsts (joined captured (serial_setting c)) first_lines firsts_on seconds_on
 
 pub carry : (P : Setting SystemState SystemCall → Type 0) (c : Config) (u : Drivers) → u ≡ drivers_of c → P (as_one u).setting → P (system_setting c)
 carry P c u e h = subst P (same_setting c) (subst (λ x. P (as_one x).setting) e h)
 
 -- where no frame is under way the capture driver agrees with its machine
-captures_related : (u : Drivers) (chip : Chip) (w : World) (s : SystemState) → (as_one u).relates chip w [] s → IcuAgrees u.captures settled chip w s.1.1
+captures_related : (u : Drivers) (chip : Chip) (w : World) (s : SystemState) → (as_one u).relates chip w [] s → IcuAgrees u.captures settled chip w s.1.0.1
 unfolding as_one
-captures_related u chip w s h = last_of (union_of (services_driver (mcu u.clock)) (union_of (services_driver (port u.pins)) (short.driver_of (gpt u.timers)))) (services_driver (pwm u.pulses)) (short.driver_of (icu u.captures)) chip w s h
+captures_related u chip w s h = middle_of (union_of (services_driver (mcu u.clock)) (union_of (services_driver (port u.pins)) (short.driver_of (gpt u.timers)))) (services_driver (pwm u.pulses)) (short.driver_of (icu u.captures)) (services_driver (serial_of u.serial.table)) chip w s h
+
+-- and so does the serial driver
+serial_related : (u : Drivers) (chip : Chip) (w : World) (s : SystemState) → (as_one u).relates chip w [] s → SpiAgrees u.serial.table [] chip w s.1.1
+unfolding as_one
+serial_related u chip w s h = last_of (union_of (services_driver (mcu u.clock)) (union_of (services_driver (port u.pins)) (short.driver_of (gpt u.timers)))) (union_of (services_driver (pwm u.pulses)) (short.driver_of (icu u.captures))) (services_driver (serial_of u.serial.table)) chip w s h
+
+-- what the serial driver says of a word of an internal channel
+abbrev pub ToldInternal : SpiDriver → Chip → (channel : ℕ) → (received : Bool) → (index result : ℕ) → Type 0
+ToldInternal d chip c received i result = (w : World) (s : SpiState) (k : Channel) → FitsSpi d.table → channel_of d.table c ≡ Some k → k.internal ≡ true → i < k.length → SpiAgrees d.table [] chip w s → result ≡ internal_word s c received i
 
 -- ---- answers
 
@@ -178,12 +216,39 @@ module _ (e : Inner) (made : e.driver ≡ drivers_of e.config) (r : SystemRun) (
     pub ram_there : (k : ℕ) → k < 512 → (moment_of r).opens ≡ [] → slice_index e.chip.ram k ≡ ram_at (moment_of r).state k
     ram_there k lt rest = ram_word r.config (words_given r.script) e.chip (moment_of r) (at_rest rest) k lt
 
-    pub stamp_there : (c i : ℕ) → i < length_of r.config (Stamps c) → (moment_of r).opens ≡ [] → IsIcu e.config.icu → word_of e.chip (place_of (Stamps c) i) ≡ stamp_at (moment_of r).state c i
-    stamp_there c i lt rest valid = stamp_word r.config (words_given r.script) e.chip (moment_of r) (at_rest rest) c i (subst (λ (x : SystemRun). IsIcu x.config.icu) is valid) lt
+    pub user_there : (a : Array) (i : ℕ) → i < length_of r.config a → is_kept a ≡ true → (moment_of r).opens ≡ [] → IsValid e.config → word_of e.chip (place_of a i) ≡ user_at (moment_of r).state a i
+    user_there a i lt kept rest valid =
+        let there = subst (λ (x : SystemRun). IsValid x.config) is valid in
+        user_word r.config (words_given r.script) e.chip (moment_of r) (at_rest rest) a i there.icu there.spi kept lt
 
     -- the capture driver's words and registers agree with its machine
-    pub captures_there : (moment_of r).opens ≡ [] → IcuAgrees e.driver.captures settled e.chip (moment_of r).world (moment_of r).state.1.1
-    captures_there = there (λ g x. (Comes g x).opens ≡ [] → IcuAgrees e.driver.captures settled e.chip (Comes g x).world (Comes g x).state.1.1) (λ none. captures_related e.driver e.chip (Comes (as_one e.driver).setting (seen e)).world (Comes (as_one e.driver).setting (seen e)).state (related (as_one e.driver) (chip_for e.config e.script) e.chip e.frames Deeds stands none))
+    pub captures_there : (moment_of r).opens ≡ [] → IcuAgrees e.driver.captures settled e.chip (moment_of r).world (moment_of r).state.1.0.1
+    captures_there = there (λ g x. (Comes g x).opens ≡ [] → IcuAgrees e.driver.captures settled e.chip (Comes g x).world (Comes g x).state.1.0.1) (λ none. captures_related e.driver e.chip (Comes (as_one e.driver).setting (seen e)).world (Comes (as_one e.driver).setting (seen e)).state (related (as_one e.driver) (chip_for e.config e.script) e.chip e.frames Deeds stands none))
+
+    -- and so do the serial driver's
+    pub serial_there : (moment_of r).opens ≡ [] → SpiAgrees e.driver.serial.table [] e.chip (moment_of r).world (moment_of r).state.1.1
+    serial_there = there (λ g x. (Comes g x).opens ≡ [] → SpiAgrees e.driver.serial.table [] e.chip (Comes g x).world (Comes g x).state.1.1) (λ none. serial_related e.driver e.chip (Comes (as_one e.driver).setting (seen e)).world (Comes (as_one e.driver).setting (seen e)).state (related (as_one e.driver) (chip_for e.config e.script) e.chip e.frames Deeds stands none))
 
     pub size_there : (c : ℕ) → c < 8 → (moment_of r).opens ≡ [] → IfSome (size_at (moment_of r).state c) (λ n. n ≤ length_of r.config (Stamps c))
-    size_there c lt rest = subst (λ (x : SystemRun). IfSome (size_at (moment_of r).state c) (λ n. n ≤ length_of x.config (Stamps c))) is (size_few e.driver.captures e.chip (moment_of r).world (moment_of r).state.1.1 (captures_there rest) c lt e.config (ap (λ (u : Drivers). u.captures) made))
+    size_there c lt rest = subst (λ (x : SystemRun). IfSome (size_at (moment_of r).state c) (λ n. n ≤ length_of x.config (Stamps c))) is (size_few e.driver.captures e.chip (moment_of r).world (moment_of r).state.1.0.1 (captures_there rest) c lt e.config (ap (λ (u : Drivers). u.captures) made))
+
+    -- so a word of an internal channel is the machine's
+    pub internal_there : (c i : ℕ) (received : Bool) → i < length_of r.config (Source c) → is_internal_channel (serial_channel r.config c) ≡ true → (moment_of r).opens ≡ [] → IsSpi r.config.spi
+        → (result : ℕ) → ToldInternal e.driver.serial e.chip c received i result → result ≡ internal_at (moment_of r).state c received i
+    internal_there c i received lt internal rest valid result told = by (serial_channel r.config c) refl internal
+      where
+        table_is : e.driver.serial.table ≡ serial_table.table_of r.config.spi
+        table_is = ap (λ (u : Drivers). u.serial.table) made ∙ ap (λ (x : SystemRun). serial_table.table_of x.config.spi) is
+
+        some : (k : Channel) → is_internal_channel (Some k) ≡ true → k.internal ≡ true
+        some k f = f
+
+        by : (o : Option Channel) → serial_channel r.config c ≡ o → is_internal_channel o ≡ true → result ≡ internal_at (moment_of r).state c received i
+        by None f g = absurd (cc)
+        by (Some k) f g =
+            told (moment_of r).world (moment_of r).state.1.1 k
+            (subst (λ d. FitsSpi d) (sym table_is) (serial_fits.fits_of r.config.spi (sound_serial r.config.spi valid)))
+            (ap (λ d. channel_of d c) table_is ∙ f)
+            (some k g)
+            (subst (λ n. i < n) (array_length r.config.spi valid c ∙ ap length_by f) lt)
+            (serial_there rest)

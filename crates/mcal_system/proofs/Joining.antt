@@ -5,7 +5,7 @@ use Rattle.chip_model.specs.Chip.{Chip, power_on}
 use Rattle.config_facts.specs.Valid.{IsValid}
 use Rattle.mcal_base.specs.declared.config.whole.Config.{Config}
 use Rattle.mcal_base.specs.declared.module_name.ModuleName.{ModuleName}
-use Rattle.mcal_base.specs.declared.module_name.ModuleName.TheVariants.{Mcu, Port, Gpt, Pwm, Icu}
+use Rattle.mcal_base.specs.declared.module_name.ModuleName.TheVariants.{Mcu, Port, Gpt, Pwm, Icu, Spi}
 use Rattle.step_runner.specs.Driver.{Driver, Covers}
 use Rattle.run_model.specs.World.{World}
 use Rattle.step_runner.specs.Union.{has_handler, union_of}
@@ -33,8 +33,13 @@ use Rattle.icu_driver.specs.Fits as capture_fits
 use Rattle.icu_driver.specs.Table as capture_table
 use Rattle.icu_driver.specs.laws.Keeps.{keeps_captures}
 use Rattle.icu_driver.specs.laws.Lawful.{covers_captures}
-use Rattle.mcal_system.specs.Drivers.{clock, pins, timers, pulses, captures, as_one, system}
+use Rattle.spi_driver.specs.laws.Fits as serial_fits
+use Rattle.spi_driver.specs.laws.Joined.{covers_joined}
+use Rattle.spi_driver.specs.laws.Keeps.{keeps_serial}
+use Rattle.spi_machine.specs.Table as serial_table
+use Rattle.mcal_system.specs.Drivers.{clock, pins, timers, pulses, captures, serial, as_one, system}
 use Rattle.mcal_system.proofs.Sound.{sound_clock, sound_pins, sound_timers, sound_captures, wired_captures}
+use Rattle.mcal_system.proofs.SoundSerial.{sound_serial, wired_serial}
 
 -- A driver of these modules that may run on these chips.
 pub record IsReady {S C F : Type 0} (mine : ModuleName → Bool) (chip_of : ℕ → Chip) (d : Driver S C F) : Type 0 where
@@ -75,6 +80,11 @@ module _ (c : Config) (v : IsValid c) where
   captures_ready : Ready (only Icu) (captures c)
   captures_ready = record { fits = capture_fits.fits_of c.icu (sound_captures c.icu v.icu); covers = covers_captures (capture_table.driver_of c.icu); wired = λ room. wired_captures c.icu 0; keeps = keeps_captures (capture_table.driver_of c.icu) }
 
+  serial_ready : Ready (only Spi) (serial c)
+  serial_ready =
+      let fits = serial_fits.fits_of c.spi (sound_serial c.spi v.spi) in
+      record { fits = fits; covers = covers_joined (serial_table.table_of c.spi); wired = wired_serial c v.spi; keeps = keeps_serial (serial_table.table_of c.spi) fits }
+
   -- one module after another
   timed_ready : Ready (all_of (only Port) (only Gpt)) (union_of (pins c) (timers c))
   timed_ready = join (only Port) (only Gpt) (power_on c) (pins c) (timers c) refl refl (λ w s call. refl) pins_ready timers_ready
@@ -82,14 +92,21 @@ module _ (c : Config) (v : IsValid c) where
   firsts_ready : Ready (all_of (only Mcu) (all_of (only Port) (only Gpt))) (union_of (clock c) (union_of (pins c) (timers c)))
   firsts_ready = join (only Mcu) (all_of (only Port) (only Gpt)) (power_on c) (clock c) (union_of (pins c) (timers c)) refl refl (λ w s call. refl) clock_ready timed_ready
 
-  seconds_ready : Ready (all_of (only Pwm) (only Icu)) (union_of (pulses c) (captures c))
-  seconds_ready = join (only Pwm) (only Icu) (power_on c) (pulses c) (captures c) refl refl (λ w s call. refl) pulses_ready captures_ready
+  captured_ready : Ready (all_of (only Pwm) (only Icu)) (union_of (pulses c) (captures c))
+  captured_ready = join (only Pwm) (only Icu) (power_on c) (pulses c) (captures c) refl refl (λ w s call. refl) pulses_ready captures_ready
+
+  mute_captured : IsMute (union_of (pulses c) (captures c))
+  mute_captured w s (Left call) = refl
+  mute_captured w s (Right call) = refl
+
+  seconds_ready : Ready (all_of (all_of (only Pwm) (only Icu)) (only Spi)) (union_of (union_of (pulses c) (captures c)) (serial c))
+  seconds_ready = join (all_of (only Pwm) (only Icu)) (only Spi) (power_on c) (union_of (pulses c) (captures c)) (serial c) refl refl mute_captured captured_ready serial_ready
 
   mute_firsts : IsMute (union_of (clock c) (union_of (pins c) (timers c)))
   mute_firsts w s (Left call) = refl
   mute_firsts w s (Right (Left call)) = refl
   mute_firsts w s (Right (Right call)) = refl
 
-  pub all_ready : Ready (all_of (all_of (only Mcu) (all_of (only Port) (only Gpt))) (all_of (only Pwm) (only Icu))) (system c)
+  pub all_ready : Ready (all_of (all_of (only Mcu) (all_of (only Port) (only Gpt))) (all_of (all_of (only Pwm) (only Icu)) (only Spi))) (system c)
   unfolding as_one
-  all_ready = join (all_of (only Mcu) (all_of (only Port) (only Gpt))) (all_of (only Pwm) (only Icu)) (power_on c) (union_of (clock c) (union_of (pins c) (timers c))) (union_of (pulses c) (captures c)) refl refl mute_firsts firsts_ready seconds_ready
+  all_ready = join (all_of (only Mcu) (all_of (only Port) (only Gpt))) (all_of (all_of (only Pwm) (only Icu)) (only Spi)) (power_on c) (union_of (clock c) (union_of (pins c) (timers c))) (union_of (union_of (pulses c) (captures c)) (serial c)) refl refl mute_firsts firsts_ready seconds_ready

@@ -5,4 +5,6 @@ pub mod Limits
 mod Named
 mod Resting
 pub mod Sound
+mod SoundSerial
+mod Sources
 mod Stamps

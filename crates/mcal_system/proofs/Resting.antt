@@ -82,6 +82,12 @@ module _ {State Call Frame : Type 0} (d : Driver State Call Frame) (first chip :
 
 -- ---- the members of a union, where no frame is there
 
+first_alone : {S T C D F G : Type 0} (ours : ℕ → Bool) (First : Chip → World → List (F × Open C) → S → Type 0) (Second : Chip → World → List (G × Open D) → T → Type 0) (chip : Chip) (w : World) (s : S × T) → UnionRelates ours First Second chip w [] s → First chip w [] s.0
+first_alone {C = C} {D = D} {F = F} {G = G} ours First Second chip w s h = by h.firsts h.seconds h.splits h.first
+  where
+    by : (fs : List (F × Open C)) (gs : List (G × Open D)) → Splits ours [] fs gs → First chip w fs s.0 → First chip w [] s.0
+    by fs gs Nothing_open k = k
+
 second_alone : {S T C D F G : Type 0} (ours : ℕ → Bool) (First : Chip → World → List (F × Open C) → S → Type 0) (Second : Chip → World → List (G × Open D) → T → Type 0) (chip : Chip) (w : World) (s : S × T) → UnionRelates ours First Second chip w [] s → Second chip w [] s.1
 second_alone {C = C} {D = D} {F = F} {G = G} ours First Second chip w s h = by h.firsts h.seconds h.splits h.second
   where
@@ -91,3 +97,10 @@ second_alone {C = C} {D = D} {F = F} {G = G} ours First Second chip w s h = by h
 -- of three, of which the last two are one, the last
 pub last_of : {S T U C D E F G H : Type 0} (d : Driver S C F) (e : Driver T D G) (f : Driver U E H) (chip : Chip) (w : World) (s : S × (T × U)) → (union_of d (union_of e f)).relates chip w [] s → f.relates chip w [] s.1.1
 last_of d e f chip w s h = second_alone (has_handler e) e.relates f.relates chip w s.1 (second_alone (has_handler d) d.relates (union_of e f).relates chip w s h)
+
+-- of four, of which the two in the middle are one with the last, the second of these
+pub middle_of : {S T U V C D E B F G H I : Type 0} (d : Driver S C F) (e : Driver T D G) (f : Driver U E H) (g : Driver V B I) (chip : Chip) (w : World) (s : S × ((T × U) × V)) → (union_of d (union_of (union_of e f) g)).relates chip w [] s → f.relates chip w [] s.1.0.1
+middle_of d e f g chip w s h =
+    let seconds = second_alone (has_handler d) d.relates (union_of (union_of e f) g).relates chip w s h in
+    let middle = first_alone (has_handler (union_of e f)) (union_of e f).relates g.relates chip w s.1 seconds in
+    second_alone (has_handler e) e.relates f.relates chip w s.1.0 middle

@@ -12,8 +12,10 @@ use Rattle.pwm_driver.specs.declared.asked.Asked as pulse_asked
 use Rattle.pwm_driver.specs.laws.Bodies.{PwmBody}
 use Rattle.icu_driver.specs.declared.asked.Asked as capture_asked
 use Rattle.icu_driver.specs.laws.Bodies.{IcuBody}
+use Rattle.spi_sequences.specs.declared.asked.Asked as serial_asked
+use Rattle.spi_sequences.specs.laws.Bodies.{SpiBody}
 use Rattle.mcal_system.specs.declared.frame.ModuleFrame.{ModuleFrame}
-use Rattle.mcal_system.specs.declared.frame.ModuleFrame.TheVariants.{Clock, Pins, Timers, Pulses, Captures}
+use Rattle.mcal_system.specs.declared.frame.ModuleFrame.TheVariants.{Clock, Pins, Timers, Pulses, Captures, Serial}
 
 -- those of each
 abbrev pub ClockFrame : Type 0
@@ -31,14 +33,18 @@ PulseFrame = Short pulse_asked.Asked PwmBody
 abbrev pub CaptureFrame : Type 0
 CaptureFrame = Short capture_asked.Asked IcuBody
 
+abbrev pub SerialFrame : Type 0
+SerialFrame = Short serial_asked.Asked SpiBody
+
 -- the frames of all
 abbrev pub SystemFrame : Type 0
-SystemFrame = Either (Either ClockFrame (Either PinFrame TimerFrame)) (Either PulseFrame CaptureFrame)
+SystemFrame = Either (Either ClockFrame (Either PinFrame TimerFrame)) (Either (Either PulseFrame CaptureFrame) SerialFrame)
 
 -- a module's frame among those of all
 abbrev pub in_union : ModuleFrame → SystemFrame
 in_union (Clock f) = Left (Left f)
 in_union (Pins f) = Left (Right (Left f))
 in_union (Timers f) = Left (Right (Right f))
-in_union (Pulses f) = Right (Left f)
-in_union (Captures f) = Right (Right f)
+in_union (Pulses f) = Right (Left (Left f))
+in_union (Captures f) = Right (Left (Right f))
+in_union (Serial f) = Right (Right f)

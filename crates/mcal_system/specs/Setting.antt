@@ -32,13 +32,19 @@ use Rattle.icu_driver.specs.Machine.{IcuState}
 use Rattle.icu_driver.specs.Requests as capture_requests
 use Rattle.icu_driver.specs.Table as capture_table
 use Rattle.icu_driver.specs.declared.call.Call as capture_calls
+use Rattle.spi_driver.specs.Requests as serial_requests
+use Rattle.spi_machine.specs.Bounds.{spi_setting}
+use Rattle.spi_machine.specs.Requests.{has_service as has_serial}
+use Rattle.spi_machine.specs.State.{SpiState}
+use Rattle.spi_machine.specs.Table as serial_table
+use Rattle.spi_machine.specs.declared.call.Call as serial_calls
 
 -- the modules' states and calls, in the order of the configuration
 abbrev pub SystemState : Type 0
-SystemState = (McuState × (PortState × GptState)) × (PwmState × IcuState)
+SystemState = (McuState × (PortState × GptState)) × ((PwmState × IcuState) × SpiState)
 
 abbrev pub SystemCall : Type 0
-SystemCall = Either (Either clock_calls.Call (Either pin_calls.Call timer_calls.Call)) (Either pulse_calls.Call capture_calls.Call)
+SystemCall = Either (Either clock_calls.Call (Either pin_calls.Call timer_calls.Call)) (Either (Either pulse_calls.Call capture_calls.Call) serial_calls.Call)
 
 -- ---- the setting
 
@@ -58,20 +64,23 @@ pulse_setting c = pwm_setting (pulse_table.driver_of c.pwm)
 abbrev pub capture_setting : Config → Setting IcuState capture_calls.Call
 capture_setting c = icu_setting (capture_table.driver_of c.icu)
 
+abbrev pub serial_setting : Config → Setting SpiState serial_calls.Call
+serial_setting c = spi_setting (serial_table.table_of c.spi)
+
 -- the product of two: a line is the first's where an object of the first uses it, and the first sets the rate
 abbrev pub joined : {S T C D : Type 0} → Setting S C → Setting T D → Setting (S × T) (Either C D)
 joined g h = union_setting g.used g h
 
 -- all modules as one
 unfoldable pub system_setting : Config → Setting SystemState SystemCall
-system_setting c = joined (joined (clock_setting c) (joined (pin_setting c) (timer_setting c))) (joined (pulse_setting c) (capture_setting c))
+system_setting c = joined (joined (clock_setting c) (joined (pin_setting c) (timer_setting c))) (joined (joined (pulse_setting c) (capture_setting c)) (serial_setting c))
 
 -- ---- requests
 
 -- the service is one of a module that is there
 unfoldable pub has_service : Service → Bool
-has_service s = clock_requests.has_service s || (pin_requests.has_service s || (timer_requests.has_service s || (pulse_requests.has_service s || capture_requests.has_service s)))
+has_service s = clock_requests.has_service s || (pin_requests.has_service s || (timer_requests.has_service s || (pulse_requests.has_service s || (capture_requests.has_service s || has_serial s))))
 
 -- the call that a request asks for, of the module that has its service
 unfoldable pub call_of : Request → SystemCall
-call_of r = cond (clock_requests.has_service r.service) (Left (Left (clock_requests.asked_for r))) (cond (pin_requests.has_service r.service) (Left (Right (Left (pin_requests.asked_for r)))) (cond (timer_requests.has_service r.service) (Left (Right (Right (timer_requests.call_of r)))) (cond (pulse_requests.has_service r.service) (Right (Left (pulse_requests.asked_call r))) (Right (Right (capture_requests.asked_for r))))))
+call_of r = cond (clock_requests.has_service r.service) (Left (Left (clock_requests.asked_for r))) (cond (pin_requests.has_service r.service) (Left (Right (Left (pin_requests.asked_for r)))) (cond (timer_requests.has_service r.service) (Left (Right (Right (timer_requests.call_of r)))) (cond (pulse_requests.has_service r.service) (Right (Left (Left (pulse_requests.asked_call r)))) (cond (capture_requests.has_service r.service) (Right (Left (Right (capture_requests.asked_for r)))) (Right (Right (serial_requests.asked_call r)))))))

@@ -1,14 +1,20 @@
 -- What pins and RAM words are in the modules' state.
-use Rattle.std.specs.Prelude.{ℕ, ◌==◌, Bool, false, Option, Some, None, option_map}
+use Rattle.std.specs.Prelude.{ℕ, ◌==◌, Bool, true, false, Option, Some, None, option_map}
 use Rattle.std.specs.List.{find}
 use Rattle.mcal_base.specs.declared.config.pwm.PwmChannel.{PwmChannel}
 use Rattle.mcal_base.specs.declared.config.whole.Config.{Config}
+use Rattle.mcal_base.specs.declared.layout.Array.{Array}
+use Rattle.mcal_base.specs.declared.layout.Array.TheVariants.{Round, Stamps, Source, Destination}
 use Rattle.run_model.specs.World.{World}
 use Rattle.mcu_driver.specs.Machine as clock
 use Rattle.port_driver.specs.Machine as pins
 use Rattle.pwm_driver.specs.Machine as pulses
 use Rattle.pwm_driver.specs.Table as pulse_table
 use Rattle.icu_driver.specs.Bounds as captures
+use Rattle.spi_jobs.specs.declared.channel.Channel as serial_channels
+use Rattle.spi_machine.specs.Numbered.{word_at}
+use Rattle.spi_machine.specs.State as serial
+use Rattle.spi_machine.specs.Table as serial_table
 use Rattle.mcal_system.specs.Setting.{SystemState}
 
 -- the pin is this one
@@ -22,7 +28,7 @@ channel_on c p = find (λ (x : PwmChannel). is_pin x.pin p) c.pwm.channels
 
 -- the output of the pulse channel that names a pin
 abbrev pub pulse_at : Config → World → SystemState → (pin : ℕ) → Option Bool
-pulse_at c w s p = option_map (λ (x : PwmChannel). pulses.level_at (pulse_table.driver_of c.pwm) w s.1.0 x.id) (channel_on c p)
+pulse_at c w s p = option_map (λ (x : PwmChannel). pulses.level_at (pulse_table.driver_of c.pwm) w s.1.0.0 x.id) (channel_on c p)
 
 -- the level of a pin
 abbrev pub level_at : Config → World → SystemState → (pin : ℕ) → Bool
@@ -34,7 +40,29 @@ ram_at s k = clock.ram_at s.0.0 k
 
 -- how many places of a capture channel's stamps are shown, and the time at a place
 abbrev pub size_at : SystemState → (channel : ℕ) → Option ℕ
-size_at s c = captures.size_of s.1.1 c
+size_at s c = captures.size_of s.1.0.1 c
 
 abbrev pub stamp_at : SystemState → (channel place : ℕ) → ℕ
-stamp_at s c i = captures.stamp_at s.1.1 c i
+stamp_at s c i = captures.stamp_at s.1.0.1 c i
+
+-- the serial channel of a number
+abbrev pub serial_channel : Config → (number : ℕ) → Option serial_channels.Channel
+serial_channel c n = serial_table.channel_of (serial_table.table_of c.spi) n
+
+-- a word of an internal one by its place: of those that were received, or of those to send
+abbrev pub internal_at : SystemState → (channel : ℕ) → (received : Bool) → (place : ℕ) → ℕ
+internal_at s c received i = serial.internal_word s.1.1 c received i
+
+-- the users' arrays of capture channels and of serial channels
+abbrev pub is_kept : Array → Bool
+is_kept (Round g b) = false
+is_kept (Stamps n) = true
+is_kept (Source n) = true
+is_kept (Destination n) = true
+
+-- a place of one
+abbrev pub user_at : SystemState → Array → (place : ℕ) → ℕ
+user_at s (Round g b) i = 0
+user_at s (Stamps n) i = stamp_at s n i
+user_at s (Source n) i = word_at (serial.channel_at s.1.1 n).source i
+user_at s (Destination n) i = word_at (serial.channel_at s.1.1 n).destination i

@@ -14,6 +14,7 @@ use port_driver::PortDriver;
 use pwm_driver::PwmDriver;
 use run_model::Class;
 use script_runner::Caller;
+use spi_driver::SpiDriver;
 use step_runner::{Either, Module};
 
 /// The drivers of all modules as one. The clock's comes first, since the first alone may set the rate.
@@ -24,6 +25,7 @@ pub struct Drivers {
     timers: GptDriver,
     pulses: PwmDriver,
     captures: IcuDriver,
+    serial: SpiDriver,
 }
 
 impl Drivers {
@@ -41,7 +43,15 @@ impl Drivers {
             timers: GptDriver::new(config),
             pulses: PwmDriver::new(config),
             captures: IcuDriver::new(config),
+            serial: SpiDriver::new(config),
         }
+    }
+
+    /// The serial driver.
+    pub fn serial(&self) -> &SpiDriver
+        ensures { result.now ≡ self.now.serial }
+    {
+        &self.serial
     }
 
     /// The driver of the capture inputs.
@@ -61,7 +71,7 @@ type StateOf<M> = <M as Module>::State;
 /// A call of one of the modules, in their order.
 type Call = Either<
     Either<CallOf<McuDriver>, Either<CallOf<PortDriver>, CallOf<GptDriver>>>,
-    Either<CallOf<PwmDriver>, CallOf<IcuDriver>>,
+    Either<Either<CallOf<PwmDriver>, CallOf<IcuDriver>>, CallOf<SpiDriver>>,
 >;
 
 /// The states of their machines.
@@ -70,7 +80,7 @@ type States = (
         StateOf<McuDriver>,
         (StateOf<PortDriver>, StateOf<GptDriver>),
     ),
-    (StateOf<PwmDriver>, StateOf<IcuDriver>),
+    ((StateOf<PwmDriver>, StateOf<IcuDriver>), StateOf<SpiDriver>),
 );
 
 impl Module for Drivers {
@@ -95,8 +105,13 @@ impl Module for Drivers {
             Either::Left(Either::Right(Either::Right(call))) => {
                 ModuleFrame::Timers(self.timers.frame(call))
             }
-            Either::Right(Either::Left(call)) => ModuleFrame::Pulses(self.pulses.frame(call)),
-            Either::Right(Either::Right(call)) => ModuleFrame::Captures(self.captures.frame(call)),
+            Either::Right(Either::Left(Either::Left(call))) => {
+                ModuleFrame::Pulses(self.pulses.frame(call))
+            }
+            Either::Right(Either::Left(Either::Right(call))) => {
+                ModuleFrame::Captures(self.captures.frame(call))
+            }
+            Either::Right(Either::Right(call)) => ModuleFrame::Serial(self.serial.frame(call)),
         };
         Frame { frame }
     }
@@ -110,7 +125,10 @@ impl Module for Drivers {
                 Some(frame) => ModuleFrame::Pulses(frame),
                 None => match self.captures.handler(line) {
                     Some(frame) => ModuleFrame::Captures(frame),
-                    None => return None,
+                    None => match self.serial.handler(line) {
+                        Some(frame) => ModuleFrame::Serial(frame),
+                        None => return None,
+                    },
                 },
             },
         };
@@ -123,8 +141,9 @@ impl Module for Drivers {
             Either::Left(Either::Left(call)) => self.clock.class(call),
             Either::Left(Either::Right(Either::Left(call))) => self.pins.class(call),
             Either::Left(Either::Right(Either::Right(call))) => self.timers.class(call),
-            Either::Right(Either::Left(call)) => self.pulses.class(call),
-            Either::Right(Either::Right(call)) => self.captures.class(call),
+            Either::Right(Either::Left(Either::Left(call))) => self.pulses.class(call),
+            Either::Right(Either::Left(Either::Right(call))) => self.captures.class(call),
+            Either::Right(Either::Right(call)) => self.serial.class(call),
         }
     }
 
@@ -134,7 +153,10 @@ impl Module for Drivers {
             Some(_) => self.timers.level(line),
             None => match self.pulses.handler(line) {
                 Some(_) => self.pulses.level(line),
-                None => self.captures.level(line),
+                None => match self.captures.handler(line) {
+                    Some(_) => self.captures.level(line),
+                    None => self.serial.level(line),
+                },
             },
         }
     }
@@ -145,15 +167,18 @@ impl Module for Drivers {
             Some(_) => self.timers.owner(line),
             None => match self.pulses.handler(line) {
                 Some(_) => self.pulses.owner(line),
-                None => self.captures.owner(line),
+                None => match self.captures.handler(line) {
+                    Some(_) => self.captures.owner(line),
+                    None => self.serial.owner(line),
+                },
             },
         }
     }
 
-    /// None of these modules has source arrays.
+    /// The serial driver alone has source arrays.
     #[tactic(auto, unfolding(crate::specs::Drivers::as_one))]
-    fn source_use(&self, _bus: &Bus, _channel: u32) -> Option<bool> {
-        None
+    fn source_use(&self, bus: &Bus, channel: u32) -> Option<bool> {
+        self.serial.source_use(bus, channel)
     }
 
     ghost laws = { lawful_system };
@@ -171,7 +196,12 @@ impl Caller for Drivers {
     fn has(&self, service: Service) -> bool {
         matches!(
             service.module(),
-            ModuleName::Mcu | ModuleName::Port | ModuleName::Gpt | ModuleName::Pwm | ModuleName::Icu
+            ModuleName::Mcu
+                | ModuleName::Port
+                | ModuleName::Gpt
+                | ModuleName::Pwm
+                | ModuleName::Icu
+                | ModuleName::Spi
         )
     }
 
@@ -185,9 +215,11 @@ impl Caller for Drivers {
         } else if self.timers.has(service) {
             Either::Left(Either::Right(Either::Right(self.timers.call(request))))
         } else if self.pulses.has(service) {
-            Either::Right(Either::Left(self.pulses.call(request)))
+            Either::Right(Either::Left(Either::Left(self.pulses.call(request))))
+        } else if self.captures.has(service) {
+            Either::Right(Either::Left(Either::Right(self.captures.call(request))))
         } else {
-            Either::Right(Either::Right(self.captures.call(request)))
+            Either::Right(Either::Right(self.serial.call(request)))
         }
     }
 
@@ -197,8 +229,9 @@ impl Caller for Drivers {
             Either::Left(Either::Left(call)) => self.clock.call_steps(call),
             Either::Left(Either::Right(Either::Left(call))) => self.pins.call_steps(call),
             Either::Left(Either::Right(Either::Right(call))) => self.timers.call_steps(call),
-            Either::Right(Either::Left(call)) => self.pulses.call_steps(call),
-            Either::Right(Either::Right(call)) => self.captures.call_steps(call),
+            Either::Right(Either::Left(Either::Left(call))) => self.pulses.call_steps(call),
+            Either::Right(Either::Left(Either::Right(call))) => self.captures.call_steps(call),
+            Either::Right(Either::Right(call)) => self.serial.call_steps(call),
         }
     }
 
@@ -208,7 +241,10 @@ impl Caller for Drivers {
             Some(_) => self.timers.line_steps(line),
             None => match self.pulses.handler(line) {
                 Some(_) => self.pulses.line_steps(line),
-                None => self.captures.line_steps(line),
+                None => match self.captures.handler(line) {
+                    Some(_) => self.captures.line_steps(line),
+                    None => self.serial.line_steps(line),
+                },
             },
         }
     }

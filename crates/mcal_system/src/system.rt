@@ -3,7 +3,7 @@ ghost use Rattle.std.specs.Option.{IfSome};
 ghost use Rattle.std.specs.Bool.{OnFalse, OnTrue};
 ghost use Rattle.config_facts.specs.Valid.{IsValid};
 ghost use Rattle.mcal_base.specs.Layout.{length_of};
-ghost use Rattle.mcal_base.specs.declared.layout.Array.TheVariants.{Stamps};
+ghost use Rattle.mcal_base.specs.declared.layout.Array.TheVariants.{Source, Stamps};
 ghost use Rattle.run_model.specs.Follows.{Follows};
 ghost use Rattle.run_model.specs.Legal.{IsLegal};
 ghost use Rattle.run_model.specs.Moment.{start_moment};
@@ -12,12 +12,14 @@ ghost use Rattle.run_model.specs.Stops.{FollowsToStop, steps_in};
 ghost use Rattle.script_runner.specs.Scripts.{IsScript, IsRun, IsStopped, AllOffered, chip_for};
 ghost use Rattle.mcal_system.specs.Runs.{most_steps, bound_of, run_start, moment_of, IsSameRun, AddsItems};
 ghost use Rattle.mcal_system.specs.Setting.{system_setting, call_of, has_service};
-ghost use Rattle.mcal_system.specs.Shows.{level_at, ram_at, size_at, stamp_at};
+ghost use Rattle.mcal_system.specs.Shows.{internal_at, is_kept, level_at, ram_at, serial_channel, size_at, user_at};
+ghost use Rattle.spi_machine.specs.Table.{is_internal_channel};
 
 use crate::drivers::Drivers;
 use mcal_base::{Array, Config, Directive, NoMemory};
 use run_model::Journal;
 use script_runner::{Engine, TooLong};
+use spi_jobs::Channel;
 use std::alloc::Global;
 use std::marker::Model;
 
@@ -144,14 +146,35 @@ impl<'s> System<'s> {
         captures.stamps(self.engine.bus(), channel)
     }
 
-    /// The time at a place of a configured capture channel's stamps, while no frame is under way.
-    pub fn stamp(&self, channel: u32, place: u32) -> u32
+    /// A place of a user's array of a capture channel or of a serial channel, while no frame is under way.
+    pub fn user(&self, array: Array, place: u32) -> u32
         requires rest { (moment_of self.now).opens ≡ [] }
-        requires there { place < length_of self.now.config (Stamps channel) }
-        ensures { result ≡ stamp_at (moment_of self.now).state channel place }
+        requires there { place < length_of self.now.config array }
+        requires kept { is_kept array ≡ true }
+        ensures { result ≡ user_at (moment_of self.now).state array place }
     {
-        let word = mcal_base::place(self.engine.config(), Array::Stamps(channel), place);
+        let word = mcal_base::place(self.engine.config(), array, place);
         self.engine.bus().word(word)
+    }
+
+    /// The serial channel of a number, where it is configured.
+    pub fn serial_channel(&self, number: u32) -> Option<Channel>
+        ensures is { result ≡ serial_channel self.now.config number }
+        ensures words { IfSome result (λ channel. channel.length ≡ length_of self.now.config (Source number)) }
+    {
+        self.engine.driver().serial().table.channel(number)
+    }
+
+    /// A word of an internal serial channel by its place, while no frame is under way: one that it sends, or one that
+    /// may be read of it.
+    pub fn internal(&self, channel: u32, received: bool, place: u32) -> u32
+        requires rest { (moment_of self.now).opens ≡ [] }
+        requires there { place < length_of self.now.config (Source channel) }
+        requires internal { is_internal_channel (serial_channel self.now.config channel) ≡ true }
+        ensures { result ≡ internal_at (moment_of self.now).state channel received place }
+    {
+        let serial = self.engine.driver().serial();
+        serial.internal(self.engine.bus(), channel, received, place)
     }
 
     /// The configuration.

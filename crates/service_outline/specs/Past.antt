@@ -12,26 +12,31 @@ use Rattle.run_model.specs.Frame.{Origin, Called, Entered, Owing, Open, owing, c
 use Rattle.run_model.specs.Legal.{has_line, IsNext}
 use Rattle.service_outline.specs.Outline.{form, acted_in, served_in, owed_in, report_in}
 
--- the answer of its act and the lines that it polled there, the lines that it served, the times of its commits, the
--- notices that it owes, and the error that it has to report
+-- the answer of its act and the lines that it polled there, the lines that it served and those that it surely missed, the
+-- times of its commits, the notices that it owes, and the error that it has to report
 pub record Past : Type 0 where
   pub acted : Option Answer
   pub polled : List ℕ
   pub served : List ℕ
+  pub missed : List ℕ
   pub committed : ℕ → Option ℕ
   pub owed : List Owing
   pub report : Option DevError
 
 abbrev pub nothing_yet : Past
-nothing_yet = record { acted = None; polled = []; served = []; committed = λ c. None; owed = []; report = None }
+nothing_yet = record { acted = None; polled = []; served = []; missed = []; committed = λ c. None; owed = []; report = None }
 
 -- the past of a frame that was told this, polled no line, made these commits, and has told nothing
 abbrev pub past_of : {State Call : Type 0} → Machine State Call → Option Told → Origin Call → (ℕ → Option ℕ) → Past
-past_of mac told origin committed = record { acted = acted_in told origin; polled = []; served = served_in told origin; committed = committed; owed = owed_in told origin; report = report_in mac told origin }
+past_of mac told origin committed = record { acted = acted_in told origin; polled = []; served = served_in told origin; missed = []; committed = committed; owed = owed_in told origin; report = report_in mac told origin }
 
 -- a frame with the level, misses and counts of another, and this past
 abbrev pub with_past : {Call : Type 0} → Open Call → Past → Open Call
 with_past r p = record r { polled = p.polled; committed = p.committed }
+
+-- lines that a frame surely missed it has missed
+abbrev pub AreMissed : List ℕ → (missed : ℕ → Bool) → Type 0
+AreMissed ls missed = (l : ℕ) → has_line ls l ≡ true → missed l ≡ true
 
 abbrev pub having : {Call : Type 0} → Open Call → Origin Call → Past → Bool → Open Call
 having r origin p inside = form (with_past r p) origin p.acted p.served p.owed p.report inside
@@ -59,7 +64,7 @@ MayDo mac w s p (Start u) origin = p.owed ≡ []
 
 -- a call ends with the answer of its act, and has served or missed the lines that it polled; a handler has served its line or missed it
 abbrev pub MayAnswer : {Call : Type 0} → Origin Call → Past → (ℕ → Bool) → Answer → Type 0
-MayAnswer (Called c) p missed a = (p.acted ≡ Some a) × (list_all (λ l. has_line p.served l || missed l) p.polled ≡ true)
+MayAnswer (Called c) p missed a = (p.acted ≡ Some a) × (list_all (λ l. has_line p.served l || (missed l || has_line p.missed l)) p.polled ≡ true)
 MayAnswer (Entered l) p missed a = (has_line p.served l || missed l ≡ true) × (a ≡ no_answer)
 
 -- it is of this origin, with this past

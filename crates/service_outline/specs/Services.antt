@@ -1,6 +1,6 @@
 -- What a driver of services is whose frames may go on with the mask open, and what it owes. A frame that waits holds
 -- what it needs; the words and registers agree with the state and with what the frames under way hold.
-use Rattle.std.specs.Prelude.{◌≡◌, ℕ, ◌+◌, ◌<◌, ◌≤◌, nat_lt, Bool, true, false, ◌||◌, List, [], ◌∷◌, map, Option, Some, None, is_some}
+use Rattle.std.specs.Prelude.{◌≡◌, ℕ, ◌+◌, ◌<◌, ◌≤◌, nat_lt, Bool, true, false, ◌||◌, ◌⊎◌, List, [], ◌∷◌, map, Option, Some, None, is_some}
 use Rattle.std.specs.List.{list_any}
 use Rattle.chip_model.specs.Chip.{Chip, value_of, chip_after, happened, reset_chip, is_masked, is_pending}
 use Rattle.mcal_base.specs.Bits.{has_bit}
@@ -36,7 +36,7 @@ use Rattle.service_outline.specs.Short.{ended_by}
 use Rattle.service_outline.specs.Acts.{Cleans, ActsRight, IsFresh, Behaves, LeavesRight}
 use Rattle.service_outline.specs.Fuel.{short_fuel, short_room, Shortens}
 use Rattle.service_outline.specs.Outline.{Ground, TellsAs, owes_nothing, notices_in, error_in}
-use Rattle.service_outline.specs.Past.{Past, nothing_yet, having, past_wrote, past_after, MayDo, MayAnswer}
+use Rattle.service_outline.specs.Past.{Past, nothing_yet, having, AreMissed, past_wrote, past_after, MayDo, MayAnswer}
 use Rattle.service_outline.specs.Seen.{Seen, IsSeen, MayOpen, Starts, SeesTo}
 
 -- ---- what is held
@@ -168,26 +168,32 @@ pub record IsBasis {State Call : Type 0} (g : Basis State Call) : Type 0 where
   pub rate_resets : (chip : Chip) (w : World) (s : State) (reason : Reason) (out : Outcome State) → g.setting.machine.happens w s (Restarts reason) ≡ Some out → (reset_chip chip reason).clock.rate ≡ g.setting.machine.rate out.state
 
 -- how a frame stands at a place of a body. In a window: what is under work, what it holds, and what holds there. With
--- the mask open: what it holds, and what is known of the frame itself, since it rests on what it holds alone
+-- the mask open: what it holds, and what is known of the frame itself, since it rests on what it holds alone. Where it looks
+-- whether a line is ready, in a window, it may count the line as missed
 pub data Spot {State Call : Type 0} (g : Basis State Call) : Type 1 where
   Within : g.Gap → List g.Hold → (List (Held Call g.Hold) → g.Foot → World → State → Origin Call → Past → Type 0) → Spot g
   Outside : List g.Hold → (List (Held Call g.Hold) → Origin Call → Past → Type 0) → Spot g
+  Looking : g.Gap → List g.Hold → (List (Held Call g.Hold) → g.Foot → World → State → Origin Call → Past → Type 0) → Spot g
 
 abbrev pub is_closed : {State Call : Type 0} {g : Basis State Call} → Spot g → Bool
 is_closed (Within gap hs place) = true
 is_closed (Outside hs place) = false
+is_closed (Looking gap hs place) = true
 
 abbrev pub holds_at : {State Call : Type 0} {g : Basis State Call} → Spot g → List g.Hold
 holds_at (Within gap hs place) = hs
 holds_at (Outside hs place) = hs
+holds_at (Looking gap hs place) = hs
 
 abbrev pub gap_at : {State Call : Type 0} {g : Basis State Call} → Spot g → g.Gap
 gap_at (Within gap hs place) = gap
 gap_at {g = g} (Outside hs place) = g.settled
+gap_at (Looking gap hs place) = gap
 
 abbrev pub place_at : {State Call : Type 0} {g : Basis State Call} → Spot g → List (Held Call g.Hold) → g.Foot → World → State → Origin Call → Past → Type 0
 place_at (Within gap hs place) below f w s origin past = place below f w s origin past
 place_at (Outside hs place) below f w s origin past = place below origin past
+place_at (Looking gap hs place) below f w s origin past = place below f w s origin past
 
 -- bodies that may open and close the mask themselves: their places, and how a frame stands at each
 pub record LongBodies {State Call : Type 0} (g : Basis State Call) (Body : Type 0) : Type 1 where
@@ -253,6 +259,7 @@ pub record IsInside {State Call Asked Body : Type 0} (d : Services State Call As
   pub form : o ≡ having o o.origin past (is_closed (d.bodies.spot k))
   pub behaves : Behaves d.basis.setting (d.bodies.clean k) o
   pub window : IsSeen (d.seen k) o.since o.acts_since
+  pub missed : AreMissed past.missed o.missed
   pub at : Stand d.basis d.bodies below chip w s k o.origin past
 
 -- a frame in its body, with the mask open. It rests on what it holds alone
@@ -261,6 +268,7 @@ pub record IsOutside {State Call Asked Body : Type 0} (d : Services State Call A
   pub form : o ≡ having o o.origin past (is_closed (d.bodies.spot k))
   pub behaves : Behaves d.basis.setting (d.bodies.clean k) o
   pub window : IsSeen (d.seen k) o.since o.acts_since
+  pub missed : AreMissed past.missed o.missed
   pub opened : is_closed (d.bodies.spot k) ≡ false
   pub place : (f : d.basis.Foot) (w : World) (s : State) → place_at (d.bodies.spot k) below f w s o.origin past
 
@@ -433,9 +441,16 @@ Makes g b below before chip w s origin (Store n v) clean x y past missed k e lef
 abbrev pub MakesTo : {State Call Body : Type 0} (g : Basis State Call) → LongBodies g Body → List (Held Call g.Hold) → Chip → Chip → World → State → Origin Call → Move → (clean : Bool) → (value received : ℕ) → Past → (ℕ → Bool) → Body × BodyTaken → Type 0
 MakesTo g b below before chip w s origin made clean x y past missed p = Makes g b below before chip w s origin made clean x y past missed p.0 p.1.event p.1.done
 
+-- where it looks, a frame may add to its past a line that isn't ready
+abbrev pub Adding : {State Call : Type 0} {g : Basis State Call} → Spot g → (ready : ℕ → Bool) → Past → (Past → Type 0) → Type 0
+Adding (Within gap hs place) ready past Then = Then past
+Adding (Outside hs place) ready past Then = Then past
+Adding (Looking gap hs place) ready past Then = Then past ⊎ ((l : ℕ) × (ready l ≡ false) × Then (record past { missed = l ∷ past.missed }))
+
 -- a body's step at a place
 abbrev pub Right : {State Call Body : Type 0} (g : Basis State Call) → LongBodies g Body → List (Held Call g.Hold) → Chip → World → State → Body → Origin Call → (received : ℕ) → Past → (ℕ → Bool) → Type 0
-Right g b below chip w s k origin received past missed = MakesTo g b below chip (chip_after chip (b.work_of k) received) w s origin (b.work_of k) (b.clean k) (value_of chip (b.work_of k)) received past (missed_after g.setting.machine w s missed) (b.takes k (value_of chip (b.work_of k)))
+Right g b below chip w s k origin received past missed =
+    Adding (b.spot k) (g.setting.machine.ready w s) past (λ t. MakesTo g b below chip (chip_after chip (b.work_of k) received) w s origin (b.work_of k) (b.clean k) (value_of chip (b.work_of k)) received t (missed_after g.setting.machine w s missed) (b.takes k (value_of chip (b.work_of k))))
 
 -- a move of a register or a word: in a window it leaves fewer moves, and a body ends in a window; outside no event stands
 abbrev pub KeepsMask : (was is : Bool) → (room later : ℕ) → Option Event → Option Done → Type 0

@@ -1,4 +1,5 @@
--- Where a good word goes: to its place of a destination as it is served, to its place of an internal channel as its job ends well.
+-- Where a good word goes: to its place of a destination as it is served, to its place of an internal channel as its job
+-- ends well.
 use Rattle.std.proofs.Common.{◌≡◌, ◌≤◌, ℕ, zero, suc, arith, Bool, true, false, not, ◌&&◌, ◌==◌, ◌+◌, ◌≢◌, List, [], ◌∷◌, length, drop, slice_get, slice_index_or, nat_lt, Option, Some, None, refl, ◌∙◌, ap, ◌⊎◌, inl, inr}
 use Rattle.std.specs.Prelude.{if◌then◌else◌}
 use Rattle.std.proofs.lemmas.Bool.Decides.{nat_tests}

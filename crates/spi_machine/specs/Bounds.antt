@@ -20,7 +20,6 @@ use Rattle.run_model.specs.declared.class.KeyKind.TheVariants as keys
 use Rattle.run_model.specs.declared.class.Kind.{Kind}
 use Rattle.run_model.specs.declared.class.Kind.TheVariants.{Exclusive, Keyed}
 use Rattle.run_model.specs.declared.class.Kind.TheVariants as kinds
-use Rattle.run_model.specs.World.{World}
 use Rattle.run_model.specs.Frame.{Origin, Called, Entered}
 use Rattle.run_model.specs.Moment.{Setting}
 use Rattle.service_outline.specs.There.{names_there}
@@ -46,8 +45,9 @@ class_with kind key = record { kind = kind; «module» = Spi; key = key }
 abbrev pub keyed_by : KeyKind → ℕ → Class
 keyed_by kind n = class_with Keyed (Some (record { kind = kind; number = n }))
 
--- the class of a call: one about a channel or a sequence has that as its key, Spi_WriteIB as one that reads the user's source
--- array, the main function has a key of its own, a query may begin over any frame, and any other call over no frame of the module
+-- the class of a call: one about a channel or a sequence has that as its key, Spi_WriteIB as one that reads the user's
+-- source array, the main function has a key of its own, a query may begin over any frame, and any other call over no
+-- frame of the module
 abbrev pub channel_key : ChannelCall → KeyKind
 channel_key (WriteIb p) = keys.Source
 channel_key _ = keys.Channel

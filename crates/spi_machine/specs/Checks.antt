@@ -49,7 +49,8 @@ service_of (Get query) = query_service query
 abbrev pub is_wrong_length : ℕ → Option configured.Channel → Bool
 is_wrong_length n k = n == 0 || nat_lt (length_by k) n
 
--- whether the errors of a service hold, in their order: the module is uninitialised, a sequence is held by a pending one
+-- whether the errors of a service hold, in their order: the module is uninitialised, a sequence is held by a pending
+-- one
 abbrev pub channel_facts : Option configured.Channel → ChannelCall → (uninit : Bool) → List Bool
 channel_facts k (WriteIb p) u = u ∷ not (is_internal_channel k) ∷ false ∷ false ∷ false ∷ false ∷ []
 channel_facts k ReadIb u = u ∷ not (is_internal_channel k) ∷ false ∷ false ∷ false ∷ false ∷ []

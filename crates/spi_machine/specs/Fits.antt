@@ -1,9 +1,9 @@
 -- What a driver that was made of a sound configuration is.
-use Rattle.std.specs.Prelude.{◌≡◌, ◌≢◌, ℕ, ◌+◌, ◌*◌, ◌<◌, ◌≤◌, Bool, true, List, length, Option, Some, slice_get, slice_index_or, Contains}
+use Rattle.std.specs.Prelude.{◌≡◌, ℕ, ◌+◌, ◌<◌, ◌≤◌, true, List, length, Some, slice_get, slice_index_or, Contains}
 use Rattle.spi_jobs.specs.declared.channel.Channel.{Channel}
 use Rattle.spi_machine.specs.Bounds.{own_words}
 use Rattle.spi_machine.specs.Pending.{uses_channel}
-use Rattle.spi_machine.specs.Table.{channel_of, job_of, sequence_of, channels_of, jobs_of}
+use Rattle.spi_machine.specs.Table.{banked, channel_of, job_of, sequence_of, channels_of, jobs_of}
 use Rattle.spi_machine.specs.declared.table.Job.{Job}
 use Rattle.spi_machine.specs.declared.table.Sequence.{Sequence}
 use Rattle.spi_machine.specs.declared.table.SpiTable.{SpiTable}
@@ -17,7 +17,7 @@ pub record FitsChannel (d : SpiTable) (c : ℕ) (k : Channel) : Type 0 where
   pub few : k.length ≤ 64
   pub narrow : k.width ≤ 16
   pub after : 64 ≤ block_of d c
-  pub within : block_of d c + 4 + 6 * k.length ≤ own_words d
+  pub within : block_of d c + 4 + banked k ≤ own_words d
 
 -- no item is there twice
 abbrev pub AreDifferent : List ℕ → Type 0
@@ -46,7 +46,7 @@ pub record FitsSpi (d : SpiTable) : Type 0 where
   pub rows : (length d.channels ≡ 16) × (length d.jobs ≡ 16) × (length d.sequences ≡ 8) × (length d.blocks ≡ 16)
   pub channels : (c : ℕ) (k : Channel) → channel_of d c ≡ Some k → FitsChannel d c k
   -- the words of a channel stand before those of the next one
-  pub apart : (b c : ℕ) (k : Channel) → b < c → channel_of d b ≡ Some k → c < 16 → block_of d b + 4 + 6 * k.length ≤ block_of d c
+  pub apart : (b c : ℕ) (k : Channel) → b < c → channel_of d b ≡ Some k → c < 16 → block_of d b + 4 + banked k ≤ block_of d c
   pub jobs : (j : ℕ) (k : Job) → job_of d j ≡ Some k → FitsJob d j k
   pub sequences : (q : ℕ) (k : Sequence) → sequence_of d q ≡ Some k → FitsSequence d q k
   -- jobs that share a channel have one unit

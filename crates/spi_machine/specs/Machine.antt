@@ -222,7 +222,8 @@ all_kept s [] _ = s
 all_kept s (x ∷ xs) [] = s
 all_kept s (x ∷ xs) (v ∷ vs) = all_kept (kept s x x.goes v) xs vs
 
--- after the last word: it is stored, and the received words of internal channels become readable; a failed word is stored nowhere
+-- after the last word: it is stored, and the received words of internal channels become readable; a failed word is
+-- stored nowhere
 abbrev pub after_last : SpiState → Run → (failed : Bool) → SpiState
 after_last s r true = s
 after_last s r false = all_kept (stored s (word_of r) (word_of r).goes r.transfer.incoming) r.words (received_with r)

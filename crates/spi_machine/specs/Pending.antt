@@ -133,7 +133,8 @@ all_get x js rs = with_results js (map (λ j. x) js) rs
 abbrev pub given_back : SpiTable → Pending → (from : ℕ) → List AnswerName → List AnswerName
 given_back d p from rs = with_results (drop from (jobs_of d p.sequence)) (drop from p.had) rs
 
--- how a sequence ends with its job, where it does: by whether it was cancelled, the job failed, and a further job is there
+-- how a sequence ends with its job, where it does: by whether it was cancelled, the job failed, and a further job is
+-- there
 abbrev pub end_by : (cancelled failed further : Bool) → Option AnswerName
 end_by true _ _ = Some SpiSeqCanceled
 end_by false true _ = Some SpiSeqFailed

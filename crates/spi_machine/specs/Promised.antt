@@ -127,7 +127,8 @@ had_by (Some p) = p.had
 abbrev pub had_of : (sequence : ℕ) → List Pending → List AnswerName
 had_of q ps = had_by (find (is_of q) ps)
 
--- the place of the first job that never ran in a sequence that ends: after the job that ends with it, and the next one where none runs
+-- the place of the first job that never ran in a sequence that ends: after the job that ends with it, and the next one
+-- where none runs
 abbrev pub first_unrun : Happening Call → Pending → ℕ
 first_unrun (Serves l received) p = p.next + 1
 first_unrun _ p = p.next
@@ -148,7 +149,8 @@ pub data Turn (d : SpiTable) (q : ℕ) (s : SpiState) (h : Happening Call) (out 
   -- it wasn't pending, and was requested, with the results that its jobs have
   Begins : is_pending q s.pending ≡ false → is_pending q out.state.pending ≡ true → sequence_result out.state.sequence_results q ≡ SpiSeqPending
       → had_of q out.state.pending ≡ map (job_result s.job_results) (jobs_of d q) → tells_end q out.told ≡ false → Turn d q s h out
-  -- it was pending, and ended, and its jobs that never ran have what they had: it is cancelled, its job failed, or no further job is there; its result says which, and is told where its notice is configured
+  -- it was pending, and ended, and its jobs that never ran have what they had: it is cancelled, its job failed, or no
+  -- further job is there; its result says which, and is told where its notice is configured
   Ends : (p : Pending) → find (is_of q) s.pending ≡ Some p → is_pending q out.state.pending ≡ false
       → is_cancelled q h p || takes_failed s h || not (has_further d p) ≡ true
       → sequence_result out.state.sequence_results q ≡ ends_as (is_cancelled q h p) (takes_failed s h)
@@ -199,7 +201,8 @@ abbrev pub job_ends_as : (failed : Bool) → AnswerName
 job_ends_as true = SpiJobFailed
 job_ends_as false = SpiJobOk
 
--- the running job of a sequence ends with a result: the unit is free, and its notice is given, and then the sequence's if that ends
+-- the running job of a sequence ends with a result: the unit is free, and its notice is given, and then the sequence's
+-- if that ends
 pub record EndsJob (d : SpiTable) (u : ℕ) (p : Pending) (given : AnswerName) (out : Outcome SpiState) : Type 0 where
   pub free : run_at out.state u ≡ None
   pub result : job_result out.state.job_results (next_job d p) ≡ given

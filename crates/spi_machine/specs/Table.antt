@@ -68,11 +68,15 @@ jobs_by_number xs = job_in xs 0 ∷ job_in xs 1 ∷ job_in xs 2 ∷ job_in xs 3 
 abbrev pub sequences_by_number : List SpiSequence → List (Option Sequence)
 sequences_by_number xs = sequence_in xs 0 ∷ sequence_in xs 1 ∷ sequence_in xs 2 ∷ sequence_in xs 3 ∷ sequence_in xs 4 ∷ sequence_in xs 5 ∷ sequence_in xs 6 ∷ sequence_in xs 7 ∷ []
 
--- how many driver words stand before those of a channel: the first 64, and those of the channels before it, four each and
--- six for each word
+-- the driver words of a channel's banks: six for each word of an internal one
+abbrev pub banked : Channel → ℕ
+banked k = if k.internal then 6 * k.length else 0
+
+-- how many driver words stand before those of a channel: the first 64, and those of the channels before it, four each
+-- and those of their banks
 abbrev pub after : ℕ → Option Channel → ℕ
 after b None = b
-after b (Some k) = (b + 4 + 6 * k.length) % 65536
+after b (Some k) = (b + 4 + banked k) % 65536
 
 abbrev pub before : List (Option Channel) → ℕ → ℕ
 before ks zero = 64

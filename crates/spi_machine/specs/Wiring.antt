@@ -1,7 +1,6 @@
--- What frames read of the table: channels with the places of their words, and the jobs and channels that stand at places.
-use Rattle.std.specs.Prelude.{ℕ, zero, suc, ◌+◌, ◌%◌, ◌==◌, Bool, true, false, ◌||◌, if◌then◌else◌, List, [], take, Option, Some, None, is_some, slice_get, slice_index_or}
-use Rattle.std.specs.Option.{option_or}
-use Rattle.spi_jobs.specs.declared.channel.Channel.{Channel}
+-- What frames read of the table: channels with the places of their words, and the jobs and channels that stand at
+-- places.
+use Rattle.std.specs.Prelude.{ℕ, zero, suc, ◌%◌, ◌==◌, Bool, false, ◌||◌, if◌then◌else◌, List, take, Option, Some, None, is_some, slice_get, slice_index_or}
 use Rattle.spi_jobs.specs.declared.channel.Placed.{Placed}
 use Rattle.spi_machine.specs.declared.table.ChannelList.{ChannelList}
 use Rattle.spi_machine.specs.declared.table.JobList.{JobList}
@@ -9,7 +8,7 @@ use Rattle.spi_machine.specs.declared.table.Job.{Job}
 use Rattle.spi_machine.specs.declared.table.Sequence.{Sequence}
 use Rattle.spi_machine.specs.declared.table.SpiTable.{SpiTable}
 use Rattle.spi_machine.specs.declared.table.TheConstants.{NO_CHANNEL, NOWHERE, NO_CHANNELS, NO_JOBS}
-use Rattle.spi_machine.specs.Table.{channel_of, job_of, sequence_of}
+use Rattle.spi_machine.specs.Table.{job_of, sequence_of}
 
 -- what an option has, or else this
 abbrev pub or_else : {A : Type 0} → A → Option A → A

@@ -31,7 +31,8 @@ impl SpiTable {
         }
     }
 
-    /// Of a call about the whole module: 48 more for each configured object, and 8 for each word of an internal channel.
+    /// Of a call about the whole module: 48 more for each configured object, and 8 for each word of an internal
+    /// channel.
     fn whole_steps(&self) -> u32
         ensures { result ≡ spec.whole_steps self.now }
     {

@@ -104,9 +104,9 @@ impl Call {
         }
     }
 
-    /// The class of the call: one about a channel or a sequence has that as its key, `Spi_WriteIB` as one that reads the
-    /// user's source array, the main function has a key of its own, a query may begin over any frame, and any other call
-    /// over no frame of the module.
+    /// The class of the call: one about a channel or a sequence has that as its key, `Spi_WriteIB` as one that reads
+    /// the user's source array, the main function has a key of its own, a query may begin over any frame, and any other
+    /// call over no frame of the module.
     pub fn class(self) -> Class
         ensures { result ≡ bounds.class_of self }
     {

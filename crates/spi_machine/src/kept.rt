@@ -1,4 +1,4 @@
-ghost use Rattle.std.specs.Prelude.{◌≡◌, slice_index_or, slice_get};
+ghost use Rattle.std.specs.Prelude.{◌≡◌, ◌≤◌, slice_index_or, slice_get};
 ghost use Rattle.spi_machine.specs.Table as spec;
 
 use crate::table::{ChannelList, Job, JobList, Sequence, SpiTable};
@@ -72,8 +72,20 @@ fn after(before: u16, channel: Option<Channel>) -> u16
     ensures { result ≡ spec.after before channel }
 {
     match channel {
-        Some(channel) => ((u32::from(before) + 4 + 6 * u32::from(channel.length)) % 65_536) as u16,
+        Some(channel) => ((u32::from(before) + 4 + banked(channel)) % 65_536) as u16,
         None => before,
+    }
+}
+
+/// The driver words of a channel's banks: six for each word of an internal one.
+fn banked(channel: Channel) -> u32
+    ensures is { result ≡ spec.banked channel }
+    ensures few { result ≤ 1530 }
+{
+    if channel.internal {
+        6 * u32::from(channel.length)
+    } else {
+        0
     }
 }
 

@@ -1,5 +1,5 @@
-//! The machine of the serial units: its calls and what they are about, what the serial driver keeps of a configuration, and
-//! what calls, servings, starts and hardware do.
+//! The machine of the serial units: its calls and what they are about, what the serial driver keeps of a configuration,
+//! and what calls, servings, starts and hardware do.
 #![tactic(auto)]
 
 mod bounds;

@@ -1,8 +1,10 @@
 pub mod Changes
 pub mod Drawing
 pub mod Escapes
+pub mod Judged
 pub mod Laws
 pub mod Moments
+pub mod Outcomes
 pub mod Pages
 pub mod Program
 pub mod Rows

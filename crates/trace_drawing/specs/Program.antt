@@ -1,5 +1,5 @@
 -- What is drawn of an input: of its script and its report, in the form that is asked for.
-use Rattle.std.specs.Prelude.{ℕ, ◌||◌, List, ◌++◌, Bool, Result, Ok, Err, codes, decimal, bytes_eq}
+use Rattle.std.specs.Prelude.{ℕ, List, ◌++◌, Result, Ok, Err, codes, decimal}
 use Rattle.mcal_base.specs.declared.directive.Directive.{Directive}
 use Rattle.trace_reader.specs.Reading.{read_trace}
 use Rattle.trace_drawing.specs.Changes.{changes}
@@ -37,8 +37,6 @@ abbrev pub written : ℕ → Result (List ℕ) ℕ → List ℕ
 written before (Ok text) = text
 written before (Err line) = codes "trace fault " ++ (decimal (sum_up before line) ++ codes "\n")
 
--- ---- where the report begins
-
--- the first line that is exactly the mark of a report
-abbrev pub is_mark : List ℕ → Bool
-is_mark line = bytes_eq line (codes "===\n") || bytes_eq line (codes "===\r\n")
+-- no text is drawn, for the line of this number
+abbrev pub none_at : ℕ → Result (List ℕ) ℕ
+none_at line = Err line

@@ -18,4 +18,4 @@ mod signs;
 mod transfer;
 
 pub use laws::draws_each_line;
-pub use program::view;
+pub use program::{Form, view};

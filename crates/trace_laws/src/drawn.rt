@@ -1,8 +1,7 @@
 //! The traces of legal runs, which are read and drawn.
 
-ghost use Rattle.std.specs.Prelude.{◌≤◌, ◌<◌, List, true, length};
+ghost use Rattle.std.specs.Prelude.{◌≤◌, List, true, length};
 ghost use Rattle.chip_model.specs.Chip.{Chip};
-ghost use Rattle.run_model.specs.Stops.{steps_in};
 ghost use Rattle.script_runner.specs.Scripts.{IsRun, IsScript};
 ghost use Rattle.bench_report.specs.Limit.{most_bytes};
 ghost use Rattle.bench_report.specs.Report.{report};
@@ -12,24 +11,10 @@ ghost use Rattle.trace_laws.specs.Drawn.{IsDrawn};
 ghost use Rattle.trace_laws.specs.Lines.{HasLines};
 ghost use Rattle.trace_laws.specs.Numbers.{RowsFit};
 
-use crate::numbers::{journal_fits, script_fits};
+use crate::numbers::{few_steps, journal_fits, script_fits};
 use mcal_base::Directive;
-use run_model::{Item, Journal};
+use run_model::Journal;
 use script_runner::Caller;
-
-/// Items are fewer than a drawing may count.
-fn few_items(items: &[Item])
-    ensures { length items.now < 18446744073709551615 }
-{}
-
-/// A journal has fewer steps than a drawing may count.
-#[tactic(auto, using(crate::proofs::Journals::few_steps))]
-fn few_steps(journal: &Journal)
-    ensures { steps_in journal.now.entries < 18446744073709551615 }
-{
-    let _words = journal.words();
-    few_items(journal.items());
-}
 
 /// The trace of each legal run of a script over a driver is read as what its lines tell, and drawn, where its report is
 /// no longer than it may be: each line belongs to a directive, frames nest, steps are made by the topmost, and what ends

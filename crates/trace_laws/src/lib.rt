@@ -6,4 +6,5 @@ mod numbers;
 mod traces;
 
 pub use drawn::draws_runs;
+pub use numbers::{few_steps, journal_fits};
 pub use traces::reads_journals;

@@ -1,5 +1,7 @@
 //! The numbers that a journal and a script hold, by their types.
 
+ghost use Rattle.std.specs.Prelude.{◌<◌, length};
+ghost use Rattle.run_model.specs.Stops.{steps_in};
 ghost use Rattle.trace_reader.specs.Trace.{Each, IsNumber};
 ghost use Rattle.trace_laws.specs.Numbers.{DirectiveFits, EntryFits, ItemFits, OrderFits};
 
@@ -66,9 +68,23 @@ pub(crate) fn script_fits(script: &[Directive])
 
 /// The numbers of a journal.
 #[tactic(auto, using(crate::proofs::Journals::entries_fit))]
-pub(crate) fn journal_fits(journal: &Journal)
+pub fn journal_fits(journal: &Journal)
     ensures { Each EntryFits journal.now.entries }
 {
     words_fit(journal.words());
     items_fit(journal.items());
+}
+
+/// Items are fewer than a drawing may count.
+fn few_items(items: &[Item])
+    ensures { length items.now < 18446744073709551615 }
+{}
+
+/// A journal has fewer steps than a drawing may count.
+#[tactic(auto, using(crate::proofs::Journals::few_steps))]
+pub fn few_steps(journal: &Journal)
+    ensures { steps_in journal.now.entries < 18446744073709551615 }
+{
+    let _words = journal.words();
+    few_items(journal.items());
 }

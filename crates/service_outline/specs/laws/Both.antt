@@ -1,5 +1,6 @@
 -- Long bodies of either of two kinds owe no more.
-use Rattle.std.specs.Prelude.{◌≡◌, ℕ, ◌<◌, Bool, true, false, ◌||◌, List, Option, Some, None}
+use Rattle.std.proofs.Common.{inl, inr}
+use Rattle.std.specs.Prelude.{◌≡◌, ℕ, ◌<◌, Bool, true, false, ◌||◌, List, ◌∷◌, Option, Some, None}
 use Rattle.chip_model.specs.Chip.{Chip, value_of, chip_after, happened, is_masked}
 use Rattle.mcal_base.specs.declared.answer.Answer.{Answer}
 use Rattle.mcal_base.specs.declared.directive.Order.{Order}
@@ -17,7 +18,14 @@ use Rattle.service_outline.specs.Both.{both}
 use Rattle.service_outline.specs.Acts.{Cleans}
 use Rattle.service_outline.specs.Fuel.{Shortens}
 use Rattle.service_outline.specs.Past.{Past, past_wrote, past_after}
-use Rattle.service_outline.specs.Services.{Held, Basis, place_at, LongBodies, Stand, AreEnding, AreLong, Continues, Works, Makes, RightOr, ended_at, TurnsTo, MayCome, is_closed, with_holds, holds_at}
+use Rattle.service_outline.specs.Services.{Held, Basis, place_at, LongBodies, Stand, AreEnding, AreLong, Continues, Works, Makes, Spot, Within, Outside, Looking, Adding, RightOr, ended_at, TurnsTo, MayCome, is_closed, with_holds, holds_at}
+
+-- what follows with any past that a look may leave
+pub adding_on : {State Call : Type 0} {g : Basis State Call} (x : Spot g) (ready : ℕ → Bool) (past : Past) {P Q : Past → Type 0} → ((t : Past) → P t → Q t) → Adding x ready past P → Adding x ready past Q
+adding_on (Within gap hs place) ready past go h = go past h
+adding_on (Outside hs place) ready past go h = go past h
+adding_on (Looking gap hs place) ready past go (inl h) = inl (go past h)
+adding_on (Looking gap hs place) ready past go (inr (l, e, h)) = inr (l, e, go (record past { missed = l ∷ past.missed }) h)
 
 module _ {State Call A B : Type 0} (g : Basis State Call) (v : LongBodies g A) (u : LongBodies g B) (lift : A → B) (below : List (Held Call g.Hold))
     (at : (chip : Chip) (w : World) (s : State) (k : A) (o : Origin Call) (t : Past) → Stand g v below chip w s k o t → Stand g u below chip w s (lift k) o t) where
@@ -52,14 +60,14 @@ module _ {State Call A B : Type 0} (g : Basis State Call) (v : LongBodies g A) (
   first_by below chip w s k o received t m None h =
       let y = value_of chip (v.work_of k) in
       let x = v.takes k y in
-      makes_lift g v (both v u) (λ i. First i) below (λ chip w s k o t h. h) chip (chip_after chip (v.work_of k) received) w s o (v.work_of k) (v.clean k) y received t (missed_after g.setting.machine w s m) x.0 x.1.event x.1.done h
+      adding_on (v.spot k) (g.setting.machine.ready w s) t (λ t1 made. makes_lift g v (both v u) (λ i. First i) below (λ chip w s k o t h. h) chip (chip_after chip (v.work_of k) received) w s o (v.work_of k) (v.clean k) y received t1 (missed_after g.setting.machine w s m) x.0 x.1.event x.1.done made) h
   first_by below chip w s k o received t m (Some a) h = h
 
   second_by : (below : List (Held Call g.Hold)) (chip : Chip) (w : World) (s : State) (k : B) (o : Origin Call) (received : ℕ) (t : Past) (m : ℕ → Bool) (a : Option Answer) → RightOr g u below chip w s k o received t m a → RightOr g (both v u) below chip w s (Second k) o received t m a
   second_by below chip w s k o received t m None h =
       let y = value_of chip (u.work_of k) in
       let x = u.takes k y in
-      makes_lift g u (both v u) (λ i. Second i) below (λ chip w s k o t h. h) chip (chip_after chip (u.work_of k) received) w s o (u.work_of k) (u.clean k) y received t (missed_after g.setting.machine w s m) x.0 x.1.event x.1.done h
+      adding_on (u.spot k) (g.setting.machine.ready w s) t (λ t1 made. makes_lift g u (both v u) (λ i. Second i) below (λ chip w s k o t h. h) chip (chip_after chip (u.work_of k) received) w s o (u.work_of k) (u.clean k) y received t1 (missed_after g.setting.machine w s m) x.0 x.1.event x.1.done made) h
   second_by below chip w s k o received t m (Some a) h = h
 
   steps : (below : List (Held Call g.Hold)) (chip : Chip) (w : World) (s : State) (k : Or A B) (o : Origin Call) (received : ℕ) (t : Past) (m : ℕ → Bool) → ReceivedRight chip w ((both v u).work_of k) received → g.count s < most_steps → Stand g (both v u) below chip w s k o t → RightOr g (both v u) below chip w s k o received t m (ended_at (both v u) ends_with k (value_of chip ((both v u).work_of k)))

@@ -39,7 +39,7 @@ module _ {State Call Asked Body : Type 0} (d : Services State Call Asked Body) {
   wait_at held chip w s (Inside k) o e h =
       let outside : is_closed (d.bodies.spot k) ≡ false = sym (ap (λ x. x.inside) h.form) ∙ e in (
         subst (λ x. d.basis.agrees (with_holds o.origin x (holds_at (d.bodies.spot k)) held) d.basis.settled chip w s) (sym (ap (λ x. x.acted) h.form)) (subst (λ x. d.basis.agrees (with_holds o.origin h.past.acted (holds_at (d.bodies.spot k)) held) x chip w s) (settled_at (d.bodies.spot k) outside) h.at.0),
-        record { past = h.past; form = h.form; behaves = h.behaves; window = h.window; opened = outside; place = λ f1 w1 s1. stays_at (d.bodies.spot k) held (d.basis.foot chip) f1 w w1 s s1 o.origin h.past outside h.at.1 },
+        record { past = h.past; form = h.form; behaves = h.behaves; window = h.window; missed = h.missed; opened = outside; place = λ f1 w1 s1. stays_at (d.bodies.spot k) held (d.basis.foot chip) f1 w w1 s s1 o.origin h.past outside h.at.1 },
       )
   wait_at held chip w s (Opening n) o e h = let i = h.1.inside in absurd (cc)
   wait_at held chip w s (Telling n) o e h = (h.0, h.1)
@@ -150,6 +150,7 @@ module _ {State Call Asked Body : Type 0} (d : Services State Call Asked Body) {
         form = h.form;
         behaves = h.behaves;
         window = h.window;
+        missed = h.missed;
         at = (law.basis.agrees_later (with_holds o.origin h.past.acted (holds_at (d.bodies.spot k)) held) (gap_at (d.bodies.spot k)) chip w s order come (λ e. settled_at (d.bodies.spot k) (opened e)) h.at.0, law.bodies.later held chip w s order k o.origin h.past come opened h.at);
       }
   top_later ps chip w s order (Calling c) o free shut h = (law.basis.agrees_later (holds_in d ps) d.basis.settled chip w s order (comes chip w s order (Calling c) o ps _ free refl) (λ e. refl) h.0, h.1)
@@ -201,6 +202,7 @@ module _ {State Call Asked Body : Type 0} (d : Services State Call Asked Body) {
         form = h.form;
         behaves = h.behaves;
         window = h.window;
+        missed = h.missed;
         at = (
           subst (λ x. d.basis.agrees all x (chip_after chip made received) w s) settled (law.basis.agrees_apart all chip w s made received e (subst (λ x. d.basis.agrees all x chip w s) (sym settled) h.at.0)),
           stays_at (d.bodies.spot k) held (d.basis.foot chip) (d.basis.foot (chip_after chip made received)) w w s s o.origin h.past outside h.at.1,

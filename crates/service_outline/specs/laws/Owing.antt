@@ -21,7 +21,7 @@ use Rattle.service_outline.specs.Acts.{Cleans, KeepsClean}
 use Rattle.service_outline.specs.Fuel.{Shortens, ShortensTo}
 use Rattle.service_outline.specs.Owing.{Owing, Either, Settles, Work, Under, Owes, owing, is_fill, Likeness, AreOwed, Windows, or_owed, spot_or, windows, GoesOwing, GoesFree, AreWindows, AreFree}
 use Rattle.service_outline.specs.Past.{Past, past_wrote}
-use Rattle.service_outline.specs.Services.{Held, Basis, IsBasis, Rates, Steady, Agreed, MayCome, LongBodies, Stand, AreEnding, Continues, Works, MakesTo, RightOr, KeepsMask, TurnsMask, TurnsTo, is_closed, holds_at, gap_at, place_at, with_holds, ended_at}
+use Rattle.service_outline.specs.Services.{Held, Basis, IsBasis, Rates, Steady, Agreed, MayCome, LongBodies, Stand, AreEnding, Continues, Works, MakesTo, Adding, RightOr, KeepsMask, TurnsMask, TurnsTo, is_closed, holds_at, gap_at, place_at, with_holds, ended_at}
 use Rattle.service_outline.specs.Short.{ended_by}
 use Rattle.service_outline.specs.declared.done.BodyTaken.{BodyTaken}
 use Rattle.service_outline.specs.declared.done.Done.{Done}
@@ -311,8 +311,9 @@ module _ {State Call Owed About Body : Type 0} (g : Basis State Call) (p : Owing
       let stands_at = subst (λ r. Continues G V below (chip_after chip made r) w s o (past_wrote w made t) missed next.0 next.1.done) (sym none) (subst (λ q. Continues G V below (chip_after chip made 0) w s o q missed next.0 next.1.done) (sym same) stands) in
       let works = quiet_works G V below chip (chip_after chip made received) w s o made (V.clean k) value received t missed next.0 next.1.event next.1.done (after_event k x value owes) stands_at in
       goes_right G V below chip w s k o received t m (ended_at V ends_with k (value_of chip (v.bodies.work_of k))) (none_ended (ends_with (v.bodies.takes k (value_of chip (v.bodies.work_of k))).0) (v.bodies.takes k (value_of chip (v.bodies.work_of k))).1.done (wins.unended k x (value_of chip (v.bodies.work_of k)) owes)) (
+      subst (λ q. Adding (spot_or v q (v.bodies.spot k)) (g.setting.machine.ready w s) t (λ u. MakesTo G V below chip (chip_after chip (v.bodies.work_of k) received) w s o (v.bodies.work_of k) (V.clean k) (value_of chip (v.bodies.work_of k)) received u missed (v.bodies.takes k (value_of chip (v.bodies.work_of k))))) (sym owes) (
       subst (λ q. MakesTo G V below chip (chip_after chip q received) w s o q (V.clean k) (value_of chip q) received t missed (v.bodies.takes k (value_of chip q))) (sym is) (plain_makes G V below chip (chip_after chip made received) w s o (V.clean k) value received t missed next.0 next.1.event next.1.done made (law.plain made own) works)
-      )
+      ))
 
   owed_turns : (below : List (Held Call g.Hold)) (chip : Chip) (w : World) (s : State) (k : Body) (o : Origin Call) (t : Past) (x : Owed) → v.owes k ≡ Some x → Stand (owing g p) (windows v) below chip w s k o t → TurnsTo (windows v) (g.setting.window_of o) k (v.bodies.takes k (value_of chip (v.bodies.work_of k)))
   owed_turns below chip w s k o t x owes h =

@@ -100,7 +100,7 @@ module _ {State Call Body : Type 0} (g : Basis State Call) (b : Bodies (over g [
     sends = silent_sends before made calm.silent;
     acts = h.acts;
     reset = calm.still ∙ asks_nothing g.setting c Act (Some (outcome h.state h.told)) calm.call.0;
-    next = subst (λ q. Continues g (short g b place) below chip w h.state (Called c) (record { acted = Some h.told.answer; polled = q; served = []; committed = committed_after w times made; owed = owing false h.told.notices; report = report_of g.setting.machine c h.told.error }) missed k left) (sym (calm.call.1 w s)) (goes_same h.state (Called c) (Some h.told) (committed_after w times made) missed k left tt h.next);
+    next = subst (λ q. Continues g (short g b place) below chip w h.state (Called c) (record { acted = Some h.told.answer; polled = q; served = []; missed = []; committed = committed_after w times made; owed = owing false h.told.notices; report = report_of g.setting.machine c h.told.error }) missed k left) (sym (calm.call.1 w s)) (goes_same h.state (Called c) (Some h.told) (committed_after w times made) missed k left tt h.next);
   }
   works_same s (Entered l) made clean x y None times missed k (Some Act) left calm h = absurd h.own
   works_same s (Called c) made clean x y None times missed k (Some (Serve j)) left calm h = absurd h.own
@@ -114,7 +114,7 @@ module _ {State Call Body : Type 0} (g : Basis State Call) (b : Bodies (over g [
     sends = silent_sends before made calm.silent;
     acts = tt;
     reset = calm.still;
-    next = subst (λ q. Continues g (short g b place) below chip w h.state (Entered l) (record { acted = None; polled = []; served = q ∷ []; committed = committed_after w times made; owed = owing true h.told.notices; report = None }) missed k left) (sym h.own) (goes_same h.state (Entered l) (Some h.told) (committed_after w times made) missed k left calm.call h.next);
+    next = subst (λ q. Continues g (short g b place) below chip w h.state (Entered l) (record { acted = None; polled = []; served = q ∷ []; missed = []; committed = committed_after w times made; owed = owing true h.told.notices; report = None }) missed k left) (sym h.own) (goes_same h.state (Entered l) (Some h.told) (committed_after w times made) missed k left calm.call h.next);
   }
   works_same s (Called c) made clean x y None times missed k (Some (Abort u)) left calm h = absurd h.own
   works_same s (Called c) made clean x y None times missed k (Some (Start u)) left calm h = absurd h.own

@@ -163,7 +163,7 @@ more_missed true x b e = refl
 more_missed false true b e = refl
 more_missed false false b e = absurd (cc)
 
-and_of : (a b : Bool) → a ≡ true → b ≡ true → a && b ≡ true
+pub and_of : (a b : Bool) → a ≡ true → b ≡ true → a && b ≡ true
 and_of a b e f = rw (e, f) refl
 
 -- lines that were met have been met later on

@@ -10,7 +10,7 @@ use Rattle.service_outline.specs.laws.Words.{stored_same, stored_other}
 
 -- ---- one of many
 
-equal_by : (k c : ℕ) → (k == c) ≡ true → k ≡ c
+pub equal_by : (k c : ℕ) → (k == c) ≡ true → k ≡ c
 equal_by k c e = grind (arith, nat_tests)
 
 differ_by : (k c : ℕ) → (k == c) ≡ false → k ≢ c

@@ -18,7 +18,7 @@ use Rattle.service_outline.specs.declared.sweep.Place.{Place}
 use Rattle.service_outline.specs.declared.sweep.Place.TheVariants.{Opens, At, Closes, Follows}
 use Rattle.service_outline.specs.declared.sweep.Sweep.{Sweep}
 use Rattle.service_outline.specs.laws.Acts.{never_clean}
-use Rattle.service_outline.specs.laws.Both.{makes_lift}
+use Rattle.service_outline.specs.laws.Both.{adding_on, makes_lift}
 use Rattle.service_outline.specs.laws.ShortServices.{plain_makes, plain_turns}
 use Rattle.service_outline.specs.laws.StepKinds.{or_true, silent_received}
 use Rattle.service_outline.specs.laws.Sweep.{next_by}
@@ -88,8 +88,8 @@ module _ {State Call S B : Type 0} (g : Basis State Call) (v : Sweeping g S B) (
       by a (Follows j) come h =
           let y = value_of chip (b.work_of j) in
           let x = b.takes j y in
-          makes_lift g b Swept (λ i. at a (Follows i)) below (λ chip w s k o t h. h) chip (chip_after chip (b.work_of j) received) w s o (b.work_of j) false y received t (missed_after g.setting.machine w s m) x.0 x.1.event x.1.done
-          (subst (λ q. Makes g b below chip (chip_after chip (b.work_of j) received) w s o (b.work_of j) q y received t (missed_after g.setting.machine w s m) x.0 x.1.event x.1.done) (law.unclean j) (right.steps below chip w s j o received t m come few h))
+          adding_on (b.spot j) (g.setting.machine.ready w s) t (λ t1 made. makes_lift g b Swept (λ i. at a (Follows i)) below (λ chip w s k o t h. h) chip (chip_after chip (b.work_of j) received) w s o (b.work_of j) false y received t1 (missed_after g.setting.machine w s m) x.0 x.1.event x.1.done
+          (subst (λ q. Makes g b below chip (chip_after chip (b.work_of j) received) w s o (b.work_of j) q y received t1 (missed_after g.setting.machine w s m) x.0 x.1.event x.1.done) (law.unclean j) made)) (right.steps below chip w s j o received t m come few h)
 
   later : (below : List (Held Call g.Hold)) (chip : Chip) (w : World) (s : State) (order : Order) (k : Sweep S B) (o : Origin Call) (t : Past) → MayCome g.setting (with_holds o t.acted (holds_at (Swept.spot k)) below) chip w s order → (is_masked chip ≡ false → is_closed (Swept.spot k) ≡ false) → Stands below chip w s k o t → place_at (Swept.spot k) below (g.foot (happened chip order)) (world_after w chip.clock.rate order) (g.later w s order) o t
   later below chip w s order k o t come shut h = by k.objects k.place come shut h

@@ -13,6 +13,6 @@ loop-place-preserved c =
     let n = c.loop-place.place in
     let i = c.args.channel in
     c.in_ok-push.ensures.items
-    ∙ ap (λ (xs : List Value). xs ++ One c.stamp.result ∷ []) c.loop-place.invariant
-    ∙ ap (λ (v : ℕ). stamps s i n ++ One v ∷ []) c.stamp.ensures
+    ∙ ap (λ (xs : List Value). xs ++ One c.user.result ∷ []) c.loop-place.invariant
+    ∙ ap (λ (v : ℕ). stamps s i n ++ One v ∷ []) c.user.ensures
     ∙ sym (map-range_with_len_more (λ k. One (stamp_at s i k)) 0 n n (omega arith))

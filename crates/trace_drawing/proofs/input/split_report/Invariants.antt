@@ -1,5 +1,13 @@
-use Rattle.std.proofs.Common.{length}
+use Rattle.std.proofs.Common.{◌≡◌, ◌≤◌, ◌-◌, ◌++◌, length, take, drop}
+use Rattle.std.specs.Prelude.{option_map}
+use Rattle.trace_drawing.specs.Judged as spec
 use Rattle.trace_drawing.proofs.input.split_report.Given as goal
 
-abbrev pub decreases-loop-line : goal.decreases-loop-line
-decreases-loop-line l = length l.rest
+abbrev pub invariant-loop-feed : goal.invariant-loop-feed
+invariant-loop-feed l = record {
+  within : l.start ≤ length l.text;
+  cut : spec.split_report l.text ≡ option_map (λ p. (take l.start l.text ++ p.0, p.1)) (spec.split_report (drop l.start l.text));
+}
+
+abbrev pub decreases-loop-feed : goal.decreases-loop-feed
+decreases-loop-feed l = length l.text - l.start

@@ -1,0 +1,288 @@
+-- The frames that start or serve units: what they hold at their places, and what stands there.
+use Rattle.std.specs.Prelude.{◌≡◌, ℕ, zero, suc, ◌+◌, ◌-◌, ◌<◌, ◌≤◌, ◌==◌, Bool, true, false, ◌&&◌, ◌||◌, if◌then◌else◌, List, [], ◌∷◌, Option, Some, None}
+use Rattle.mcal_base.specs.declared.answer.Answer.{Answer}
+use Rattle.mcal_base.specs.declared.answer_name.AnswerName.TheVariants.{EOk}
+use Rattle.mcal_base.specs.declared.notice.Notice.{Notice}
+use Rattle.run_model.specs.Frame.{Called, Entered, Origin, Owing, owing}
+use Rattle.run_model.specs.Legal.{has_line}
+use Rattle.run_model.specs.Machine.{no_answer}
+use Rattle.service_outline.specs.Done.{named}
+use Rattle.service_outline.specs.Owing.{Under, Windows, windows}
+use Rattle.service_outline.specs.Past.{Past, nothing_yet}
+use Rattle.service_outline.specs.Services.{LongBodies, Looking, Outside, Spot, Within}
+use Rattle.spi_machine.specs.Checks.{error_by}
+use Rattle.spi_machine.specs.Pending.{Pending, is_held, is_pending, shares_job}
+use Rattle.spi_machine.specs.State.{SpiState, is_off, is_polling}
+use Rattle.spi_machine.specs.Table.{sequence_of}
+use Rattle.spi_machine.specs.Wiring.{unit_of_sequence}
+use Rattle.spi_machine.specs.declared.call.Call.{Call}
+use Rattle.spi_machine.specs.declared.call.Call.TheVariants as calls
+use Rattle.spi_machine.specs.declared.call.SequenceCall.TheVariants.{AsyncTransmit}
+use Rattle.spi_machine.specs.declared.table.SpiTable.{SpiTable}
+use Rattle.spi_sequences.specs.Ground.{Debt, Handling, Hold, Holds, spi_bare}
+use Rattle.spi_sequences.specs.Owed.{Cancels, Owed, Units, Wholes, request_more, spi_basis, spi_owing, unit_owed}
+use Rattle.spi_sequences.specs.declared.service.request.RequestPlace.{RequestPlace}
+use Rattle.spi_sequences.specs.declared.service.request.RequestPlace.TheVariants as request
+use Rattle.spi_sequences.specs.declared.service.serve.Ended.{Ended}
+use Rattle.spi_sequences.specs.declared.service.serve.ServePlace.{ServePlace}
+use Rattle.spi_sequences.specs.declared.service.serve.ServePlace.TheVariants as serve
+use Rattle.spi_sequences.specs.declared.service.start.StartPlace.{StartPlace}
+use Rattle.spi_sequences.specs.declared.service.start.StartPlace.TheVariants as start
+use Rattle.spi_sequences.specs.declared.service.unit.After.{After}
+use Rattle.spi_sequences.specs.declared.service.unit.After.TheVariants as after
+use Rattle.spi_sequences.specs.declared.service.unit.Errand.{Errand}
+use Rattle.spi_sequences.specs.declared.service.unit.Errand.TheVariants.{Handler, Main, Transmit}
+use Rattle.spi_sequences.specs.declared.service.unit.UnitBody.{UnitBody}
+use Rattle.spi_sequences.specs.declared.service.unit.UnitPlace.{UnitPlace}
+use Rattle.spi_sequences.specs.declared.service.unit.UnitPlace.TheVariants as place
+use Rattle.spi_sequences.specs.laws.Unit.{unit_takes, unit_work}
+use Rattle.spi_driver.specs.laws.Parts.{Foot, Serving, Starting, serve_ahead}
+
+-- ---- what a frame was begun for, and what it has done
+
+-- the frame of an errand
+pub data IsFor (u : ℕ) : Errand → Origin Call → Type 0 where
+  Transmits : (q : ℕ) → IsFor u (Transmit q) (Called (calls.Sequence q AsyncTransmit))
+  Handles : IsFor u Handler (Entered (26 + u))
+  Mains : IsFor u Main (Called calls.MainFunctionHandling)
+
+-- it works on one of the two units, under the configuration's table
+pub record Frame (d : SpiTable) (x : SpiTable) (e : Errand) (u : ℕ) (o : Origin Call) : Type 0 where
+  pub table : x ≡ d
+  pub small : u < 2
+  pub of : IsFor u e o
+
+-- the answer of its act, and the lines that it polled there
+abbrev pub acted_by : Errand → Option Answer
+acted_by (Transmit q) = Some (named EOk)
+acted_by Handler = None
+acted_by Main = Some no_answer
+
+abbrev pub polled_by : Errand → List ℕ
+polled_by Main = 26 ∷ 27 ∷ []
+polled_by _ = []
+
+-- a line was served or surely missed
+abbrev pub is_met : Past → (line : ℕ) → Bool
+is_met t l = has_line t.served l || has_line t.missed l
+
+-- what it has served, before it is done with the unit and after that
+abbrev pub Progress : Errand → (number : ℕ) → (done : Bool) → Past → Type 0
+Progress (Transmit q) u false t = ⊥
+Progress (Transmit q) u true t = Unit {0}
+Progress Handler u false t = t.served ≡ []
+Progress Handler u true t = t.served ≡ (26 + u) ∷ []
+Progress Main zero false t = t.served ≡ []
+Progress Main zero true t = (is_met t 26 ≡ true) × (has_line t.served 27 ≡ false)
+Progress Main (suc u) false t = (is_met t 26 ≡ true) × (has_line t.served 27 ≡ false)
+Progress Main (suc u) true t = (is_met t 26 ≡ true) × (is_met t 27 ≡ true)
+
+-- the frame has acted, has come so far, and owes these notices
+pub record HasDone (e : Errand) (u : ℕ) (done : Bool) (left : List Owing) (t : Past) : Type 0 where
+  pub acted : t.acted ≡ acted_by e
+  pub polled : t.polled ≡ polled_by e
+  pub report : t.report ≡ None
+  pub owed : t.owed ≡ left
+  pub progress : Progress e u done t
+
+-- a body with this table, errand and unit
+abbrev pub at : SpiTable → Errand → ℕ → UnitPlace → UnitBody
+at x e u p = record { table = x; errand = e; unit = u; place = p }
+
+-- ---- what it holds
+
+-- the main function, that it serves
+abbrev pub holds_by : Errand → List Hold
+holds_by Main = Handling ∷ []
+holds_by _ = []
+
+-- and the start that it owes
+abbrev pub with_debt : Errand → (number : ℕ) → List Hold
+with_debt e u = Debt u ∷ holds_by e
+
+-- ---- places
+
+-- a list of one or two notices
+abbrev pub and_other : Option Notice → List Notice
+and_other None = []
+and_other (Some n) = n ∷ []
+
+abbrev pub told_list : Option Notice → Option Notice → List Notice
+told_list None other = and_other other
+told_list (Some n) other = n ∷ and_other other
+
+abbrev pub all_told : Ended → List Notice
+all_told x = told_list x.job x.sequence
+
+-- the sequences below this one are not in the way of a request
+abbrev pub NoneHeld : SpiTable → (sequence : ℕ) → List Pending → ℕ → Type 0
+NoneHeld d q ps n = (k : ℕ) → k < n → is_pending k ps && (k == q || shares_job d q k) ≡ false
+
+-- a request that finds no error but that of a pending sequence
+pub record IsRequest (d : SpiTable) (s : SpiState) (q : ℕ) (u : ℕ) : Type 0 where
+  pub small : q < 8
+  pub on : is_off s.mode ≡ false
+  pub clear : error_by d (calls.Sequence q AsyncTransmit) (is_off s.mode) false ≡ None
+  pub unit : u ≡ unit_of_sequence d q
+
+abbrev pub RequestAt : SpiTable → Errand → (number : ℕ) → RequestPlace → SpiState → Past → Type 0
+RequestAt d (Transmit q) u (request.Look k) s t = IsRequest d s q u × (t ≡ nothing_yet) × (k < 8) × NoneHeld d q s.pending k
+RequestAt d (Transmit q) u request.Accept s t = IsRequest d s q u × (t ≡ nothing_yet) × (is_held d q s.pending ≡ false)
+RequestAt d e u p s t = ⊥
+
+-- after the mask is opened
+abbrev pub opens_holds : Errand → (number : ℕ) → After → List Hold
+opens_holds e u after.Serve = holds_by e
+opens_holds e u (after.Tell x) = with_debt e u
+opens_holds e u after.Start = with_debt e u
+
+abbrev pub OpensAt : Errand → (number : ℕ) → After → Past → Type 0
+OpensAt e u after.Serve t = HasDone e u false [] t
+OpensAt e u (after.Tell x) t = HasDone e u true (owing true (all_told x)) t
+OpensAt e u after.Start t = HasDone e u true [] t
+
+-- ---- bounds
+
+-- the steps after a unit: of the main function's first one those of the second
+abbrev pub unit_after : Errand → (number : ℕ) → ℕ
+unit_after Main zero = 68
+unit_after _ _ = 0
+
+abbrev pub opens_fuel : Errand → (number : ℕ) → After → ℕ
+opens_fuel e u after.Serve = 68 + unit_after e u
+opens_fuel e u (after.Tell x) = 33 + unit_after e u
+opens_fuel e u after.Start = 31 + unit_after e u
+
+abbrev pub request_fuel : RequestPlace → ℕ
+request_fuel (request.Look k) = 41 + (8 - k)
+request_fuel request.Accept = 40
+request_fuel _ = 0
+
+abbrev pub request_room : RequestPlace → ℕ
+request_room (request.Look k) = 10 + (8 - k)
+request_room request.Accept = 9
+request_room _ = 0
+
+-- ---- what is owed
+
+-- what comes after the moves that a frame owes: it opens the mask and starts, is done with the unit, or opens the mask and tells
+pub data Ahead : Type 0 where
+  ToStart : Ahead
+  ToPass : Ahead
+  ToTell : List Notice → Ahead
+
+abbrev pub served_ahead : Option (List Notice) → Ahead
+served_ahead None = ToPass
+served_ahead (Some ns) = ToTell ns
+
+abbrev pub ahead_of : SpiTable → UnitPlace → Ahead
+ahead_of x (place.Request p) = ToStart
+ahead_of x (place.Serve p) = served_ahead (serve_ahead x p)
+ahead_of x _ = ToPass
+
+pub record About : Type 0 where
+  pub table : SpiTable
+  pub errand : Errand
+  pub unit : ℕ
+  pub ahead : Ahead
+
+abbrev pub about_unit : UnitBody → About
+about_unit k = record { table = k.table; errand = k.errand; unit = k.unit; ahead = ahead_of k.table k.place }
+
+abbrev pub about_owed : Owed → Option About
+about_owed (Units k) = Some (about_unit k)
+about_owed (Cancels k) = None
+about_owed (Wholes k) = None
+
+abbrev pub ahead_holds : Errand → (number : ℕ) → Ahead → List Hold
+ahead_holds e u ToStart = with_debt e u
+ahead_holds e u ToPass = holds_by e
+ahead_holds e u (ToTell ns) = with_debt e u
+
+abbrev pub ahead_owing : Ahead → List Owing
+ahead_owing ToStart = []
+ahead_owing ToPass = []
+ahead_owing (ToTell ns) = owing true ns
+
+abbrev pub ahead_steps : Errand → (number : ℕ) → Ahead → ℕ
+ahead_steps e u ToStart = 31 + unit_after e u
+ahead_steps e u ToPass = unit_after e u
+ahead_steps e u (ToTell ns) = 33 + unit_after e u
+
+abbrev pub owed_holds : Option About → List Hold
+owed_holds None = []
+owed_holds (Some x) = ahead_holds x.errand x.unit x.ahead
+
+abbrev pub OwedAt : SpiTable → Option About → Origin Call → Past → Type 0
+OwedAt d None o t = ⊥
+OwedAt d (Some x) o t = Frame d x.table x.errand x.unit o × HasDone x.errand x.unit true (ahead_owing x.ahead) t
+
+abbrev pub owed_steps : Option About → ℕ
+owed_steps None = 0
+owed_steps (Some x) = ahead_steps x.errand x.unit x.ahead
+
+-- ---- the bodies
+
+-- it has read and written nothing while it looks for what is in the way of a request
+abbrev pub unit_clean : UnitPlace → Bool
+unit_clean (place.Request (request.Look k)) = true
+unit_clean _ = false
+
+module _ (a : Starting) (b : Serving) where
+  abbrev pub unit_fuel_at : Errand → (number : ℕ) → UnitPlace → ℕ
+  unit_fuel_at e u (place.Request p) = request_fuel p + unit_after e u
+  unit_fuel_at e u place.Act = 69 + unit_after e u
+  unit_fuel_at e u (place.Opens x) = opens_fuel e u x
+  unit_fuel_at e u (place.Tell n None) = 31 + unit_after e u
+  unit_fuel_at e u (place.Tell n (Some m)) = 32 + unit_after e u
+  unit_fuel_at e u (place.Serve p) = b.fuel p + (34 + unit_after e u)
+  unit_fuel_at e u (place.Start p) = a.fuel p + unit_after e u
+
+  abbrev pub unit_room_at : UnitPlace → ℕ
+  unit_room_at (place.Request p) = request_room p
+  unit_room_at place.Act = 1
+  unit_room_at (place.Serve p) = b.room p
+  unit_room_at (place.Start p) = a.room p
+  unit_room_at _ = 0
+
+  -- ---- how it stands
+
+  abbrev pub serve_spot : (d x : SpiTable) → Errand → (number : ℕ) → ServePlace → Spot (spi_basis d)
+  serve_spot d x e u serve.Shut = Outside (holds_by e) (λ below o t. Frame d x e u o × HasDone e u false [] t)
+  serve_spot d x e u p = Looking (Under tt) (holds_by e) (λ below f w s o t. b.place d u p f w s × Frame d x e u o × HasDone e u false [] t)
+
+  abbrev pub start_spot : (d x : SpiTable) → Errand → (number : ℕ) → StartPlace → Spot (spi_basis d)
+  start_spot d x e u start.Shut = Outside (with_debt e u) (λ below o t. Frame d x e u o × HasDone e u true [] t)
+  start_spot d x e u p = Within (Under tt) (with_debt e u) (λ below f w s o t. a.place d u p f s × Frame d x e u o × HasDone e u true [] t)
+
+  abbrev pub unit_spot_at : (d x : SpiTable) → Errand → (number : ℕ) → UnitPlace → Spot (spi_basis d)
+  unit_spot_at d x e u (place.Request p) = Within (Under tt) [] (λ below f w s o t. Frame d x e u o × RequestAt d e u p s t)
+  unit_spot_at d x e u place.Act = Within (Under tt) [] (λ below f w s o t. Frame d x e u o × (e ≡ Main) × (u ≡ 0) × (t ≡ nothing_yet) × (is_polling s.mode ≡ true))
+  unit_spot_at d x e u (place.Opens y) = Within (Under tt) (opens_holds e u y) (λ below f w s o t. Frame d x e u o × OpensAt e u y t)
+  unit_spot_at d x e u (place.Tell n m) = Outside (with_debt e u) (λ below o t. Frame d x e u o × HasDone e u true (owing true (n ∷ and_other m)) t)
+  unit_spot_at d x e u (place.Serve p) = serve_spot d x e u p
+  unit_spot_at d x e u (place.Start p) = start_spot d x e u p
+
+  abbrev pub free_bodies : (d : SpiTable) → LongBodies (spi_basis d) UnitBody
+  free_bodies d = record {
+    work_of = unit_work;
+    takes = unit_takes;
+    fuel = λ k. unit_fuel_at k.errand k.unit k.place;
+    room = λ k. unit_room_at k.place;
+    clean = λ k. unit_clean k.place;
+    spot = λ k. unit_spot_at d k.table k.errand k.unit k.place;
+  }
+
+  abbrev pub unit_windows : (d : SpiTable) → Windows (spi_bare d) Owed (Option About) UnitBody (spi_owing d)
+  unit_windows d = record {
+    bodies = free_bodies d;
+    owes = unit_owed;
+    about = about_owed;
+    hold = owed_holds;
+    place = λ x below o t. OwedAt d x o t;
+    steps_after = owed_steps;
+    room_after = λ x. 0;
+  }
+
+  abbrev pub unit_bodies : (d : SpiTable) → LongBodies (spi_basis d) UnitBody
+  unit_bodies d = windows (unit_windows d)

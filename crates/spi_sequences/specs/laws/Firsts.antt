@@ -1,0 +1,125 @@
+-- Words of sequences, jobs and orders change with what is pending; the rest of the agreement stays.
+use Rattle.std.proofs.Common.{◌≡◌, ℕ, ◌+◌, ◌<◌, ◌≤◌, Bool, true, false, List, ◌∷◌, length, Option, Some, None, refl, sym, ◌∙◌, ap, subst, arith}
+use Rattle.std.specs.Prelude.{Contains, slice_index, slice_index_or}
+use Rattle.std.proofs.lemmas.List.Concat.{flat_map-cons}
+use Rattle.chip_model.specs.Chip.{Chip, word_of}
+use Rattle.chip_units.specs.Serials.{idle}
+use Rattle.mcal_base.specs.Bits.{has_bit}
+use Rattle.mcal_base.specs.Layout.{place_of}
+use Rattle.mcal_base.specs.declared.answer_name.AnswerName.{AnswerName}
+use Rattle.mcal_base.specs.declared.layout.Array.TheVariants.{Source, Destination}
+use Rattle.run_model.specs.Outside.{StandsIn}
+use Rattle.run_model.specs.World.{World}
+use Rattle.service_outline.specs.Services.{Held}
+use Rattle.word_shapes.specs.Playing.{Memory}
+use Rattle.shapes_on_chip.specs.Parts.{DiffersIn}
+use Rattle.spi_jobs.specs.Placing.{held_word, set_up_word, source_word}
+use Rattle.spi_jobs.specs.declared.channel.Channel.{Channel}
+use Rattle.spi_machine.specs.Fits.{FitsSpi}
+use Rattle.spi_machine.specs.Pending.{Pending}
+use Rattle.spi_machine.specs.State.{SpiState, is_off, run_at}
+use Rattle.spi_machine.specs.Table.{channel_of}
+use Rattle.spi_machine.specs.Wiring.{placed_of}
+use Rattle.spi_machine.specs.declared.call.Call.{Call}
+use Rattle.spi_machine.specs.declared.table.SpiTable.{SpiTable}
+use Rattle.spi_sequences.specs.Going.{Going, UnitAgrees}
+use Rattle.spi_sequences.specs.Ground.{Hold, Debt, Holds, AllRight, AreOwed, View, BanksAgree, IsSoundState, PutRight, RunAgrees, RunsNext, SequencesAgree, SpiAgrees, prepares, put_held, readied_by, readied_in, stored_by, stored_in, take_held, view}
+use Rattle.spi_sequences.specs.Words.{running_word, position_word}
+use Rattle.spi_sequences.specs.declared.words.TheConstants.{STATE}
+use Rattle.spi_sequences.specs.laws.Alike.{banks_words, going_words}
+use Rattle.spi_sequences.specs.laws.Fresh.{none_in}
+use Rattle.spi_sequences.specs.laws.Kept.{banks_view}
+use Rattle.spi_sequences.specs.laws.Own.{of_banks, of_held, of_set_up, past_the_first}
+use Rattle.spi_sequences.specs.laws.Said.{going_next}
+use Rattle.spi_sequences.specs.laws.SettingUp.{none_stored}
+
+-- frames that hold the same of channels
+pub record HoldsLike (d : SpiTable) (held held1 : Holds) : Type 0 where
+  pub puts : (sources : ℕ → List ℕ) (n : ℕ) (r : Bool) → put_held d sources n r held1 ≡ put_held d sources n r held
+  pub takes : (n : ℕ) → take_held n held1 ≡ take_held n held
+  pub prepares : prepares held1 ≡ prepares held
+  pub readied : readied_in held1 ≡ readied_in held
+  pub stored : stored_in held1 ≡ stored_in held
+
+pub holds_same : (d : SpiTable) (held : Holds) → HoldsLike d held held
+holds_same d held = record { puts = λ sources n r. refl; takes = λ n. refl; prepares = refl; readied = refl; stored = refl }
+
+-- a frame that owes a start holds nothing of them
+pub holds_debt : (d : SpiTable) (x : Held Call Hold) (u : ℕ) (held : Holds) → x.what ≡ Debt u → HoldsLike d held (x ∷ held)
+holds_debt d x u held e = subst (λ y. HoldsLike d held (record { by = x.by; what = y; acted = x.acted } ∷ held)) (sym e) (record {
+  puts = λ sources n r. refl;
+  takes = λ n. refl;
+  prepares = refl;
+  readied = flat_map-cons (λ h. readied_by h.what) (record { by = x.by; what = Debt u; acted = x.acted }) held;
+  stored = flat_map-cons (λ h. stored_by h.what) (record { by = x.by; what = Debt u; acted = x.acted }) held;
+})
+
+pub banks_held : (d : SpiTable) (held held1 : Holds) (going : ℕ → Option Going) (m : Memory) (v : View) (c : ℕ) (k : Channel) → HoldsLike d held held1 → BanksAgree d held going m v c k → BanksAgree d held1 going m v c k
+banks_held d held held1 going m v c k b h = record {
+  sent = h.sent;
+  sends = h.sends;
+  written = λ none. h.written (sym b.prepares ∙ none);
+  readied_sent = λ is. h.readied_sent (subst (λ xs. Contains xs (c, false)) b.readied is);
+  pinned = h.pinned;
+  writes = h.writes ∙ sym (b.puts v.sources c false);
+  received = h.received;
+  receives = h.receives;
+  readable = λ none. h.readable (sym b.prepares ∙ none);
+  readied_received = λ is. h.readied_received (subst (λ xs. Contains xs (c, true)) b.readied is);
+  reads = h.reads ∙ sym (b.takes c);
+  keeps = subst (λ o. PutRight going m (placed_of d c) o h.received.put) (sym (b.puts v.sources c true)) h.keeps;
+}
+
+-- a chip that differs in driver words stands in the world
+pub stands_owed : (own : ℕ → Bool) (chip c : Chip) (w : World) → DiffersIn own chip c → StandsIn chip w → StandsIn c w
+stands_owed own chip c w differs h = subst (λ x. StandsIn x w) (sym differs.rest) (record {
+  all = record { words = differs.whole; ram = h.all.ram; outside = h.all.outside; incoming = h.all.incoming; timers = h.all.timers; inputs = h.all.inputs; sources = h.all.sources };
+  together = record { pulses = h.together.pulses; captures = h.together.captures; converters = h.together.converters; serials = h.together.serials };
+  osc = h.osc;
+  now = h.now;
+  levels = h.levels;
+  analog = h.analog;
+  past = h.past;
+})
+
+-- the state with other sequences pending
+abbrev pub with_pending : SpiState → List Pending → ℕ → (sequence_results job_results : List AnswerName) → SpiState
+with_pending s ps n qs js = record s { pending = ps; requests = n; sequence_results = qs; job_results = js }
+
+module _ (d : SpiTable) (fits : FitsSpi d) (below held1 : Holds) (chip chip1 : Chip) (w : World) (s : SpiState) (h : SpiAgrees d below chip w s) (on : is_off s.mode ≡ false) (like : HoldsLike d below held1)
+    (outside : StandsIn chip1 w) (wiring : chip1.wiring ≡ chip.wiring) (units : chip1.serials.units ≡ chip.serials.units) (control : chip1.control ≡ chip.control)
+    (above : (j : ℕ) → STATE + 64 ≤ j → word_of chip1 j ≡ word_of chip j) (state : word_of chip1 STATE ≡ word_of chip STATE) (runs : (u : ℕ) → u < 2 → (word_of chip1 (running_word u) ≡ word_of chip (running_word u)) × (word_of chip1 (position_word u) ≡ word_of chip (position_word u)))
+    (ps : List Pending) (n : ℕ) (qs js : List AnswerName) where
+  abbrev later : SpiState
+  later = with_pending s ps n qs js
+
+  run_kept : (u : ℕ) → u < 2 → (g : Option Going) → h.going u ≡ g → RunAgrees d (word_of chip) u g → RunAgrees d (word_of chip1) u g
+  run_kept u lt None e r = (runs u lt).0 ∙ r
+  run_kept u lt (Some g) e r = going_words d fits u (word_of chip) (word_of chip1) g (going_next d fits below chip w s h u g lt e).2 (runs u lt).0 (runs u lt).1
+      (λ c x known. above (held_word (placed_of d c)) (past_the_first d c x _ (fits.channels c x known) (of_held d fits c x known))) (λ n x c i at known few. above (source_word (placed_of d x.channel) i) (omega arith)) r
+
+  pub firsts_changed : AllRight d s.mode s.channels held1 → IsSoundState d (view later) → ((u : ℕ) → u < 2 → RunsNext d (view later) u (h.going u)) → SequencesAgree d (word_of chip1) (view later) → AreOwed d held1 h.going later → SpiAgrees d held1 chip1 w later
+  firsts_changed right sound nexts sequences owed = record {
+    right = right;
+    outside = outside;
+    wired = λ c lt. ap (λ x. slice_index x.sources c) wiring ∙ h.wired c lt;
+    size = ap length units ∙ h.size;
+    sound = sound;
+    going = h.going;
+    nexts = nexts;
+    units = λ u lt. subst (λ xs. UnitAgrees d (slice_index_or xs u idle) (run_at s u) (h.going u)) (sym units) (h.units u lt);
+    words = record {
+      state = state ∙ h.words.state;
+      on = λ still. record { sequences = sequences; runs = λ u lt. run_kept u lt (h.going u) refl ((h.words.on on).runs u lt) };
+      banks = λ c x known internal. banks_view d held1 h.going (word_of chip1) (view s) (view later) c x refl refl (λ r. refl) (banks_held d below held1 h.going (word_of chip1) (view s) c x like (banks_kept c x known internal));
+      stored = λ j v is. absurd (none_in (j, v) (subst (λ xs. Contains xs (j, v)) (like.stored ∙ none_stored d s.mode s.channels below on h.right) is));
+    };
+    set_ups = λ still c x known external. above (set_up_word (placed_of d c)) (past_the_first d c x _ (fits.channels c x known) (of_set_up d fits c x known)) ∙ h.set_ups on c x known external;
+    sizes = λ still. h.sizes on;
+    arrays = λ c. record { source = λ i lt. above (place_of (Source c) i) (omega arith) ∙ (h.arrays c).source i lt; destination = λ i lt. above (place_of (Destination c) i) (omega arith) ∙ (h.arrays c).destination i lt };
+    lines = λ u lt. ap (λ x. has_bit x.enabled (26 + u)) control ∙ h.lines u lt;
+    owed = owed;
+  }
+    where
+      banks_kept : (c : ℕ) (x : Channel) → channel_of d c ≡ Some x → x.internal ≡ true → BanksAgree d below h.going (word_of chip1) (view s) c x
+      banks_kept c x known internal = banks_words d fits below h.going (word_of chip) (word_of chip1) (view s) c x known (above (held_word (placed_of d c)) (past_the_first d c x _ (fits.channels c x known) (of_held d fits c x known))) (λ side j is. above j (past_the_first d c x j (fits.channels c x known) (of_banks d fits c x known internal side j is))) (h.words.banks c x known internal)

@@ -1,0 +1,222 @@
+-- A request is accepted: what its window owes after the act, and the agreement after that.
+use Rattle.std.proofs.Common.{◌≡◌, ◌≢◌, ℕ, ◌+◌, ◌<◌, ◌≤◌, ◌==◌, Bool, true, false, ◌||◌, [], ◌∷◌, length, Option, Some, None, refl, sym, ◌∙◌, ap, subst, arith, ◌⊎◌, inl, inr}
+use Rattle.std.specs.Prelude.{Contains, filter, is_some, slice_index_or}
+use Rattle.std.proofs.lemmas.List.Elements.{Contains-append_left, Contains-push_cases}
+use Rattle.chip_model.specs.Chip.{Chip, chip_after, word_of}
+use Rattle.mcal_base.specs.declared.answer.Answer.{Answer}
+use Rattle.mcal_base.specs.declared.moves.Move.TheVariants.{Store}
+use Rattle.run_model.specs.Frame.{Origin}
+use Rattle.run_model.specs.Outside.{StandsIn}
+use Rattle.run_model.specs.World.{World}
+use Rattle.run_model.proofs.OutsideLaws.{stands-move}
+use Rattle.service_outline.specs.laws.Words.{stored_same, stored_other}
+use Rattle.word_shapes.specs.Order as order
+use Rattle.word_shapes.specs.Ranked as ranked
+use Rattle.word_shapes.specs.Ranked.{add_gave, adding}
+use Rattle.word_shapes.specs.declared.add.Add.{Add}
+use Rattle.word_shapes.specs.declared.add.Add.TheVariants as adds
+use Rattle.word_shapes.proofs.RankedLaws.{add-ends, holds-agree}
+use Rattle.shapes_on_chip.specs.Parts.{Comes, DiffersIn, IsPart, PartTo}
+use Rattle.shapes_on_chip.proofs.PartLaws.{one_owed, settles_part}
+use Rattle.spi_machine.specs.Fits.{FitsSpi}
+use Rattle.spi_machine.specs.Machine.{accepted}
+use Rattle.spi_machine.specs.Pending.{Pending, is_for, is_held, shares_job}
+use Rattle.spi_machine.specs.State.{SpiState, is_off, is_running}
+use Rattle.spi_machine.specs.Table.{jobs_of, sequence_of}
+use Rattle.spi_machine.specs.Wiring.{unit_of_sequence}
+use Rattle.spi_machine.specs.declared.call.Call.{Call}
+use Rattle.spi_machine.specs.declared.table.Sequence.{Sequence}
+use Rattle.spi_machine.specs.declared.table.SpiTable.{SpiTable}
+use Rattle.spi_machine.proofs.Numbers.{same_or_other}
+use Rattle.spi_sequences.specs.Going.{Going}
+use Rattle.spi_sequences.specs.Ground.{Debt, Holds, AreOwed, IsSoundState, RunsNext, SequencesAgree, SpiAgrees, entries_of, is_owed, view}
+use Rattle.spi_sequences.specs.Owed.{Owed, Units, spi_owing, unit_owed, unless_done}
+use Rattle.spi_sequences.specs.Words.{job_word, order_places, order_word, position_word, running_word, sequence_word, unmarked_in, with_next_in}
+use Rattle.spi_sequences.specs.declared.service.request.RequestPlace.{RequestPlace}
+use Rattle.spi_sequences.specs.declared.service.request.RequestPlace.TheVariants as requests
+use Rattle.spi_sequences.specs.declared.service.unit.Errand.TheVariants.{Transmit}
+use Rattle.spi_sequences.specs.declared.service.unit.UnitBody.{UnitBody}
+use Rattle.spi_sequences.specs.declared.service.unit.UnitPlace.TheVariants as units
+use Rattle.spi_sequences.specs.declared.words.TheConstants.{STATE, NEXTS, MARKS, PENDING}
+use Rattle.spi_sequences.specs.laws.Accepted.{accepted_sound, accepted_words, apart_from, new, order_with, order_without, some}
+use Rattle.spi_sequences.specs.laws.Ended.{filter_back, there_back}
+use Rattle.spi_sequences.specs.laws.Cancelling.{from_order, named_own, not_order, order_there, own_order, to_order}
+use Rattle.spi_sequences.specs.laws.Firsts.{firsts_changed, holds_debt, stands_owed}
+use Rattle.spi_sequences.specs.laws.Own.{own_first}
+use Rattle.spi_sequences.specs.laws.Places.{job_unit, unit_few}
+use Rattle.spi_sequences.specs.laws.Querying.{may_first}
+use Rattle.spi_sequences.specs.laws.Request.{request_adds}
+use Rattle.spi_sequences.specs.laws.Said.{RunsOn, any_none, going_next, not_true, one_unit, runs_on, same_number}
+use Rattle.spi_sequences.specs.laws.SettingUp.{may_store}
+use Rattle.spi_sequences.specs.laws.Unit.{after_request}
+
+-- the frame at a place of its request
+abbrev pub requesting : SpiTable → (sequence unit : ℕ) → RequestPlace → UnitBody
+requesting d q u p = record { table = d; errand = Transmit q; unit = u; place = units.Request p }
+
+-- ---- the order's part
+
+module _ (d : SpiTable) (fits : FitsSpi d) (q u : ℕ) (few : u < 2) where
+  abbrev adding_at : Add → Owed
+  adding_at p = Units (requesting d q u (requests.Add p))
+
+  add_steps : (p : Add) (v : ℕ) (o : Option Answer) → (add_gave p v).ended ≡ o → PartTo adding (spi_owing d) adding_at (λ xs. None) p v o
+  add_steps p v None e = ap (λ b. unless_done (after_request (requesting d q u (requests.Add p)) (request_adds p v b)).1.done (unit_owed (after_request (requesting d q u (requests.Add p)) (request_adds p v b)).0)) (ap is_some e)
+  add_steps p v (Some a) e = ap (λ b. unless_done (after_request (requesting d q u (requests.Add p)) (request_adds p v b)).1.done (unit_owed (after_request (requesting d q u (requests.Add p)) (request_adds p v b)).0)) (ap is_some e)
+
+  add_part : IsPart adding (ranked.own_of (record { at = order_word u })) (spi_owing d) adding_at (λ xs. None)
+  add_part = record {
+    moves = λ p. refl;
+    steps = λ p v. add_steps p v (add_gave p v).ended refl;
+    named = named_own d fits (ranked.own_of (record { at = order_word u })) (λ j own. own_order d u j few own);
+    fits = λ p chip. tt;
+  }
+
+-- ---- the act
+
+module _ (d : SpiTable) (fits : FitsSpi d) (below : Holds) (chip : Chip) (w : World) (s : SpiState) (h : SpiAgrees d below chip w s) (on : is_off s.mode ≡ false) (q : ℕ) (small : q < 8) (x : Sequence) (known : sequence_of d q ≡ Some x) (free : is_held d q s.pending ≡ false) where
+  abbrev unit : ℕ
+  unit = unit_of_sequence d q
+
+  few : unit < 2
+  few = unit_few d fits q
+
+  -- the sequence runs no job
+  rests : is_running s q ≡ false
+  rests = not_true (is_running s q) (λ e. by (runs_on d fits below chip w s h q e))
+    where
+      by : RunsOn d fits below chip w s h q → ⊥
+      by r =
+          let there = (going_next d fits below chip w s h r.unit r.job r.few r.is).0 in
+          let none = any_none (λ p. held_by q p) s.pending free r.job.pending there in
+          let f = sym none ∙ ap (λ b. b || shares_with q r.job.pending) (ap (λ n. n == q) r.of ∙ same_number q) in cc
+        where
+          held_by : ℕ → Pending → Bool
+          held_by q p = (p.sequence == q) || shares_job d q p.sequence
+
+          shares_with : ℕ → Pending → Bool
+          shares_with q p = shares_job d q p.sequence
+
+  abbrev first : Chip
+  first = chip_after chip (Store (sequence_word q) PENDING) 0
+
+  abbrev second : Chip
+  second = chip_after first (Store NEXTS (with_next_in (word_of first NEXTS) q 0)) 0
+
+  abbrev third : Chip
+  third = chip_after second (Store MARKS (unmarked_in (word_of second MARKS) q)) 0
+
+  outside : StandsIn third w
+  outside = stands-move second w (Store MARKS (unmarked_in (word_of second MARKS) q)) 0 (stands-move first w (Store NEXTS (with_next_in (word_of first NEXTS) q 0)) 0 (stands-move chip w (Store (sequence_word q) PENDING) 0 h.outside))
+
+  third_other : (j : ℕ) → j ≢ sequence_word q → j ≢ NEXTS → j ≢ MARKS → word_of third j ≡ word_of chip j
+  third_other j a b c = stored_other second MARKS (unmarked_in (word_of second MARKS) q) 0 j c ∙ stored_other first NEXTS (with_next_in (word_of first NEXTS) q 0) 0 j b ∙ stored_other chip (sequence_word q) PENDING 0 j a
+
+  third_told : word_of third (sequence_word q) ≡ 1
+  third_told = stored_other second MARKS (unmarked_in (word_of second MARKS) q) 0 (sequence_word q) (λ e. omega (arith, e)) ∙ stored_other first NEXTS (with_next_in (word_of first NEXTS) q 0) 0 (sequence_word q) (λ e. omega (arith, e)) ∙ stored_same chip (sequence_word q) PENDING 0 (omega (arith, small)) h.outside.all.words
+
+  third_nexts : word_of third NEXTS ≡ with_next_in (word_of chip NEXTS) q 0
+  third_nexts =
+      stored_other second MARKS (unmarked_in (word_of second MARKS) q) 0 NEXTS (λ e. omega (arith, e)) ∙ stored_same first NEXTS (with_next_in (word_of first NEXTS) q 0) 0 (omega arith) (stands-move chip w (Store (sequence_word q) PENDING) 0 h.outside).all.words
+      ∙ ap (λ n. with_next_in n q 0) (stored_other chip (sequence_word q) PENDING 0 NEXTS (λ e. omega (arith, e)))
+
+  third_marks : word_of third MARKS ≡ unmarked_in (word_of chip MARKS) q
+  third_marks =
+      stored_same second MARKS (unmarked_in (word_of second MARKS) q) 0 (omega arith) (stands-move first w (Store NEXTS (with_next_in (word_of first NEXTS) q 0)) 0 (stands-move chip w (Store (sequence_word q) PENDING) 0 h.outside)).all.words
+      ∙ ap (λ n. unmarked_in n q) (stored_other first NEXTS (with_next_in (word_of first NEXTS) q 0) 0 MARKS (λ e. omega (arith, e)) ∙ stored_other chip (sequence_word q) PENDING 0 MARKS (λ e. omega (arith, e)))
+
+  abbrev after : SpiState
+  after = accepted d s q
+
+  module _ (c : Chip) (differs : DiffersIn (ranked.own_of (record { at = order_word unit })) third c) (holds : ranked.Holds (record { at = order_word unit }) (word_of c) (order.added q (entries_of d (view s) unit))) where
+    apart : (j : ℕ) → ((j < STATE + 10) ⊎ (STATE + 26 ≤ j)) → ranked.own_of (record { at = order_word unit }) j ≡ false
+    apart j (inl lt) = not_order unit j (λ e. omega (arith, lt, e)) (λ e. omega (arith, lt, e)) (λ e. omega (arith, lt, e))
+    apart j (inr le) = not_order unit j (λ e. omega (arith, le, e, few)) (λ e. omega (arith, le, e, few)) (λ e. omega (arith, le, e, few))
+
+    word_same : (j : ℕ) → ranked.own_of (record { at = order_word unit }) j ≡ false → j ≢ sequence_word q → j ≢ NEXTS → j ≢ MARKS → word_of c j ≡ word_of chip j
+    word_same j own a b m = differs.others j own ∙ third_other j a b m
+
+    above : (j : ℕ) → STATE + 64 ≤ j → word_of c j ≡ word_of chip j
+    above j le = word_same j (apart j (inr (omega (arith, le)))) (λ e. omega (arith, le, e, small)) (λ e. omega (arith, le, e)) (λ e. omega (arith, le, e))
+
+    runs_same : (u : ℕ) → u < 2 → (word_of c (running_word u) ≡ word_of chip (running_word u)) × (word_of c (position_word u) ≡ word_of chip (position_word u))
+    runs_same u lt = (
+      word_same (running_word u) (not_order unit (running_word u) (λ e. omega (arith, few, lt, e)) (λ e. omega (arith, few, lt, e)) (λ e. omega (arith, few, lt, e))) (λ e. omega (arith, lt, e)) (λ e. omega (arith, e)) (λ e. omega (arith, e)),
+      word_same (position_word u) (not_order unit (position_word u) (λ e. omega (arith, few, lt, e)) (λ e. omega (arith, few, lt, e)) (λ e. omega (arith, few, lt, e))) (λ e. omega (arith, lt, e)) (λ e. omega (arith, e)) (λ e. omega (arith, e)),
+    )
+
+    others_same : (n : ℕ) → n < 8 → n ≢ q → word_of c (sequence_word n) ≡ word_of chip (sequence_word n)
+    others_same n lt ne = word_same (sequence_word n) (apart (sequence_word n) (inr (omega arith))) (λ e. ne (omega (arith, e))) (λ e. omega (arith, e)) (λ e. omega (arith, e))
+
+    jobs_same : (j : ℕ) → j < 16 → word_of c (job_word j) ≡ word_of chip (job_word j)
+    jobs_same j lt = word_same (job_word j) (not_order unit (job_word j) (λ e. omega (arith, few, e)) (λ e. omega (arith, few, e)) (λ e. omega (arith, few, e))) (λ e. omega (arith, lt, e)) (λ e. omega (arith, e)) (λ e. omega (arith, e))
+
+    orders : (u : ℕ) → u < 2 → ranked.Holds (record { at = order_word u }) (word_of c) (entries_of d (view after) u)
+    orders u lt = by (same_or_other u unit)
+      where
+        other_words : u ≢ unit → (j : ℕ) → ranked.own_of (record { at = order_word u }) j ≡ true → word_of chip j ≡ word_of c j
+        other_words ne j own =
+            let low = from_order u j own in
+            let high = to_order u j own in
+            sym (word_same j (not_order unit j (λ e. ne (omega (arith, low, high, e, lt, few))) (λ e. ne (omega (arith, low, high, e, lt, few))) (λ e. ne (omega (arith, low, high, e, lt, few)))) (λ e. omega (arith, e, high, lt)) (λ e. omega (arith, e, low)) (λ e. omega (arith, e, low)))
+
+        by : (u ≡ unit) ⊎ (u ≢ unit) → ranked.Holds (record { at = order_word u }) (word_of c) (entries_of d (view after) u)
+        by (inl e) = subst (λ n. ranked.Holds (record { at = order_word n }) (word_of c) (entries_of d (view after) n)) (sym e) (subst (λ xs. ranked.Holds (record { at = order_word unit }) (word_of c) xs) (sym (order_with d fits (view s) h.sound q small x known free rests on unit refl)) holds)
+        by (inr ne) = subst (λ xs. ranked.Holds (record { at = order_word u }) (word_of c) xs) (sym (order_without d fits (view s) h.sound q small x known free rests on u ne)) (holds-agree (record { at = order_word u }) (word_of chip) (word_of c) (entries_of d (view s) u) (other_words ne) ((h.words.on on).sequences.orders u lt))
+
+    soundly : IsSoundState d (view after)
+    soundly = accepted_sound d fits (view s) h.sound q small x known free rests on
+
+    wordly : SequencesAgree d (word_of c) (view after)
+    wordly = accepted_words d fits (view s) h.sound q small x known free rests on (word_of chip) (word_of c) (h.words.on on).sequences others_same
+        (differs.others (sequence_word q) (apart (sequence_word q) (inr (omega arith))) ∙ third_told) (differs.others NEXTS (apart NEXTS (inl (omega arith))) ∙ third_nexts) (differs.others MARKS (apart MARKS (inl (omega arith))) ∙ third_marks) jobs_same orders
+
+    nexts_kept : (u : ℕ) → u < 2 → (g : Option Going) → RunsNext d (view s) u g → RunsNext d (view after) u g
+    nexts_kept u lt None n = tt
+    nexts_kept u lt (Some g) n = (Contains-append_left s.pending (new d fits (view s) h.sound q small x known free rests on ∷ []) g.pending n.0, n.1, n.2)
+
+    -- the frame owes a start
+    accepted_now : (by : Origin Call) (acted : Option Answer) → StandsIn c w → SpiAgrees d (record { by = by; what = Debt unit; acted = acted } ∷ below) c w after
+    accepted_now by acted stands = firsts_changed d fits below (record { by = by; what = Debt unit; acted = acted } ∷ below) chip c w s h on (holds_debt d (record { by = by; what = Debt unit; acted = acted }) unit below refl) stands (ap (λ x. x.wiring) differs.rest) (ap (λ x. x.serials.units) differs.rest) (ap (λ x. x.control) differs.rest) above
+        (word_same STATE (apart STATE (inl (omega arith))) (λ e. omega (arith, e)) (λ e. omega (arith, e)) (λ e. omega (arith, e))) runs_same after.pending after.requests after.sequence_results after.job_results ((few, on), h.right) soundly (λ u lt. nexts_kept u lt (h.going u) (h.nexts u lt)) wordly owed
+      where
+        owed_by : (u : ℕ) (p : Pending) → u < 2 → h.going u ≡ None → is_for d u p ≡ true → Contains s.pending p ⊎ (new d fits (view s) h.sound q small x known free rests on ≡ p) → (unit == u) || is_owed u below ≡ true
+        owed_by u p lt none for (inl there) = or_right (unit == u) (h.owed u p lt none there for)
+          where
+            or_right : (a : Bool) {b : Bool} → b ≡ true → a || b ≡ true
+            or_right true e = refl
+            or_right false e = e
+        owed_by u p lt none for (inr e) =
+            let at : is_for d u (new d fits (view s) h.sound q small x known free rests on) ≡ true = subst (λ z. is_for d u z ≡ true) (sym e) for in
+            let same : unit ≡ u = one_unit d unit u (slice_index_or (jobs_of d q) 0 0) (job_unit d fits q 0 (some_job)) at in
+            ap (λ b. b || is_owed u below) (ap (λ n. unit == n) (sym same) ∙ same_number unit)
+          where
+            some_job : 0 < length (jobs_of d q)
+            some_job = some d fits (view s) h.sound q small x known free rests on
+
+        owed : AreOwed d (record { by = by; what = Debt unit; acted = acted } ∷ below) h.going after
+        owed u p lt none there for = owed_by u p lt none for (Contains-push_cases s.pending (new d fits (view s) h.sound q small x known free rests on) p there)
+
+  -- what is owed after the act
+  pub accepted_owes : (by : Origin Call) (acted : Option Answer) → Comes (spi_owing d) (Some (Units (requesting d q unit requests.Nexts))) first (λ c. SpiAgrees d (record { by = by; what = Debt unit; acted = acted } ∷ below) c w after)
+  accepted_owes by acted =
+      one_owed (spi_owing d) Done (Units (requesting d q unit requests.Nexts)) first (Some (Units (requesting d q unit (requests.First (with_next_in (word_of first NEXTS) q 0))))) (may_first d fits NEXTS (omega arith) (omega arith)) tt refl
+      (one_owed (spi_owing d) Done (Units (requesting d q unit (requests.First (with_next_in (word_of first NEXTS) q 0)))) first (Some (Units (requesting d q unit requests.Marks))) (may_store d fits NEXTS (with_next_in (word_of first NEXTS) q 0) (own_first d NEXTS (omega arith) (omega arith))) tt refl
+      (one_owed (spi_owing d) Done (Units (requesting d q unit requests.Marks)) second (Some (Units (requesting d q unit (requests.Unmark (unmarked_in (word_of second MARKS) q))))) (may_first d fits MARKS (omega arith) (omega arith)) tt refl
+      (one_owed (spi_owing d) Done (Units (requesting d q unit (requests.Unmark (unmarked_in (word_of second MARKS) q)))) second (Some (Units (requesting d q unit (requests.Add (adds.Count (order_places unit) q))))) (may_store d fits MARKS (unmarked_in (word_of second MARKS) q) (own_first d MARKS (omega arith) (omega arith))) tt refl
+      (settles_part adding (ranked.own_of (record { at = order_word unit })) (spi_owing d) (λ p. Units (requesting d q unit (requests.Add p))) (λ xs. None) (add_part d fits q unit few) (order_there unit few)
+      (λ m words. ranked.Holds (record { at = order_word unit }) m (order.added q (entries_of d (view s) unit)) × (words ≡ [])) Done 4 (adds.Count (order_places unit) q) third outside.all.words
+      (add-ends (record { at = order_word unit }) q (word_of third) (entries_of d (view s) unit) (omega (arith, small)) held absent)
+      (λ c xs differs holds. accepted_now c differs holds.0 by acted (stands_owed (ranked.own_of (record { at = order_word unit })) third c w differs outside))))))
+    where
+      Done : Chip → Type 0
+      Done c = SpiAgrees d (record { by = by; what = Debt unit; acted = acted } ∷ below) c w after
+
+      held : ranked.Holds (record { at = order_word unit }) (word_of third) (entries_of d (view s) unit)
+      held = holds-agree (record { at = order_word unit }) (word_of chip) (word_of third) (entries_of d (view s) unit) (λ j own. let low = from_order unit j own in let high = to_order unit j own in sym (third_other j (λ e. omega (arith, e, high, few)) (λ e. omega (arith, e, low)) (λ e. omega (arith, e, low)))) ((h.words.on on).sequences.orders unit few)
+
+      absent : order.is_there q (entries_of d (view s) unit) ≡ false
+      absent = not_true (order.is_there q (entries_of d (view s) unit)) (λ e. by_entry (there_back (is_running s) q (filter (is_for d unit) s.pending) e))
+        where
+          by_entry : (p : Pending) × Contains (filter (is_for d unit) s.pending) p × (p.sequence ≡ q) → ⊥
+          by_entry (p, is, same) = (apart_from d fits (view s) h.sound q small x known free rests on p (filter_back (is_for d unit) s.pending p is).0).0 same

@@ -1,0 +1,600 @@
+ghost use Rattle.std.specs.Prelude.{◌≡◌, ◌-◌, None};
+ghost use Rattle.word_shapes.specs.Ranked.{again_gave, drop_gave};
+ghost use Rattle.word_shapes.specs.Trio.{take_gave};
+ghost use Rattle.spi_jobs.specs.Parts.{has_ended, commit_ends, find_gave, keep_ends};
+ghost use Rattle.spi_sequences.specs.Words.{run_in};
+ghost use Rattle.spi_sequences.specs.declared.service.serve.ServeStep.TheVariants.{Goes};
+ghost use Rattle.spi_sequences.specs.laws.Serve as spec;
+
+use crate::words::{
+    CANCELLED, FAILED, MARKS, NEXTS, Position, Running, cancelled_bit, has, job_word, next_of,
+    order, position_word, running_word, search, sequence_word, with_next,
+};
+use mcal_base::{Event, Move, Notice, NoticeKind, Reg, Routine};
+use spi_jobs::{Commit, Find, Keep, Placed, Side, Taker, asked, publish, release, taker_of};
+use spi_machine::SpiTable;
+use word_shapes::{Again, Dropped, Take};
+
+/// The word in transfer that is served.
+#[derive(Clone, Copy)]
+pub struct Served {
+    /// What the unit runs.
+    pub run: Running,
+    /// The place of the word in the job.
+    pub at: Position,
+    /// Whether it failed.
+    pub failed: bool,
+}
+
+/// The same, with where it goes and what came in.
+#[derive(Clone, Copy)]
+pub struct Arrived {
+    /// The word.
+    pub served: Served,
+    /// Where it goes.
+    pub taker: Taker,
+    /// What came in.
+    pub word: u32,
+}
+
+/// How a sequence goes on after its job.
+#[derive(Clone, Copy)]
+pub enum Course {
+    /// With a further job, of these next jobs.
+    Further(u32),
+    /// It ends, with this result.
+    Ends(u32),
+}
+
+/// The last word of a job that ends, and how its sequence goes on.
+#[derive(Clone, Copy)]
+pub struct Leaving {
+    /// The word.
+    pub served: Served,
+    /// Where it goes.
+    pub taker: Taker,
+    /// How the sequence goes on.
+    pub course: Course,
+}
+
+/// A place of the serving window of a unit.
+#[derive(Clone, Copy)]
+pub enum ServePlace {
+    /// It closes the mask.
+    Shut,
+    /// It reads whether the word in transfer is done.
+    State,
+    /// It loads what the unit runs; this says whether the word failed.
+    Running(bool),
+    /// It loads the place of the word.
+    Position(Running, bool),
+    /// It loads what tells where the word goes.
+    Taker(Served),
+    /// It reads what came in.
+    Receive(Served, Taker),
+    /// A further word is there: the width of its channel is set.
+    Width(Arrived, Position),
+    /// The further word is found.
+    Find(Arrived, Position, Find),
+    /// It serves: the further word begins.
+    Begin(Arrived, Position, u32),
+    /// The pin of its channel ends, of which it is the last word.
+    Let(Arrived, Position, Take),
+    /// What came in is kept.
+    Keep(Keep, Position),
+    /// The further word is in transfer.
+    Stand(Position),
+    /// The job ends: it loads the marks.
+    Marks(Arrived),
+    /// It loads the next jobs; this says whether the sequence is cancelled.
+    Nexts(Arrived, bool),
+    /// It serves, and the unit has no word any more.
+    Acknowledge(Arrived, Course),
+    /// The unit is free.
+    Free(Arrived, Course),
+    /// The job failed: the pin of its channel at this place ends.
+    Release(Leaving, u8, Take),
+    /// The job ended well: its last word is kept.
+    KeepLast(Leaving, Keep),
+    /// The received words of its channel at this place become readable.
+    Commit(Leaving, u8, Commit),
+    /// The job has its result.
+    Result(Leaving),
+    /// The sequence goes on with a further job, of these next jobs.
+    Further(Served, u32),
+    /// It waits again.
+    Again(Served, Again),
+    /// The sequence has ended, with this result.
+    End(Served, u32),
+    /// It leaves the order.
+    Drop(Served, Dropped),
+}
+
+/// The notices of the end of a job and of its sequence.
+#[derive(Clone, Copy)]
+pub struct Ended {
+    /// Of the job, where it is told.
+    pub job: Option<Notice>,
+    /// Of the sequence, where it ended and that is told.
+    pub sequence: Option<Notice>,
+}
+
+/// What a step of the serving window was.
+#[derive(Clone, Copy)]
+pub enum ServeStep {
+    /// It goes on, with this event.
+    Goes(Option<Event>),
+    /// It was the last one: nothing was served, or a further word began.
+    Over,
+    /// It was the last one: a job ended.
+    JobOver(Ended),
+}
+
+impl ServePlace {
+    /// The next move, on a unit.
+    pub fn next(&self, table: &SpiTable, unit: u8) -> Move
+        ensures { result ≡ spec.serve_move table.now unit self.now }
+    {
+        let number = u32::from(unit);
+        match self {
+            ServePlace::Shut => Move::Mask,
+            ServePlace::State => Move::Read(Reg::SerialState(number)),
+            ServePlace::Running(_) => Move::Load(running_word(unit)),
+            ServePlace::Position(..) => Move::Load(position_word(unit)),
+            ServePlace::Taker(served) => asked(served.channel(table), served.at.word),
+            ServePlace::Receive(..) => Move::Read(Reg::SerialReceived(number)),
+            ServePlace::Width(arrived, next) => {
+                let placed = table.channel_at(arrived.served.run.job, next.channel);
+                Move::Write(Reg::SerialWidth(number), u32::from(placed.channel.width))
+            }
+            ServePlace::Find(_, _, find) => find.next(),
+            ServePlace::Begin(_, _, word) => Move::Write(Reg::SerialData(number), *word),
+            ServePlace::Keep(keep, _) | ServePlace::KeepLast(_, keep) => keep.next(),
+            ServePlace::Stand(next) => Move::Store(position_word(unit), next.packed()),
+            ServePlace::Acknowledge(..) => Move::Write(Reg::SerialAck(number), 1),
+            ServePlace::Free(..) => Move::Store(running_word(unit), 0),
+            ServePlace::Let(_, _, take) | ServePlace::Release(_, _, take) => take.next(),
+            ServePlace::Commit(_, _, commit) => commit.next(),
+            ServePlace::Result(leaving) => {
+                let served = leaving.served;
+                Move::Store(job_word(served.run.job), if served.failed { 1 } else { 0 })
+            }
+            ServePlace::Marks(_) => Move::Load(MARKS),
+            ServePlace::Nexts(..) => Move::Load(NEXTS),
+            ServePlace::Further(_, nexts) => Move::Store(NEXTS, *nexts),
+            ServePlace::Again(_, again) => again.next(),
+            ServePlace::End(served, result) => {
+                Move::Store(sequence_word(served.run.sequence), *result)
+            }
+            ServePlace::Drop(_, dropped) => dropped.next(),
+        }
+    }
+
+    /// Takes what the move gave.
+    pub fn took(&mut self, table: &SpiTable, unit: u8, value: u32) -> ServeStep
+        ensures state { self.new ≡ (spec.serve_takes table.now unit self.old value).0 }
+        ensures step { result ≡ (spec.serve_takes table.now unit self.old value).1 }
+    {
+        let serves = ServeStep::Goes(Some(Event::Serve(26 + u32::from(unit))));
+        let (after, step) = match *self {
+            ServePlace::Shut => goes(ServePlace::State),
+            ServePlace::State if value / 2 % 2 == 0 => (*self, ServeStep::Over),
+            ServePlace::State => goes(ServePlace::Running(value / 4 % 2 == 1)),
+            ServePlace::Running(failed) => runs(failed, value),
+            ServePlace::Position(run, failed) => {
+                let at = Position::unpacked(value);
+                goes(ServePlace::Taker(Served { run, at, failed }))
+            }
+            ServePlace::Taker(served) => {
+                let taker = taker_of(served.channel(table), served.at.word, value);
+                goes(ServePlace::Receive(served, taker))
+            }
+            ServePlace::Receive(served, taker) => {
+                let word = value;
+                let arrived = Arrived {
+                    served,
+                    taker,
+                    word,
+                };
+                goes(arrived.begins(table))
+            }
+            ServePlace::Width(arrived, next) => {
+                let placed = table.channel_at(arrived.served.run.job, next.channel);
+                goes(ServePlace::Find(arrived, next, Find::of(placed, next.word)))
+            }
+            ServePlace::Find(arrived, next, find) => found(arrived, next, find, value),
+            ServePlace::Begin(arrived, next, _) => (arrived.lets(table, next), serves),
+            ServePlace::Let(arrived, next, take) => let_go(table, arrived, next, take, value),
+            ServePlace::Keep(keep, next) => kept(keep, next),
+            ServePlace::Stand(_) => (*self, ServeStep::Over),
+            ServePlace::Marks(arrived) => {
+                let cancelled = has(value, cancelled_bit(arrived.served.run.sequence));
+                goes(ServePlace::Nexts(arrived, cancelled))
+            }
+            ServePlace::Nexts(arrived, cancelled) => {
+                let course = arrived.served.after_job(table, cancelled, value);
+                goes(ServePlace::Acknowledge(arrived, course))
+            }
+            ServePlace::Acknowledge(arrived, course) => (ServePlace::Free(arrived, course), serves),
+            ServePlace::Free(arrived, course) => goes(arrived.ends(table, course)),
+            ServePlace::Release(leaving, place, take) => {
+                released(table, leaving, place, take, value)
+            }
+            ServePlace::KeepLast(leaving, keep) => kept_last(table, leaving, keep),
+            ServePlace::Commit(leaving, place, commit) => {
+                committed(table, leaving, place, commit, value)
+            }
+            ServePlace::Result(leaving) => goes(leaving.goes_on()),
+            ServePlace::Further(served, _) => {
+                let again = Again::Look(order(unit), u32::from(served.run.sequence));
+                goes(ServePlace::Again(served, again))
+            }
+            ServePlace::Again(served, again) => waits(table, served, again, value),
+            ServePlace::End(served, _) => {
+                let dropped = Dropped::Look(search(unit), u32::from(served.run.sequence));
+                goes(ServePlace::Drop(served, dropped))
+            }
+            ServePlace::Drop(served, dropped) => leaves(table, served, dropped, value),
+        };
+        *self = after;
+        step
+    }
+}
+
+/// It goes on at a place, with no event.
+fn goes(place: ServePlace) -> (ServePlace, ServeStep)
+    ensures { result ≡ (place, Goes None) }
+{
+    (place, ServeStep::Goes(None))
+}
+
+/// What follows the load of what the unit runs.
+fn runs(failed: bool, value: u32) -> (ServePlace, ServeStep)
+    ensures { result ≡ spec.serve_run failed (run_in value) }
+{
+    match Running::unpacked(value) {
+        Some(run) => goes(ServePlace::Position(run, failed)),
+        None => (ServePlace::Running(failed), ServeStep::Over),
+    }
+}
+
+/// What follows a step of the look for the further word.
+fn found(arrived: Arrived, next: Position, mut find: Find, value: u32) -> (ServePlace, ServeStep)
+    ensures { result ≡ spec.serve_finds arrived next find value (find_gave find value) }
+{
+    match find.took(value) {
+        Some(word) => goes(ServePlace::Begin(arrived, next, word)),
+        None => goes(ServePlace::Find(arrived, next, find)),
+    }
+}
+
+/// What follows a step that ends the pin of the further word's channel.
+fn let_go(
+    table: &SpiTable,
+    arrived: Arrived,
+    next: Position,
+    mut take: Take,
+    value: u32,
+) -> (ServePlace, ServeStep)
+    ensures { result ≡ spec.serve_lets table.now arrived next take value (has_ended (take_gave take value)) }
+{
+    if take.took(value).ended.is_some() {
+        goes(ServePlace::Keep(arrived.keep(table), next))
+    } else {
+        goes(ServePlace::Let(arrived, next, take))
+    }
+}
+
+/// What follows a step that keeps a word.
+fn kept(mut keep: Keep, next: Position) -> (ServePlace, ServeStep)
+    ensures { result ≡ spec.serve_keeps keep next (keep_ends keep) }
+{
+    if keep.took() {
+        goes(ServePlace::Stand(next))
+    } else {
+        goes(ServePlace::Keep(keep, next))
+    }
+}
+
+/// What follows a step that ends a pin of a failed job.
+fn released(
+    table: &SpiTable,
+    leaving: Leaving,
+    place: u8,
+    mut take: Take,
+    value: u32,
+) -> (ServePlace, ServeStep)
+    ensures { result ≡ spec.serve_releases table.now leaving place take value (has_ended (take_gave take value)) }
+{
+    if take.took(value).ended.is_some() {
+        goes(leaving.release_last(table, left_after(place)))
+    } else {
+        goes(ServePlace::Release(leaving, place, take))
+    }
+}
+
+/// What follows a step that keeps the last word of a job.
+fn kept_last(table: &SpiTable, leaving: Leaving, mut keep: Keep) -> (ServePlace, ServeStep)
+    ensures { result ≡ spec.serve_keeps_last table.now leaving keep (keep_ends keep) }
+{
+    if keep.took() {
+        goes(leaving.commit_last(table, 4))
+    } else {
+        goes(ServePlace::KeepLast(leaving, keep))
+    }
+}
+
+/// What follows a step that makes the received words of a channel readable.
+fn committed(
+    table: &SpiTable,
+    leaving: Leaving,
+    place: u8,
+    mut commit: Commit,
+    value: u32,
+) -> (ServePlace, ServeStep)
+    ensures { result ≡ spec.serve_commits table.now leaving place commit value (commit_ends commit value) }
+{
+    if commit.took(value) {
+        goes(leaving.commit_last(table, left_after(place)))
+    } else {
+        goes(ServePlace::Commit(leaving, place, commit))
+    }
+}
+
+/// What follows a step after which the sequence waits again.
+fn waits(table: &SpiTable, served: Served, mut again: Again, value: u32) -> (ServePlace, ServeStep)
+    ensures { result ≡ spec.serve_again table.now served again value (has_ended (again_gave again value)) }
+{
+    let step = if again.took(value).ended.is_some() {
+        ServeStep::JobOver(served.ended(table, false))
+    } else {
+        ServeStep::Goes(None)
+    };
+    (ServePlace::Again(served, again), step)
+}
+
+/// What follows a step with which the sequence leaves the order.
+fn leaves(
+    table: &SpiTable,
+    served: Served,
+    mut dropped: Dropped,
+    value: u32,
+) -> (ServePlace, ServeStep)
+    ensures { result ≡ spec.serve_drops table.now served dropped value (has_ended (drop_gave dropped value)) }
+{
+    let step = if dropped.took(value).ended.is_some() {
+        ServeStep::JobOver(served.ended(table, true))
+    } else {
+        ServeStep::Goes(None)
+    };
+    (ServePlace::Drop(served, dropped), step)
+}
+
+impl Served {
+    /// The channel of the word.
+    fn channel(&self, table: &SpiTable) -> Placed
+        ensures { result ≡ spec.channel_served table.now self.now }
+    {
+        table.channel_at(self.run.job, self.at.channel)
+    }
+
+    /// The first place among the last ones of four whose channel is pinned: not all of its words have begun.
+    fn first_pinned(&self, table: &SpiTable, count: u8) -> Option<u8>
+        ensures { result ≡ spec.first_pinned table.now self.now count }
+    {
+        if count == 0 || 4 < count {
+            return None;
+        }
+        let place = 4 - count;
+        match table.channels_of(self.run.job).at(place) {
+            Some(number) if self.is_pinned(place, table.placed(number)) => Some(place),
+            _ => self.first_pinned(table, count - 1),
+        }
+    }
+
+    /// Whether the pin of the channel at a place stands.
+    fn is_pinned(&self, place: u8, placed: Placed) -> bool
+        ensures { result ≡ spec.is_pinned_at self.now place placed }
+    {
+        placed.channel.internal && !(place == self.at.channel && is_last(placed, self.at.word))
+    }
+
+    /// The first place among the last ones of four whose channel is internal.
+    fn first_internal(&self, table: &SpiTable, count: u8) -> Option<u8>
+        ensures { result ≡ spec.first_internal table.now self.now count }
+    {
+        if count == 0 || 4 < count {
+            return None;
+        }
+        let place = 4 - count;
+        match table.channels_of(self.run.job).at(place) {
+            Some(number) if table.placed(number).channel.internal => Some(place),
+            _ => self.first_internal(table, count - 1),
+        }
+    }
+
+    /// How the sequence goes on after its job.
+    fn after_job(&self, table: &SpiTable, cancelled: bool, nexts: u32) -> Course
+        ensures { result ≡ spec.after_job table.now self.now cancelled nexts }
+    {
+        let sequence = self.run.sequence;
+        let place = next_of(nexts, sequence);
+        if cancelled {
+            Course::Ends(CANCELLED)
+        } else if self.failed {
+            Course::Ends(FAILED)
+        } else if place + 1 < table.jobs_of(sequence).count {
+            Course::Further(with_next(nexts, sequence, place + 1))
+        } else {
+            Course::Ends(0)
+        }
+    }
+
+    /// The notices of the job's end.
+    fn ended(&self, table: &SpiTable, sequence_too: bool) -> Ended
+        ensures { result ≡ spec.ended_with table.now self.now sequence_too }
+    {
+        Ended {
+            job: if table.notifies_job(self.run.job) {
+                Some(Notice {
+                    kind: NoticeKind::SpiJobEndNotification,
+                    id: u32::from(self.run.job),
+                })
+            } else {
+                None
+            },
+            sequence: if sequence_too && table.notifies_sequence(self.run.sequence) {
+                Some(Notice {
+                    kind: NoticeKind::SpiSeqEndNotification,
+                    id: u32::from(self.run.sequence),
+                })
+            } else {
+                None
+            },
+        }
+    }
+}
+
+impl Leaving {
+    /// The pin that ends first among the job's last places, of four.
+    fn release_last(&self, table: &SpiTable, count: u8) -> ServePlace
+        ensures { result ≡ spec.release_last table.now self.now count }
+    {
+        match self.served.first_pinned(table, count) {
+            Some(place) => {
+                let placed = table.channel_at(self.served.run.job, place);
+                ServePlace::Release(*self, place, release(placed, Side::Sent))
+            }
+            None => ServePlace::Result(*self),
+        }
+    }
+
+    /// The first internal channel among the job's last places, of four.
+    fn commit_last(&self, table: &SpiTable, count: u8) -> ServePlace
+        ensures { result ≡ spec.commit_last table.now self.now count }
+    {
+        match self.served.first_internal(table, count) {
+            Some(place) => ServePlace::Commit(*self, place, self.commit(table, place)),
+            None => ServePlace::Result(*self),
+        }
+    }
+
+    /// The received words of the channel at a place become readable: in the bank that the job holds, which is known of
+    /// the channel of the last word.
+    fn commit(&self, table: &SpiTable, place: u8) -> Commit
+        ensures { result ≡ spec.commit_at table.now self.now place }
+    {
+        let placed = table.channel_at(self.served.run.job, place);
+        match self.taker {
+            Taker::Bank(bank) if place == self.served.at.channel => {
+                Commit::Put(publish(placed, Side::Received, bank))
+            }
+            _ => Commit::Held(placed),
+        }
+    }
+
+    /// What follows the job's result.
+    fn goes_on(&self) -> ServePlace
+        ensures { result ≡ spec.goes_on self.now.served self.now.course }
+    {
+        match self.course {
+            Course::Further(nexts) => ServePlace::Further(self.served, nexts),
+            Course::Ends(result) => ServePlace::End(self.served, result),
+        }
+    }
+}
+
+impl Arrived {
+    /// The word that begins next, where one does, or the end of the job.
+    fn begins(&self, table: &SpiTable) -> ServePlace
+        ensures { result ≡ spec.begins_of table.now self.now }
+    {
+        if self.served.failed {
+            return ServePlace::Marks(*self);
+        }
+        match self.further(table) {
+            Some(next) => ServePlace::Width(*self, next),
+            None => ServePlace::Marks(*self),
+        }
+    }
+
+    /// The place of the word after this one in the job.
+    fn further(&self, table: &SpiTable) -> Option<Position>
+        ensures { result ≡ spec.further_of table.now self.now }
+    {
+        let at = self.served.at;
+        let length = match self.taker {
+            Taker::Bank(_) => self.served.channel(table).channel.length,
+            Taker::SetUp(set_up) => set_up.length,
+        };
+        if at.word < 255 && at.word + 1 < length {
+            return Some(Position {
+                channel: at.channel,
+                word: at.word + 1,
+            });
+        }
+        if at.channel < 3 && at.channel + 1 < table.channels_of(self.served.run.job).count {
+            return Some(Position {
+                channel: at.channel + 1,
+                word: 0,
+            });
+        }
+        None
+    }
+
+    /// What follows the beginning of the next word: nothing is read any more of a channel whose last word it is.
+    fn lets(&self, table: &SpiTable, next: Position) -> ServePlace
+        ensures { result ≡ spec.lets_of table.now self.now next }
+    {
+        let placed = table.channel_at(self.served.run.job, next.channel);
+        if placed.channel.internal && is_last(placed, next.word) {
+            ServePlace::Let(*self, next, release(placed, Side::Sent))
+        } else {
+            ServePlace::Keep(self.keep(table), next)
+        }
+    }
+
+    /// What came in is kept.
+    fn keep(&self, table: &SpiTable) -> Keep
+        ensures { result ≡ spec.keep_of table.now self.now }
+    {
+        let placed = self.served.channel(table);
+        Keep::of(placed, self.served.at.word, self.taker, self.word)
+    }
+
+    /// What follows the end of the job.
+    fn ends(&self, table: &SpiTable, course: Course) -> ServePlace
+        ensures { result ≡ spec.ends_of table.now self.now course }
+    {
+        let leaving = Leaving {
+            served: self.served,
+            taker: self.taker,
+            course,
+        };
+        if self.served.failed {
+            leaving.release_last(table, left_from(self.served.at.channel))
+        } else {
+            ServePlace::KeepLast(leaving, self.keep(table))
+        }
+    }
+}
+
+/// How many of four places are left from this one on, and after it.
+fn left_from(place: u8) -> u8
+    ensures { result ≡ 4 - place }
+{
+    if place < 4 { 4 - place } else { 0 }
+}
+
+fn left_after(place: u8) -> u8
+    ensures { result ≡ 3 - place }
+{
+    if place < 3 { 3 - place } else { 0 }
+}
+
+/// Whether a place is the last one of a channel.
+fn is_last(placed: Placed, place: u8) -> bool
+    ensures { result ≡ spec.is_last_place placed place }
+{
+    u32::from(placed.channel.length) <= u32::from(place) + 1
+}

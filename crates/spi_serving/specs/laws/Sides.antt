@@ -1,0 +1,48 @@
+-- The words of one side of an internal channel stand apart from others.
+use Rattle.std.proofs.Common.{◌≡◌, ◌≢◌, ℕ, ◌+◌, ◌<◌, ◌≤◌, Bool, true, false, Some, sym, ◌∙◌, ap}
+use Rattle.mcal_base.specs.declared.layout.TheConstants.{SOURCES}
+use Rattle.word_shapes.specs.Trio as trio
+use Rattle.spi_jobs.specs.Placing.{held_word, trio_of}
+use Rattle.spi_jobs.specs.declared.channel.Channel.{Channel}
+use Rattle.spi_jobs.specs.declared.channel.Side.{Side}
+use Rattle.spi_machine.specs.Bounds.{is_own_word}
+use Rattle.spi_machine.specs.Fits.{FitsSpi}
+use Rattle.spi_machine.specs.Table.{channel_of}
+use Rattle.spi_machine.specs.Wiring.{placed_of}
+use Rattle.spi_machine.specs.declared.table.SpiTable.{SpiTable}
+use Rattle.spi_sequences.specs.declared.words.TheConstants.{STATE}
+use Rattle.spi_sequences.specs.laws.Banked.{not_first, not_held, not_of_other, not_users, trio_fits}
+use Rattle.spi_sequences.specs.laws.Own.{IsWordOf, has_channel, of_banks, own_banks}
+
+module _ (d : SpiTable) (fits : FitsSpi d) (c : ℕ) (k : Channel) (e : channel_of d c ≡ Some k) where
+  -- it is internal where its table says so
+  pub is_inside : (placed_of d c).channel.internal ≡ true → k.internal ≡ true
+  is_inside i = ap (λ (z : Channel). z.internal) (sym (has_channel d fits c k e)) ∙ i
+
+  pub says_inside : k.internal ≡ true → (placed_of d c).channel.internal ≡ true
+  says_inside i = ap (λ (z : Channel). z.internal) (has_channel d fits c k e) ∙ i
+
+  module _ (internal : k.internal ≡ true) (side : Side) where
+    abbrev its : ℕ → Bool
+    its = trio.own_of (trio_of (placed_of d c) side)
+
+    pub banks_fit : trio.Fits (trio_of (placed_of d c) side)
+    banks_fit = trio_fits d fits c k e internal side
+
+    pub banks_past : (j : ℕ) → j < STATE + 64 → its j ≡ false
+    banks_past j lt = not_first d fits c k e internal side j lt
+
+    pub banks_low : (j : ℕ) → SOURCES ≤ j → its j ≡ false
+    banks_low j le = not_users d fits c k e internal side j le
+
+    pub banks_of_one : (n : ℕ) (x : Channel) (j : ℕ) → n ≢ c → channel_of d n ≡ Some x → IsWordOf d n x j → its j ≡ false
+    banks_of_one n x j ne f is = not_of_other d fits c k e internal side n x j ne f is
+
+    pub banks_unheld : (n : ℕ) (x : Channel) → channel_of d n ≡ Some x → its (held_word (placed_of d n)) ≡ false
+    banks_unheld n x f = not_held d fits c k e internal side n x f
+
+    pub banks_words : (j : ℕ) → its j ≡ true → IsWordOf d c k j
+    banks_words j own = of_banks d fits c k e internal side j own
+
+    pub banks_own : (j : ℕ) → its j ≡ true → is_own_word d j ≡ true
+    banks_own j own = own_banks d fits c k e internal side j own

@@ -1,0 +1,15 @@
+pub mod Agrees
+pub mod Along
+pub mod Around
+pub mod Begun
+pub mod Chain
+pub mod Chosen
+pub mod First
+pub mod Goes
+pub mod Pinned
+pub mod Quiet
+pub mod Ran
+pub mod Sound
+pub mod Steps
+pub mod Turned
+pub mod Units

@@ -1,0 +1,102 @@
+-- A free unit selects a device and takes a width, and a frame that owes it a start owes it no more: the agreement
+-- stays.
+use Rattle.std.proofs.Common.{◌≡◌, ◌≢◌, ℕ, ◌+◌, ◌<◌, true, ◌||◌, ◌∷◌, length, Option, Some, None, refl, sym, ◌∙◌, ap, subst, arith, ◌⊎◌, inl, inr, length-set, get_or-set_same, get_or-set_other}
+use Rattle.std.specs.Prelude.{Contains, slice_index, slice_index_or, slice_set}
+use Rattle.chip_model.specs.Chip.{Chip, chip_after}
+use Rattle.chip_units.specs.Serials.{idle, unit_at}
+use Rattle.chip_units.specs.declared.serial.Serial.{Serial}
+use Rattle.mcal_base.specs.Bits.{has_bit}
+use Rattle.mcal_base.specs.Layout.{place_of}
+use Rattle.mcal_base.specs.declared.answer.Answer.{Answer}
+use Rattle.mcal_base.specs.declared.layout.Array.TheVariants.{Source, Destination}
+use Rattle.mcal_base.specs.declared.moves.Move.TheVariants.{Write}
+use Rattle.mcal_base.specs.declared.register.Reg.TheVariants.{SerialSelect, SerialWidth}
+use Rattle.run_model.specs.Frame.{Origin}
+use Rattle.run_model.specs.Outside.{StandsIn}
+use Rattle.run_model.specs.World.{World}
+use Rattle.run_model.proofs.OutsideLaws.{stands-move}
+use Rattle.spi_jobs.specs.Placing.{set_up_word}
+use Rattle.spi_machine.specs.Fits.{FitsSpi}
+use Rattle.spi_machine.specs.Pending.{Pending, is_for}
+use Rattle.spi_machine.specs.State.{SpiState, run_at}
+use Rattle.spi_machine.specs.Wiring.{placed_of}
+use Rattle.spi_machine.specs.declared.call.Call.{Call}
+use Rattle.spi_machine.specs.declared.table.SpiTable.{SpiTable}
+use Rattle.spi_machine.proofs.Numbers.{same_or_other}
+use Rattle.spi_sequences.specs.Going.{Going, UnitAgrees}
+use Rattle.spi_sequences.specs.Ground.{Holds, AreOwed, SpiAgrees, WordsAgree, is_owed, view}
+use Rattle.spi_sequences.specs.laws.Firsts.{HoldsLike, firsts_changed, holds_debt}
+use Rattle.spi_sequences.specs.laws.Said.{going_run, other_number}
+use Rattle.spi_starting.specs.laws.Ran.{debt_of}
+
+module _ (d : SpiTable) (held : Holds) (chip : Chip) (w : World) (s : SpiState) (h : SpiAgrees d held chip w s) (u : ℕ) (free : h.going u ≡ None) (x : Serial) (word : x.word ≡ (unit_at chip.serials u).word) where
+  turned_unit : (lt : u < 2) (n : ℕ) → n < 2 → UnitAgrees d (slice_index_or (slice_set chip.serials.units u x) n idle) (run_at s n) (h.going n)
+  turned_unit lt n few = by (same_or_other n u)
+    where
+      own : UnitAgrees d (unit_at chip.serials u) (run_at s u) None → UnitAgrees d x (run_at s u) None
+      own a = (word ∙ a.0, a.1)
+
+      by : (n ≡ u) ⊎ (n ≢ u) → UnitAgrees d (slice_index_or (slice_set chip.serials.units u x) n idle) (run_at s n) (h.going n)
+      by (inl e) =
+          subst (λ k. UnitAgrees d (slice_index_or (slice_set chip.serials.units u x) k idle) (run_at s k) (h.going k)) (sym e)
+          (subst (λ y. UnitAgrees d y (run_at s u) (h.going u)) (sym (get_or-set_same chip.serials.units u x idle (let size = h.size in omega (arith, lt, size))))
+          (subst (λ g. UnitAgrees d x (run_at s u) g) (sym free) (own (subst (λ g. UnitAgrees d (unit_at chip.serials u) (run_at s u) g) free (h.units u lt)))))
+      by (inr ne) = subst (λ y. UnitAgrees d y (run_at s n) (h.going n)) (sym (get_or-set_other chip.serials.units u n x idle ne)) (h.units n few)
+
+  -- the chip with this unit, and the same words
+  pub turned_agrees : u < 2 → (c : Chip) → StandsIn c w → c.words ≡ chip.words → c.wiring ≡ chip.wiring → c.control ≡ chip.control → c.serials.units ≡ slice_set chip.serials.units u x → SpiAgrees d held c w s
+  turned_agrees lt c outside words wiring control units = record {
+    right = h.right;
+    outside = outside;
+    wired = λ b few. ap (λ z. slice_index z.sources b) wiring ∙ h.wired b few;
+    size = ap length units ∙ length-set chip.serials.units u x ∙ h.size;
+    sound = h.sound;
+    going = h.going;
+    nexts = h.nexts;
+    units = λ n few. subst (λ xs. UnitAgrees d (slice_index_or xs n idle) (run_at s n) (h.going n)) (sym units) (turned_unit lt n few);
+    words = subst (λ ws. WordsAgree d held h.going (λ k. slice_index ws k) (view s)) (sym words) h.words;
+    set_ups = λ on b k known external. ap (λ ws. slice_index ws (set_up_word (placed_of d b))) words ∙ h.set_ups on b k known external;
+    sizes = h.sizes;
+    arrays = λ b. record { source = λ i few. ap (λ ws. slice_index ws (place_of (Source b) i)) words ∙ (h.arrays b).source i few; destination = λ i few. ap (λ ws. slice_index ws (place_of (Destination b) i)) words ∙ (h.arrays b).destination i few };
+    lines = λ n few. ap (λ z. has_bit z.enabled (26 + n)) control ∙ h.lines n few;
+    owed = h.owed;
+  }
+
+module _ (d : SpiTable) (fits : FitsSpi d) (below : Holds) (owner : Origin Call) (acted : Option Answer) (chip : Chip) (w : World) (s : SpiState) (u : ℕ) (h : SpiAgrees d (debt_of u owner acted ∷ below) chip w s) where
+  abbrev held : Holds
+  held = debt_of u owner acted ∷ below
+
+  -- a unit that runs no job does nothing
+  pub goes_none : run_at s u ≡ None → h.going u ≡ None
+  goes_none e = by (h.going u) refl
+    where
+      by : (g : Option Going) → h.going u ≡ g → g ≡ None
+      by None f = refl
+      by (Some g) f = absurd (let run = going_run d fits held chip w s h u g h.right.0.0 f in let no = sym e ∙ run.1 in cc)
+
+  like : HoldsLike d held below
+  like = let l = holds_debt d (debt_of u owner acted) u below refl in record {
+    puts = λ sources n r. sym (l.puts sources n r);
+    takes = λ n. sym (l.takes n);
+    prepares = sym l.prepares;
+    readied = sym l.readied;
+    stored = sym l.stored;
+  }
+
+  -- the debt is paid where the unit runs a job, or none waits
+  pub paid : ((q : Pending) → h.going u ≡ None → Contains s.pending q → is_for d u q ≡ true → ⊥) → SpiAgrees d below chip w s
+  paid none = firsts_changed d fits held below chip chip w s h h.right.0.1 like h.outside refl refl refl (λ j le. refl) refl (λ n lt. (refl, refl)) s.pending s.requests s.sequence_results s.job_results h.right.1 h.sound h.nexts (h.words.on h.right.0.1).sequences owed
+    where
+      owed : AreOwed d below h.going s
+      owed n q lt free there for = by (same_or_other n u)
+        where
+          by : (n ≡ u) ⊎ (n ≢ u) → is_owed n below ≡ true
+          by (inl e) = absurd (none q (ap h.going (sym e) ∙ free) there (subst (λ k. is_for d k q ≡ true) e for))
+          by (inr ne) = ap (λ b. b || is_owed n below) (sym (other_number u n (λ e. ne (sym e)))) ∙ h.owed n q lt free there for
+
+  module _ (free : h.going u ≡ None) (v received : ℕ) where
+    pub selects_agrees : SpiAgrees d held (chip_after chip (Write (SerialSelect u) v) received) w s
+    selects_agrees = turned_agrees d held chip w s h u free (record (unit_at chip.serials u) { select = v }) refl h.right.0.0 (chip_after chip (Write (SerialSelect u) v) received) (stands-move chip w (Write (SerialSelect u) v) received h.outside) refl refl refl refl
+
+    pub widens_agrees : SpiAgrees d held (chip_after chip (Write (SerialWidth u) v) received) w s
+    widens_agrees = turned_agrees d held chip w s h u free (record (unit_at chip.serials u) { width = v }) refl h.right.0.0 (chip_after chip (Write (SerialWidth u) v) received) (stands-move chip w (Write (SerialWidth u) v) received h.outside) refl refl refl refl

@@ -1,0 +1,155 @@
+-- What the machines of two drivers keep is kept by both as one, and by every run.
+use Rattle.std.proofs.Common.{ℕ, Bool, true, false, List, [], ◌∷◌, ◌++◌, Option, Some, None}
+use Rattle.std.specs.Prelude.{cond}
+use Rattle.mcal_base.specs.declared.directive.Directive.{Directive}
+use Rattle.mcal_base.specs.declared.directive.Order.{Order}
+use Rattle.mcal_base.specs.declared.directive.Order.TheVariants as orders
+use Rattle.mcal_base.specs.declared.directive.Request.{Request}
+use Rattle.mcal_base.specs.declared.directive.Shown.{Shown}
+use Rattle.mcal_base.specs.declared.moves.Event.{Event}
+use Rattle.mcal_base.specs.declared.moves.Event.TheVariants as events
+use Rattle.run_model.specs.Entry as entry
+use Rattle.run_model.specs.Frame.{Open, Origin, Called, Entered, Brought, state_by, outcome_of, happening_at, brought_by}
+use Rattle.run_model.specs.Machine.{Happening, Acts, Serves, Starts, Aborts, Moves, Restarts, Outcome}
+use Rattle.run_model.specs.Moment.{Setting, Moment, Deed, Begins, Enters, Steps, Happens, Resets, after, after_all}
+use Rattle.run_model.specs.Script.{order_at, beginnings_of, moved_by, deed_of}
+use Rattle.run_model.specs.World.{World}
+use Rattle.run_model.specs.declared.item.Stepped.{Stepped}
+use Rattle.step_runner.specs.Union.{union_setting, lift_out, in_both, in_first}
+use Rattle.step_runner.specs.declared.either.Either.{Either}
+use Rattle.step_runner.specs.declared.either.Either.TheVariants.{Left, Right}
+use Rattle.bench_report.specs.Rows.{Row}
+use Rattle.bench_report.specs.Showing.{Showing, item_rows, shows_from}
+use Rattle.trace_reader.specs.Trace.{IsNumber, Each}
+use Rattle.trace_promises.specs.Keeping.{WordsFit, HappeningFits, Keeps}
+use Rattle.trace_promises.specs.Numbers.{SaidBrings, BringsNumbers}
+
+-- nothing is asked of a state
+pub keeps_nothing : {State Call : Type 0} (g : Setting State Call) → Keeps g (λ s. Unit {0})
+keeps_nothing g = record { first = tt; stays = λ w s h f p. tt }
+
+-- ---- two as one
+
+module _ {S T : Type 0} (P : S → Type 0) (Q : T → Type 0) where
+  abbrev Both : S × T → Type 0
+  Both s = P s.0 × Q s.1
+
+  at_first : (s : S × T) (o : Option (Outcome S)) → P (state_by s.0 o) → Q s.1 → Both (state_by s (lift_out (λ a. (a, s.1)) o))
+  at_first s None p q = (p, q)
+  at_first s (Some out) p q = (p, q)
+
+  at_second : (s : S × T) (o : Option (Outcome T)) → P s.0 → Q (state_by s.1 o) → Both (state_by s (lift_out (λ b. (s.0, b)) o))
+  at_second s None p q = (p, q)
+  at_second s (Some out) p q = (p, q)
+
+  at_one : (s : S × T) (b : Bool) (x y : Option (Outcome (S × T))) → Both (state_by s x) → Both (state_by s y) → Both (state_by s (cond b x y))
+  at_one s true x y p q = p
+  at_one s false x y p q = q
+
+  at_either : (s : S × T) (x : Option (Outcome S)) (y : Option (Outcome T)) → Both s → P (state_by s.0 x) → Q (state_by s.1 y) → Both (state_by s (in_first s.0 s.1 x y))
+  at_either s (Some out) y h p q = (p, h.1)
+  at_either s None None h p q = h
+  at_either s None (Some out) h p q = (h.0, q)
+
+  at_both : (s : S × T) (x : Option (Outcome S)) (y : Option (Outcome T)) → Both s → P (state_by s.0 x) → Q (state_by s.1 y) → Both (state_by s (in_both x y))
+  at_both s None y h p q = h
+  at_both s (Some x) None h p q = h
+  at_both s (Some x) (Some y) h p q = (p, q)
+
+  module _ {C D : Type 0} (ours : ℕ → Bool) (g : Setting S C) (h : Setting T D) (a : Keeps g P) (b : Keeps h Q) where
+    both_stay : (w : World) (s : S × T) (x : Happening (Either C D)) → HappeningFits x → Both s → Both (state_by s ((union_setting ours g h).machine.happens w s x))
+    both_stay w s (Acts (Left c) times) f k = at_first s _ (a.stays w s.0 (Acts c times) f k.0) k.1
+    both_stay w s (Acts (Right d) times) f k = at_second s _ k.0 (b.stays w s.1 (Acts d times) f k.1)
+    both_stay w s (Serves l r) f k = at_one s (ours l) _ _ (at_first s _ (a.stays w s.0 (Serves l r) f k.0) k.1) (at_second s _ k.0 (b.stays w s.1 (Serves l r) f k.1))
+    both_stay w s (Starts u r) f k = at_either s (g.machine.happens w s.0 (Starts u r)) (h.machine.happens w s.1 (Starts u r)) k (a.stays w s.0 (Starts u r) f k.0) (b.stays w s.1 (Starts u r) f k.1)
+    both_stay w s (Aborts u) f k = at_either s (g.machine.happens w s.0 (Aborts u)) (h.machine.happens w s.1 (Aborts u)) k (a.stays w s.0 (Aborts u) f k.0) (b.stays w s.1 (Aborts u) f k.1)
+    both_stay w s (Moves order) f k = at_both s (g.machine.happens w s.0 (Moves order)) (h.machine.happens w s.1 (Moves order)) k (a.stays w s.0 (Moves order) f k.0) (b.stays w s.1 (Moves order) f k.1)
+    both_stay w s (Restarts reason) f k = at_both s (g.machine.happens w s.0 (Restarts reason)) (h.machine.happens w s.1 (Restarts reason)) k (a.stays w s.0 (Restarts reason) f k.0) (b.stays w s.1 (Restarts reason) f k.1)
+
+    pub keeps_both : Keeps (union_setting ours g h) Both
+    keeps_both = record { first = (a.first, b.first); stays = both_stay }
+
+-- ---- what a run brings
+
+abbrev EventFits : {Call : Type 0} → Option (Happening Call) → Type 0
+EventFits None = Unit {0}
+EventFits (Some h) = HappeningFits h
+
+event_fits : {Call : Type 0} (origin : Origin Call) (b : Brought) (e : Option Event) → IsNumber b.received → EventFits (happening_at origin b e)
+event_fits origin b None k = tt
+event_fits (Called c) b (Some events.Act) k = tt
+event_fits (Entered l) b (Some events.Act) k = tt
+event_fits (Called c) b (Some (events.Serve l)) k = k
+event_fits (Entered m) b (Some (events.Serve l)) k = k
+event_fits (Called c) b (Some (events.Abort u)) k = tt
+event_fits (Entered l) b (Some (events.Abort u)) k = tt
+event_fits (Called c) b (Some (events.Start u)) k = k
+event_fits (Entered l) b (Some (events.Start u)) k = k
+
+abbrev DeedFits : {Call : Type 0} → Deed Call → Type 0
+DeedFits (Steps s) = IsNumber s.received
+DeedFits (Happens order) = WordsFit order
+DeedFits _ = Unit {0}
+
+moved_fit : (Call : Type 0) (order : Order) → WordsFit order → Each DeedFits (moved_by {Call = Call} order)
+moved_fit Call (orders.Show what) k = tt
+moved_fit Call _ k = (k, tt)
+
+begun_fit : {Call : Type 0} (call_of : Request → Call) (o : Option Order) → Each DeedFits (beginnings_of call_of o)
+begun_fit call_of (Some (orders.Call level r)) = (tt, tt)
+begun_fit call_of (Some (orders.Do level r)) = (tt, tt)
+begun_fit call_of (Some (orders.Enter line)) = (tt, tt)
+begun_fit call_of (Some (orders.Serve line)) = (tt, tt)
+begun_fit call_of _ = tt
+
+deeds_fit : {Call : Type 0} (call_of : Request → Call) (o : Option Order) (said : entry.Said) → SaidBrings said → Each DeedFits (deed_of call_of o said)
+deeds_fit call_of o (entry.Happens order) k = moved_fit _ order k
+deeds_fit call_of o entry.Begins k = begun_fit call_of o
+deeds_fit call_of o (entry.Stays cause) k = tt
+deeds_fit call_of o (entry.Steps step) k = (k, tt)
+deeds_fit call_of o (entry.Resets reason dropped) k = (tt, tt)
+
+-- ---- a run
+
+module _ {State Call : Type 0} (g : Setting State Call) (P : State → Type 0) (keeps : Keeps g P) where
+  by_happening : (w : World) (s : State) (h : Option (Happening Call)) → EventFits h → P s → P (state_by s (outcome_of g.machine w s h))
+  by_happening w s None f p = p
+  by_happening w s (Some h) f p = keeps.stays w s h f p
+
+  kept_step : (m : Moment State Call) (opens : List (Open Call)) (s : Stepped) → IsNumber s.received → P m.state → P (after g (record m { opens = opens }) (Steps s)).state
+  kept_step m [] s f p = p
+  kept_step m (o ∷ os) s f p =
+      let brought = brought_by m.world o.committed s.made s.received in
+      by_happening m.world m.state (happening_at o.origin brought s.event) (event_fits o.origin brought s.event f) p
+
+  kept_after : (m : Moment State Call) (d : Deed Call) → DeedFits d → P m.state → P (after g m d).state
+  kept_after m (Begins c level) f p = p
+  kept_after m (Enters l) f p = p
+  kept_after m (Steps s) f p = kept_step m m.opens s f p
+  kept_after m (Happens order) f p = keeps.stays m.world m.state (Moves order) f p
+  kept_after m (Resets reason) f p = keeps.stays m.world m.state (Restarts reason) f p
+
+  kept_all : (m : Moment State Call) (ds : List (Deed Call)) → Each DeedFits ds → P m.state → P (after_all g m ds).state
+  kept_all m [] f p = p
+  kept_all m (d ∷ ds) f p = kept_all (after g m d) ds f.1 (kept_after m d f.0 p)
+
+  -- ---- what it shows
+
+  module _ (call_of : Request → Call) (showing : Showing State) (script : List Directive) (R : List Row → Type 0) (right : (w : World) (s : State) (what : Shown) → P s → R (showing w s what)) where
+    order_shows : (m : Moment State Call) (order : Order) (others : List (List Row)) → P m.state → Each R others → Each R (item_rows showing m (entry.Happens order) ++ others)
+    order_shows m (orders.Show what) others p h = (right m.world m.state what p, h)
+    order_shows m _ others p h = h
+
+    item_shows : (m : Moment State Call) (said : entry.Said) (others : List (List Row)) → P m.state → Each R others → Each R (item_rows showing m said ++ others)
+    item_shows m (entry.Happens order) others p h = order_shows m order others p h
+    item_shows m entry.Begins others p h = h
+    item_shows m (entry.Stays cause) others p h = h
+    item_shows m (entry.Steps step) others p h = h
+    item_shows m (entry.Resets reason dropped) others p h = h
+
+    pub shows_right : (m : Moment State Call) (es : List entry.Entry) → Each BringsNumbers es → P m.state → Each R (shows_from g call_of showing script m es)
+    shows_right m [] f p = tt
+    shows_right m (e ∷ es) f p =
+        let order = order_at script e.line in
+        let deeds = deed_of call_of order e.said in
+        item_shows m e.said _ p (shows_right (after_all g m deeds) es f.1 (kept_all m deeds (deeds_fit call_of order e.said f.0) p))

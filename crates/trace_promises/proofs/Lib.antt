@@ -1,0 +1,13 @@
+pub mod CaptureNumbers
+pub mod ClockNumbers
+pub mod ConfigNumbers
+pub mod Input
+pub mod JournalNumbers
+pub mod Kept
+pub mod Lists
+pub mod Parts
+pub mod Promise
+pub mod ScriptNumbers
+pub mod SerialNumbers
+pub mod ShownNumbers
+pub mod SystemLines

@@ -1,0 +1,306 @@
+-- The words of serial channels, of running jobs and of wires have 32 bits, whatever happens that brings such words.
+use Rattle.std.proofs.Common.{ℕ, zero, suc, ◌+◌, ◌^◌, Bool, true, false, List, [], ◌∷◌, length, map, Option, Some, None, arith, div-add-mod'}
+use Rattle.std.specs.Prelude.{◌==◌, drop, flat_map, replicate, if◌then◌else◌}
+use Rattle.std.specs.List.{enumerate_from}
+use Rattle.mcal_base.specs.declared.answer_name.AnswerName.{AnswerName}
+use Rattle.mcal_base.specs.declared.config.spi.SpiChannel.{SpiChannel}
+use Rattle.mcal_base.specs.declared.config.spi.SpiConfig.{SpiConfig}
+use Rattle.mcal_base.specs.declared.directive.Order.{Order}
+use Rattle.mcal_base.specs.declared.directive.Order.TheVariants.{Fill, SpiFault}
+use Rattle.mcal_base.specs.declared.error_name.ErrorName.{ErrorName}
+use Rattle.run_model.specs.Frame.{state_by}
+use Rattle.run_model.specs.Machine.{Happening, Acts, Serves, Starts, Aborts, Moves, Restarts}
+use Rattle.run_model.specs.World.{World}
+use Rattle.spi_jobs.specs.declared.channel.Channel.{Channel}
+use Rattle.spi_machine.specs.Bounds.{spi_setting}
+use Rattle.spi_machine.specs.Channels.{ChannelState, SetUp, untouched, words_from, set_up_or, initialised, written_from, filled}
+use Rattle.spi_machine.specs.Checks.{error_by}
+use Rattle.spi_machine.specs.Machine.{cancelled_by, cancelled, initial, channel_work, sequence_work, unless_busy, work, finds_held, acts_by, job_words, with_word, number_of, next_at, job_started, start_by, unit_of, run_of, ready, stored, kept, all_kept, after_last, sequence_after, job_over, pending_of, served_by, served, faulted_run, moved, happens}
+use Rattle.spi_machine.specs.Numbered.{with_item, first_items, word_at}
+use Rattle.spi_machine.specs.Pending.{Pending, has_further, next_job, end_by}
+use Rattle.spi_machine.specs.State.{SpiState, is_off, channel_at, with_channel, internal_word, run_at, with_run, wire_at, is_busy, is_running}
+use Rattle.spi_machine.specs.Table.{taken_channel, table_of, channel_of, channel_in, length_by, channels_of}
+use Rattle.spi_machine.specs.Transfers.{Goes, ToDestination, ToChannel, Nowhere, JobWord, Run, masked, refused, goes_to, as_words, external_words, channel_words, no_word, shown, on_wire, is_done, word_of, received_with, goes_on, begun}
+use Rattle.spi_machine.specs.declared.call.Call.{Call}
+use Rattle.spi_machine.specs.declared.call.Call.TheVariants as calls
+use Rattle.spi_machine.specs.declared.call.ChannelCall.{ChannelCall}
+use Rattle.spi_machine.specs.declared.call.ChannelCall.TheVariants.{WriteIb, ReadIb, SetupEb}
+use Rattle.spi_machine.specs.declared.call.Pointer.{Pointer}
+use Rattle.spi_machine.specs.declared.call.Pointer.TheVariants.{Users, Null}
+use Rattle.spi_machine.specs.declared.call.SequenceCall.{SequenceCall}
+use Rattle.spi_machine.specs.declared.call.SequenceCall.TheVariants.{AsyncTransmit, Cancel}
+use Rattle.spi_machine.specs.declared.table.SpiTable.{SpiTable}
+use Rattle.trace_reader.specs.Trace.{IsNumber, Each}
+use Rattle.trace_laws.proofs.Within.{each_append, each_take, each_drop}
+use Rattle.trace_promises.specs.Keeping.{WordsFit, HappeningFits, Keeps}
+use Rattle.trace_promises.specs.Numbers.{DefaultFits, ChannelFits, SentFits, RunFits, PairFits, WireFits, SerialFits}
+use Rattle.trace_promises.proofs.Lists.{chosen, at_place}
+
+-- ---- lists
+
+with_fits : {T : Type 0} (P : T → Type 0) (first : T) (xs : List T) (k : ℕ) (x : T) → P first → Each P xs → P x → Each P (with_item first xs k x)
+with_fits P first [] zero x f h p = (p, tt)
+with_fits P first [] (suc k) x f h p = (f, with_fits P first [] k x f tt p)
+with_fits P first (y ∷ ys) zero x f h p = (p, h.1)
+with_fits P first (y ∷ ys) (suc k) x f h p = (h.0, with_fits P first ys k x f h.1 p)
+
+firsts_fit : {T : Type 0} (P : T → Type 0) (first : T) (n : ℕ) (xs : List T) → P first → Each P xs → Each P (first_items first n xs)
+firsts_fit P first zero xs f h = tt
+firsts_fit P first (suc n) [] f h = (f, firsts_fit P first n [] f tt)
+firsts_fit P first (suc n) (x ∷ xs) f h = (h.0, firsts_fit P first n xs f h.1)
+
+same_fit : (n x : ℕ) → IsNumber x → Each IsNumber (replicate n x)
+same_fit zero x h = tt
+same_fit (suc n) x h = (h, same_fit n x h)
+
+flat_fit : {S T : Type 0} (P : T → Type 0) (f : S → List T) (xs : List S) → ((x : S) → Each P (f x)) → Each P (flat_map f xs)
+flat_fit P f [] h = tt
+flat_fit P f (x ∷ xs) h = each_append P (f x) (flat_map f xs) (h x) (flat_fit P f xs h)
+
+mapped_fit : {S T : Type 0} (P : S → Type 0) (Q : T → Type 0) (f : ℕ × S → T) (n : ℕ) (xs : List S) → ((k : ℕ) (x : S) → P x → Q (f (k, x))) → Each P xs → Each Q (map f (enumerate_from n xs))
+mapped_fit P Q f n [] on h = tt
+mapped_fit P Q f n (x ∷ xs) on h = (on n x h.0, mapped_fit P Q f (n + 1) xs on h.1)
+
+-- ---- numbers
+
+zero_fits : IsNumber 0
+zero_fits = omega arith
+
+masked_fits : (width n : ℕ) → IsNumber n → IsNumber (masked width n)
+masked_fits width n h = let e = div-add-mod' n (2 ^ width) in omega (arith, e, h)
+
+shown_fits : (width received : ℕ) → IsNumber received → IsNumber (shown width received)
+shown_fits width received h = chosen IsNumber (received == refused) refused (masked width received) (omega arith) (masked_fits width received h)
+
+-- ---- channels of a configuration
+
+-- the default data of a channel, where there is one
+abbrev Small : Option Channel → Type 0
+Small None = Unit {0}
+Small (Some k) = IsNumber k.default_data
+
+small_in : (xs : List SpiChannel) (c : ℕ) → Each DefaultFits xs → Small (channel_in xs c)
+small_in [] c h = tt
+small_in (x ∷ xs) c h = chosen Small (x.id == c) (Some (taken_channel x)) (channel_in xs c) h.0 (small_in xs c h.1)
+
+pub small_channels : (g : SpiConfig) → Each DefaultFits g.channels → (c : ℕ) → Small (channel_of (table_of g) c)
+small_channels g h c =
+    let small = λ (k : ℕ). small_in g.channels k h in
+    at_place Small (table_of g).channels c None (small 0, (small 1, (small 2, (small 3, (small 4, (small 5, (small 6, (small 7, (small 8, (small 9, (small 10, (small 11, (small 12, (small 13, (small 14, (small 15, tt)))))))))))))))) tt
+
+-- ---- channels
+
+untouched_fits : ChannelFits untouched
+untouched_fits = (tt, tt, tt, tt)
+
+channel_fits : (s : SpiState) (c : ℕ) → SerialFits s → ChannelFits (channel_at s c)
+channel_fits s c h = at_place ChannelFits s.channels c untouched h.0 untouched_fits
+
+put_fits : (s : SpiState) (c : ℕ) (x : ChannelState) → SerialFits s → ChannelFits x → SerialFits (with_channel s c x)
+put_fits s c x h k = (with_fits ChannelFits untouched s.channels c x untouched_fits h.0 k, h.1, h.2)
+
+from_fits : (p : Pointer) (n : ℕ) (k : Channel) (x : ChannelState) → Small (Some k) → ChannelFits x → Each IsNumber (words_from p n k x)
+from_fits Users n k x m h = firsts_fit IsNumber 0 n x.source zero_fits h.0
+from_fits Null n k x m h = same_fit n k.default_data m
+
+written_fits : (p : Pointer) (o : Option Channel) (x : ChannelState) → Small o → ChannelFits x → ChannelFits (written_from p o x)
+written_fits p None x m h = h
+written_fits p (Some k) x m h = (h.0, h.1, from_fits p k.length k x m h, h.3)
+
+filled_fits : (ws : List ℕ) (o : Option Channel) (x : ChannelState) → Each IsNumber ws → ChannelFits x → ChannelFits (filled ws o x)
+filled_fits ws o x k h = (each_take IsNumber (length_by o) _ (each_append IsNumber ws (drop (length ws) x.source) k (each_drop IsNumber (length ws) x.source h.0)), h.1, h.2, h.3)
+
+initial_by : (b : Bool) (k : Channel) (x : ChannelState) → Small (Some k) → ChannelFits x →
+    ChannelFits (if b then record x { written = replicate k.length k.default_data; received = replicate k.length 0 } else record x { set_up = None })
+initial_by true k x m h = (h.0, h.1, same_fit k.length k.default_data m, same_fit k.length 0 zero_fits)
+initial_by false k x m h = h
+
+initial_fits : (o : Option Channel) (x : ChannelState) → Small o → ChannelFits x → ChannelFits (initialised o x)
+initial_fits None x m h = h
+initial_fits (Some k) x m h = initial_by k.internal k x m h
+
+-- ---- words of jobs
+
+as_fit : (c width : ℕ) (goes : Goes) (values : List ℕ) → Each IsNumber values → Each SentFits (as_words c width goes values)
+as_fit c width goes values h = mapped_fit IsNumber SentFits _ 0 values (λ k x. masked_fits width x) h
+
+words_by : (b : Bool) (c : ℕ) (k : Channel) (x : ChannelState) (by : SetUp) → Small (Some k) → ChannelFits x → Each SentFits (if b then as_words c k.width ToChannel x.written else external_words c k x by)
+words_by true c k x by m h = as_fit c k.width ToChannel x.written h.2
+words_by false c k x by m h = as_fit c k.width (goes_to by.destination) (words_from by.source by.words k x) (from_fits by.source by.words k x m h)
+
+words_fit : (c : ℕ) (o : Option Channel) (x : ChannelState) → Small o → ChannelFits x → Each SentFits (channel_words c o x)
+words_fit c None x m h = tt
+words_fit c (Some k) x m h = words_by k.internal c k x (set_up_or k x.set_up) m h
+
+-- ---- runs
+
+begun_fits : (now received q : ℕ) (words : List JobWord) (before : List ℕ) → IsNumber received → Each SentFits words → Each IsNumber before → RunFits (Some (begun now received q words before))
+begun_fits now received q words before r h k = (h, k, masked_fits _ received r)
+
+-- a word begins: the run, and the pair on the wire
+begins_fits : (s : SpiState) (u received : ℕ) (r : Run) → SerialFits s → IsNumber received → RunFits (Some r) → SerialFits (with_word s u received r)
+begins_fits s u received r h k f =
+    let sent = at_place SentFits r.words (length r.received) no_word f.0 zero_fits in
+    let before = at_place WireFits s.wires u [] h.2 tt in
+    let wire = each_append PairFits (wire_at s u) (on_wire received (word_of r) ∷ []) before ((sent, shown_fits (word_of r).width received k), tt) in
+    (h.0, with_fits RunFits None s.units u (Some r) tt h.1 f, with_fits WireFits [] s.wires u _ tt h.2 wire)
+
+run_fits : (s : SpiState) (u : ℕ) → SerialFits s → RunFits (run_at s u)
+run_fits s u h = at_place RunFits s.units u None h.1 tt
+
+put_run : (s : SpiState) (u : ℕ) (r : Option Run) → SerialFits s → RunFits r → SerialFits (with_run s u r)
+put_run s u r h k = (h.0, with_fits RunFits None s.units u r tt h.1 k, h.2)
+
+-- ---- what came in
+
+stored_fits : (s : SpiState) (x : JobWord) (goes : Goes) (v : ℕ) → SerialFits s → IsNumber v → SerialFits (stored s x goes v)
+stored_fits s x ToDestination v h k =
+    let f = channel_fits s x.channel h in
+    put_fits s x.channel _ h (f.0, with_fits IsNumber 0 (channel_at s x.channel).destination x.place v zero_fits f.1 k, f.2, f.3)
+stored_fits s x ToChannel v h k = h
+stored_fits s x Nowhere v h k = h
+
+kept_fits : (s : SpiState) (x : JobWord) (goes : Goes) (v : ℕ) → SerialFits s → IsNumber v → SerialFits (kept s x goes v)
+kept_fits s x ToDestination v h k = h
+kept_fits s x ToChannel v h k =
+    let f = channel_fits s x.channel h in
+    put_fits s x.channel _ h (f.0, f.1, f.2, with_fits IsNumber 0 (channel_at s x.channel).received x.place v zero_fits f.3 k)
+kept_fits s x Nowhere v h k = h
+
+all_kept_fits : (s : SpiState) (xs : List JobWord) (vs : List ℕ) → SerialFits s → Each IsNumber vs → SerialFits (all_kept s xs vs)
+all_kept_fits s [] vs h k = h
+all_kept_fits s (x ∷ xs) [] h k = h
+all_kept_fits s (x ∷ xs) (v ∷ vs) h k = all_kept_fits (kept s x x.goes v) xs vs (kept_fits s x x.goes v h k.0) k.1
+
+with_incoming : (r : Run) → RunFits (Some r) → Each IsNumber (received_with r)
+with_incoming r f = each_append IsNumber r.received (r.transfer.incoming ∷ []) f.1 (f.2, tt)
+
+last_fits : (s : SpiState) (r : Run) (failed : Bool) → SerialFits s → RunFits (Some r) → SerialFits (after_last s r failed)
+last_fits s r true h f = h
+last_fits s r false h f = all_kept_fits (stored s (word_of r) (word_of r).goes r.transfer.incoming) r.words (received_with r) (stored_fits s (word_of r) (word_of r).goes r.transfer.incoming h f.2) (with_incoming r f)
+
+module _ (d : SpiTable) (small : (c : ℕ) → Small (channel_of d c)) where
+  -- ---- calls
+
+  all_initial : (s : SpiState) → SerialFits s → SerialFits (initial d s)
+  all_initial s h =
+      (mapped_fit ChannelFits ChannelFits (λ p. initialised (channel_of d p.0) p.1) 0 (first_items untouched 16 s.channels) (λ c x k. initial_fits (channel_of d c) x (small c) k) (firsts_fit ChannelFits untouched 16 s.channels untouched_fits h.0), tt, h.2)
+
+  channel_call : (s : SpiState) (c : ℕ) (call : ChannelCall) → SerialFits s → SerialFits (channel_work (channel_of d c) s c call).state
+  channel_call s c (WriteIb p) h = put_fits s c _ h (written_fits p (channel_of d c) (channel_at s c) (small c) (channel_fits s c h))
+  channel_call s c ReadIb h = h
+  channel_call s c (SetupEb p q n) h = put_fits s c _ h (channel_fits s c h)
+
+  cancels_by : (s : SpiState) (p : Pending) (running : Bool) → SerialFits s → SerialFits (cancelled_by d s p running).state
+  cancels_by s p true h = h
+  cancels_by s p false h = h
+
+  cancels : (s : SpiState) (o : Option Pending) → SerialFits s → SerialFits (cancelled d s o).state
+  cancels s None h = h
+  cancels s (Some p) h = cancels_by s p (is_running s p.sequence) h
+
+  sequence_call : (s : SpiState) (q : ℕ) (call : SequenceCall) → SerialFits s → SerialFits (sequence_work d s q call).state
+  sequence_call s q AsyncTransmit h = h
+  sequence_call s q Cancel h = cancels s _ h
+
+  unless_fits : (busy : Bool) (s after : SpiState) → SerialFits s → SerialFits after → SerialFits (unless_busy busy s after).state
+  unless_fits true s after h k = h
+  unless_fits false s after h k = k
+
+  work_fits : (s : SpiState) (call : Call) → SerialFits s → SerialFits (work d s call).state
+  work_fits s calls.Init h = all_initial s h
+  work_fits s calls.DeInit h = unless_fits (is_busy s) s _ h h
+  work_fits s (calls.SetAsyncMode m) h = unless_fits (is_busy s) s _ h h
+  work_fits s calls.MainFunctionHandling h = h
+  work_fits s (calls.Channel c call) h = channel_call s c call h
+  work_fits s (calls.Sequence q call) h = sequence_call s q call h
+  work_fits s (calls.Get query) h = h
+
+  act_fits : (s : SpiState) (call : Call) (e : Option ErrorName) → SerialFits s → SerialFits (acts_by d s call e).state
+  act_fits s call None h = work_fits s call h
+  act_fits s call (Some e) h = h
+
+  -- ---- starts
+
+  job_fits : (s : SpiState) (j : ℕ) → SerialFits s → Each SentFits (job_words d s j)
+  job_fits s j h = flat_fit SentFits (λ c. channel_words c (channel_of d c) (channel_at s c)) (channels_of d j) (λ c. words_fit c (channel_of d c) (channel_at s c) (small c) (channel_fits s c h))
+
+  start_fits : (w : World) (s : SpiState) (u : Option ℕ) (received : ℕ) (p : Option Pending) → IsNumber received → SerialFits s → SerialFits (state_by s (start_by d w s u received p))
+  start_fits w s (Some u) received (Some p) k h =
+      begins_fits (job_started d s p) u received _ h k (begun_fits w.now received p.sequence (job_words d s (next_job d p)) [] k (job_fits s (next_job d p) h) tt)
+  start_fits w s (Some u) received None k h = h
+  start_fits w s None received p k h = h
+
+  -- ---- servings
+
+  sequence_fits : (s : SpiState) (p : Pending) (o : Option AnswerName) → SerialFits s → SerialFits (sequence_after d s p o).state
+  sequence_fits s p None h = h
+  sequence_fits s p (Some result) h = h
+
+  over_fits : (s : SpiState) (u : ℕ) (failed : Bool) (o : Option Pending) → SerialFits s → SerialFits (job_over d s u failed o).state
+  over_fits s u failed None h = put_run s u None h tt
+  over_fits s u failed (Some p) h = sequence_fits _ p (end_by p.cancelled failed (has_further d p)) (put_run s u None h tt)
+
+  served_fits : (w : World) (s : SpiState) (u received : ℕ) (r : Run) (on : Bool) → IsNumber received → SerialFits s → RunFits (Some r) → SerialFits (served_by d w s u received r on).state
+  served_fits w s u received r true k h f =
+      begins_fits (stored s (word_of r) (word_of r).goes r.transfer.incoming) u received _ (stored_fits s (word_of r) (word_of r).goes r.transfer.incoming h f.2) k (begun_fits w.now received r.sequence r.words (received_with r) k f.0 (with_incoming r f))
+  served_fits w s u received r false k h f = over_fits (after_last s r r.transfer.failed) u r.transfer.failed (pending_of s r) (last_fits s r r.transfer.failed h f)
+
+  run_served : (w : World) (s : SpiState) (u : Option ℕ) (received : ℕ) (r : Option Run) → IsNumber received → SerialFits s → RunFits r → SerialFits (served d w s u received r).state
+  run_served w s (Some u) received (Some r) k h f = served_fits w s u received r (goes_on r) k h f
+  run_served w s (Some u) received None k h f = h
+  run_served w s None received r k h f = h
+
+  run_of_fits : (s : SpiState) (u : Option ℕ) → SerialFits s → RunFits (run_of s u)
+  run_of_fits s None h = tt
+  run_of_fits s (Some u) h = run_fits s u h
+
+  serving_fits : (b : Bool) (w : World) (s : SpiState) (l received : ℕ) → IsNumber received → SerialFits s → SerialFits (state_by s (if b then Some (served d w s (unit_of l) received (run_of s (unit_of l))) else None))
+  serving_fits true w s l received k h = run_served w s (unit_of l) received (run_of s (unit_of l)) k h (run_of_fits s (unit_of l) h)
+  serving_fits false w s l received k h = h
+
+  -- ---- the hardware
+
+  failing_fits : (b : Bool) (r : Run) → RunFits (Some r) → RunFits (Some (record r { transfer = if b then r.transfer else record r.transfer { failed = true } }))
+  failing_fits true r f = f
+  failing_fits false r f = f
+
+  fault_fits : (now : ℕ) (o : Option Run) → RunFits o → RunFits (faulted_run now o)
+  fault_fits now None f = tt
+  fault_fits now (Some r) f = failing_fits (is_done now r.transfer) r f
+
+  moved_fits : (w : World) (s : SpiState) (order : Order) → WordsFit order → SerialFits s → SerialFits (moved d w s order)
+  moved_fits w s (Fill c ws) k h = put_fits s c _ h (filled_fits ws (channel_of d c) (channel_at s c) k (channel_fits s c h))
+  moved_fits w s (SpiFault u) k h = put_run s u _ h (fault_fits w.now (run_at s u) (run_fits s u h))
+  moved_fits w s _ k h = h
+
+  -- ---- the machine
+
+  stays : (w : World) (s : SpiState) (x : Happening Call) → HappeningFits x → SerialFits s → SerialFits (state_by s (happens d w s x))
+  stays w s (Acts call times) f h = act_fits s call (error_by d call (is_off s.mode) (finds_held d s call)) h
+  stays w s (Serves l received) f h = serving_fits (ready w s l) w s l received f h
+  stays w s (Starts u received) f h = start_fits w s (number_of u) received (next_at d s (number_of u)) f h
+  stays w s (Aborts u) f h = h
+  stays w s (Moves order) f h = moved_fits w s order f h
+  stays w s (Restarts reason) f h = (tt, tt, tt)
+
+  pub serial_keeps : Keeps (spi_setting d) SerialFits
+  serial_keeps = record { first = (tt, tt, tt); stays = stays }
+
+-- ---- what is shown
+
+place_fits : (xs : List ℕ) (i : ℕ) → Each IsNumber xs → IsNumber (word_at xs i)
+place_fits xs i h = at_place IsNumber xs i 0 h zero_fits
+
+pub source_fits : (s : SpiState) (c i : ℕ) → SerialFits s → IsNumber (word_at (channel_at s c).source i)
+source_fits s c i h = place_fits (channel_at s c).source i (channel_fits s c h).0
+
+pub destination_fits : (s : SpiState) (c i : ℕ) → SerialFits s → IsNumber (word_at (channel_at s c).destination i)
+destination_fits s c i h = place_fits (channel_at s c).destination i (channel_fits s c h).1
+
+pub internal_fits : (s : SpiState) (c : ℕ) (received : Bool) (i : ℕ) → SerialFits s → IsNumber (internal_word s c received i)
+internal_fits s c true i h = place_fits (channel_at s c).received i (channel_fits s c h).3
+internal_fits s c false i h = place_fits (channel_at s c).written i (channel_fits s c h).2
+
+pub wire_fits : (s : SpiState) (u : ℕ) → SerialFits s → WireFits (wire_at s u)
+wire_fits s u h = at_place WireFits s.wires u [] h.2 tt

@@ -1,0 +1,103 @@
+-- The lines that the modules use are those of a chip.
+use Rattle.std.proofs.Common.{◌≡◌, ℕ, ◌+◌, ◌-◌, ◌<◌, Bool, true, false, [], ◌∷◌, Option, Some, None, refl, arith}
+use Rattle.std.specs.Prelude.{◌==◌, is_some, nat_lt, slice_index_or, if◌then◌else◌}
+use Rattle.std.proofs.lemmas.Bool.Decides.{nat_tests}
+use Rattle.mcal_base.specs.declared.config.whole.Config.{Config}
+use Rattle.run_model.specs.Legal.{has_line}
+use Rattle.run_model.specs.Moment.{Setting}
+use Rattle.mcal_system.specs.Setting.{clock_setting, pin_setting, timer_setting, pulse_setting, capture_setting, serial_setting, joined, system_setting}
+use Rattle.gpt_driver.specs.Table as timer_table
+use Rattle.pwm_driver.specs.Table as pulse_table
+use Rattle.icu_driver.specs.Table as capture_table
+use Rattle.spi_machine.specs.Bounds.{uses_by}
+use Rattle.spi_machine.specs.Machine.{polls}
+use Rattle.spi_machine.specs.State.{SpiState, is_polling}
+use Rattle.spi_machine.specs.Table as serial_table
+use Rattle.spi_machine.specs.declared.call.Call.{Call}
+use Rattle.spi_machine.specs.declared.call.Call.TheVariants as calls
+use Rattle.spi_machine.specs.declared.table.SpiTable.{SpiTable}
+use Rattle.trace_laws.specs.Lines.{HasLines}
+use Rattle.trace_laws.proofs.UnionLines.{union_lines}
+
+is_below : (l n : ℕ) → nat_lt l n ≡ true → l < n
+is_below l n e = grind (arith, nat_tests)
+
+-- there is one for small numbers alone
+below_by : {T : Type 0} (l n : ℕ) (o : Option T) (b : Bool) → nat_lt l n ≡ b → is_some (if b then o else None) ≡ true → l < n
+below_by l n o true e h = is_below l n e
+below_by l n o false e h = cc
+
+below : {T : Type 0} (l n : ℕ) (o : Option T) → is_some (if nat_lt l n then o else None) ≡ true → l < n
+below l n o h = below_by l n o (nat_lt l n) refl h
+
+-- the same from a number on
+from_by : {T : Type 0} (l first n : ℕ) (o : Option T) (b : Bool) → is_some (if b then None else if nat_lt (l - first) n then o else None) ≡ true → l - first < n
+from_by l first n o true h = cc
+from_by l first n o false h = below (l - first) n o h
+
+from : {T : Type 0} (l first n : ℕ) (o : Option T) → is_some (if nat_lt l first then None else if nat_lt (l - first) n then o else None) ≡ true → l < first + n
+from l first n o h = let lt = from_by l first n o (nat_lt l first) h in omega (arith, lt)
+
+-- ---- the six
+
+clock_lines : (c : Config) → HasLines (clock_setting c)
+clock_lines c = record { used = λ line e. cc; polled = λ w s call line e. cc }
+
+pin_lines : (c : Config) → HasLines (pin_setting c)
+pin_lines c = record { used = λ line e. cc; polled = λ w s call line e. cc }
+
+timer_lines : (c : Config) → HasLines (timer_setting c)
+timer_lines c = record {
+  used = λ line e. let lt = below line 8 (slice_index_or (timer_table.driver_of c.gpt).channels line None) e in omega (arith, lt);
+  polled = λ w s call line e. cc;
+}
+
+pulse_lines : (c : Config) → HasLines (pulse_setting c)
+pulse_lines c = record {
+  used = λ line e. let lt = from line 8 8 (slice_index_or (pulse_table.driver_of c.pwm).channels (line - 8) None) e in omega (arith, lt);
+  polled = λ w s call line e. cc;
+}
+
+capture_lines : (c : Config) → HasLines (capture_setting c)
+capture_lines c = record {
+  used = λ line e. let lt = from line 16 8 (slice_index_or (capture_table.driver_of c.icu).channels (line - 16) None) e in omega (arith, lt);
+  polled = λ w s call line e. cc;
+}
+
+-- a serial unit's line
+unit_line : (d : SpiTable) (line : ℕ) (first second : Bool) → (line == 26) ≡ first → (line == 27) ≡ second → uses_by d (if first then Some 0 else if second then Some 1 else None) ≡ true → line < 32
+unit_line d line true second e k h = grind (arith, nat_tests)
+unit_line d line false true e k h = grind (arith, nat_tests)
+unit_line d line false false e k h = cc
+
+-- one of two lines
+either_line : (line : ℕ) → has_line (26 ∷ 27 ∷ []) line ≡ true → line < 32
+either_line line h = grind (arith, nat_tests)
+
+polled_line : (b : Bool) (line : ℕ) → has_line (if b then 26 ∷ 27 ∷ [] else []) line ≡ true → line < 32
+polled_line true line h = either_line line h
+polled_line false line h = cc
+
+call_lines : (s : SpiState) (call : Call) (line : ℕ) → has_line (polls s call) line ≡ true → line < 32
+call_lines s calls.MainFunctionHandling line h = polled_line (is_polling s.mode) line h
+call_lines s _ line h = cc
+
+serial_lines : (c : Config) → HasLines (serial_setting c)
+serial_lines c = record {
+  used = λ line e. unit_line (serial_table.table_of c.spi) line (line == 26) (line == 27) refl refl e;
+  polled = λ w s call line e. call_lines s call line e;
+}
+
+-- ---- and all as one
+
+both : {S T C D : Type 0} (g : Setting S C) (h : Setting T D) → HasLines g → HasLines h → HasLines (joined g h)
+both g h a b = union_lines g.used g h a b
+
+pub system_lines : (c : Config) → HasLines (system_setting c)
+unfolding system_setting
+system_lines c =
+    let timed = joined (pin_setting c) (timer_setting c) in
+    let pulsed = joined (pulse_setting c) (capture_setting c) in
+    let firsts = both (clock_setting c) timed (clock_lines c) (both (pin_setting c) (timer_setting c) (pin_lines c) (timer_lines c)) in
+    let seconds = both pulsed (serial_setting c) (both (pulse_setting c) (capture_setting c) (pulse_lines c) (capture_lines c)) (serial_lines c) in
+    both (joined (clock_setting c) timed) (joined pulsed (serial_setting c)) firsts seconds

@@ -1,0 +1,84 @@
+-- The numbers of the modules' states that are shown, and those of a configuration and of a journal on which they rest:
+-- 32 bits each.
+use Rattle.std.specs.Prelude.{ℕ, ◌≤◌, List, length, Option, Some, None}
+use Rattle.mcal_base.specs.declared.config.mcu.McuRamSection.{McuRamSection}
+use Rattle.mcal_base.specs.declared.config.spi.SpiChannel.{SpiChannel}
+use Rattle.mcal_base.specs.declared.config.whole.Config.{Config}
+use Rattle.run_model.specs.Entry.{Entry, Said, Happens, Steps}
+use Rattle.mcu_driver.specs.Machine as clock
+use Rattle.mcu_driver.specs.declared.driver.Section.{Section}
+use Rattle.icu_driver.specs.Edges.{Edge}
+use Rattle.icu_driver.specs.Machine as captures
+use Rattle.spi_machine.specs.Channels.{ChannelState}
+use Rattle.spi_machine.specs.State.{SpiState}
+use Rattle.spi_machine.specs.Transfers.{JobWord, Run}
+use Rattle.mcal_system.specs.Setting.{SystemState}
+use Rattle.trace_reader.specs.Trace.{IsNumber, Each}
+use Rattle.trace_promises.specs.Keeping.{WordsFit}
+
+-- of a configuration: its RAM sections are numbered, and filled, with such numbers, and its serial channels send such
+-- ones by default
+abbrev pub SectionFits : McuRamSection → Type 0
+SectionFits x = IsNumber x.default_value
+
+abbrev pub DefaultFits : SpiChannel → Type 0
+DefaultFits x = IsNumber x.default_data
+
+pub record ConfigFits (c : Config) : Type 0 where
+  pub few : length c.mcu.ram_sections ≤ 8
+  pub small : Each SectionFits c.mcu.ram_sections
+  pub defaults : Each DefaultFits c.spi.channels
+
+-- of a journal: its items bring such words, those of an order and the one that a step receives
+abbrev pub SaidBrings : Said → Type 0
+SaidBrings (Happens order) = WordsFit order
+SaidBrings (Steps step) = IsNumber step.received
+SaidBrings _ = Unit {0}
+
+abbrev pub BringsNumbers : Entry → Type 0
+BringsNumbers e = SaidBrings e.said
+
+-- ---- of the states
+
+-- those with which RAM sections were filled
+abbrev pub FillFits : Section → Type 0
+FillFits x = IsNumber x.default_value
+
+abbrev pub ClockFits : clock.McuState → Type 0
+ClockFits s = Each FillFits s.fills
+
+-- the times of edges that wait, and of stamps that were stored
+abbrev pub EdgeFits : Edge → Type 0
+EdgeFits e = IsNumber e.time
+
+abbrev pub StampFits : captures.Stamp → Type 0
+StampFits x = IsNumber x.time
+
+abbrev pub CaptureFits : captures.Capture → Type 0
+CaptureFits x = Each EdgeFits x.waiting × Each StampFits x.stored
+
+abbrev pub CapturesFit : captures.IcuState → Type 0
+CapturesFit s = (c : ℕ) → CaptureFits (captures.capture_at s c)
+
+-- the words of serial channels, those of a running job, and the pairs on a wire
+abbrev pub ChannelFits : ChannelState → Type 0
+ChannelFits x = Each IsNumber x.source × Each IsNumber x.destination × Each IsNumber x.written × Each IsNumber x.received
+
+abbrev pub SentFits : JobWord → Type 0
+SentFits x = IsNumber x.sent
+
+abbrev pub RunFits : Option Run → Type 0
+RunFits None = Unit {0}
+RunFits (Some r) = Each SentFits r.words × Each IsNumber r.received × IsNumber r.transfer.incoming
+
+abbrev pub PairFits : ℕ × ℕ → Type 0
+PairFits p = IsNumber p.0 × IsNumber p.1
+
+abbrev pub WireFits : List (ℕ × ℕ) → Type 0
+WireFits pairs = Each PairFits pairs
+
+abbrev pub SerialFits : SpiState → Type 0
+SerialFits s = Each ChannelFits s.channels × Each RunFits s.units × Each WireFits s.wires
+
+abbrev pub StateFits : SystemState → Type 0
+StateFits s = ClockFits s.0.0 × CapturesFit s.1.0.1 × SerialFits s.1.1
