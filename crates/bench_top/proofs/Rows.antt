@@ -1,6 +1,6 @@
 -- The texts of rows, as rows are added.
 use Rattle.std.proofs.Common.{◌≡◌, ℕ, zero, suc, ◌+◌, ◌≤◌, List, [], ◌∷◌, ◌++◌, refl, sym, ap, ◌∙◌, append_assoc, append-nil, arith, length, take, Some}
-use Rattle.std.specs.Prelude.{flat_map, slice_get}
+use Rattle.std.specs.Prelude.{flat_map, map, slice_get}
 use Rattle.std.specs.List.{range_with_len}
 use Rattle.std.proofs.lemmas.Grind.{flat_map-append}
 use Rattle.config_facts.specs.Valid.{IsValid}
@@ -9,7 +9,11 @@ use Rattle.mcal_base.specs.declared.config.whole.Config.{Config}
 use Rattle.bench_report.specs.Lines.{numbered, Shows}
 use Rattle.bench_report.specs.Rows.{Row}
 use Rattle.bench_report.specs.Shown.{rows_text}
+use Rattle.bench_report.specs.declared.rows.Value.{Value}
+use Rattle.bench_report.specs.declared.rows.Value.TheVariants.{Pair}
 use Rattle.mcal_system.specs.Setting.{SystemState}
+use Rattle.mcal_system.specs.Wires.{pairs}
+use Rattle.mcal_system.specs.declared.wires.Exchange.{Exchange}
 use Rattle.mcal_system.proofs.Sound.{sound_clock}
 use Rattle.bench_top.specs.Shows.{section_row, section_rows, AreInside}
 
@@ -81,3 +85,8 @@ sections_inside c h = λ k d lt. ((sound_clock c.mcu h.mcu).sections k d lt).ins
 
 pub sections_few : (c : Config) → IsValid c → length c.mcu.ram_sections ≤ 8
 sections_few c h = h.mcu.tables.ram_sections.few
+
+-- the words of a wire, as values and as pairs
+pub wire_values : (xs : List Exchange) → map (λ (x : Exchange). Pair x.sent x.received) xs ≡ map (λ (p : ℕ × ℕ). Pair p.0 p.1) (pairs xs)
+wire_values [] = refl
+wire_values (x ∷ xs) = ap (λ (ys : List Value). Pair x.sent x.received ∷ ys) (wire_values xs)

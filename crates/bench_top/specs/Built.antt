@@ -6,7 +6,7 @@ use Rattle.mcal_base.specs.declared.directive.Directive.{Directive}
 use Rattle.mcal_base.specs.declared.directive.Order.{Order}
 use Rattle.mcal_base.specs.declared.directive.Order.TheVariants.{Call, Do, Enter, Serve, Run, Upto, Finish, Tick, Level, Miso, SpiFault, Fill, Reset, Show}
 use Rattle.mcal_base.specs.declared.directive.Shown.{Shown}
-use Rattle.mcal_base.specs.declared.directive.Shown.TheVariants.{Pins, Ram, Buffers}
+use Rattle.mcal_base.specs.declared.directive.Shown.TheVariants.{Pins, Ram, Buffers, Wire}
 use Rattle.mcal_base.specs.declared.module_name.ModuleName.{ModuleName}
 use Rattle.mcal_base.specs.declared.module_name.ModuleName.TheVariants.{Mcu, Port, Gpt, Pwm, Icu, Adc, Spi}
 use Rattle.mcal_base.specs.declared.service.Service.{Service}
@@ -31,7 +31,7 @@ abbrev pub is_shown : Shown → Bool
 is_shown Pins = true
 is_shown Ram = true
 is_shown Buffers = true
-is_shown _ = false
+is_shown Wire = true
 
 -- the tables in the arrays of a module
 abbrev pub tables_of : Config → ModuleName → ℕ

@@ -6,7 +6,7 @@ use Rattle.mcal_base.specs.declared.config.whole.Config.{Config}
 use Rattle.mcal_base.specs.declared.directive.Order.{Order}
 use Rattle.mcal_base.specs.declared.directive.Order.TheVariants.{Show}
 use Rattle.mcal_base.specs.declared.directive.Shown.{Shown}
-use Rattle.mcal_base.specs.declared.directive.Shown.TheVariants.{Pins, Ram, Buffers}
+use Rattle.mcal_base.specs.declared.directive.Shown.TheVariants.{Pins, Ram, Buffers, Wire}
 use Rattle.mcal_base.specs.declared.layout.Array.TheVariants.{Source, Destination}
 use Rattle.run_model.specs.World.{World}
 use Rattle.bench_report.specs.Rows.{Row}
@@ -15,7 +15,7 @@ use Rattle.bench_report.specs.declared.rows.RowName.TheVariants as names
 use Rattle.bench_report.specs.declared.rows.Value.{Value}
 use Rattle.bench_report.specs.declared.rows.Value.TheVariants as values
 use Rattle.mcal_system.specs.Setting.{SystemState}
-use Rattle.mcal_system.specs.Shows.{internal_at, level_at, ram_at, serial_channel, size_at, stamp_at, user_at}
+use Rattle.mcal_system.specs.Shows.{internal_at, level_at, ram_at, serial_channel, size_at, stamp_at, user_at, wire_at}
 use Rattle.spi_jobs.specs.declared.channel.Channel.{Channel}
 use Rattle.spi_machine.specs.Table.{is_internal_channel}
 use Rattle.bench_top.specs.declared.show.Kept.{Kept}
@@ -104,14 +104,24 @@ serial_rows c s = flat_map (λ n. channel_rows s n (serial_channel c n)) (range_
 abbrev pub buffer_rows : Config → SystemState → List Row
 buffer_rows c s = stamps_rows s ++ serial_rows c s
 
+-- the wires of both serial units: each word that was sent since the last reset, with what came in
+abbrev pub wire_words : SystemState → (unit : ℕ) → List Value
+wire_words s u = map (λ p. values.Pair p.0 p.1) (wire_at s u)
+
+abbrev pub wire_row : SystemState → (unit : ℕ) → Row
+wire_row s u = record { name = names.Wire u; values = wire_words s u }
+
+abbrev pub wire_rows : SystemState → List Row
+wire_rows s = wire_row s 0 ∷ wire_row s 1 ∷ []
+
 -- what an order shows, where it is a show
 abbrev pub shown_by : Order → Option Shown
 shown_by (Show what) = Some what
 shown_by _ = None
 
--- what a show prints; of the serial units nothing can be shown yet
+-- what a show prints
 abbrev pub show_rows : Config → World → SystemState → Shown → List Row
 show_rows c w s Pins = pin_rows c w s
 show_rows c w s Ram = section_rows s 0 c.mcu.ram_sections
 show_rows c w s Buffers = buffer_rows c s
-show_rows c w s _ = []
+show_rows c w s Wire = wire_rows s

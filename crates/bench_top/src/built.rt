@@ -40,7 +40,10 @@ fn is_served(service: Service) -> bool
 fn is_shown(shown: Shown) -> bool
     ensures { result ≡ spec.is_shown shown }
 {
-    matches!(shown, Shown::Pins | Shown::Ram | Shown::Buffers)
+    matches!(
+        shown,
+        Shown::Pins | Shown::Ram | Shown::Buffers | Shown::Wire
+    )
 }
 
 /// The tables in the arrays of a module.

@@ -368,6 +368,47 @@ fn buffers_text(alloc: Global, system: &System<'_>, line: u32) -> Result<String,
     Ok(text)
 }
 
+/// The words on the wire of a serial unit.
+fn wire_words(alloc: Global, system: &System<'_>, unit: u32) -> Result<Vec<Value>, AllocError>
+    requires there { unit < 2 }
+    ensures { IfOk result (λ values. values.items ≡ spec.wire_words (moment_of system.now).state unit) }
+{
+    let words = system.wire(alloc, unit)?;
+    let mut values = Vec::new(alloc);
+    for place in 0..words.len() {
+        let word = words[place];
+        values.push(Value::Pair(word.sent, word.received))?;
+    }
+    Ok(values)
+}
+
+/// Writes the row of the wire of a serial unit.
+#[tactic(auto, using(crate::proofs::Rows::row_alone))]
+fn write_wire(
+    alloc: Global,
+    text: &mut String,
+    system: &System<'_>,
+    line: u32,
+    unit: u32,
+) -> Result<(), AllocError>
+    requires there { unit < 2 }
+    ensures { OnOk result (string_bytes text.new ≡ string_bytes text.old ++ rows_text line (spec.wire_row (moment_of system.now).state unit ∷ [])) }
+{
+    let values = wire_words(alloc, system, unit)?;
+    write_row(text, line, RowName::Wire(unit), &values)
+}
+
+/// The lines of the wires of both serial units.
+#[tactic(auto, using(crate::proofs::Rows::rows_two))]
+fn wires_text(alloc: Global, system: &System<'_>, line: u32) -> Result<String, AllocError>
+    ensures { IfOk result (λ text. string_bytes text ≡ rows_text line (spec.wire_rows (moment_of system.now).state)) }
+{
+    let mut text = String::new(alloc);
+    write_wire(alloc, &mut text, system, line, 0)?;
+    write_wire(alloc, &mut text, system, line, 1)?;
+    Ok(text)
+}
+
 /// The lines that a show prints at a script line.
 pub(crate) fn shown_text(
     alloc: Global,
@@ -387,6 +428,6 @@ pub(crate) fn shown_text(
             sections_text(alloc, system, line, sections)
         }
         Shown::Buffers => buffers_text(alloc, system, line),
-        Shown::Wire => Ok(String::new(alloc)),
+        Shown::Wire => wires_text(alloc, system, line),
     }
 }

@@ -1,4 +1,5 @@
 mod Carried
+mod Growing
 mod Joining
 mod Levels
 pub mod Limits
@@ -8,3 +9,5 @@ pub mod Sound
 mod SoundSerial
 mod Sources
 mod Stamps
+mod WireTold
+mod Wordless

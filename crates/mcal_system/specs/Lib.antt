@@ -4,3 +4,4 @@ pub mod Laws
 pub mod Runs
 pub mod Setting
 pub mod Shows
+pub mod Wires

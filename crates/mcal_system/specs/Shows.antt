@@ -1,5 +1,5 @@
--- What pins and RAM words are in the modules' state.
-use Rattle.std.specs.Prelude.{ℕ, ◌==◌, Bool, true, false, Option, Some, None, option_map}
+-- What pins, RAM words, stamps, and the arrays and words of serial channels are in the modules' state.
+use Rattle.std.specs.Prelude.{ℕ, ◌==◌, List, Bool, true, false, Option, Some, None, option_map}
 use Rattle.std.specs.List.{find}
 use Rattle.mcal_base.specs.declared.config.pwm.PwmChannel.{PwmChannel}
 use Rattle.mcal_base.specs.declared.config.whole.Config.{Config}
@@ -52,6 +52,10 @@ serial_channel c n = serial_table.channel_of (serial_table.table_of c.spi) n
 -- a word of an internal one by its place: of those that were received, or of those to send
 abbrev pub internal_at : SystemState → (channel : ℕ) → (received : Bool) → (place : ℕ) → ℕ
 internal_at s c received i = serial.internal_word s.1.1 c received i
+
+-- the words on the wire of a serial unit since the last reset, each with what came in
+abbrev pub wire_at : SystemState → (unit : ℕ) → List (ℕ × ℕ)
+wire_at s u = serial.wire_at s.1.1 u
 
 -- the users' arrays of capture channels and of serial channels
 abbrev pub is_kept : Array → Bool

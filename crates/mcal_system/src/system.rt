@@ -12,15 +12,17 @@ ghost use Rattle.run_model.specs.Stops.{FollowsToStop, steps_in};
 ghost use Rattle.script_runner.specs.Scripts.{IsScript, IsRun, IsStopped, AllOffered, chip_for};
 ghost use Rattle.mcal_system.specs.Runs.{most_steps, bound_of, run_start, moment_of, IsSameRun, AddsItems};
 ghost use Rattle.mcal_system.specs.Setting.{system_setting, call_of, has_service};
-ghost use Rattle.mcal_system.specs.Shows.{internal_at, is_kept, level_at, ram_at, serial_channel, size_at, user_at};
+ghost use Rattle.mcal_system.specs.Shows.{internal_at, is_kept, level_at, ram_at, serial_channel, size_at, user_at, wire_at};
+ghost use Rattle.mcal_system.specs.Wires.{pairs};
 ghost use Rattle.spi_machine.specs.Table.{is_internal_channel};
 
 use crate::drivers::Drivers;
+use crate::wires::{Exchange, told_by};
 use mcal_base::{Array, Config, Directive, NoMemory};
 use run_model::Journal;
 use script_runner::{Engine, TooLong};
 use spi_jobs::Channel;
-use std::alloc::Global;
+use std::alloc::{AllocError, Global};
 use std::marker::Model;
 
 /// The most steps of a run.
@@ -175,6 +177,14 @@ impl<'s> System<'s> {
     {
         let serial = self.engine.driver().serial();
         serial.internal(self.engine.bus(), channel, received, place)
+    }
+
+    /// The words on the wire of a serial unit since the last reset, each with what came in. They are read from the journal.
+    pub fn wire(&self, alloc: Global, unit: u32) -> Result<Vec<Exchange>, AllocError>
+        requires there { unit < 2 }
+        ensures { IfOk result (λ words. pairs words.items ≡ wire_at (moment_of self.now).state unit) }
+    {
+        told_by(alloc, self.journal(), unit)
     }
 
     /// The configuration.

@@ -6,7 +6,7 @@ use Rattle.mcal_base.specs.declared.config.mcu.McuRamSection.{McuRamSection}
 use Rattle.mcal_base.specs.declared.config.whole.Config.{Config}
 use Rattle.mcal_base.specs.declared.directive.Directive.{Directive}
 use Rattle.mcal_base.specs.declared.directive.Shown.{Shown}
-use Rattle.mcal_base.specs.declared.directive.Shown.TheVariants.{Pins, Ram, Buffers}
+use Rattle.mcal_base.specs.declared.directive.Shown.TheVariants.{Pins, Ram, Buffers, Wire}
 use Rattle.run_model.specs.Entry.{Entry}
 use Rattle.run_model.specs.Moment.{Setting, start_moment}
 use Rattle.run_model.specs.World.{World}
@@ -15,7 +15,7 @@ use Rattle.mcu_driver.specs.Table as clock_table
 use Rattle.icu_driver.specs.Table as capture_table
 use Rattle.spi_jobs.specs.declared.channel.Channel.{Channel}
 use Rattle.spi_machine.specs.Numbered.{word_at}
-use Rattle.spi_machine.specs.State.{channel_at, internal_word}
+use Rattle.spi_machine.specs.State.{channel_at, internal_word, wire_at}
 use Rattle.spi_machine.specs.Table as serial_table
 use Rattle.bench_report.specs.Rows.{Row}
 use Rattle.bench_report.specs.declared.rows.RowName.{RowName}
@@ -24,17 +24,17 @@ use Rattle.bench_report.specs.declared.rows.Value.TheVariants as values
 use Rattle.mcal_system.specs.Setting.{SystemState, clock_setting, pin_setting, timer_setting, pulse_setting, capture_setting, serial_setting, joined, system_setting, call_of}
 use Rattle.mcal_system.specs.Shows.{level_at, ram_at, size_at, stamp_at, serial_channel}
 use Rattle.bench_top.specs.Runs.{shows_of}
-use Rattle.bench_top.specs.Shows.{level_value, has_pin, level_row, pin_row, section_rows, stamps_row, stamps_rows, channel_rows, serial_rows, show_rows}
+use Rattle.bench_top.specs.Shows.{level_value, has_pin, level_row, pin_row, section_rows, stamps_row, stamps_rows, channel_rows, serial_rows, wire_row, show_rows}
 use Rattle.trace_reader.specs.Trace.{IsNumber, HasNameNumbers, HasValueNumbers, Each}
 use Rattle.trace_laws.specs.Numbers.{RowFits, RowsFit}
 use Rattle.trace_laws.proofs.Within.{each_append}
 use Rattle.trace_promises.specs.Keeping.{Keeps}
-use Rattle.trace_promises.specs.Numbers.{BringsNumbers, ConfigFits, ClockFits, CapturesFit, SerialFits, StateFits}
+use Rattle.trace_promises.specs.Numbers.{BringsNumbers, ConfigFits, ClockFits, CapturesFit, SerialFits, StateFits, WireFits}
 use Rattle.trace_promises.proofs.CaptureNumbers.{captures_keep, stamp_fits}
 use Rattle.trace_promises.proofs.ClockNumbers.{small_sections, clock_keeps, ram_fits}
 use Rattle.trace_promises.proofs.Lists.{chosen}
 use Rattle.trace_promises.proofs.Kept.{keeps_nothing, keeps_both, shows_right}
-use Rattle.trace_promises.proofs.SerialNumbers.{small_channels, serial_keeps, source_fits, destination_fits, internal_fits}
+use Rattle.trace_promises.proofs.SerialNumbers.{small_channels, serial_keeps, source_fits, destination_fits, internal_fits, wire_fits}
 
 -- ---- lists
 
@@ -76,6 +76,13 @@ serial_rows_fit s c (Some k) lt h =
     let received = row_fits (names.Receive c) (internal_word s.1.1 c true) 0 k.length number (λ i. internal_fits s.1.1 c true i h) in
     (source, chosen RowsFit k.internal _ _ (sent, (received, tt)) (destination, tt))
 
+pairs_fit : (ps : List (ℕ × ℕ)) → WireFits ps → Each HasValueNumbers (map (λ p. values.Pair p.0 p.1) ps)
+pairs_fit [] h = tt
+pairs_fit (p ∷ ps) h = (h.0, pairs_fit ps h.1)
+
+wire_row_fits : (s : SystemState) (u : ℕ) → IsNumber u → SerialFits s.1.1 → RowFits (wire_row s u)
+wire_row_fits s u n h = (n, pairs_fit (wire_at s.1.1 u) (wire_fits s.1.1 u h))
+
 pin_fits : (c : Config) (w : World) (s : SystemState) (p : ℕ) → p < 64 → RowsFit (pin_row c w s p)
 pin_fits c w s p lt = chosen RowsFit (has_pin c p) (level_row c w s p ∷ []) [] ((omega (arith, lt), (level_fits (level_at c w s p), tt)), tt) tt
 
@@ -85,7 +92,7 @@ rows_fit c v w s Ram h = let few = v.few in section_fits s 0 c.mcu.ram_sections 
 rows_fit c v w s Buffers h =
     each_append RowFits (stamps_rows s) (serial_rows c s) (each_of (λ n. stamps_row s n (size_at s n)) 0 8 8 (omega arith) (λ n lt. capture_fits s n (size_at s n) lt h.1))
     (each_of (λ n. channel_rows s n (serial_channel c n)) 0 16 16 (omega arith) (λ n lt. serial_rows_fit s n (serial_channel c n) lt h.2))
-rows_fit c v w s _ h = tt
+rows_fit c v w s Wire h = (wire_row_fits s 0 (omega arith) h.2, (wire_row_fits s 1 (omega arith) h.2, tt))
 
 -- ---- and of a run
 
