@@ -8,7 +8,7 @@ use Rattle.mcal_base.specs.declared.directive.Order.{Order}
 use Rattle.mcal_base.specs.declared.directive.Order.TheVariants as orders
 use Rattle.run_model.specs.World.{World, with_at}
 use Rattle.run_model.specs.Machine.{Happening, Acts, Serves, Starts, Aborts, Moves, Restarts, Outcome, outcome, tells_nothing}
-use Rattle.adc_machine.specs.Groups.{GroupState, Status, Idle, Busy, Completed, StreamCompleted, Round, Results, values_of, samples_of, is_continuous, is_full, place_in, stored_from, is_same, with_round_of}
+use Rattle.adc_machine.specs.Groups.{GroupState, Status, Idle, Busy, Completed, StreamCompleted, Round, Results, values_of, samples_of, is_continuous, is_full, place_in, stored_from, is_same, with_round_of, held_in}
 use Rattle.adc_machine.specs.Laws.{IsStored, StoresNothing}
 use Rattle.adc_machine.specs.Machine.{acts, acts_by, circumstances, group_work, happens, ready, served, served_round, after_round, with_values, is_unit_line, starting, starts_on, aborting, aborts_on, moved, reads, points}
 use Rattle.adc_machine.specs.Checks.{error_by}
@@ -81,20 +81,20 @@ not_first a b e = rw e refl
 -- a round that is stored
 pub stored : (k : Option configured.Group) (r g : ℕ) (b : ResultBuffer) (vs : List ℕ) (held : Results) → 0 < samples_of k → IsStored k r g b vs held (with_round_of k r g (Some b) vs held)
 stored k r g b vs held pos = record {
-  values_at = λ j v e. here (j * samples_of k + place_in k r) ∙ value_at (place_in k r) (samples_of k) vs (held g b) j v pos e;
-  places = λ p isnt. here p ∙ elsewhere (place_in k r) (samples_of k) vs (held g b) p isnt;
+  values_at = λ j v e. here (j * samples_of k + place_in k r) ∙ value_at (place_in k r) (samples_of k) vs (held_in held g b) j v pos e;
+  places = λ p isnt. here p ∙ elsewhere (place_in k r) (samples_of k) vs (held_in held g b) p isnt;
   groups = λ h c p ne. away h c p (not_first (h == g) (is_same c b) (other_no h g ne));
   buffers = λ c p ne. away g c p (not_second (g == g) (is_same c b) (other_buffer c b ne));
 }
   where
     new : ℕ → ℕ
-    new = stored_from (place_in k r) (samples_of k) vs (held g b)
+    new = stored_from (place_in k r) (samples_of k) vs (held_in held g b)
 
-    here : (p : ℕ) → with_round_of k r g (Some b) vs held g b p ≡ new p
-    here p = ap (λ q. (cond q new (held g b)) p) (both (g == g) (is_same b b) (same_yes g) (same_buffer b))
+    here : (p : ℕ) → held_in (with_round_of k r g (Some b) vs held) g b p ≡ new p
+    here p = ap (λ q. (cond q new (held_in held g b)) p) (both (g == g) (is_same b b) (same_yes g) (same_buffer b))
 
-    away : (h : ℕ) (c : ResultBuffer) (p : ℕ) → (h == g && is_same c b) ≡ false → with_round_of k r g (Some b) vs held h c p ≡ held h c p
-    away h c p e = ap (λ q. (cond q new (held h c)) p) e
+    away : (h : ℕ) (c : ResultBuffer) (p : ℕ) → (h == g && is_same c b) ≡ false → held_in (with_round_of k r g (Some b) vs held) h c p ≡ held_in held h c p
+    away h c p e = ap (λ q. (cond q new (held_in held h c)) p) e
 
 -- ---- what leaves the results
 

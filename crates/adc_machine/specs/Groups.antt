@@ -137,10 +137,6 @@ newest rounds = slice_index_or rounds (length rounds - 1) []
 
 -- ---- places
 
--- what each place of each buffer of each group holds
-abbrev pub Results : Type 0
-Results = (group : ℕ) → ResultBuffer → (place : ℕ) → ℕ
-
 -- the place of a stream of so many samples that round r, from 0, goes to
 abbrev pub place_in : Option Group → ℕ → ℕ
 place_in k r = r % samples_of k
@@ -155,7 +151,24 @@ is_same Zero Zero = true
 is_same One One = true
 is_same _ _ = false
 
+-- A round that was stored in a buffer of a group: its first value at this place, and each further one so many places on.
+pub record StoredRound : Type 0 where
+  pub group : ℕ
+  pub buffer : ResultBuffer
+  pub place : ℕ
+  pub step : ℕ
+  pub values : List ℕ
+
+-- all of them, the last one first
+abbrev pub Results : Type 0
+Results = List StoredRound
+
+-- what each place of each buffer of each group holds, 0 before anything was stored there
+abbrev pub held_in : Results → (group : ℕ) → ResultBuffer → (place : ℕ) → ℕ
+held_in [] = λ h c p. 0
+held_in (x ∷ xs) = λ h c. cond (h == x.group && is_same c x.buffer) (stored_from x.place x.step x.values (held_in xs x.group x.buffer)) (held_in xs h c)
+
 -- the results with round r, from 0, of a group: input number j, from 0, stands at place j * N + (r mod N) of the chosen buffer
 abbrev pub with_round_of : Option Group → (r : ℕ) → (group : ℕ) → Option ResultBuffer → List ℕ → Results → Results
 with_round_of k r g None values held = held
-with_round_of k r g (Some b) values held = λ h c. cond (h == g && is_same c b) (stored_from (place_in k r) (samples_of k) values (held g b)) (held h c)
+with_round_of k r g (Some b) values held = record { group = g; buffer = b; place = place_in k r; step = samples_of k; values = values } ∷ held

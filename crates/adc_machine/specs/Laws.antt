@@ -3,7 +3,7 @@ use Rattle.std.specs.Prelude.{◌≡◌, ◌≢◌, ℕ, ◌+◌, ◌*◌, ◌<�
 use Rattle.run_model.specs.World.{World, sample_at}
 use Rattle.run_model.specs.Frame.{state_by}
 use Rattle.run_model.specs.Machine.{Happening, Acts, Serves, Restarts}
-use Rattle.adc_machine.specs.Groups.{Request, Idle, Busy, Completed, StreamCompleted, untouched, suspends, ends_with_stream, Round, Results, inputs_left, place_in, samples_of}
+use Rattle.adc_machine.specs.Groups.{Request, Idle, Busy, Completed, StreamCompleted, untouched, suspends, ends_with_stream, Round, Results, inputs_left, place_in, samples_of, held_in}
 use Rattle.adc_machine.specs.Machine.{happens, is_unit_line, is_trigger_line}
 use Rattle.adc_machine.specs.Table.{group_of}
 use Rattle.adc_machine.specs.Triggers.{mark_at, has_input}
@@ -49,10 +49,10 @@ IsElsewhere k r inputs p = (j : ℕ) → j < inputs → p ≢ j * samples_of k +
 
 -- Round r, from 0, was stored in this buffer of a group: its value j stands at place j * N + (r mod N), and no other place has changed.
 pub record IsStored (k : Option configured.Group) (r g : ℕ) (b : ResultBuffer) (values : List ℕ) (before after : Results) : Type 0 where
-  pub values_at : (j v : ℕ) → slice_get values j ≡ Some v → after g b (j * samples_of k + place_in k r) ≡ v
-  pub places : (p : ℕ) → IsElsewhere k r (length values) p → after g b p ≡ before g b p
-  pub groups : (h : ℕ) (c : ResultBuffer) (p : ℕ) → h ≢ g → after h c p ≡ before h c p
-  pub buffers : (c : ResultBuffer) (p : ℕ) → c ≢ b → after g c p ≡ before g c p
+  pub values_at : (j v : ℕ) → slice_get values j ≡ Some v → held_in after g b (j * samples_of k + place_in k r) ≡ v
+  pub places : (p : ℕ) → IsElsewhere k r (length values) p → held_in after g b p ≡ held_in before g b p
+  pub groups : (h : ℕ) (c : ResultBuffer) (p : ℕ) → h ≢ g → held_in after h c p ≡ held_in before h c p
+  pub buffers : (c : ResultBuffer) (p : ℕ) → c ≢ b → held_in after g c p ≡ held_in before g c p
 
 -- it is neither a serving of a unit's line nor a reset
 abbrev pub StoresNothing : Happening Call → Type 0

@@ -13,7 +13,7 @@ use Rattle.run_model.specs.Machine.{Happening, Acts, Serves, Starts, Aborts, Mov
 use Rattle.service_outline.specs.Done.{answers, named, named_with, numbers, tells_error}
 use Rattle.adc_machine.specs.Table.{group_of, all_groups, by_group}
 use Rattle.adc_machine.specs.Checks.{Circumstances, service_of, error_by, zero_null, answer_refused}
-use Rattle.adc_machine.specs.Groups.{Status, Idle, Busy, Completed, StreamCompleted, GroupState, Round, untouched, is_continuous, samples_of, values_of, is_finished, name_of, is_idle, status_after, status_read, ends_with_stream, is_full, newest, place_in, with_round_of}
+use Rattle.adc_machine.specs.Groups.{Status, Idle, Busy, Completed, StreamCompleted, GroupState, Round, untouched, is_continuous, samples_of, values_of, is_finished, name_of, is_idle, status_after, status_read, ends_with_stream, is_full, newest, place_in, with_round_of, held_in}
 use Rattle.adc_machine.specs.Turns.{AdcState, first_state, group_at, round_at, with_group, with_round, with_waiting, requested, has_turn, without_turn, is_on, number_of, starts, started, aborts, aborted}
 use Rattle.adc_machine.specs.Triggers.{mark_at, pulsed, with_trigger_off, served_trigger}
 use Rattle.adc_machine.specs.declared.call.Call.{Call}
@@ -238,7 +238,7 @@ adc_machine d = record {
 
 -- what a place of a group's buffer holds
 abbrev pub place_value : AdcState → (group : ℕ) → ResultBuffer → (place : ℕ) → ℕ
-place_value s g b p = s.results g b p
+place_value s g b p = held_in s.results g b p
 
 -- the buffer of a group that is shown: the one that was set up last
 abbrev pub chosen_buffer : AdcState → ℕ → Option ResultBuffer

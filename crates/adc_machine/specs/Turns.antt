@@ -25,7 +25,7 @@ pub record AdcState : Type 0 where
 
 -- after power on and after a reset
 abbrev pub first_state : AdcState
-first_state = record { initialised = false; groups = []; units = []; marks = []; requests = 0; results = λ g b p. 0 }
+first_state = record { initialised = false; groups = []; units = []; marks = []; requests = 0; results = [] }
 
 -- ---- the parts of the state
 

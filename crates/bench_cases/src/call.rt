@@ -8,6 +8,9 @@ use std::str;
 /// The most bytes that a call may write.
 const ROOM: usize = 1_000_000;
 
+/// The line of an input in which a number of steps is to stand.
+const STEPS: &[u8] = b"run *\n";
+
 /// A call of the bench that is to be made.
 #[derive(Drop)]
 pub struct Call {
@@ -63,7 +66,7 @@ impl Call {
         str::from_utf8(&self.first_line).unwrap_or("").split(';')
     }
 
-    /// What goes wrong in turn, if the call is to be made more than once.
+    /// What is odd in turn, if the call is to be made more than once.
     pub fn turn(&self) -> Option<Turn> {
         self.parts().skip(1).find_map(Turn::read)
     }
@@ -131,7 +134,22 @@ impl Ends {
             }
             Oddity::Bytes(count) => self.input.truncate(count),
             Oddity::Bad => self.input.extend_from_slice(b"bad\n")?,
+            Oddity::Steps(number) => self.put_steps(alloc, number)?,
         }
+        Ok(())
+    }
+
+    /// Has the number stand in each line `run *`.
+    fn put_steps(&mut self, alloc: Global, number: usize) -> Result<(), AllocError> {
+        let mut input = Vec::new(alloc);
+        for line in self.input.split_inclusive(|byte| *byte == b'\n') {
+            if line == STEPS {
+                input.extend_from_slice(format!(in alloc; "run {number}\n")?.as_bytes())?;
+            } else {
+                input.extend_from_slice(line)?;
+            }
+        }
+        self.input = input;
         Ok(())
     }
 

@@ -2,8 +2,8 @@
 //! each ended: the line that began it, its status, and what it wrote.
 //!
 //! A call begins with a line `=== WORDS`, with the words of its command line. The lines up to the next call are its
-//! input. Behind the words, each after a semicolon, may stand what is out of the ordinary (`Oddity`), and what goes wrong
-//! in turn (`Turn`): such a call is made again and again, and a line tells how those ended that ended alike.
+//! input. Behind the words, each after a semicolon, may stand what is out of the ordinary (`Oddity`), and what is so in
+//! turn (`Turn`): such a call is made again and again, and a line tells how those ended that ended alike.
 #![tactic(auto)]
 
 mod call;
@@ -64,19 +64,20 @@ fn print_turns(rt: &HostRuntime, call: &Call, turn: Turn) -> io::Result<()> {
     for number in first.saturating_add(1)..=turn.last(call) {
         let ended = call.made(rt.alloc(), turn.oddity(rt.alloc(), number)?)?;
         if ended != last {
-            print_turn(rt, first, number.saturating_sub(1), &last, &whole)?;
+            print_turn(rt, turn, (first, number.saturating_sub(1)), &last, &whole)?;
             first = number;
             last = ended;
         }
     }
-    print_turn(rt, first, turn.last(call), &last, &whole)
+    print_turn(rt, turn, (first, turn.last(call)), &last, &whole)
 }
 
-/// Prints how the calls of some turns ended: the status, and what was written, by its first line and its length.
+/// Prints how the calls of some turns, from one number to another, ended: the status, and what was written, by its length
+/// and its first line; where numbers of steps are in turn, by all its lines.
 fn print_turn(
     rt: &HostRuntime,
-    first: usize,
-    last: usize,
+    turn: Turn,
+    (first, last): (usize, usize),
     ended: &Ended,
     whole: &Ended,
 ) -> io::Result<()> {
@@ -89,6 +90,10 @@ fn print_turn(
     )?;
     if ended.status == 3 && !whole.written.starts_with(&ended.written) {
         out.write_all(b" of other output")?;
+    }
+    if let Turn::Step(_) = turn {
+        out.write_all(b"\n")?;
+        return out.write_all(&ended.written);
     }
     out.write_all(b": ")?;
     for byte in &ended.written {

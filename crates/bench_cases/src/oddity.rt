@@ -17,6 +17,8 @@ pub enum Oddity {
     Bytes(usize),
     /// `bad`: one more line stands behind the input, a word that is no directive's.
     Bad,
+    /// `steps N`: the number N stands in each line `run *` of the input.
+    Steps(usize),
 }
 
 impl Oddity {
@@ -40,6 +42,7 @@ impl Oddity {
             Some("cut") => Some(Oddity::Cut),
             Some("bytes") => Some(Oddity::Bytes(first)),
             Some("bad") => Some(Oddity::Bad),
+            Some("steps") => Some(Oddity::Steps(first)),
             _ => None,
         })
     }

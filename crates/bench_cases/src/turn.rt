@@ -2,7 +2,7 @@ use crate::call::Call;
 use crate::oddity::Oddity;
 use std::alloc::{AllocError, Global};
 
-/// What goes wrong in turn, in a call that is made again and again.
+/// What is out of the ordinary in turn, in a call that is made again and again.
 #[derive(Clone, Copy, Debug, PartialEq, Eq)]
 pub enum Turn {
     /// `each read N`: each of the first N reads fails, one in each call.
@@ -11,13 +11,15 @@ pub enum Turn {
     Write(usize),
     /// `each front`: each front of the input comes, from no byte to all.
     Front,
+    /// `each step N`: each number from 0 to N stands in the lines `run *` of the input.
+    Step(usize),
 }
 
 /// The most bytes of a read or of a write.
 const PIECE: usize = 100;
 
 impl Turn {
-    /// Reads what goes wrong in turn; None where the words tell nothing of it.
+    /// Reads what is odd in turn; None where the words tell nothing of it.
     pub fn read(text: &str) -> Option<Turn> {
         let mut words = text.split_ascii_whitespace();
         if words.next() != Some("each") {
@@ -29,6 +31,7 @@ impl Turn {
             "read" => Some(Turn::Read(count)),
             "write" => Some(Turn::Write(count)),
             "front" => Some(Turn::Front),
+            "step" => Some(Turn::Step(count)),
             _ => None,
         }
     }
@@ -37,14 +40,14 @@ impl Turn {
     pub fn first(self) -> usize {
         match self {
             Turn::Read(_) | Turn::Write(_) => 1,
-            Turn::Front => 0,
+            Turn::Front | Turn::Step(_) => 0,
         }
     }
 
     /// The number of the last call.
     pub fn last(self, call: &Call) -> usize {
         match self {
-            Turn::Read(count) | Turn::Write(count) => count,
+            Turn::Read(count) | Turn::Write(count) | Turn::Step(count) => count,
             Turn::Front => call.input_len(),
         }
     }
@@ -56,6 +59,7 @@ impl Turn {
             Turn::Read(_) => Oddity::Reads(PIECE, numbers),
             Turn::Write(_) => Oddity::Writes(PIECE, numbers),
             Turn::Front => Oddity::Bytes(number),
+            Turn::Step(_) => Oddity::Steps(number),
         }))
     }
 }

@@ -24,7 +24,7 @@ use Rattle.bench_top.specs.declared.words.Form.{Form}
 use Rattle.bench_top.specs.declared.words.Form.TheVariants.{Check, Run}
 use Rattle.bench_top.specs.declared.words.Printing.{Printing}
 use Rattle.bench_top.specs.Judged.{Ending, Judgement, Prints, Runs, ending_of, judged, judged_built, judged_whole, judged_script, configuration_of, judged_parts, judged_file, too_many_bytes, too_long_report, usage, read_fault}
-use Rattle.bench_top.specs.Outcomes.{Concludes, Ends, IsEnded, IsCutOff, FrontOf, WritesFront, reported}
+use Rattle.bench_top.specs.Outcomes.{Concludes, Ends, IsEnded, IsCutOff, FrontOf, Keeps, WritesFront, reported}
 use Rattle.bench_top.specs.Runs.{IsWholeRun, report_of}
 use Rattle.bench_top.specs.Tail.{is_traced, printed}
 use Rattle.mcal_system.specs.Runs.{bound_of}
@@ -101,20 +101,38 @@ pub printed_front : (printed : Ending) (entries : List Entry) (before after : Op
 printed_front printed entries before after h = (subst (λ (x : Ending). WritesFront before after x.text) h.ends.0 h.front, h.ends.1)
 
 -- a call that writes the text with which it is to end
-pub concludes_of : (j : Judgement) (ending : Ending) (status : ℕ) (entries : List Entry) (before after : Option (List ℕ)) (faults now : ℕ) → Ends j ending entries → ending.status ≢ 3 → ending.status ≢ 4 → status ≤ 7 →
+pub concludes_of : (j : Judgement) (ending : Ending) (status : ℕ) (entries : List Entry) (before after : Option (List ℕ)) (faults now : ℕ) → Ends j ending entries → Keeps j entries → ending.status ≢ 3 → ending.status ≢ 4 → status ≤ 7 →
     (status ≢ 3 → status ≡ ending.status) → (status ≢ 3 → Appends before after ending.text) → (status ≢ 3 → now ≡ faults) → (status ≡ 3 → Rose faults now) → (status ≡ 3 → WritesFront before after ending.text)
     → Concludes j status entries before after faults now
-concludes_of j ending status entries before after faults now ends three four known is wrote still fault front =
+concludes_of j ending status entries before after faults now ends keeps three four known is wrote still fault front =
     let never : (A : Type 0) → status ≡ 4 → A = λ A e. absurd (let f : status ≢ 3 = λ g. absurd (omega (arith, e, g)) in four (sym (is f) ∙ e)) in
     record {
       known = known;
       ends = λ a b. record { ending = ending; ends = ends; status_is = is a; written = wrote a };
       front = λ e. record { ending = ending; ends = ends; front = front e };
+      keeps = keeps;
       nothing = never (Appends before after []);
       no_journal = never (entries ≡ []);
       still = still;
       fault = fault;
     }
+
+-- a call that found no memory has written nothing
+appends_nothing : (sink : Option (List ℕ)) → Appends sink sink []
+appends_nothing None = tt
+appends_nothing (Some bytes) = sym (append-nil bytes)
+
+pub forgot_of : (j : Judgement) (status : ℕ) (entries : List Entry) (sink : Option (List ℕ)) (faults : ℕ) → status ≡ 4 → entries ≡ [] → Keeps j entries → Concludes j status entries sink sink faults faults
+forgot_of j status entries sink faults four none keeps = record {
+  known = omega (arith, four);
+  ends = λ a b. absurd (b four);
+  front = λ e. absurd (omega (arith, four, e));
+  keeps = keeps;
+  nothing = λ e. appends_nothing sink;
+  no_journal = λ e. none;
+  still = λ e. refl;
+  fault = λ e. absurd (omega (arith, four, e));
+}
 
 -- how a whole run ends
 report_by : (b : Bool) (printing : Printing) (report : List ℕ) → is_too_long report ≡ b → length report ≤ most_bytes → record { status = 0; text = printed printing report } ≡ reported printing report

@@ -6,5 +6,6 @@ pub mod Known
 pub mod LastLines
 pub mod Lines
 pub mod Numerals
+pub mod Promised
 pub mod Rows
 pub mod Scripts

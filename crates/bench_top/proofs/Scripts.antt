@@ -5,10 +5,10 @@ use Rattle.std.proofs.lemmas.Bool.Decides.{nat_tests}
 use Rattle.std.specs.Str.Lines.{lines}
 use Rattle.mcal_base.specs.declared.directive.Directive.{Directive}
 use Rattle.mcal_base.specs.declared.directive.Order.{Order}
-use Rattle.mcal_base.specs.declared.directive.Order.TheVariants.{Call, Do, Enter, Serve, Run, Upto, Finish, Tick, Level, Miso, SpiFault, Fill, Reset, Show}
+use Rattle.mcal_base.specs.declared.directive.Order.TheVariants.{Call, Do, Enter, Serve, Run, Upto, Finish, Tick, Level, Analog, Trigger, Miso, SpiFault, Fill, Reset, Show}
 use Rattle.mcal_base.specs.Names.{module_of}
 use Rattle.mcal_base.specs.declared.module_name.ModuleName.{ModuleName}
-use Rattle.mcal_base.specs.declared.module_name.ModuleName.TheVariants.{Mcu, Port, Gpt, Pwm, Icu, Spi}
+use Rattle.mcal_base.specs.declared.module_name.ModuleName.TheVariants.{Mcu, Port, Gpt, Pwm, Icu, Adc, Spi}
 use Rattle.mcal_base.specs.declared.service.Service.{Service}
 use Rattle.mcal_base.specs.declared.directive.Reason.TheVariants as reasons
 use Rattle.mcu_driver.specs.Requests.{is_mcu}
@@ -16,6 +16,7 @@ use Rattle.port_driver.specs.Requests.{is_port}
 use Rattle.gpt_driver.specs.Requests.{is_gpt}
 use Rattle.pwm_driver.specs.Requests.{is_pwm}
 use Rattle.icu_driver.specs.Requests.{is_icu}
+use Rattle.adc_machine.specs.Requests.{is_adc}
 use Rattle.spi_machine.specs.Requests.{is_spi}
 use Rattle.mcal_system.specs.Setting.{has_service}
 use Rattle.bench_script.specs.Productions.{HoldsOrder, HoldDirectives}
@@ -42,6 +43,8 @@ obeyed line (Upto stop) h b = refl
 obeyed line Finish h b = refl
 obeyed line (Tick n) h b = let most = h.is.given.number.below in grind (arith, nat_tests, most)
 obeyed line (Level pin high) h b = refl
+obeyed line (Analog input level) h b = refl
+obeyed line (Trigger input) h b = refl
 obeyed line (Miso unit words) h b = let most = h.is.given.number.below in grind (arith, nat_tests, most)
 obeyed line (SpiFault unit) h b = refl
 obeyed line (Fill channel words) h b = refl
@@ -49,7 +52,6 @@ obeyed line (Reset reasons.PowerOn) h b = refl
 obeyed line (Reset reasons.Watchdog) h b = refl
 obeyed line (Reset reasons.Software) h b = absurd h.is.given
 obeyed line (Show shown) h b = refl
-obeyed line _ h b = cc
 
 none_first : (d : Directive) (ds : List Directive) (b : Bool) → is_built d.order ≡ b → option_map (λ (x : Directive). x.line) (cond (not b) (Some d) (find (λ (x : Directive). not (is_built x.order)) ds)) ≡ None → (is_built d.order ≡ true) × (unbuilt_line ds ≡ None)
 none_first d ds true e h = (e, h)
@@ -70,14 +72,14 @@ may_run ds read none =
     record { lines = rises 0 1 (lines read.text) ds (omega arith) s.hold; built = all_obeyed 1 (lines read.text) ds s.hold none; few = omega (arith, s.few) }
 
 -- the service of an order that can be run is one that a driver has
-has_one : (m : ModuleName) → has_driver m ≡ true → is_mcu m || (is_port m || (is_gpt m || (is_pwm m || (is_icu m || is_spi m)))) ≡ true
+has_one : (m : ModuleName) → has_driver m ≡ true → is_mcu m || (is_port m || (is_gpt m || (is_pwm m || (is_icu m || (is_adc m || is_spi m))))) ≡ true
 has_one Mcu h = refl
 has_one Port h = refl
 has_one Gpt h = refl
 has_one Pwm h = refl
 has_one Icu h = refl
+has_one Adc h = refl
 has_one Spi h = refl
-has_one _ h = cc
 
 served : (s : Service) → is_served s ≡ true → has_service s ≡ true
 unfolding has_service

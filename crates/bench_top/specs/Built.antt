@@ -1,10 +1,10 @@
 -- What can be run today: the modules that have a driver, their services, and the directives that their scripts need.
-use Rattle.std.specs.Prelude.{◌≡◌, Ok, ℕ, ◌+◌, ◌==◌, ◌&&◌, not, List, [], ◌∷◌, length, Bool, true, false, Option, find, option_map}
+use Rattle.std.specs.Prelude.{◌≡◌, Ok, ℕ, ◌+◌, ◌==◌, ◌&&◌, not, List, [], ◌∷◌, length, Bool, true, Option, find, option_map}
 use Rattle.mcal_base.specs.Names.{module_of}
 use Rattle.mcal_base.specs.declared.config.whole.Config.{Config}
 use Rattle.mcal_base.specs.declared.directive.Directive.{Directive}
 use Rattle.mcal_base.specs.declared.directive.Order.{Order}
-use Rattle.mcal_base.specs.declared.directive.Order.TheVariants.{Call, Do, Enter, Serve, Run, Upto, Finish, Tick, Level, Miso, SpiFault, Fill, Reset, Show}
+use Rattle.mcal_base.specs.declared.directive.Order.TheVariants.{Call, Do, Enter, Serve, Run, Upto, Finish, Tick, Level, Analog, Trigger, Miso, SpiFault, Fill, Reset, Show}
 use Rattle.mcal_base.specs.declared.directive.Shown.{Shown}
 use Rattle.mcal_base.specs.declared.directive.Shown.TheVariants.{Pins, Ram, Buffers, Wire}
 use Rattle.mcal_base.specs.declared.module_name.ModuleName.{ModuleName}
@@ -19,8 +19,8 @@ has_driver Port = true
 has_driver Gpt = true
 has_driver Pwm = true
 has_driver Icu = true
+has_driver Adc = true
 has_driver Spi = true
-has_driver _ = false
 
 -- the service can be called: one of a module that has a driver
 abbrev pub is_served : Service → Bool
@@ -62,12 +62,13 @@ is_built (Upto stop) = true
 is_built Finish = true
 is_built (Tick n) = true
 is_built (Level pin high) = true
+is_built (Analog input level) = true
+is_built (Trigger input) = true
 is_built (Miso unit words) = true
 is_built (SpiFault unit) = true
 is_built (Fill channel words) = true
 is_built (Reset reason) = true
 is_built (Show shown) = is_shown shown
-is_built _ = false
 
 -- the line of the first directive that can't be run
 abbrev pub unbuilt_line : List Directive → Option ℕ

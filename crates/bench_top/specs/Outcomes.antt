@@ -4,6 +4,7 @@ use Rattle.std.specs.Io.KnownBytes.{Appends}
 use Rattle.mcal_base.specs.Causes.{Rose}
 use Rattle.run_model.specs.Entry.{Entry}
 use Rattle.bench_report.specs.Limit.{is_too_long}
+use Rattle.board_promises.specs.Promised.{KeepsPromises}
 use Rattle.bench_top.specs.Judged.{Ending, Judgement, Prints, Runs, judged, read_fault, too_many_steps, too_long_report}
 use Rattle.bench_top.specs.Runs.{IsWholeRun, IsStoppedRun, report_of}
 use Rattle.bench_top.specs.Tail.{is_traced, printed}
@@ -19,6 +20,11 @@ abbrev pub Ends : Judgement → Ending → List Entry → Type 0
 Ends (Prints printed) ending entries = (ending ≡ printed) × (entries ≡ [])
 Ends (Runs printing config script) ending entries =
     (IsWholeRun config script entries × (ending ≡ reported printing (report_of (is_traced printing) config script entries))) ⊎ (IsStoppedRun config script entries × (ending ≡ too_many_steps))
+
+-- what is promised of whole runs holds of the journal, where a script was judged to run
+abbrev pub Keeps : Judgement → List Entry → Type 0
+Keeps (Prints ending) entries = Unit {0}
+Keeps (Runs printing config script) entries = KeepsPromises config script entries
 
 -- the call ended as it was judged: with the status of the ending, and all of its text was written
 pub record IsEnded (judgement : Judgement) (status : ℕ) (entries : List Entry) (before after : Option (List ℕ)) : Type 0 where
@@ -58,6 +64,7 @@ pub record Concludes (judgement : Judgement) (status : ℕ) (entries : List Entr
   pub known : status ≤ 7
   pub ends : status ≢ 3 → status ≢ 4 → IsEnded judgement status entries before after
   pub front : status ≡ 3 → IsCutOff judgement entries before after
+  pub keeps : Keeps judgement entries
   pub nothing : status ≡ 4 → Appends before after []
   pub no_journal : status ≡ 4 → entries ≡ []
   pub still : status ≢ 3 → now ≡ faults

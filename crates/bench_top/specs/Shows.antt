@@ -7,7 +7,7 @@ use Rattle.mcal_base.specs.declared.directive.Order.{Order}
 use Rattle.mcal_base.specs.declared.directive.Order.TheVariants.{Show}
 use Rattle.mcal_base.specs.declared.directive.Shown.{Shown}
 use Rattle.mcal_base.specs.declared.directive.Shown.TheVariants.{Pins, Ram, Buffers, Wire}
-use Rattle.mcal_base.specs.declared.layout.Array.TheVariants.{Source, Destination}
+use Rattle.mcal_base.specs.declared.layout.Array.TheVariants.{Round, Source, Destination}
 use Rattle.run_model.specs.World.{World}
 use Rattle.bench_report.specs.Rows.{Row}
 use Rattle.bench_report.specs.declared.rows.RowName.{RowName}
@@ -15,7 +15,7 @@ use Rattle.bench_report.specs.declared.rows.RowName.TheVariants as names
 use Rattle.bench_report.specs.declared.rows.Value.{Value}
 use Rattle.bench_report.specs.declared.rows.Value.TheVariants as values
 use Rattle.mcal_system.specs.Setting.{SystemState}
-use Rattle.mcal_system.specs.Shows.{internal_at, level_at, ram_at, serial_channel, size_at, stamp_at, user_at, wire_at}
+use Rattle.mcal_system.specs.Shows.{internal_at, level_at, ram_at, results_at, serial_channel, size_at, stamp_at, user_at, wire_at}
 use Rattle.spi_jobs.specs.declared.channel.Channel.{Channel}
 use Rattle.spi_machine.specs.Table.{is_internal_channel}
 use Rattle.bench_top.specs.declared.show.Kept.{Kept}
@@ -64,6 +64,17 @@ stamps_row s c (Some size) = record { name = names.Stamps c; values = stamps s c
 abbrev pub stamps_rows : SystemState → List Row
 stamps_rows s = flat_map (λ c. stamps_row s c (size_at s c)) (range_with_len 0 8)
 
+-- the results of the converter groups: of each that has a chosen buffer, the places of that buffer
+abbrev pub results : SystemState → (group buffer size : ℕ) → List Value
+results s g b size = map (λ k. values.One (user_at s (Round g b) k)) (range_with_len 0 size)
+
+abbrev pub results_row : SystemState → (group : ℕ) → Option (ℕ × ℕ) → List Row
+results_row s g None = []
+results_row s g (Some found) = record { name = names.Results g found.0; values = results s g found.0 found.1 } ∷ []
+
+abbrev pub result_rows : Config → SystemState → List Row
+result_rows c s = flat_map (λ g. results_row s g (results_at c s g)) (range_with_len 0 16)
+
 -- a serial channel keeps this: an external one has no words of its own
 abbrev pub keeps : Option Channel → Kept → Bool
 keeps o kept.Source = true
@@ -100,9 +111,9 @@ channel_rows s n (Some k) =
 abbrev pub serial_rows : Config → SystemState → List Row
 serial_rows c s = flat_map (λ n. channel_rows s n (serial_channel c n)) (range_with_len 0 16)
 
--- the buffers: the stamps, and what the serial channels keep
+-- the buffers: the stamps, the results, and what the serial channels keep
 abbrev pub buffer_rows : Config → SystemState → List Row
-buffer_rows c s = stamps_rows s ++ serial_rows c s
+buffer_rows c s = stamps_rows s ++ (result_rows c s ++ serial_rows c s)
 
 -- the wires of both serial units: each word that was sent since the last reset, with what came in
 abbrev pub wire_words : SystemState → (unit : ℕ) → List Value

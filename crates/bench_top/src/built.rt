@@ -25,6 +25,7 @@ fn has_driver(name: ModuleName) -> bool
             | ModuleName::Gpt
             | ModuleName::Pwm
             | ModuleName::Icu
+            | ModuleName::Adc
             | ModuleName::Spi
     )
 }
@@ -88,12 +89,13 @@ fn is_built(order: &Order) -> bool
         | Order::Finish
         | Order::Tick(_)
         | Order::Level(..)
+        | Order::Analog(..)
+        | Order::Trigger(_)
         | Order::Miso(..)
         | Order::SpiFault(_)
         | Order::Fill(..)
         | Order::Reset(_) => true,
         Order::Show(shown) => is_shown(*shown),
-        _ => false,
     }
 }
 

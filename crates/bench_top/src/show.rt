@@ -1,10 +1,10 @@
 ghost use Rattle.std.specs.Prelude.{◌≡◌, ◌+◌, ◌<◌, ◌≤◌, ◌++◌, ◌∷◌, [], IfOk, OnOk, Some, length, slice_get, string_bytes, true};
 ghost use Rattle.config_facts.specs.Valid.{IsValid};
 ghost use Rattle.mcal_base.specs.Layout.{length_of};
-ghost use Rattle.mcal_base.specs.declared.layout.Array.TheVariants.{Source, Stamps};
+ghost use Rattle.mcal_base.specs.declared.layout.Array.TheVariants.{Round, Source, Stamps};
 ghost use Rattle.bench_report.specs.Shown.{rows_text};
 ghost use Rattle.mcal_system.specs.Runs.{moment_of};
-ghost use Rattle.mcal_system.specs.Shows.{serial_channel, size_at};
+ghost use Rattle.mcal_system.specs.Shows.{results_at, serial_channel, size_at};
 ghost use Rattle.bench_top.specs.Shows as spec;
 
 use bench_report::{RowName, Value, write_row};
@@ -18,6 +18,9 @@ const PINS: u32 = 64;
 
 /// The number of capture channels.
 const CAPTURES: u32 = 8;
+
+/// The number of converter groups.
+const GROUPS: u32 = 16;
 
 /// The number of serial channels.
 const CHANNELS: u32 = 16;
@@ -220,6 +223,75 @@ fn stamps_text(alloc: Global, system: &System<'_>, line: u32) -> Result<String, 
     Ok(text)
 }
 
+/// The first places of a buffer of a converter group.
+fn results_of(
+    alloc: Global,
+    system: &System<'_>,
+    group: u32,
+    buffer: u32,
+    size: u32,
+) -> Result<Vec<Value>, AllocError>
+    requires rest { (moment_of system.now).opens ≡ [] }
+    requires inside { size ≤ length_of system.now.config (Round group buffer) }
+    ensures { IfOk result (λ values. values.items ≡ spec.results (moment_of system.now).state group buffer size) }
+{
+    let mut values = Vec::new(alloc);
+    for place in 0..size {
+        values.push(Value::One(system.user(Array::Round(group, buffer), place)))?;
+    }
+    Ok(values)
+}
+
+/// Writes the row of so many places of a buffer of a converter group.
+#[tactic(auto, using(crate::proofs::Rows::row_alone))]
+fn write_results(
+    alloc: Global,
+    text: &mut String,
+    system: &System<'_>,
+    line: u32,
+    group: u32,
+    found: (u32, u32),
+) -> Result<(), AllocError>
+    requires rest { (moment_of system.now).opens ≡ [] }
+    requires inside { found.1 ≤ length_of system.now.config (Round group found.0) }
+    ensures { OnOk result (string_bytes text.new ≡ string_bytes text.old ++ rows_text line (spec.results_row (moment_of system.now).state group (Some found))) }
+{
+    let (buffer, size) = found;
+    let values = results_of(alloc, system, group, buffer, size)?;
+    write_row(text, line, RowName::Results(group, buffer), &values)
+}
+
+/// Writes the row of the buffer that was last chosen for a converter group, where there is one.
+#[tactic(auto, using(crate::proofs::Rows::no_rows))]
+fn write_group(
+    alloc: Global,
+    text: &mut String,
+    system: &System<'_>,
+    line: u32,
+    group: u32,
+) -> Result<(), AllocError>
+    requires rest { (moment_of system.now).opens ≡ [] }
+    ensures { let s = (moment_of system.now).state in
+        OnOk result (string_bytes text.new ≡ string_bytes text.old ++ rows_text line (spec.results_row s group (results_at system.now.config s group))) }
+{
+    match system.results(group) {
+        Some(found) => write_results(alloc, text, system, line, group, found),
+        None => Ok(()),
+    }
+}
+
+/// The lines of the converter groups' buffers.
+fn results_text(alloc: Global, system: &System<'_>, line: u32) -> Result<String, AllocError>
+    requires rest { (moment_of system.now).opens ≡ [] }
+    ensures { IfOk result (λ text. string_bytes text ≡ rows_text line (spec.result_rows system.now.config (moment_of system.now).state)) }
+{
+    let mut text = String::new(alloc);
+    for group in 0..GROUPS {
+        write_group(alloc, &mut text, system, line, group)?;
+    }
+    Ok(text)
+}
+
 /// What a serial channel keeps.
 #[derive(Clone, Copy, Debug, PartialEq, Eq)]
 enum Kept {
@@ -356,15 +428,17 @@ fn serials_text(alloc: Global, system: &System<'_>, line: u32) -> Result<String,
     Ok(text)
 }
 
-/// The lines of the buffers: those of the capture channels' stamps, and of the serial channels.
+/// The lines of the buffers: those of the capture channels' stamps, of the converter groups, and of the serial channels.
 #[tactic(auto, using(crate::proofs::Rows::rows_joined))]
 fn buffers_text(alloc: Global, system: &System<'_>, line: u32) -> Result<String, AllocError>
     requires rest { (moment_of system.now).opens ≡ [] }
     ensures { IfOk result (λ text. string_bytes text ≡ rows_text line (spec.buffer_rows system.now.config (moment_of system.now).state)) }
 {
     let mut text = stamps_text(alloc, system, line)?;
+    let mut results = results_text(alloc, system, line)?;
     let serials = serials_text(alloc, system, line)?;
-    text.push_str(&serials)?;
+    results.push_str(&serials)?;
+    text.push_str(&results)?;
     Ok(text)
 }
 

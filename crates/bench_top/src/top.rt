@@ -12,7 +12,7 @@ ghost use Rattle.script_runner.specs.Scripts.{IsScript, AllOffered};
 ghost use Rattle.bench_top.specs.Built.{IsRead};
 ghost use Rattle.bench_top.specs.Judged as spec;
 ghost use Rattle.bench_top.specs.Judged.{Ending, Judgement, Prints, Runs, judged};
-ghost use Rattle.bench_top.specs.Outcomes.{Concludes, Ends, EndsOnSome, IsEnded, FrontOf, FrontOnSome, WritesFront};
+ghost use Rattle.bench_top.specs.Outcomes.{Concludes, Ends, EndsOnSome, IsEnded, FrontOf, FrontOnSome, Keeps, WritesFront};
 ghost use Rattle.bench_top.specs.Runs.{report_of};
 ghost use Rattle.bench_top.specs.Statuses.{IsDecided};
 ghost use Rattle.bench_top.specs.Tail.{is_traced};
@@ -67,7 +67,7 @@ fn finish<K: Sink>(out: &mut K, status: u8, text: &[u8], journal: Journal) -> Ou
     ensures remembers { result.status ≢ 4 }
     ensures journal { result.journal ≡ journal }
     // It ends as it was judged, where the call is to end with this status and this text.
-    ensures concludes { (judgement : Judgement) → Ends judgement (record { status = status; text = text.now }) journal.entries →
+    ensures concludes { (judgement : Judgement) → Ends judgement (record { status = status; text = text.now }) journal.entries → Keeps judgement journal.entries →
         Concludes judgement result.status result.journal.entries (K.taken out.old) (K.taken out.new) (K.faults out.old) (K.faults out.new) }
 {
     match write_all(out, text) {
@@ -80,6 +80,7 @@ fn finish<K: Sink>(out: &mut K, status: u8, text: &[u8], journal: Journal) -> Ou
 fn no_memory(alloc: Global) -> Outcome
     ensures status { result.status ≡ 4 }
     ensures journal { result.journal.entries ≡ [] }
+    ensures keeps { (judgement : Judgement) → Keeps judgement result.journal.entries }
 {
     Outcome {
         status: 4,
@@ -94,6 +95,7 @@ fn print<K: Sink>(alloc: Global, out: &mut K, status: u8, text: &str) -> Outcome
     requires known { status ≤ 7 }
     ensures remembers { result.status ≢ 4 }
     ensures concludes { Concludes (Prints (record { status = status; text = text.now })) result.status result.journal.entries (K.taken out.old) (K.taken out.new) (K.faults out.old) (K.faults out.new) }
+    ensures keeps { (judgement : Judgement) → Keeps judgement result.journal.entries }
 {
     finish(out, status, text.as_bytes(), Journal::empty(alloc))
 }
@@ -245,6 +247,8 @@ pub fn bench<S: Source, K: Sink>(
     ensures complete { (Rose (S.faults input.old) (S.faults input.new) → ⊥) → (Rose (K.faults out.old) (K.faults out.new) → ⊥) → IfSome (S.left input.old) (λ bytes.
         (printing : Printing) (config : records.Config) (script : List Directive) → judged (form_of (map string_bytes words.now)) bytes ≡ Runs printing config script → bound_of config script ≤ 1000000 →
         length (report_of (is_traced printing) config script result.journal.entries) ≤ most_bytes → result.status ≢ 4 → result.status ≡ 0) }
+    // What is promised of a whole run: whole rounds, the standard's order, one end of each request, and what each frame has told.
+    ensures promises { IfSome (S.left input.old) (λ bytes. Keeps (judged (form_of (map string_bytes words.now)) bytes) result.journal.entries) }
     // And a file that is not refused is checked.
     ensures checks { (Rose (S.faults input.old) (S.faults input.new) → ⊥) → (Rose (K.faults out.old) (K.faults out.new) → ⊥) → IfSome (S.left input.old) (λ bytes.
         (ending : Ending) → judged (form_of (map string_bytes words.now)) bytes ≡ Prints ending → result.status ≢ 4 → result.status ≡ ending.status) }

@@ -5,7 +5,7 @@ use Rattle.std.specs.Option.{IfSome}
 use Rattle.std.specs.Bool.{OnTrue, OnFalse}
 use Rattle.std.proofs.Math.Path.{fun_ext}
 use Rattle.chip_model.specs.Chip.{Chip, pin_of, word_of}
-use Rattle.config_facts.specs.Valid.{IsPwm, IsIcu, IsSpi, IsValid}
+use Rattle.config_facts.specs.Valid.{IsAdc, IsPwm, IsIcu, IsSpi, IsValid}
 use Rattle.mcal_base.specs.Layout.{length_of, place_of}
 use Rattle.mcal_base.specs.declared.config.whole.Config.{Config}
 use Rattle.mcal_base.specs.declared.directive.Directive.{Directive}
@@ -42,6 +42,19 @@ use Rattle.pwm_driver.specs.declared.asked.Asked as pulse_asked
 use Rattle.pwm_driver.specs.declared.driver.Channel as pulse_channels
 use Rattle.pwm_driver.specs.laws.Lawful as pulse_laws
 use Rattle.icu_driver.specs.Ground.{settled, IcuAgrees}
+use Rattle.adc_driver.specs.Handlers.{handled_by as handled_converter}
+use Rattle.adc_driver.specs.laws.Fits as converter_fits
+use Rattle.adc_driver.specs.laws.Joined.{joined as converters_of}
+use Rattle.adc_driver.specs.declared.driver.AdcDriver.{AdcDriver}
+use Rattle.adc_groups.specs.Ground.{AdcAgrees, FitsAdc}
+use Rattle.adc_groups.specs.declared.asked.Asked as converter_asked
+use Rattle.adc_machine.specs.Bounds.{is_used as uses_line}
+use Rattle.adc_machine.specs.Machine.{chosen_buffer}
+use Rattle.adc_machine.specs.Table as converter_table
+use Rattle.adc_machine.specs.Turns.{AdcState}
+use Rattle.adc_machine.specs.Words.{buffer_number, place_count}
+use Rattle.adc_machine.specs.declared.call.ResultBuffer.{ResultBuffer}
+use Rattle.adc_machine.specs.declared.table.AdcTable.{AdcTable}
 use Rattle.spi_driver.specs.laws.Joined.{joined as serial_of}
 use Rattle.spi_driver.specs.laws.Lawful.{handled_by}
 use Rattle.spi_machine.specs.Bounds.{is_used}
@@ -55,16 +68,17 @@ use Rattle.spi_machine.specs.Table.{channel_of, is_internal_channel, length_by}
 use Rattle.spi_machine.specs.declared.table.SpiTable.{SpiTable}
 use Rattle.spi_sequences.specs.Ground.{SpiAgrees}
 use Rattle.spi_sequences.specs.declared.asked.Asked as serial_asked
-use Rattle.mcal_system.specs.Drivers.{clock, pins, timers, pulses, captures, serial, drivers_of, as_one}
+use Rattle.mcal_system.specs.Drivers.{clock, pins, timers, pulses, captures, converters, serial, drivers_of, as_one}
 use Rattle.mcal_system.specs.Frames.{SystemFrame}
 use Rattle.mcal_system.specs.Runs.{SystemRun, most_steps, bound_of, run_start, moment_of, AddsItems}
-use Rattle.mcal_system.specs.Setting.{SystemState, SystemCall, clock_setting, pin_setting, timer_setting, pulse_setting, capture_setting, serial_setting, joined, system_setting, call_of}
-use Rattle.mcal_system.specs.Shows.{internal_at, is_kept, level_at, ram_at, serial_channel, size_at, user_at}
+use Rattle.mcal_system.specs.Setting.{SystemState, SystemCall, clock_setting, pin_setting, timer_setting, pulse_setting, capture_setting, converter_setting, serial_setting, joined, system_setting, call_of}
+use Rattle.mcal_system.specs.Shows.{internal_at, level_at, ram_at, results_at, serial_channel, size_at, user_at}
 use Rattle.mcal_system.specs.declared.drivers.Drivers.{Drivers}
+use Rattle.mcal_system.proofs.SoundConverters.{buffer_places, sound_converters}
 use Rattle.mcal_system.proofs.SoundSerial.{array_length, sound_serial}
 use Rattle.mcal_system.proofs.Stamps.{size_few}
 use Rattle.mcal_system.proofs.Levels.{pin_level, ram_word, user_word}
-use Rattle.mcal_system.proofs.Resting.{Rests, rests, related, last_of, middle_of, opens-some}
+use Rattle.mcal_system.proofs.Resting.{Rests, rests, related, first_of, last_of, middle_of, opens-some, second_of}
 
 abbrev pub Inner : Type 0
 Inner = engine.Run Drivers SystemFrame
@@ -97,6 +111,13 @@ capture_line (Some k) = refl
 capture_lines : (c : Config) → has_handler (captures c) ≡ (capture_setting c).used
 capture_lines c = fun_ext (λ l. capture_line (capture_table.channel_of_line (capture_table.driver_of c.icu) l))
 
+converter_line : (d : AdcTable) (line : ℕ) (q : Bool) → is_some (entering {Asked = converter_asked.Asked} (handled_converter d line q)) ≡ q
+converter_line d line true = refl
+converter_line d line false = refl
+
+converter_lines : (c : Config) → has_handler (converters c) ≡ (converter_setting c).used
+converter_lines c = let d = converter_table.table_of c.adc in fun_ext (λ l. converter_line d l (uses_line d l))
+
 -- of two as one
 has_either : {F G : Type 0} (x : Option F) (y : Option G) → is_some (either_handler x y) ≡ is_some x || is_some y
 has_either (Some f) y = refl
@@ -122,8 +143,10 @@ same_setting c =
     let captured = joined (pulse_setting c) (capture_setting c) in
     let captured_lines = lines_of (pulses c) (captures c) (pulse_setting c) (capture_setting c) (pulse_lines c) (capture_lines c) in
     let captured_on = joined_of (pulses c) (captures c) (pulse_setting c) (capture_setting c) (pulse_lines c) refl refl in
-    let seconds_on = joined_of (union_of (pulses c) (captures c)) (serial c) captured (serial_setting c) captured_lines captured_on refl in
-    joined_of (union_of (clock c) (union_of (pins c) (timers c))) (union_of (union_of (pulses c) (captures c)) (serial c)) firsts (joined captured (serial_setting c)) first_lines firsts_on seconds_on
+    let lasts = joined (converter_setting c) (serial_setting c) in
+    let lasts_on = joined_of (converters c) (serial c) (converter_setting c) (serial_setting c) (converter_lines c) refl refl in
+    let seconds_on = joined_of (union_of (pulses c) (captures c)) (union_of (converters c) (serial c)) captured lasts captured_lines captured_on lasts_on in
+    joined_of (union_of (clock c) (union_of (pins c) (timers c))) (union_of (union_of (pulses c) (captures c)) (union_of (converters c) (serial c))) firsts (joined captured lasts) first_lines firsts_on seconds_on
 
 pub carry : (P : Setting SystemState SystemCall → Type 0) (c : Config) (u : Drivers) → u ≡ drivers_of c → P (as_one u).setting → P (system_setting c)
 carry P c u e h = subst P (same_setting c) (subst (λ x. P (as_one x).setting) e h)
@@ -131,12 +154,22 @@ carry P c u e h = subst P (same_setting c) (subst (λ x. P (as_one x).setting) e
 -- where no frame is under way the capture driver agrees with its machine
 captures_related : (u : Drivers) (chip : Chip) (w : World) (s : SystemState) → (as_one u).relates chip w [] s → IcuAgrees u.captures settled chip w s.1.0.1
 unfolding as_one
-captures_related u chip w s h = middle_of (union_of (services_driver (mcu u.clock)) (union_of (services_driver (port u.pins)) (short.driver_of (gpt u.timers)))) (services_driver (pwm u.pulses)) (short.driver_of (icu u.captures)) (services_driver (serial_of u.serial.table)) chip w s h
+captures_related u chip w s h = middle_of (union_of (services_driver (mcu u.clock)) (union_of (services_driver (port u.pins)) (short.driver_of (gpt u.timers)))) (services_driver (pwm u.pulses)) (short.driver_of (icu u.captures)) (union_of (services_driver (converters_of u.converters.table)) (services_driver (serial_of u.serial.table))) chip w s h
 
--- and so does the serial driver
-serial_related : (u : Drivers) (chip : Chip) (w : World) (s : SystemState) → (as_one u).relates chip w [] s → SpiAgrees u.serial.table [] chip w s.1.1
+-- and so do the converter driver and the serial driver
+lasts_related : (u : Drivers) (chip : Chip) (w : World) (s : SystemState) → (as_one u).relates chip w [] s → (union_of (services_driver (converters_of u.converters.table)) (services_driver (serial_of u.serial.table))).relates chip w [] s.1.1
 unfolding as_one
-serial_related u chip w s h = last_of (union_of (services_driver (mcu u.clock)) (union_of (services_driver (port u.pins)) (short.driver_of (gpt u.timers)))) (union_of (services_driver (pwm u.pulses)) (short.driver_of (icu u.captures))) (services_driver (serial_of u.serial.table)) chip w s h
+lasts_related u chip w s h = last_of (union_of (services_driver (mcu u.clock)) (union_of (services_driver (port u.pins)) (short.driver_of (gpt u.timers)))) (union_of (services_driver (pwm u.pulses)) (short.driver_of (icu u.captures))) (union_of (services_driver (converters_of u.converters.table)) (services_driver (serial_of u.serial.table))) chip w s h
+
+converters_related : (u : Drivers) (chip : Chip) (w : World) (s : SystemState) → (as_one u).relates chip w [] s → AdcAgrees u.converters.table [] None chip w s.1.1.0
+converters_related u chip w s h = first_of (services_driver (converters_of u.converters.table)) (services_driver (serial_of u.serial.table)) chip w s.1.1 (lasts_related u chip w s h)
+
+serial_related : (u : Drivers) (chip : Chip) (w : World) (s : SystemState) → (as_one u).relates chip w [] s → SpiAgrees u.serial.table [] chip w s.1.1.1
+serial_related u chip w s h = second_of (services_driver (converters_of u.converters.table)) (services_driver (serial_of u.serial.table)) chip w s.1.1 (lasts_related u chip w s h)
+
+-- what the converter driver says of the buffer that was chosen for a group
+abbrev pub ToldChosen : AdcDriver → Chip → (group : ℕ) → Option ResultBuffer → Type 0
+ToldChosen d chip g result = (w : World) (s : AdcState) → FitsAdc d.table → AdcAgrees d.table [] None chip w s → result ≡ chosen_buffer s g
 
 -- what the serial driver says of a word of an internal channel
 abbrev pub ToldInternal : SpiDriver → Chip → (channel : ℕ) → (received : Bool) → (index result : ℕ) → Type 0
@@ -216,21 +249,35 @@ module _ (e : Inner) (made : e.driver ≡ drivers_of e.config) (r : SystemRun) (
     pub ram_there : (k : ℕ) → k < 512 → (moment_of r).opens ≡ [] → slice_index e.chip.ram k ≡ ram_at (moment_of r).state k
     ram_there k lt rest = ram_word r.config (words_given r.script) e.chip (moment_of r) (at_rest rest) k lt
 
-    pub user_there : (a : Array) (i : ℕ) → i < length_of r.config a → is_kept a ≡ true → (moment_of r).opens ≡ [] → IsValid e.config → word_of e.chip (place_of a i) ≡ user_at (moment_of r).state a i
-    user_there a i lt kept rest valid =
+    pub user_there : (a : Array) (i : ℕ) → i < length_of r.config a → (moment_of r).opens ≡ [] → IsValid e.config → word_of e.chip (place_of a i) ≡ user_at (moment_of r).state a i
+    user_there a i lt rest valid =
         let there = subst (λ (x : SystemRun). IsValid x.config) is valid in
-        user_word r.config (words_given r.script) e.chip (moment_of r) (at_rest rest) a i there.icu there.spi kept lt
+        user_word r.config (words_given r.script) e.chip (moment_of r) (at_rest rest) a i there.adc there.icu there.spi lt
 
     -- the capture driver's words and registers agree with its machine
     pub captures_there : (moment_of r).opens ≡ [] → IcuAgrees e.driver.captures settled e.chip (moment_of r).world (moment_of r).state.1.0.1
     captures_there = there (λ g x. (Comes g x).opens ≡ [] → IcuAgrees e.driver.captures settled e.chip (Comes g x).world (Comes g x).state.1.0.1) (λ none. captures_related e.driver e.chip (Comes (as_one e.driver).setting (seen e)).world (Comes (as_one e.driver).setting (seen e)).state (related (as_one e.driver) (chip_for e.config e.script) e.chip e.frames Deeds stands none))
 
+    -- and so do the converter driver's
+    converters_there : (moment_of r).opens ≡ [] → AdcAgrees e.driver.converters.table [] None e.chip (moment_of r).world (moment_of r).state.1.1.0
+    converters_there = there (λ g x. (Comes g x).opens ≡ [] → AdcAgrees e.driver.converters.table [] None e.chip (Comes g x).world (Comes g x).state.1.1.0) (λ none. converters_related e.driver e.chip (Comes (as_one e.driver).setting (seen e)).world (Comes (as_one e.driver).setting (seen e)).state (related (as_one e.driver) (chip_for e.config e.script) e.chip e.frames Deeds stands none))
+
     -- and so do the serial driver's
-    pub serial_there : (moment_of r).opens ≡ [] → SpiAgrees e.driver.serial.table [] e.chip (moment_of r).world (moment_of r).state.1.1
-    serial_there = there (λ g x. (Comes g x).opens ≡ [] → SpiAgrees e.driver.serial.table [] e.chip (Comes g x).world (Comes g x).state.1.1) (λ none. serial_related e.driver e.chip (Comes (as_one e.driver).setting (seen e)).world (Comes (as_one e.driver).setting (seen e)).state (related (as_one e.driver) (chip_for e.config e.script) e.chip e.frames Deeds stands none))
+    pub serial_there : (moment_of r).opens ≡ [] → SpiAgrees e.driver.serial.table [] e.chip (moment_of r).world (moment_of r).state.1.1.1
+    serial_there = there (λ g x. (Comes g x).opens ≡ [] → SpiAgrees e.driver.serial.table [] e.chip (Comes g x).world (Comes g x).state.1.1.1) (λ none. serial_related e.driver e.chip (Comes (as_one e.driver).setting (seen e)).world (Comes (as_one e.driver).setting (seen e)).state (related (as_one e.driver) (chip_for e.config e.script) e.chip e.frames Deeds stands none))
 
     pub size_there : (c : ℕ) → c < 8 → (moment_of r).opens ≡ [] → IfSome (size_at (moment_of r).state c) (λ n. n ≤ length_of r.config (Stamps c))
     size_there c lt rest = subst (λ (x : SystemRun). IfSome (size_at (moment_of r).state c) (λ n. n ≤ length_of x.config (Stamps c))) is (size_few e.driver.captures e.chip (moment_of r).world (moment_of r).state.1.0.1 (captures_there rest) c lt e.config (ap (λ (u : Drivers). u.captures) made))
+
+    pub converter_table_is : e.driver.converters.table ≡ converter_table.table_of r.config.adc
+    converter_table_is = ap (λ (u : Drivers). u.converters.table) made ∙ ap (λ (x : SystemRun). converter_table.table_of x.config.adc) is
+
+    -- so the chosen buffer of a converter group is the machine's
+    pub chosen_there : (g : ℕ) → (moment_of r).opens ≡ [] → IsAdc r.config.adc → (result : Option ResultBuffer) → ToldChosen e.driver.converters e.chip g result → result ≡ chosen_buffer (moment_of r).state.1.1.0 g
+    chosen_there g rest valid result told =
+        told (moment_of r).world (moment_of r).state.1.1.0
+        (subst (λ d. FitsAdc d) (sym converter_table_is) (converter_fits.fits_of r.config.adc (sound_converters r.config.adc valid)))
+        (converters_there rest)
 
     -- so a word of an internal channel is the machine's
     pub internal_there : (c i : ℕ) (received : Bool) → i < length_of r.config (Source c) → is_internal_channel (serial_channel r.config c) ≡ true → (moment_of r).opens ≡ [] → IsSpi r.config.spi
@@ -246,7 +293,7 @@ module _ (e : Inner) (made : e.driver ≡ drivers_of e.config) (r : SystemRun) (
         by : (o : Option Channel) → serial_channel r.config c ≡ o → is_internal_channel o ≡ true → result ≡ internal_at (moment_of r).state c received i
         by None f g = absurd (cc)
         by (Some k) f g =
-            told (moment_of r).world (moment_of r).state.1.1 k
+            told (moment_of r).world (moment_of r).state.1.1.1 k
             (subst (λ d. FitsSpi d) (sym table_is) (serial_fits.fits_of r.config.spi (sound_serial r.config.spi valid)))
             (ap (λ d. channel_of d c) table_is ∙ f)
             (some k g)

@@ -5,7 +5,7 @@ use Rattle.chip_model.specs.Chip.{Chip, power_on}
 use Rattle.config_facts.specs.Valid.{IsValid}
 use Rattle.mcal_base.specs.declared.config.whole.Config.{Config}
 use Rattle.mcal_base.specs.declared.module_name.ModuleName.{ModuleName}
-use Rattle.mcal_base.specs.declared.module_name.ModuleName.TheVariants.{Mcu, Port, Gpt, Pwm, Icu, Spi}
+use Rattle.mcal_base.specs.declared.module_name.ModuleName.TheVariants.{Mcu, Port, Gpt, Pwm, Icu, Adc, Spi}
 use Rattle.step_runner.specs.Driver.{Driver, Covers}
 use Rattle.run_model.specs.World.{World}
 use Rattle.step_runner.specs.Union.{has_handler, union_of}
@@ -33,12 +33,16 @@ use Rattle.icu_driver.specs.Fits as capture_fits
 use Rattle.icu_driver.specs.Table as capture_table
 use Rattle.icu_driver.specs.laws.Keeps.{keeps_captures}
 use Rattle.icu_driver.specs.laws.Lawful.{covers_captures}
+use Rattle.adc_driver.specs.laws.Fits as converter_fits
+use Rattle.adc_driver.specs.laws.Joined.{covers_joined as covers_converters, keeps_converters}
+use Rattle.adc_machine.specs.Table as converter_table
 use Rattle.spi_driver.specs.laws.Fits as serial_fits
 use Rattle.spi_driver.specs.laws.Joined.{covers_joined}
 use Rattle.spi_driver.specs.laws.Keeps.{keeps_serial}
 use Rattle.spi_machine.specs.Table as serial_table
-use Rattle.mcal_system.specs.Drivers.{clock, pins, timers, pulses, captures, serial, as_one, system}
+use Rattle.mcal_system.specs.Drivers.{clock, pins, timers, pulses, captures, converters, serial, as_one, system}
 use Rattle.mcal_system.proofs.Sound.{sound_clock, sound_pins, sound_timers, sound_captures, wired_captures}
+use Rattle.mcal_system.proofs.SoundConverters.{sound_converters}
 use Rattle.mcal_system.proofs.SoundSerial.{sound_serial, wired_serial}
 
 -- A driver of these modules that may run on these chips.
@@ -80,6 +84,11 @@ module _ (c : Config) (v : IsValid c) where
   captures_ready : Ready (only Icu) (captures c)
   captures_ready = record { fits = capture_fits.fits_of c.icu (sound_captures c.icu v.icu); covers = covers_captures (capture_table.driver_of c.icu); wired = λ room. wired_captures c.icu 0; keeps = keeps_captures (capture_table.driver_of c.icu) }
 
+  converters_ready : Ready (only Adc) (converters c)
+  converters_ready =
+      let fits = converter_fits.fits_of c.adc (sound_converters c.adc v.adc) in
+      record { fits = fits; covers = covers_converters (converter_table.table_of c.adc); wired = λ room. tt; keeps = keeps_converters (converter_table.table_of c.adc) fits }
+
   serial_ready : Ready (only Spi) (serial c)
   serial_ready =
       let fits = serial_fits.fits_of c.spi (sound_serial c.spi v.spi) in
@@ -99,14 +108,17 @@ module _ (c : Config) (v : IsValid c) where
   mute_captured w s (Left call) = refl
   mute_captured w s (Right call) = refl
 
-  seconds_ready : Ready (all_of (all_of (only Pwm) (only Icu)) (only Spi)) (union_of (union_of (pulses c) (captures c)) (serial c))
-  seconds_ready = join (all_of (only Pwm) (only Icu)) (only Spi) (power_on c) (union_of (pulses c) (captures c)) (serial c) refl refl mute_captured captured_ready serial_ready
+  lasts_ready : Ready (all_of (only Adc) (only Spi)) (union_of (converters c) (serial c))
+  lasts_ready = join (only Adc) (only Spi) (power_on c) (converters c) (serial c) refl refl (λ w s call. refl) converters_ready serial_ready
+
+  seconds_ready : Ready (all_of (all_of (only Pwm) (only Icu)) (all_of (only Adc) (only Spi))) (union_of (union_of (pulses c) (captures c)) (union_of (converters c) (serial c)))
+  seconds_ready = join (all_of (only Pwm) (only Icu)) (all_of (only Adc) (only Spi)) (power_on c) (union_of (pulses c) (captures c)) (union_of (converters c) (serial c)) refl refl mute_captured captured_ready lasts_ready
 
   mute_firsts : IsMute (union_of (clock c) (union_of (pins c) (timers c)))
   mute_firsts w s (Left call) = refl
   mute_firsts w s (Right (Left call)) = refl
   mute_firsts w s (Right (Right call)) = refl
 
-  pub all_ready : Ready (all_of (all_of (only Mcu) (all_of (only Port) (only Gpt))) (all_of (all_of (only Pwm) (only Icu)) (only Spi))) (system c)
+  pub all_ready : Ready (all_of (all_of (only Mcu) (all_of (only Port) (only Gpt))) (all_of (all_of (only Pwm) (only Icu)) (all_of (only Adc) (only Spi)))) (system c)
   unfolding as_one
-  all_ready = join (all_of (only Mcu) (all_of (only Port) (only Gpt))) (all_of (all_of (only Pwm) (only Icu)) (only Spi)) (power_on c) (union_of (clock c) (union_of (pins c) (timers c))) (union_of (union_of (pulses c) (captures c)) (serial c)) refl refl mute_firsts firsts_ready seconds_ready
+  all_ready = join (all_of (only Mcu) (all_of (only Port) (only Gpt))) (all_of (all_of (only Pwm) (only Icu)) (all_of (only Adc) (only Spi))) (power_on c) (union_of (clock c) (union_of (pins c) (timers c))) (union_of (union_of (pulses c) (captures c)) (union_of (converters c) (serial c))) refl refl mute_firsts firsts_ready seconds_ready

@@ -4,7 +4,7 @@ use Rattle.std.specs.Prelude.{slice_index, option_map}
 use Rattle.chip_model.specs.Chip.{Chip, word_of, power_on, channel_from, output_at, outside_at, pin_of}
 use Rattle.chip_model.specs.declared.wiring.Wiring.{Wiring}
 use Rattle.chip_pulses.specs.Pulses as outputs
-use Rattle.config_facts.specs.Valid.{IsPwm, IsIcu, IsSpi}
+use Rattle.config_facts.specs.Valid.{IsAdc, IsPwm, IsIcu, IsSpi}
 use Rattle.mcal_base.specs.Layout.{length_of, place_of}
 use Rattle.mcal_base.specs.declared.config.pwm.PwmChannel.{PwmChannel}
 use Rattle.mcal_base.specs.declared.config.whole.Config.{Config}
@@ -17,10 +17,11 @@ use Rattle.pwm_driver.specs.Bounds.{OutputsAgree}
 use Rattle.pwm_driver.specs.Machine as pulses
 use Rattle.pwm_driver.specs.Table as pulse_table
 use Rattle.mcal_system.specs.Setting.{SystemState, SystemCall, system_setting}
-use Rattle.mcal_system.specs.Shows.{channel_on, pulse_at, level_at, ram_at, is_kept, user_at}
+use Rattle.mcal_system.specs.Shows.{channel_on, pulse_at, level_at, ram_at, user_at}
 use Rattle.mcal_system.proofs.Named.{few, named}
 use Rattle.mcal_system.proofs.Stamps.{has_channel, stamps_few}
 use Rattle.mcal_system.proofs.Resting.{Rests}
+use Rattle.mcal_system.proofs.SoundConverters.{result_place}
 use Rattle.mcal_system.proofs.SoundSerial.{array_length}
 
 module _ (c : Config) (room : ℕ) (chip : Chip) (m : Moment SystemState SystemCall) (rests : Rests (system_setting c) (power_on c room) chip m) where
@@ -54,9 +55,9 @@ module _ (c : Config) (room : ℕ) (chip : Chip) (m : Moment SystemState SystemC
   unfolding system_setting
   ram_word k lt = ap (λ (x : Chip). slice_index x.ram k) rests.chip_is ∙ rests.quiet.rest.0.0 k lt
 
-  pub user_word : (a : Array) (k : ℕ) → IsIcu c.icu → IsSpi c.spi → is_kept a ≡ true → k < length_of c a → word_of chip (place_of a k) ≡ user_at m.state a k
+  pub user_word : (a : Array) (k : ℕ) → IsAdc c.adc → IsIcu c.icu → IsSpi c.spi → k < length_of c a → word_of chip (place_of a k) ≡ user_at m.state a k
   unfolding system_setting
-  user_word (Round g b) k v h e lt = absurd (cc)
-  user_word (Stamps i) k v h e lt = ap (λ (x : Chip). word_of x (place_of (Stamps i) k)) rests.chip_is ∙ rests.quiet.rest.1.0.1 i (has_channel c i k lt v) k (stamps_few c i k lt)
-  user_word (Source i) k v h e lt = ap (λ (x : Chip). word_of x (place_of (Source i) k)) rests.chip_is ∙ (rests.quiet.rest.1.1 i).source k (subst (λ n. k < n) (array_length c.spi h i) lt)
-  user_word (Destination i) k v h e lt = ap (λ (x : Chip). word_of x (place_of (Destination i) k)) rests.chip_is ∙ (rests.quiet.rest.1.1 i).destination k (subst (λ n. k < n) (array_length c.spi h i) lt)
+  user_word (Round g b) k a v h lt = ap (λ (x : Chip). word_of x (place_of (Round g b) k)) rests.chip_is ∙ result_place c a g b k (word_of m.chip) m.state.1.1.0 (rests.quiet.rest.1.1.0 g) lt
+  user_word (Stamps i) k a v h lt = ap (λ (x : Chip). word_of x (place_of (Stamps i) k)) rests.chip_is ∙ rests.quiet.rest.1.0.1 i (has_channel c i k lt v) k (stamps_few c i k lt)
+  user_word (Source i) k a v h lt = ap (λ (x : Chip). word_of x (place_of (Source i) k)) rests.chip_is ∙ (rests.quiet.rest.1.1.1 i).source k (subst (λ n. k < n) (array_length c.spi h i) lt)
+  user_word (Destination i) k a v h lt = ap (λ (x : Chip). word_of x (place_of (Destination i) k)) rests.chip_is ∙ (rests.quiet.rest.1.1.1 i).destination k (subst (λ n. k < n) (array_length c.spi h i) lt)

@@ -6,7 +6,8 @@ pub mod Limits
 mod Named
 mod Resting
 pub mod Sound
-mod SoundSerial
+mod SoundConverters
+pub mod SoundSerial
 mod Sources
 mod Stamps
 mod WireTold

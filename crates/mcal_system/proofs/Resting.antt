@@ -94,6 +94,13 @@ second_alone {C = C} {D = D} {F = F} {G = G} ours First Second chip w s h = by h
     by : (fs : List (F × Open C)) (gs : List (G × Open D)) → Splits ours [] fs gs → Second chip w gs s.1 → Second chip w [] s.1
     by fs gs Nothing_open k = k
 
+-- of two, the first and the second
+pub first_of : {S T C D F G : Type 0} (d : Driver S C F) (e : Driver T D G) (chip : Chip) (w : World) (s : S × T) → (union_of d e).relates chip w [] s → d.relates chip w [] s.0
+first_of d e chip w s h = first_alone (has_handler d) d.relates e.relates chip w s h
+
+pub second_of : {S T C D F G : Type 0} (d : Driver S C F) (e : Driver T D G) (chip : Chip) (w : World) (s : S × T) → (union_of d e).relates chip w [] s → e.relates chip w [] s.1
+second_of d e chip w s h = second_alone (has_handler d) d.relates e.relates chip w s h
+
 -- of three, of which the last two are one, the last
 pub last_of : {S T U C D E F G H : Type 0} (d : Driver S C F) (e : Driver T D G) (f : Driver U E H) (chip : Chip) (w : World) (s : S × (T × U)) → (union_of d (union_of e f)).relates chip w [] s → f.relates chip w [] s.1.1
 last_of d e f chip w s h = second_alone (has_handler e) e.relates f.relates chip w s.1 (second_alone (has_handler d) d.relates (union_of e f).relates chip w s h)

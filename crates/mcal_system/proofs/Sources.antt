@@ -15,6 +15,7 @@ use Rattle.port_driver.specs.laws.Lawful.{port}
 use Rattle.gpt_driver.specs.laws.Lawful.{gpt}
 use Rattle.pwm_driver.specs.laws.Lawful.{pwm}
 use Rattle.icu_driver.specs.laws.Lawful.{icu}
+use Rattle.adc_driver.specs.laws.Joined.{joined as converters_of}
 use Rattle.spi_driver.specs.laws.Joined.{joined}
 use Rattle.spi_machine.specs.Bounds.{fills}
 use Rattle.spi_machine.specs.Fits.{FitsSpi}
@@ -45,5 +46,10 @@ uses_arrays u chip c result there says w ps s fits out h =
     let captured = union_of (services_driver (pwm u.pulses)) (short.driver_of (icu u.captures)) in
     let outs = outside-split (has_handler firsts) ps h.firsts h.seconds h.splits out in
     let outside = outside-split (has_handler captured) h.seconds h.second.firsts h.second.seconds h.second.splits outs.1 in
-    let used = if_there result (fills u.serial.table c) (is_in_use u.serial.table c s.1.1.pending) there (says w h.second.seconds s.1.1 fits.1.1 outside.1 h.second.second) in
-    if_there result (fills u.serial.table c) (fills u.serial.table c && is_in_use u.serial.table c s.1.1.pending) there used
+    let converters = services_driver (converters_of u.converters.table) in
+    let lasts = outside-split (has_handler converters) h.second.seconds h.second.second.firsts h.second.second.seconds h.second.second.splits outside.1 in
+    let using = is_in_use u.serial.table c s.1.1.1.pending in
+    let there_is = fills u.serial.table c in
+    let own = if_there result there_is using there (says w h.second.second.seconds s.1.1.1 fits.1.1.1 lasts.1 h.second.second.second) in
+    let last = if_there result there_is (there_is && using) there own in
+    if_there result there_is (there_is && (there_is && using)) there last

@@ -1,5 +1,5 @@
 -- Of all modules the serial driver alone begins words, and the wire of its machine grows by them.
-use Rattle.std.proofs.Common.{◌≡◌, ℕ, Bool, true, false, List, [], ◌∷◌, ◌++◌, Option, Some, None, is_some, refl, sym, ◌∙◌, ap}
+use Rattle.std.proofs.Common.{◌≡◌, ℕ, ◌-◌, Bool, true, false, List, [], ◌∷◌, ◌++◌, Option, Some, None, is_some, refl, sym, ◌∙◌, ap}
 use Rattle.std.specs.Prelude.{if◌then◌else◌}
 use Rattle.std.proofs.lemmas.List.{append-nil}
 use Rattle.mcal_base.specs.declared.config.whole.Config.{Config}
@@ -38,6 +38,16 @@ use Rattle.icu_driver.specs.declared.call.Call.TheVariants as capture_call
 use Rattle.icu_driver.specs.declared.call.ChannelCall as capture_asks
 use Rattle.icu_driver.specs.declared.driver.Channel as capture_channels
 use Rattle.icu_driver.specs.declared.driver.IcuDriver.{IcuDriver}
+use Rattle.adc_machine.specs.Groups.{Round, Status, Idle, Busy, Completed, StreamCompleted}
+use Rattle.adc_machine.specs.Machine as converters
+use Rattle.adc_machine.specs.Table as converter_table
+use Rattle.adc_machine.specs.Triggers as triggers
+use Rattle.adc_machine.specs.Turns as turns
+use Rattle.adc_machine.specs.declared.call.Call as converter_calls
+use Rattle.adc_machine.specs.declared.call.Call.TheVariants as converter_call
+use Rattle.adc_machine.specs.declared.call.GroupCall.{GroupCall}
+use Rattle.adc_machine.specs.declared.call.GroupCall.TheVariants as group_asks
+use Rattle.adc_machine.specs.declared.table.AdcTable.{AdcTable}
 use Rattle.spi_machine.proofs.Begins.{happens-begins, happens-wire}
 use Rattle.spi_machine.proofs.Runs.{serve_by, some_same}
 use Rattle.spi_machine.specs.Machine.{spi_machine}
@@ -46,7 +56,7 @@ use Rattle.spi_machine.specs.Table as serial_table
 use Rattle.spi_machine.specs.State.{SpiState, first_state, wire_at}
 use Rattle.spi_machine.specs.declared.call.Call as serial_calls
 use Rattle.spi_machine.specs.declared.table.SpiTable.{SpiTable}
-use Rattle.mcal_system.specs.Setting.{SystemState, clock_setting, pin_setting, timer_setting, pulse_setting, capture_setting, serial_setting, joined, system_setting}
+use Rattle.mcal_system.specs.Setting.{SystemState, clock_setting, pin_setting, timer_setting, pulse_setting, capture_setting, converter_setting, serial_setting, joined, system_setting}
 use Rattle.mcal_system.specs.Shows as shows
 use Rattle.mcal_system.proofs.Growing.{IsWordless, wordless_both, Stays, Leaves, IsWired, wired_second}
 
@@ -174,6 +184,75 @@ captures_wordless d w s (Aborts u) out e = absurd (cc e)
 captures_wordless d w s (Moves order) out e = none_of (outcome (captures.moved d w s order) tells_nothing) out refl e
 captures_wordless d w s (Restarts reason) out e = none_of (outcome captures.first_state tells_nothing) out refl e
 
+-- ---- converters
+
+converter_reads : (d : AdcTable) (s : turns.AdcState) (g : ℕ) (x : Status) → (converters.reads d s g x).begins ≡ None
+converter_reads d s g Idle = refl
+converter_reads d s g Busy = refl
+converter_reads d s g Completed = refl
+converter_reads d s g StreamCompleted = refl
+
+converter_points : (d : AdcTable) (s : turns.AdcState) (g : ℕ) (x : Status) → (converters.points d s g x).begins ≡ None
+converter_points d s g Idle = refl
+converter_points d s g Busy = refl
+converter_points d s g Completed = refl
+converter_points d s g StreamCompleted = refl
+
+converter_asked : (d : AdcTable) (s : turns.AdcState) (g : ℕ) (call : GroupCall) → (converters.group_work d s g call).begins ≡ None
+converter_asked d s g (group_asks.SetupResultBuffer b) = refl
+converter_asked d s g group_asks.StartGroupConversion = refl
+converter_asked d s g group_asks.StopGroupConversion = refl
+converter_asked d s g group_asks.ReadGroup = converter_reads d s g _
+converter_asked d s g group_asks.EnableHardwareTrigger = refl
+converter_asked d s g group_asks.DisableHardwareTrigger = refl
+converter_asked d s g (group_asks.Notification on) = refl
+converter_asked d s g group_asks.GetGroupStatus = refl
+converter_asked d s g group_asks.GetStreamLastPointer = converter_points d s g _
+
+converter_work : (d : AdcTable) (s : turns.AdcState) (call : converter_calls.Call) → (converters.work d s call).begins ≡ None
+converter_work d s converter_call.Init = refl
+converter_work d s converter_call.DeInit = refl
+converter_work d s (converter_call.Group g call) = converter_asked d s g call
+
+converter_acts : (d : AdcTable) (s : turns.AdcState) (call : converter_calls.Call) (e : Option ErrorName) → (converters.acts_by d s call e).begins ≡ None
+converter_acts d s call None = converter_work d s call
+converter_acts d s call (Some e) = refl
+
+converter_round : (d : AdcTable) (w : World) (s : turns.AdcState) (u : ℕ) (r : Option Round) → (converters.served_round d w s u r).begins ≡ None
+converter_round d w s u None = refl
+converter_round d w s u (Some r) = refl
+
+converter_served : (d : AdcTable) (w : World) (s : turns.AdcState) (l : ℕ) → (converters.served d w s l).begins ≡ None
+converter_served d w s l = by (converters.is_unit_line l)
+  where
+    by : (q : Bool) → (if q then converters.served_round d w s (l - 24) (turns.round_at s (l - 24)) else outcome (triggers.served_trigger d s (l - 28)) tells_nothing).begins ≡ None
+    by true = converter_round d w s (l - 24) (turns.round_at s (l - 24))
+    by false = refl
+
+converter_starts : (d : AdcTable) (w : World) (s : turns.AdcState) (u : Option ℕ) (out : Outcome turns.AdcState) → converters.starts_on d w s u ≡ Some out → out.begins ≡ None
+converter_starts d w s None out e = absurd (cc e)
+converter_starts d w s (Some u) out e = by (turns.starts d s u) e
+  where
+    by : (g : Option ℕ) → converters.starting w s u g ≡ Some out → out.begins ≡ None
+    by None f = absurd (cc f)
+    by (Some g) f = none_of (outcome (turns.started w s u g) tells_nothing) out refl f
+
+converter_aborts : (d : AdcTable) (w : World) (s : turns.AdcState) (u : Option ℕ) (out : Outcome turns.AdcState) → converters.aborts_on d w s u ≡ Some out → out.begins ≡ None
+converter_aborts d w s None out e = absurd (cc e)
+converter_aborts d w s (Some u) out e = by (turns.aborts d w s u) e
+  where
+    by : (r : Option Round) → converters.aborting d w s u r ≡ Some out → out.begins ≡ None
+    by None f = absurd (cc f)
+    by (Some r) f = none_of (outcome (turns.aborted d w s u r) tells_nothing) out refl f
+
+converters_wordless : (d : AdcTable) → IsWordless (converters.adc_machine d)
+converters_wordless d w s (Acts call times) out e = none_of (converters.acts d s call) out (converter_acts d s call _) e
+converters_wordless d w s (Serves l received) out e = none_if (converters.ready d w s l) (converters.served d w s l) out (converter_served d w s l) e
+converters_wordless d w s (Starts u received) out e = converter_starts d w s (turns.number_of u) out e
+converters_wordless d w s (Aborts u) out e = converter_aborts d w s (turns.number_of u) out e
+converters_wordless d w s (Moves order) out e = none_of (outcome (converters.moved d s order) tells_nothing) out refl e
+converters_wordless d w s (Restarts reason) out e = none_of (outcome turns.first_state tells_nothing) out refl e
+
 -- ---- the serial driver
 
 none_by : (o : Option Begun) → is_some o ≡ false → o ≡ None
@@ -199,9 +278,11 @@ system_wired c u =
     let timed = joined (pin_setting c) (timer_setting c) in
     let captured = joined (pulse_setting c) (capture_setting c) in
     let firsts = joined (clock_setting c) timed in
-    let seconds = joined captured (serial_setting c) in
+    let lasts = joined (converter_setting c) (serial_setting c) in
+    let seconds = joined captured lasts in
     let timed_wordless = wordless_both (pin_setting c).used (pin_setting c).machine (timer_setting c).machine (pins_wordless (pin_table.driver_of c.port)) (timers_wordless (timer_table.driver_of c.gpt)) in
     let firsts_wordless = wordless_both (clock_setting c).used (clock_setting c).machine timed.machine (clock_wordless (clock_table.driver_of c.mcu)) timed_wordless in
     let captured_wordless = wordless_both (pulse_setting c).used (pulse_setting c).machine (capture_setting c).machine (pulses_wordless (pulse_table.driver_of c.pwm)) (captures_wordless (capture_table.driver_of c.icu)) in
-    let seconds_wired = wired_second captured.used captured.machine (serial_setting c).machine (λ s. wire_at s u) u captured_wordless (serial_wired (serial_table.table_of c.spi) u) in
-    wired_second firsts.used firsts.machine seconds.machine (λ s. wire_at s.1 u) u firsts_wordless seconds_wired
+    let lasts_wired = wired_second (converter_setting c).used (converter_setting c).machine (serial_setting c).machine (λ s. wire_at s u) u (converters_wordless (converter_table.table_of c.adc)) (serial_wired (serial_table.table_of c.spi) u) in
+    let seconds_wired = wired_second captured.used captured.machine lasts.machine (λ s. wire_at s.1 u) u captured_wordless lasts_wired in
+    wired_second firsts.used firsts.machine seconds.machine (λ s. wire_at s.1.1 u) u firsts_wordless seconds_wired

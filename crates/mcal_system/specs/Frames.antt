@@ -12,10 +12,12 @@ use Rattle.pwm_driver.specs.declared.asked.Asked as pulse_asked
 use Rattle.pwm_driver.specs.laws.Bodies.{PwmBody}
 use Rattle.icu_driver.specs.declared.asked.Asked as capture_asked
 use Rattle.icu_driver.specs.laws.Bodies.{IcuBody}
+use Rattle.adc_groups.specs.declared.asked.Asked as converter_asked
+use Rattle.adc_groups.specs.laws.Look.{AnyBody}
 use Rattle.spi_sequences.specs.declared.asked.Asked as serial_asked
 use Rattle.spi_sequences.specs.laws.Bodies.{SpiBody}
 use Rattle.mcal_system.specs.declared.frame.ModuleFrame.{ModuleFrame}
-use Rattle.mcal_system.specs.declared.frame.ModuleFrame.TheVariants.{Clock, Pins, Timers, Pulses, Captures, Serial}
+use Rattle.mcal_system.specs.declared.frame.ModuleFrame.TheVariants.{Clock, Pins, Timers, Pulses, Captures, Converters, Serial}
 
 -- those of each
 abbrev pub ClockFrame : Type 0
@@ -33,12 +35,15 @@ PulseFrame = Short pulse_asked.Asked PwmBody
 abbrev pub CaptureFrame : Type 0
 CaptureFrame = Short capture_asked.Asked IcuBody
 
+abbrev pub ConverterFrame : Type 0
+ConverterFrame = Short converter_asked.Asked AnyBody
+
 abbrev pub SerialFrame : Type 0
 SerialFrame = Short serial_asked.Asked SpiBody
 
 -- the frames of all
 abbrev pub SystemFrame : Type 0
-SystemFrame = Either (Either ClockFrame (Either PinFrame TimerFrame)) (Either (Either PulseFrame CaptureFrame) SerialFrame)
+SystemFrame = Either (Either ClockFrame (Either PinFrame TimerFrame)) (Either (Either PulseFrame CaptureFrame) (Either ConverterFrame SerialFrame))
 
 -- a module's frame among those of all
 abbrev pub in_union : ModuleFrame → SystemFrame
@@ -47,4 +52,5 @@ in_union (Pins f) = Left (Right (Left f))
 in_union (Timers f) = Left (Right (Right f))
 in_union (Pulses f) = Right (Left (Left f))
 in_union (Captures f) = Right (Left (Right f))
-in_union (Serial f) = Right (Right f)
+in_union (Converters f) = Right (Right (Left f))
+in_union (Serial f) = Right (Right (Right f))

@@ -32,6 +32,12 @@ use Rattle.icu_driver.specs.Machine.{IcuState}
 use Rattle.icu_driver.specs.Requests as capture_requests
 use Rattle.icu_driver.specs.Table as capture_table
 use Rattle.icu_driver.specs.declared.call.Call as capture_calls
+use Rattle.adc_driver.specs.Requests as converter_requests
+use Rattle.adc_machine.specs.Bounds.{adc_setting}
+use Rattle.adc_machine.specs.Requests.{has_service as has_converter}
+use Rattle.adc_machine.specs.Table as converter_table
+use Rattle.adc_machine.specs.Turns.{AdcState}
+use Rattle.adc_machine.specs.declared.call.Call as converter_calls
 use Rattle.spi_driver.specs.Requests as serial_requests
 use Rattle.spi_machine.specs.Bounds.{spi_setting}
 use Rattle.spi_machine.specs.Requests.{has_service as has_serial}
@@ -41,10 +47,10 @@ use Rattle.spi_machine.specs.declared.call.Call as serial_calls
 
 -- the modules' states and calls, in the order of the configuration
 abbrev pub SystemState : Type 0
-SystemState = (McuState × (PortState × GptState)) × ((PwmState × IcuState) × SpiState)
+SystemState = (McuState × (PortState × GptState)) × ((PwmState × IcuState) × (AdcState × SpiState))
 
 abbrev pub SystemCall : Type 0
-SystemCall = Either (Either clock_calls.Call (Either pin_calls.Call timer_calls.Call)) (Either (Either pulse_calls.Call capture_calls.Call) serial_calls.Call)
+SystemCall = Either (Either clock_calls.Call (Either pin_calls.Call timer_calls.Call)) (Either (Either pulse_calls.Call capture_calls.Call) (Either converter_calls.Call serial_calls.Call))
 
 -- ---- the setting
 
@@ -64,6 +70,9 @@ pulse_setting c = pwm_setting (pulse_table.driver_of c.pwm)
 abbrev pub capture_setting : Config → Setting IcuState capture_calls.Call
 capture_setting c = icu_setting (capture_table.driver_of c.icu)
 
+abbrev pub converter_setting : Config → Setting AdcState converter_calls.Call
+converter_setting c = adc_setting (converter_table.table_of c.adc)
+
 abbrev pub serial_setting : Config → Setting SpiState serial_calls.Call
 serial_setting c = spi_setting (serial_table.table_of c.spi)
 
@@ -73,14 +82,14 @@ joined g h = union_setting g.used g h
 
 -- all modules as one
 unfoldable pub system_setting : Config → Setting SystemState SystemCall
-system_setting c = joined (joined (clock_setting c) (joined (pin_setting c) (timer_setting c))) (joined (joined (pulse_setting c) (capture_setting c)) (serial_setting c))
+system_setting c = joined (joined (clock_setting c) (joined (pin_setting c) (timer_setting c))) (joined (joined (pulse_setting c) (capture_setting c)) (joined (converter_setting c) (serial_setting c)))
 
 -- ---- requests
 
 -- the service is one of a module that is there
 unfoldable pub has_service : Service → Bool
-has_service s = clock_requests.has_service s || (pin_requests.has_service s || (timer_requests.has_service s || (pulse_requests.has_service s || (capture_requests.has_service s || has_serial s))))
+has_service s = clock_requests.has_service s || (pin_requests.has_service s || (timer_requests.has_service s || (pulse_requests.has_service s || (capture_requests.has_service s || (has_converter s || has_serial s)))))
 
 -- the call that a request asks for, of the module that has its service
 unfoldable pub call_of : Request → SystemCall
-call_of r = cond (clock_requests.has_service r.service) (Left (Left (clock_requests.asked_for r))) (cond (pin_requests.has_service r.service) (Left (Right (Left (pin_requests.asked_for r)))) (cond (timer_requests.has_service r.service) (Left (Right (Right (timer_requests.call_of r)))) (cond (pulse_requests.has_service r.service) (Right (Left (Left (pulse_requests.asked_call r)))) (cond (capture_requests.has_service r.service) (Right (Left (Right (capture_requests.asked_for r)))) (Right (Right (serial_requests.asked_call r)))))))
+call_of r = cond (clock_requests.has_service r.service) (Left (Left (clock_requests.asked_for r))) (cond (pin_requests.has_service r.service) (Left (Right (Left (pin_requests.asked_for r)))) (cond (timer_requests.has_service r.service) (Left (Right (Right (timer_requests.call_of r)))) (cond (pulse_requests.has_service r.service) (Right (Left (Left (pulse_requests.asked_call r)))) (cond (capture_requests.has_service r.service) (Right (Left (Right (capture_requests.asked_for r)))) (cond (has_converter r.service) (Right (Right (Left (converter_requests.asked_call r)))) (Right (Right (Right (serial_requests.asked_call r)))))))))

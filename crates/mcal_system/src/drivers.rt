@@ -5,6 +5,7 @@ ghost use Rattle.step_runner.specs.Driver.{Covers};
 ghost use Rattle.mcal_system.specs.Drivers.{drivers_of, system};
 
 use crate::frame::{Frame, ModuleFrame};
+use adc_driver::AdcDriver;
 use chip_model::Bus;
 use gpt_driver::GptDriver;
 use icu_driver::IcuDriver;
@@ -25,6 +26,7 @@ pub struct Drivers {
     timers: GptDriver,
     pulses: PwmDriver,
     captures: IcuDriver,
+    converters: AdcDriver,
     serial: SpiDriver,
 }
 
@@ -43,6 +45,7 @@ impl Drivers {
             timers: GptDriver::new(config),
             pulses: PwmDriver::new(config),
             captures: IcuDriver::new(config),
+            converters: AdcDriver::new(config),
             serial: SpiDriver::new(config),
         }
     }
@@ -52,6 +55,13 @@ impl Drivers {
         ensures { result.now ≡ self.now.serial }
     {
         &self.serial
+    }
+
+    /// The converter driver.
+    pub fn converters(&self) -> &AdcDriver
+        ensures { result.now ≡ self.now.converters }
+    {
+        &self.converters
     }
 
     /// The driver of the capture inputs.
@@ -71,7 +81,10 @@ type StateOf<M> = <M as Module>::State;
 /// A call of one of the modules, in their order.
 type Call = Either<
     Either<CallOf<McuDriver>, Either<CallOf<PortDriver>, CallOf<GptDriver>>>,
-    Either<Either<CallOf<PwmDriver>, CallOf<IcuDriver>>, CallOf<SpiDriver>>,
+    Either<
+        Either<CallOf<PwmDriver>, CallOf<IcuDriver>>,
+        Either<CallOf<AdcDriver>, CallOf<SpiDriver>>,
+    >,
 >;
 
 /// The states of their machines.
@@ -80,7 +93,10 @@ type States = (
         StateOf<McuDriver>,
         (StateOf<PortDriver>, StateOf<GptDriver>),
     ),
-    ((StateOf<PwmDriver>, StateOf<IcuDriver>), StateOf<SpiDriver>),
+    (
+        (StateOf<PwmDriver>, StateOf<IcuDriver>),
+        (StateOf<AdcDriver>, StateOf<SpiDriver>),
+    ),
 );
 
 impl Module for Drivers {
@@ -111,7 +127,12 @@ impl Module for Drivers {
             Either::Right(Either::Left(Either::Right(call))) => {
                 ModuleFrame::Captures(self.captures.frame(call))
             }
-            Either::Right(Either::Right(call)) => ModuleFrame::Serial(self.serial.frame(call)),
+            Either::Right(Either::Right(Either::Left(call))) => {
+                ModuleFrame::Converters(self.converters.frame(call))
+            }
+            Either::Right(Either::Right(Either::Right(call))) => {
+                ModuleFrame::Serial(self.serial.frame(call))
+            }
         };
         Frame { frame }
     }
@@ -125,9 +146,12 @@ impl Module for Drivers {
                 Some(frame) => ModuleFrame::Pulses(frame),
                 None => match self.captures.handler(line) {
                     Some(frame) => ModuleFrame::Captures(frame),
-                    None => match self.serial.handler(line) {
-                        Some(frame) => ModuleFrame::Serial(frame),
-                        None => return None,
+                    None => match self.converters.handler(line) {
+                        Some(frame) => ModuleFrame::Converters(frame),
+                        None => match self.serial.handler(line) {
+                            Some(frame) => ModuleFrame::Serial(frame),
+                            None => return None,
+                        },
                     },
                 },
             },
@@ -143,7 +167,8 @@ impl Module for Drivers {
             Either::Left(Either::Right(Either::Right(call))) => self.timers.class(call),
             Either::Right(Either::Left(Either::Left(call))) => self.pulses.class(call),
             Either::Right(Either::Left(Either::Right(call))) => self.captures.class(call),
-            Either::Right(Either::Right(call)) => self.serial.class(call),
+            Either::Right(Either::Right(Either::Left(call))) => self.converters.class(call),
+            Either::Right(Either::Right(Either::Right(call))) => self.serial.class(call),
         }
     }
 
@@ -155,7 +180,10 @@ impl Module for Drivers {
                 Some(_) => self.pulses.level(line),
                 None => match self.captures.handler(line) {
                     Some(_) => self.captures.level(line),
-                    None => self.serial.level(line),
+                    None => match self.converters.handler(line) {
+                        Some(_) => self.converters.level(line),
+                        None => self.serial.level(line),
+                    },
                 },
             },
         }
@@ -169,7 +197,10 @@ impl Module for Drivers {
                 Some(_) => self.pulses.owner(line),
                 None => match self.captures.handler(line) {
                     Some(_) => self.captures.owner(line),
-                    None => self.serial.owner(line),
+                    None => match self.converters.handler(line) {
+                        Some(_) => self.converters.owner(line),
+                        None => self.serial.owner(line),
+                    },
                 },
             },
         }
@@ -201,6 +232,7 @@ impl Caller for Drivers {
                 | ModuleName::Gpt
                 | ModuleName::Pwm
                 | ModuleName::Icu
+                | ModuleName::Adc
                 | ModuleName::Spi
         )
     }
@@ -218,8 +250,10 @@ impl Caller for Drivers {
             Either::Right(Either::Left(Either::Left(self.pulses.call(request))))
         } else if self.captures.has(service) {
             Either::Right(Either::Left(Either::Right(self.captures.call(request))))
+        } else if self.converters.has(service) {
+            Either::Right(Either::Right(Either::Left(self.converters.call(request))))
         } else {
-            Either::Right(Either::Right(self.serial.call(request)))
+            Either::Right(Either::Right(Either::Right(self.serial.call(request))))
         }
     }
 
@@ -231,7 +265,8 @@ impl Caller for Drivers {
             Either::Left(Either::Right(Either::Right(call))) => self.timers.call_steps(call),
             Either::Right(Either::Left(Either::Left(call))) => self.pulses.call_steps(call),
             Either::Right(Either::Left(Either::Right(call))) => self.captures.call_steps(call),
-            Either::Right(Either::Right(call)) => self.serial.call_steps(call),
+            Either::Right(Either::Right(Either::Left(call))) => self.converters.call_steps(call),
+            Either::Right(Either::Right(Either::Right(call))) => self.serial.call_steps(call),
         }
     }
 
@@ -243,7 +278,10 @@ impl Caller for Drivers {
                 Some(_) => self.pulses.line_steps(line),
                 None => match self.captures.handler(line) {
                     Some(_) => self.captures.line_steps(line),
-                    None => self.serial.line_steps(line),
+                    None => match self.converters.handler(line) {
+                        Some(_) => self.converters.line_steps(line),
+                        None => self.serial.line_steps(line),
+                    },
                 },
             },
         }

@@ -1,3 +1,4 @@
+use adc_driver::AdcFrame;
 use gpt_driver::GptFrame;
 use icu_driver::IcuFrame;
 use mcal_base::{Answer, Event, Move, Routine, Taken};
@@ -26,6 +27,8 @@ pub(crate) enum ModuleFrame {
     Pulses(PwmFrame),
     /// Of the capture inputs' driver.
     Captures(IcuFrame),
+    /// Of the converter driver.
+    Converters(AdcFrame),
     /// Of the serial driver.
     Serial(SpiFrame),
 }
@@ -41,11 +44,11 @@ impl Model for Frame {
 impl Routine for Frame {
     ghost use Rattle.step_runner.specs.Union.{either, either_left, either_gave};
 
-    ghost move_of = { either (either ⟦<McuFrame as Routine>⟧.move_of (either ⟦<PortFrame as Routine>⟧.move_of ⟦<GptFrame as Routine>⟧.move_of)) (either (either ⟦<PwmFrame as Routine>⟧.move_of ⟦<IcuFrame as Routine>⟧.move_of) ⟦<SpiFrame as Routine>⟧.move_of) };
+    ghost move_of = { either (either ⟦<McuFrame as Routine>⟧.move_of (either ⟦<PortFrame as Routine>⟧.move_of ⟦<GptFrame as Routine>⟧.move_of)) (either (either ⟦<PwmFrame as Routine>⟧.move_of ⟦<IcuFrame as Routine>⟧.move_of) (either ⟦<AdcFrame as Routine>⟧.move_of ⟦<SpiFrame as Routine>⟧.move_of)) };
 
-    ghost left = { either_left (either_left ⟦<McuFrame as Routine>⟧.left (either_left ⟦<PortFrame as Routine>⟧.left ⟦<GptFrame as Routine>⟧.left)) (either_left (either_left ⟦<PwmFrame as Routine>⟧.left ⟦<IcuFrame as Routine>⟧.left) ⟦<SpiFrame as Routine>⟧.left) };
+    ghost left = { either_left (either_left ⟦<McuFrame as Routine>⟧.left (either_left ⟦<PortFrame as Routine>⟧.left ⟦<GptFrame as Routine>⟧.left)) (either_left (either_left ⟦<PwmFrame as Routine>⟧.left ⟦<IcuFrame as Routine>⟧.left) (either_left ⟦<AdcFrame as Routine>⟧.left ⟦<SpiFrame as Routine>⟧.left)) };
 
-    ghost gave = { either_gave (either_gave ⟦<McuFrame as Routine>⟧.gave (either_gave ⟦<PortFrame as Routine>⟧.gave ⟦<GptFrame as Routine>⟧.gave)) (either_gave (either_gave ⟦<PwmFrame as Routine>⟧.gave ⟦<IcuFrame as Routine>⟧.gave) ⟦<SpiFrame as Routine>⟧.gave) };
+    ghost gave = { either_gave (either_gave ⟦<McuFrame as Routine>⟧.gave (either_gave ⟦<PortFrame as Routine>⟧.gave ⟦<GptFrame as Routine>⟧.gave)) (either_gave (either_gave ⟦<PwmFrame as Routine>⟧.gave ⟦<IcuFrame as Routine>⟧.gave) (either_gave ⟦<AdcFrame as Routine>⟧.gave ⟦<SpiFrame as Routine>⟧.gave)) };
 
     fn next(&self) -> Move {
         match &self.frame {
@@ -54,6 +57,7 @@ impl Routine for Frame {
             ModuleFrame::Timers(frame) => frame.next(),
             ModuleFrame::Pulses(frame) => frame.next(),
             ModuleFrame::Captures(frame) => frame.next(),
+            ModuleFrame::Converters(frame) => frame.next(),
             ModuleFrame::Serial(frame) => frame.next(),
         }
     }
@@ -65,6 +69,7 @@ impl Routine for Frame {
             ModuleFrame::Timers(frame) => frame.took(value),
             ModuleFrame::Pulses(frame) => frame.took(value),
             ModuleFrame::Captures(frame) => frame.took(value),
+            ModuleFrame::Converters(frame) => frame.took(value),
             ModuleFrame::Serial(frame) => frame.took(value),
         }
     }
@@ -76,6 +81,7 @@ impl Routine for Frame {
             ModuleFrame::Timers(frame) => frame.took_into(value, ended),
             ModuleFrame::Pulses(frame) => frame.took_into(value, ended),
             ModuleFrame::Captures(frame) => frame.took_into(value, ended),
+            ModuleFrame::Converters(frame) => frame.took_into(value, ended),
             ModuleFrame::Serial(frame) => frame.took_into(value, ended),
         }
     }

@@ -1,9 +1,10 @@
 ghost use Rattle.std.specs.Prelude.{◌≡◌, ◌<◌, ◌≤◌, ◌+◌, [], length, take, true, false, IfOk, OnOk, OnErr, Some, slice_get};
-ghost use Rattle.std.specs.Option.{IfSome};
+ghost use Rattle.std.specs.Option.{IfSome, option_map};
 ghost use Rattle.std.specs.Bool.{OnFalse, OnTrue};
 ghost use Rattle.config_facts.specs.Valid.{IsValid};
+ghost use Rattle.adc_machine.specs.Words.{buffer_number};
 ghost use Rattle.mcal_base.specs.Layout.{length_of};
-ghost use Rattle.mcal_base.specs.declared.layout.Array.TheVariants.{Source, Stamps};
+ghost use Rattle.mcal_base.specs.declared.layout.Array.TheVariants.{Round, Source, Stamps};
 ghost use Rattle.run_model.specs.Follows.{Follows};
 ghost use Rattle.run_model.specs.Legal.{IsLegal};
 ghost use Rattle.run_model.specs.Moment.{start_moment};
@@ -12,12 +13,13 @@ ghost use Rattle.run_model.specs.Stops.{FollowsToStop, steps_in};
 ghost use Rattle.script_runner.specs.Scripts.{IsScript, IsRun, IsStopped, AllOffered, chip_for};
 ghost use Rattle.mcal_system.specs.Runs.{most_steps, bound_of, run_start, moment_of, IsSameRun, AddsItems};
 ghost use Rattle.mcal_system.specs.Setting.{system_setting, call_of, has_service};
-ghost use Rattle.mcal_system.specs.Shows.{internal_at, is_kept, level_at, ram_at, serial_channel, size_at, user_at, wire_at};
+ghost use Rattle.mcal_system.specs.Shows.{internal_at, level_at, ram_at, results_at, serial_channel, size_at, user_at, wire_at};
 ghost use Rattle.mcal_system.specs.Wires.{pairs};
 ghost use Rattle.spi_machine.specs.Table.{is_internal_channel};
 
 use crate::drivers::Drivers;
 use crate::wires::{Exchange, told_by};
+use adc_machine::ResultBuffer;
 use mcal_base::{Array, Config, Directive, NoMemory};
 use run_model::Journal;
 use script_runner::{Engine, TooLong};
@@ -148,11 +150,23 @@ impl<'s> System<'s> {
         captures.stamps(self.engine.bus(), channel)
     }
 
-    /// A place of a user's array of a capture channel or of a serial channel, while no frame is under way.
+    /// The buffer that was last chosen for a converter group, and how many places it has, while no frame is under way.
+    pub fn results(&self, group: u32) -> Option<(u32, u32)>
+        requires rest { (moment_of self.now).opens ≡ [] }
+        ensures is { result ≡ results_at self.now.config (moment_of self.now).state group }
+        ensures few { IfSome result (λ found. found.1 ≤ length_of self.now.config (Round group found.0)) }
+    {
+        let converters = self.engine.driver().converters();
+        shown(
+            converters.chosen(self.engine.bus(), group),
+            converters.places(group),
+        )
+    }
+
+    /// A place of a user's array, while no frame is under way.
     pub fn user(&self, array: Array, place: u32) -> u32
         requires rest { (moment_of self.now).opens ≡ [] }
         requires there { place < length_of self.now.config array }
-        requires kept { is_kept array ≡ true }
         ensures { result ≡ user_at (moment_of self.now).state array place }
     {
         let word = mcal_base::place(self.engine.config(), array, place);
@@ -192,5 +206,25 @@ impl<'s> System<'s> {
         ensures { result.now ≡ self.now.config }
     {
         self.engine.config()
+    }
+}
+
+/// A chosen buffer by its number, with the places that it has.
+fn shown(chosen: Option<ResultBuffer>, places: u32) -> Option<(u32, u32)>
+    ensures { result ≡ option_map (λ b. (buffer_number b, places)) chosen }
+{
+    match chosen {
+        Some(buffer) => Some((buffer_number(buffer), places)),
+        None => None,
+    }
+}
+
+/// The number of a buffer.
+fn buffer_number(buffer: ResultBuffer) -> u32
+    ensures { result ≡ buffer_number buffer }
+{
+    match buffer {
+        ResultBuffer::Zero => 0,
+        ResultBuffer::One => 1,
     }
 }

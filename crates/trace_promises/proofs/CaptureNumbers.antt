@@ -22,7 +22,7 @@ use Rattle.icu_driver.specs.declared.driver.Channel.{Channel}
 use Rattle.icu_driver.specs.declared.driver.IcuDriver.{IcuDriver}
 use Rattle.trace_reader.specs.Trace.{IsNumber, Each}
 use Rattle.trace_laws.proofs.Within.{each_append}
-use Rattle.trace_promises.specs.Keeping.{HappeningFits, Keeps}
+use Rattle.trace_promises.specs.Keeping.{WorldFits, HappeningFits, Keeps}
 use Rattle.trace_promises.specs.Numbers.{EdgeFits, StampFits, CaptureFits, CapturesFit}
 use Rattle.trace_promises.proofs.Lists.{chosen, at_place}
 
@@ -139,13 +139,13 @@ serving_fits false d s c h = h
 
 -- ---- the machine
 
-stays : (d : IcuDriver) (w : World) (s : IcuState) (x : Happening Call) → HappeningFits x → CapturesFit s → CapturesFit (state_by s (happens d w s x))
-stays d w s (Acts call committed) f h = act_fits d s call (error_by d call (not s.initialised) (is_on s call)) h
-stays d w s (Serves l received) f h = serving_fits (ready d w s l) d s (channel_number l) h
-stays d w s (Starts u received) f h = h
-stays d w s (Aborts u) f h = h
-stays d w s (Moves order) f h = moved_fits d w s order h
-stays d w s (Restarts reason) f h = λ c. at_place CaptureFits [] c untouched tt untouched_fits
+stays : (d : IcuDriver) (w : World) (s : IcuState) (x : Happening Call) → WorldFits w → HappeningFits x → CapturesFit s → CapturesFit (state_by s (happens d w s x))
+stays d w s (Acts call committed) v f h = act_fits d s call (error_by d call (not s.initialised) (is_on s call)) h
+stays d w s (Serves l received) v f h = serving_fits (ready d w s l) d s (channel_number l) h
+stays d w s (Starts u received) v f h = h
+stays d w s (Aborts u) v f h = h
+stays d w s (Moves order) v f h = moved_fits d w s order h
+stays d w s (Restarts reason) v f h = λ c. at_place CaptureFits [] c untouched tt untouched_fits
 
 pub captures_keep : (d : IcuDriver) → Keeps (icu_setting d) CapturesFit
 captures_keep d = record { first = λ c. at_place CaptureFits [] c untouched tt untouched_fits; stays = stays d }

@@ -17,7 +17,7 @@ use Rattle.mcu_driver.specs.declared.call.ClockCall.TheVariants.{InitClock, Dist
 use Rattle.mcu_driver.specs.declared.driver.McuDriver.{McuDriver}
 use Rattle.mcu_driver.specs.declared.driver.Section.{Section}
 use Rattle.trace_reader.specs.Trace.{IsNumber, Each}
-use Rattle.trace_promises.specs.Keeping.{HappeningFits, Keeps}
+use Rattle.trace_promises.specs.Keeping.{WorldFits, HappeningFits, Keeps}
 use Rattle.trace_promises.specs.Numbers.{SectionFits, FillFits, ClockFits}
 use Rattle.trace_promises.proofs.Lists.{chosen, at_place}
 
@@ -64,13 +64,13 @@ module _ (d : McuDriver) (small : (n : ℕ) → Small (section_of d n)) where
   act_fits w s call None h = work_fits w s call h
   act_fits w s call (Some e) h = h
 
-  stays : (w : World) (s : McuState) (x : Happening Call) → HappeningFits x → ClockFits s → ClockFits (state_by s (happens d w s x))
-  stays w s (Acts call times) f h = act_fits w s call (error_by d call (not s.initialised) (not (is_locked w s.pll))) h
-  stays w s (Serves line received) f h = h
-  stays w s (Starts u received) f h = h
-  stays w s (Aborts u) f h = h
-  stays w s (Moves order) f h = h
-  stays w s (Restarts reason) f h = tt
+  stays : (w : World) (s : McuState) (x : Happening Call) → WorldFits w → HappeningFits x → ClockFits s → ClockFits (state_by s (happens d w s x))
+  stays w s (Acts call times) v f h = act_fits w s call (error_by d call (not s.initialised) (not (is_locked w s.pll))) h
+  stays w s (Serves line received) v f h = h
+  stays w s (Starts u received) v f h = h
+  stays w s (Aborts u) v f h = h
+  stays w s (Moves order) v f h = h
+  stays w s (Restarts reason) v f h = tt
 
   pub clock_keeps : Keeps (mcu_setting d) ClockFits
   clock_keeps = record { first = tt; stays = stays }

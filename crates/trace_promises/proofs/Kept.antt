@@ -13,7 +13,7 @@ use Rattle.run_model.specs.Frame.{Open, Origin, Called, Entered, Brought, state_
 use Rattle.run_model.specs.Machine.{Happening, Acts, Serves, Starts, Aborts, Moves, Restarts, Outcome}
 use Rattle.run_model.specs.Moment.{Setting, Moment, Deed, Begins, Enters, Steps, Happens, Resets, after, after_all}
 use Rattle.run_model.specs.Script.{order_at, beginnings_of, moved_by, deed_of}
-use Rattle.run_model.specs.World.{World}
+use Rattle.run_model.specs.World.{World, world_after}
 use Rattle.run_model.specs.declared.item.Stepped.{Stepped}
 use Rattle.step_runner.specs.Union.{union_setting, lift_out, in_both, in_first}
 use Rattle.step_runner.specs.declared.either.Either.{Either}
@@ -21,12 +21,12 @@ use Rattle.step_runner.specs.declared.either.Either.TheVariants.{Left, Right}
 use Rattle.bench_report.specs.Rows.{Row}
 use Rattle.bench_report.specs.Showing.{Showing, item_rows, shows_from}
 use Rattle.trace_reader.specs.Trace.{IsNumber, Each}
-use Rattle.trace_promises.specs.Keeping.{WordsFit, HappeningFits, Keeps}
+use Rattle.trace_promises.specs.Keeping.{OrderBrings, WorldFits, HappeningFits, Keeps}
 use Rattle.trace_promises.specs.Numbers.{SaidBrings, BringsNumbers}
 
 -- nothing is asked of a state
 pub keeps_nothing : {State Call : Type 0} (g : Setting State Call) → Keeps g (λ s. Unit {0})
-keeps_nothing g = record { first = tt; stays = λ w s h f p. tt }
+keeps_nothing g = record { first = tt; stays = λ w s h v f p. tt }
 
 -- ---- two as one
 
@@ -57,14 +57,14 @@ module _ {S T : Type 0} (P : S → Type 0) (Q : T → Type 0) where
   at_both s (Some x) (Some y) h p q = (p, q)
 
   module _ {C D : Type 0} (ours : ℕ → Bool) (g : Setting S C) (h : Setting T D) (a : Keeps g P) (b : Keeps h Q) where
-    both_stay : (w : World) (s : S × T) (x : Happening (Either C D)) → HappeningFits x → Both s → Both (state_by s ((union_setting ours g h).machine.happens w s x))
-    both_stay w s (Acts (Left c) times) f k = at_first s _ (a.stays w s.0 (Acts c times) f k.0) k.1
-    both_stay w s (Acts (Right d) times) f k = at_second s _ k.0 (b.stays w s.1 (Acts d times) f k.1)
-    both_stay w s (Serves l r) f k = at_one s (ours l) _ _ (at_first s _ (a.stays w s.0 (Serves l r) f k.0) k.1) (at_second s _ k.0 (b.stays w s.1 (Serves l r) f k.1))
-    both_stay w s (Starts u r) f k = at_either s (g.machine.happens w s.0 (Starts u r)) (h.machine.happens w s.1 (Starts u r)) k (a.stays w s.0 (Starts u r) f k.0) (b.stays w s.1 (Starts u r) f k.1)
-    both_stay w s (Aborts u) f k = at_either s (g.machine.happens w s.0 (Aborts u)) (h.machine.happens w s.1 (Aborts u)) k (a.stays w s.0 (Aborts u) f k.0) (b.stays w s.1 (Aborts u) f k.1)
-    both_stay w s (Moves order) f k = at_both s (g.machine.happens w s.0 (Moves order)) (h.machine.happens w s.1 (Moves order)) k (a.stays w s.0 (Moves order) f k.0) (b.stays w s.1 (Moves order) f k.1)
-    both_stay w s (Restarts reason) f k = at_both s (g.machine.happens w s.0 (Restarts reason)) (h.machine.happens w s.1 (Restarts reason)) k (a.stays w s.0 (Restarts reason) f k.0) (b.stays w s.1 (Restarts reason) f k.1)
+    both_stay : (w : World) (s : S × T) (x : Happening (Either C D)) → WorldFits w → HappeningFits x → Both s → Both (state_by s ((union_setting ours g h).machine.happens w s x))
+    both_stay w s (Acts (Left c) times) v f k = at_first s _ (a.stays w s.0 (Acts c times) v f k.0) k.1
+    both_stay w s (Acts (Right d) times) v f k = at_second s _ k.0 (b.stays w s.1 (Acts d times) v f k.1)
+    both_stay w s (Serves l r) v f k = at_one s (ours l) _ _ (at_first s _ (a.stays w s.0 (Serves l r) v f k.0) k.1) (at_second s _ k.0 (b.stays w s.1 (Serves l r) v f k.1))
+    both_stay w s (Starts u r) v f k = at_either s (g.machine.happens w s.0 (Starts u r)) (h.machine.happens w s.1 (Starts u r)) k (a.stays w s.0 (Starts u r) v f k.0) (b.stays w s.1 (Starts u r) v f k.1)
+    both_stay w s (Aborts u) v f k = at_either s (g.machine.happens w s.0 (Aborts u)) (h.machine.happens w s.1 (Aborts u)) k (a.stays w s.0 (Aborts u) v f k.0) (b.stays w s.1 (Aborts u) v f k.1)
+    both_stay w s (Moves order) v f k = at_both s (g.machine.happens w s.0 (Moves order)) (h.machine.happens w s.1 (Moves order)) k (a.stays w s.0 (Moves order) v f k.0) (b.stays w s.1 (Moves order) v f k.1)
+    both_stay w s (Restarts reason) v f k = at_both s (g.machine.happens w s.0 (Restarts reason)) (h.machine.happens w s.1 (Restarts reason)) k (a.stays w s.0 (Restarts reason) v f k.0) (b.stays w s.1 (Restarts reason) v f k.1)
 
     pub keeps_both : Keeps (union_setting ours g h) Both
     keeps_both = record { first = (a.first, b.first); stays = both_stay }
@@ -88,10 +88,10 @@ event_fits (Entered l) b (Some (events.Start u)) k = k
 
 abbrev DeedFits : {Call : Type 0} → Deed Call → Type 0
 DeedFits (Steps s) = IsNumber s.received
-DeedFits (Happens order) = WordsFit order
+DeedFits (Happens order) = OrderBrings order
 DeedFits _ = Unit {0}
 
-moved_fit : (Call : Type 0) (order : Order) → WordsFit order → Each DeedFits (moved_by {Call = Call} order)
+moved_fit : (Call : Type 0) (order : Order) → OrderBrings order → Each DeedFits (moved_by {Call = Call} order)
 moved_fit Call (orders.Show what) k = tt
 moved_fit Call _ k = (k, tt)
 
@@ -111,27 +111,37 @@ deeds_fit call_of o (entry.Resets reason dropped) k = (tt, tt)
 
 -- ---- a run
 
+-- what analog inputs took
+world_fits : (w : World) (rate : ℕ) (order : Order) → OrderBrings order → WorldFits w → WorldFits (world_after w rate order)
+world_fits w rate (orders.Analog i level) f v = (f, v)
+world_fits w rate (orders.Tick n) f v = v
+world_fits w rate (orders.Level p high) f v = v
+world_fits w rate _ f v = v
+
 module _ {State Call : Type 0} (g : Setting State Call) (P : State → Type 0) (keeps : Keeps g P) where
-  by_happening : (w : World) (s : State) (h : Option (Happening Call)) → EventFits h → P s → P (state_by s (outcome_of g.machine w s h))
-  by_happening w s None f p = p
-  by_happening w s (Some h) f p = keeps.stays w s h f p
+  abbrev MomentFits : Moment State Call → Type 0
+  MomentFits m = WorldFits m.world × P m.state
 
-  kept_step : (m : Moment State Call) (opens : List (Open Call)) (s : Stepped) → IsNumber s.received → P m.state → P (after g (record m { opens = opens }) (Steps s)).state
-  kept_step m [] s f p = p
-  kept_step m (o ∷ os) s f p =
+  by_happening : (w : World) (s : State) (h : Option (Happening Call)) → WorldFits w → EventFits h → P s → P (state_by s (outcome_of g.machine w s h))
+  by_happening w s None v f p = p
+  by_happening w s (Some h) v f p = keeps.stays w s h v f p
+
+  kept_step : (m : Moment State Call) (opens : List (Open Call)) (s : Stepped) → IsNumber s.received → MomentFits m → MomentFits (after g (record m { opens = opens }) (Steps s))
+  kept_step m [] s f k = k
+  kept_step m (o ∷ os) s f k =
       let brought = brought_by m.world o.committed s.made s.received in
-      by_happening m.world m.state (happening_at o.origin brought s.event) (event_fits o.origin brought s.event f) p
+      (k.0, by_happening m.world m.state (happening_at o.origin brought s.event) k.0 (event_fits o.origin brought s.event f) k.1)
 
-  kept_after : (m : Moment State Call) (d : Deed Call) → DeedFits d → P m.state → P (after g m d).state
-  kept_after m (Begins c level) f p = p
-  kept_after m (Enters l) f p = p
-  kept_after m (Steps s) f p = kept_step m m.opens s f p
-  kept_after m (Happens order) f p = keeps.stays m.world m.state (Moves order) f p
-  kept_after m (Resets reason) f p = keeps.stays m.world m.state (Restarts reason) f p
+  kept_after : (m : Moment State Call) (d : Deed Call) → DeedFits d → MomentFits m → MomentFits (after g m d)
+  kept_after m (Begins c level) f k = k
+  kept_after m (Enters l) f k = k
+  kept_after m (Steps s) f k = kept_step m m.opens s f k
+  kept_after m (Happens order) f k = (world_fits m.world (g.machine.rate m.state) order f k.0, keeps.stays m.world m.state (Moves order) k.0 f k.1)
+  kept_after m (Resets reason) f k = (k.0, keeps.stays m.world m.state (Restarts reason) k.0 tt k.1)
 
-  kept_all : (m : Moment State Call) (ds : List (Deed Call)) → Each DeedFits ds → P m.state → P (after_all g m ds).state
-  kept_all m [] f p = p
-  kept_all m (d ∷ ds) f p = kept_all (after g m d) ds f.1 (kept_after m d f.0 p)
+  kept_all : (m : Moment State Call) (ds : List (Deed Call)) → Each DeedFits ds → MomentFits m → MomentFits (after_all g m ds)
+  kept_all m [] f k = k
+  kept_all m (d ∷ ds) f k = kept_all (after g m d) ds f.1 (kept_after m d f.0 k)
 
   -- ---- what it shows
 
@@ -147,9 +157,9 @@ module _ {State Call : Type 0} (g : Setting State Call) (P : State → Type 0) (
     item_shows m (entry.Steps step) others p h = h
     item_shows m (entry.Resets reason dropped) others p h = h
 
-    pub shows_right : (m : Moment State Call) (es : List entry.Entry) → Each BringsNumbers es → P m.state → Each R (shows_from g call_of showing script m es)
-    shows_right m [] f p = tt
-    shows_right m (e ∷ es) f p =
+    pub shows_right : (m : Moment State Call) (es : List entry.Entry) → Each BringsNumbers es → MomentFits m → Each R (shows_from g call_of showing script m es)
+    shows_right m [] f k = tt
+    shows_right m (e ∷ es) f k =
         let order = order_at script e.line in
         let deeds = deed_of call_of order e.said in
-        item_shows m e.said _ p (shows_right (after_all g m deeds) es f.1 (kept_all m deeds (deeds_fit call_of order e.said f.0) p))
+        item_shows m e.said _ k.1 (shows_right (after_all g m deeds) es f.1 (kept_all m deeds (deeds_fit call_of order e.said f.0) k))

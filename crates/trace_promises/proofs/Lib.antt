@@ -1,6 +1,7 @@
 pub mod CaptureNumbers
 pub mod ClockNumbers
 pub mod ConfigNumbers
+pub mod ConverterNumbers
 pub mod Input
 pub mod JournalNumbers
 pub mod Kept

@@ -32,7 +32,7 @@ use Rattle.spi_machine.specs.declared.call.SequenceCall.TheVariants.{AsyncTransm
 use Rattle.spi_machine.specs.declared.table.SpiTable.{SpiTable}
 use Rattle.trace_reader.specs.Trace.{IsNumber, Each}
 use Rattle.trace_laws.proofs.Within.{each_append, each_take, each_drop}
-use Rattle.trace_promises.specs.Keeping.{WordsFit, HappeningFits, Keeps}
+use Rattle.trace_promises.specs.Keeping.{OrderBrings, WorldFits, HappeningFits, Keeps}
 use Rattle.trace_promises.specs.Numbers.{DefaultFits, ChannelFits, SentFits, RunFits, PairFits, WireFits, SerialFits}
 use Rattle.trace_promises.proofs.Lists.{chosen, at_place}
 
@@ -269,20 +269,20 @@ module _ (d : SpiTable) (small : (c : ℕ) → Small (channel_of d c)) where
   fault_fits now None f = tt
   fault_fits now (Some r) f = failing_fits (is_done now r.transfer) r f
 
-  moved_fits : (w : World) (s : SpiState) (order : Order) → WordsFit order → SerialFits s → SerialFits (moved d w s order)
+  moved_fits : (w : World) (s : SpiState) (order : Order) → OrderBrings order → SerialFits s → SerialFits (moved d w s order)
   moved_fits w s (Fill c ws) k h = put_fits s c _ h (filled_fits ws (channel_of d c) (channel_at s c) k (channel_fits s c h))
   moved_fits w s (SpiFault u) k h = put_run s u _ h (fault_fits w.now (run_at s u) (run_fits s u h))
   moved_fits w s _ k h = h
 
   -- ---- the machine
 
-  stays : (w : World) (s : SpiState) (x : Happening Call) → HappeningFits x → SerialFits s → SerialFits (state_by s (happens d w s x))
-  stays w s (Acts call times) f h = act_fits s call (error_by d call (is_off s.mode) (finds_held d s call)) h
-  stays w s (Serves l received) f h = serving_fits (ready w s l) w s l received f h
-  stays w s (Starts u received) f h = start_fits w s (number_of u) received (next_at d s (number_of u)) f h
-  stays w s (Aborts u) f h = h
-  stays w s (Moves order) f h = moved_fits w s order f h
-  stays w s (Restarts reason) f h = (tt, tt, tt)
+  stays : (w : World) (s : SpiState) (x : Happening Call) → WorldFits w → HappeningFits x → SerialFits s → SerialFits (state_by s (happens d w s x))
+  stays w s (Acts call times) v f h = act_fits s call (error_by d call (is_off s.mode) (finds_held d s call)) h
+  stays w s (Serves l received) v f h = serving_fits (ready w s l) w s l received f h
+  stays w s (Starts u received) v f h = start_fits w s (number_of u) received (next_at d s (number_of u)) f h
+  stays w s (Aborts u) v f h = h
+  stays w s (Moves order) v f h = moved_fits w s order f h
+  stays w s (Restarts reason) v f h = (tt, tt, tt)
 
   pub serial_keeps : Keeps (spi_setting d) SerialFits
   serial_keeps = record { first = (tt, tt, tt); stays = stays }

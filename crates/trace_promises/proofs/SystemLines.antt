@@ -1,14 +1,18 @@
 -- The lines that the modules use are those of a chip.
-use Rattle.std.proofs.Common.{◌≡◌, ℕ, ◌+◌, ◌-◌, ◌<◌, Bool, true, false, [], ◌∷◌, Option, Some, None, refl, arith}
-use Rattle.std.specs.Prelude.{◌==◌, is_some, nat_lt, slice_index_or, if◌then◌else◌}
+use Rattle.std.proofs.Common.{◌≡◌, ℕ, ◌+◌, ◌-◌, ◌<◌, Bool, true, false, cond, [], ◌∷◌, Option, Some, None, refl, arith}
+use Rattle.std.specs.Prelude.{◌==◌, ◌&&◌, is_some, nat_lt, slice_index_or, if◌then◌else◌}
 use Rattle.std.proofs.lemmas.Bool.Decides.{nat_tests}
 use Rattle.mcal_base.specs.declared.config.whole.Config.{Config}
 use Rattle.run_model.specs.Legal.{has_line}
 use Rattle.run_model.specs.Moment.{Setting}
-use Rattle.mcal_system.specs.Setting.{clock_setting, pin_setting, timer_setting, pulse_setting, capture_setting, serial_setting, joined, system_setting}
+use Rattle.mcal_system.specs.Setting.{clock_setting, pin_setting, timer_setting, pulse_setting, capture_setting, converter_setting, serial_setting, joined, system_setting}
 use Rattle.gpt_driver.specs.Table as timer_table
 use Rattle.pwm_driver.specs.Table as pulse_table
 use Rattle.icu_driver.specs.Table as capture_table
+use Rattle.adc_machine.specs.Bounds.{group_of_input}
+use Rattle.adc_machine.specs.Machine.{is_unit_line, is_trigger_line}
+use Rattle.adc_machine.specs.Table as converter_table
+use Rattle.adc_machine.specs.declared.table.AdcTable.{AdcTable}
 use Rattle.spi_machine.specs.Bounds.{uses_by}
 use Rattle.spi_machine.specs.Machine.{polls}
 use Rattle.spi_machine.specs.State.{SpiState, is_polling}
@@ -38,7 +42,7 @@ from_by l first n o false h = below (l - first) n o h
 from : {T : Type 0} (l first n : ℕ) (o : Option T) → is_some (if nat_lt l first then None else if nat_lt (l - first) n then o else None) ≡ true → l < first + n
 from l first n o h = let lt = from_by l first n o (nat_lt l first) h in omega (arith, lt)
 
--- ---- the six
+-- ---- the seven
 
 clock_lines : (c : Config) → HasLines (clock_setting c)
 clock_lines c = record { used = λ line e. cc; polled = λ w s call line e. cc }
@@ -63,6 +67,25 @@ capture_lines c = record {
   used = λ line e. let lt = from line 16 8 (slice_index_or (capture_table.driver_of c.icu).channels (line - 16) None) e in omega (arith, lt);
   polled = λ w s call line e. cc;
 }
+
+-- the line of a converter unit, or of a trigger input
+line_of_unit : (line : ℕ) → is_unit_line line ≡ true → line < 32
+line_of_unit line e = grind (arith, nat_tests)
+
+line_of_trigger : (line : ℕ) (others : Bool) → is_trigger_line line && others ≡ true → line < 32
+line_of_trigger line others e = grind (arith, nat_tests)
+
+converter_line : (line : ℕ) (b unit trigger : Bool) → is_unit_line line ≡ b → cond b unit (is_trigger_line line && trigger) ≡ true → line < 32
+converter_line line true unit trigger e k = line_of_unit line e
+converter_line line false unit trigger e k = line_of_trigger line trigger k
+
+converter_lines : (c : Config) → HasLines (converter_setting c)
+converter_lines c =
+    let d : AdcTable = converter_table.table_of c.adc in
+    record {
+      used = λ line e. converter_line line (is_unit_line line) (is_some (converter_table.unit_level d (line - 24))) (is_some (group_of_input d (line - 28))) refl e;
+      polled = λ w s call line e. cc;
+    }
 
 -- a serial unit's line
 unit_line : (d : SpiTable) (line : ℕ) (first second : Bool) → (line == 26) ≡ first → (line == 27) ≡ second → uses_by d (if first then Some 0 else if second then Some 1 else None) ≡ true → line < 32
@@ -98,6 +121,7 @@ unfolding system_setting
 system_lines c =
     let timed = joined (pin_setting c) (timer_setting c) in
     let pulsed = joined (pulse_setting c) (capture_setting c) in
+    let carried = joined (converter_setting c) (serial_setting c) in
     let firsts = both (clock_setting c) timed (clock_lines c) (both (pin_setting c) (timer_setting c) (pin_lines c) (timer_lines c)) in
-    let seconds = both pulsed (serial_setting c) (both (pulse_setting c) (capture_setting c) (pulse_lines c) (capture_lines c)) (serial_lines c) in
-    both (joined (clock_setting c) timed) (joined pulsed (serial_setting c)) firsts seconds
+    let seconds = both pulsed carried (both (pulse_setting c) (capture_setting c) (pulse_lines c) (capture_lines c)) (both (converter_setting c) (serial_setting c) (converter_lines c) (serial_lines c)) in
+    both (joined (clock_setting c) timed) (joined pulsed carried) firsts seconds

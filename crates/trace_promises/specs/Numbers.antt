@@ -5,16 +5,23 @@ use Rattle.mcal_base.specs.declared.config.mcu.McuRamSection.{McuRamSection}
 use Rattle.mcal_base.specs.declared.config.spi.SpiChannel.{SpiChannel}
 use Rattle.mcal_base.specs.declared.config.whole.Config.{Config}
 use Rattle.run_model.specs.Entry.{Entry, Said, Happens, Steps}
+use Rattle.run_model.specs.declared.item.Hardware.{Hardware}
+use Rattle.run_model.specs.declared.item.Hardware.TheVariants.{Analog}
+use Rattle.run_model.specs.declared.item.Item.{Item}
+use Rattle.run_model.specs.declared.item.What.{What}
+use Rattle.run_model.specs.declared.item.What.TheVariants.{Happened}
 use Rattle.mcu_driver.specs.Machine as clock
 use Rattle.mcu_driver.specs.declared.driver.Section.{Section}
 use Rattle.icu_driver.specs.Edges.{Edge}
 use Rattle.icu_driver.specs.Machine as captures
+use Rattle.adc_machine.specs.Groups.{GroupState, Request, Round, StoredRound}
+use Rattle.adc_machine.specs.Turns.{AdcState}
 use Rattle.spi_machine.specs.Channels.{ChannelState}
 use Rattle.spi_machine.specs.State.{SpiState}
 use Rattle.spi_machine.specs.Transfers.{JobWord, Run}
 use Rattle.mcal_system.specs.Setting.{SystemState}
 use Rattle.trace_reader.specs.Trace.{IsNumber, Each}
-use Rattle.trace_promises.specs.Keeping.{WordsFit}
+use Rattle.trace_promises.specs.Keeping.{OrderBrings}
 
 -- of a configuration: its RAM sections are numbered, and filled, with such numbers, and its serial channels send such
 -- ones by default
@@ -29,14 +36,26 @@ pub record ConfigFits (c : Config) : Type 0 where
   pub small : Each SectionFits c.mcu.ram_sections
   pub defaults : Each DefaultFits c.spi.channels
 
--- of a journal: its items bring such words, those of an order and the one that a step receives
+-- of a journal: its items bring such numbers, the level or the words of an order and the word that a step receives
 abbrev pub SaidBrings : Said → Type 0
-SaidBrings (Happens order) = WordsFit order
+SaidBrings (Happens order) = OrderBrings order
 SaidBrings (Steps step) = IsNumber step.received
 SaidBrings _ = Unit {0}
 
 abbrev pub BringsNumbers : Entry → Type 0
 BringsNumbers e = SaidBrings e.said
+
+-- the same of items as a journal holds them, with their words elsewhere: the level of an analog input
+abbrev pub HardwareBrings : Hardware → Type 0
+HardwareBrings (Analog input level) = IsNumber level
+HardwareBrings _ = Unit {0}
+
+abbrev pub WhatBrings : What → Type 0
+WhatBrings (Happened h) = HardwareBrings h
+WhatBrings _ = Unit {0}
+
+abbrev pub ItemBrings : Item → Type 0
+ItemBrings item = WhatBrings item.what
 
 -- ---- of the states
 
@@ -60,6 +79,24 @@ CaptureFits x = Each EdgeFits x.waiting × Each StampFits x.stored
 abbrev pub CapturesFit : captures.IcuState → Type 0
 CapturesFit s = (c : ℕ) → CaptureFits (captures.capture_at s c)
 
+-- the values that the requests of converter groups have kept, those that the rounds of units took over, and those that were stored
+abbrev pub RequestFits : Option Request → Type 0
+RequestFits None = Unit {0}
+RequestFits (Some q) = Each IsNumber q.kept
+
+abbrev pub GroupFits : GroupState → Type 0
+GroupFits x = RequestFits x.waiting
+
+abbrev pub RoundFits : Option Round → Type 0
+RoundFits None = Unit {0}
+RoundFits (Some r) = Each IsNumber r.request.kept
+
+abbrev pub StoredFits : StoredRound → Type 0
+StoredFits x = Each IsNumber x.values
+
+abbrev pub ConverterFits : AdcState → Type 0
+ConverterFits s = Each GroupFits s.groups × Each RoundFits s.units × Each StoredFits s.results
+
 -- the words of serial channels, those of a running job, and the pairs on a wire
 abbrev pub ChannelFits : ChannelState → Type 0
 ChannelFits x = Each IsNumber x.source × Each IsNumber x.destination × Each IsNumber x.written × Each IsNumber x.received
@@ -81,4 +118,4 @@ abbrev pub SerialFits : SpiState → Type 0
 SerialFits s = Each ChannelFits s.channels × Each RunFits s.units × Each WireFits s.wires
 
 abbrev pub StateFits : SystemState → Type 0
-StateFits s = ClockFits s.0.0 × CapturesFit s.1.0.1 × SerialFits s.1.1
+StateFits s = ClockFits s.0.0 × CapturesFit s.1.0.1 × ConverterFits s.1.1.0 × SerialFits s.1.1.1

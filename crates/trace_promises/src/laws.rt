@@ -11,10 +11,10 @@ ghost use Rattle.bench_top.specs.declared.words.Printing.TheVariants.{Traced};
 ghost use Rattle.trace_reader.specs.Trace.{Each, IsNumber};
 ghost use Rattle.trace_laws.specs.Lines.{HasLines};
 ghost use Rattle.trace_laws.specs.Numbers.{RowsFit};
-ghost use Rattle.trace_promises.specs.Numbers.{BringsNumbers, ConfigFits};
+ghost use Rattle.trace_promises.specs.Numbers.{BringsNumbers, ConfigFits, ItemBrings};
 ghost use Rattle.trace_promises.specs.Viewed.{IsViewed};
 
-use run_model::Journal;
+use run_model::{Item, Journal};
 use trace_laws::{few_steps, journal_fits};
 
 /// What a trace asks of its run holds of the runs of all modules: the lines that they use and poll are those of a chip,
@@ -37,6 +37,22 @@ fn words_fit(words: &[u32])
     }
 }
 
+/// The level that an item brings for an analog input.
+fn level_fits(item: Item)
+    ensures { ItemBrings item }
+{}
+
+/// The levels that the items of a journal bring for analog inputs.
+fn levels_fit(items: &[Item])
+    ensures { Each ItemBrings items.now }
+{
+    let mut rest = items;
+    while let [item, behind @ ..] = rest {
+        level_fits(*item);
+        rest = behind;
+    }
+}
+
 /// The items of a journal bring numbers of 32 bits to the machines.
 #[tactic(auto, using(crate::proofs::JournalNumbers::items_bring))]
 pub fn brings_numbers(journal: &Journal)
@@ -44,7 +60,7 @@ pub fn brings_numbers(journal: &Journal)
 {
     journal_fits(journal);
     words_fit(journal.words());
-    let _items = journal.items();
+    levels_fit(journal.items());
 }
 
 /// The trace of each bench file that `bench` runs to its end with `--trace` is read as what its lines tell, and drawn,

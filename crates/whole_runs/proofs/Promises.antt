@@ -67,7 +67,7 @@ serial_keeps d chip ds legal = sequences_run d (journal_events (spi_setting d) c
 
 -- ---- together
 
-mute_by : {S : Type 0} (s : S) (out : Outcome S) → Some (outcome s tells_nothing) ≡ Some out → out ≡ outcome_with out.state tells_nothing None
+pub mute_by : {S : Type 0} (s : S) (out : Outcome S) → Some (outcome s tells_nothing) ≡ Some out → out ≡ outcome_with out.state tells_nothing None
 mute_by {S} s out e = sym (some_same e) ∙ ap (λ (x : Outcome S). outcome_with x.state tells_nothing None) (some_same e)
   where
     some_same : {A : Type 0} {x y : A} → Some x ≡ Some y → x ≡ y

@@ -12,7 +12,7 @@ use Rattle.run_model.specs.World.{World, with_at}
 use Rattle.run_model.specs.Machine.{Happening, Acts, Serves, Starts, Aborts, Moves, Restarts, Outcome, outcome, tells_nothing}
 use Rattle.service_outline.specs.Done.{named_with}
 use Rattle.adc_machine.specs.Checks.{error_by}
-use Rattle.adc_machine.specs.Groups.{Status, Idle, Busy, Completed, StreamCompleted, GroupState, Round, Results, is_idle, newest, values_of, is_continuous, is_full, place_in, samples_of, stored_from, is_same, with_round_of, trigger_input}
+use Rattle.adc_machine.specs.Groups.{Status, Idle, Busy, Completed, StreamCompleted, GroupState, Round, Results, is_idle, newest, values_of, is_continuous, is_full, place_in, samples_of, stored_from, is_same, with_round_of, trigger_input, held_in}
 use Rattle.adc_machine.specs.Machine.{adc_machine, acts, acts_by, circumstances, happens, ready, reads, served, served_round, served_values, after_round, is_unit_line, with_values}
 use Rattle.adc_machine.specs.Table.{group_of}
 use Rattle.adc_machine.specs.Triggers.{without_mark, served_trigger}
@@ -110,19 +110,19 @@ stored_or place step (v ∷ vs) held p = by_rest (stored_or (place + step) step 
     by_rest (inr there) = inr (further v vs (stored_from (place + step) step vs (with_at held place v) p) there)
 
 round_or : (k : Option configured.Group) (r h : ℕ) (o : Option ResultBuffer) (vs : List ℕ) (held : Results) (g : ℕ) (b : ResultBuffer) (p : ℕ)
-    → (with_round_of k r h o vs held g b p ≡ held g b p) ⊎ ((h ≡ g) × Contains vs (with_round_of k r h o vs held g b p))
+    → (held_in (with_round_of k r h o vs held) g b p ≡ held_in held g b p) ⊎ ((h ≡ g) × Contains vs (held_in (with_round_of k r h o vs held) g b p))
 round_or k r h None vs held g b p = inl refl
 round_or k r h (Some c) vs held g b p = by_test (g == h) (is_same b c) refl refl
   where
     put : ℕ → ℕ
-    put = stored_from (place_in k r) (samples_of k) vs (held h c)
+    put = stored_from (place_in k r) (samples_of k) vs (held_in held h c)
 
-    by_place : (g ≡ h) → (b ≡ c) → (put p ≡ held h c p) ⊎ Contains vs (put p) → (put p ≡ held g b p) ⊎ ((h ≡ g) × Contains vs (put p))
-    by_place same one (inl left) = inl (left ∙ ap (λ m. held m c p) (sym same) ∙ ap (λ x. held g x p) (sym one))
+    by_place : (g ≡ h) → (b ≡ c) → (put p ≡ held_in held h c p) ⊎ Contains vs (put p) → (put p ≡ held_in held g b p) ⊎ ((h ≡ g) × Contains vs (put p))
+    by_place same one (inl left) = inl (left ∙ ap (λ m. held_in held m c p) (sym same) ∙ ap (λ x. held_in held g x p) (sym one))
     by_place same one (inr there) = inr (sym same, there)
 
-    by_test : (x y : Bool) → (g == h) ≡ x → is_same b c ≡ y → ((cond (x && y) put (held g b)) p ≡ held g b p) ⊎ ((h ≡ g) × Contains vs ((cond (x && y) put (held g b)) p))
-    by_test true true e f = by_place (grind (arith, nat_tests, e)) (one_buffer b c f) (stored_or (place_in k r) (samples_of k) vs (held h c) p)
+    by_test : (x y : Bool) → (g == h) ≡ x → is_same b c ≡ y → ((cond (x && y) put (held_in held g b)) p ≡ held_in held g b p) ⊎ ((h ≡ g) × Contains vs ((cond (x && y) put (held_in held g b)) p))
+    by_test true true e f = by_place (grind (arith, nat_tests, e)) (one_buffer b c f) (stored_or (place_in k r) (samples_of k) vs (held_in held h c) p)
       where
         one_buffer : (b c : ResultBuffer) → is_same b c ≡ true → b ≡ c
         one_buffer Zero Zero f = refl
@@ -144,7 +144,7 @@ turn_results d t g n false false = refl
 
 -- what a serving of a unit's line does to a place
 abbrev Places : AdcTable → List Seen → Seen → ℕ → ResultBuffer → ℕ → Type 0
-Places d past e g b p = PlaceGoes d g e past (e.held g b p) (e.holds g b p)
+Places d past e g b p = PlaceGoes d g e past (held_in e.held g b p) (held_in e.holds g b p)
 
 served_place : (d : AdcTable) (w : World) (s : AdcState) (l received : ℕ) (r : Round) (past : List Seen) (g : ℕ) (b : ResultBuffer) (p : ℕ) → is_unit_line l ≡ true → round_at s (l - 24) ≡ Some r → Tells d past s
     → Places d past (seen d w (Serves l received) s (served_round d w s (l - 24) (Some r))) g b p
@@ -158,9 +158,9 @@ served_place d w s l received r past g b p line at t =
     let run : IsRunning d (l - 24) r past = t.running (l - 24) r at in
     let serve : serves_on (l - 24) r.group e ≡ true = rw (line, at, same_number (l - 24), same_number r.group) refl in
     by_place e values (is_round d (l - 24) r e past serve run)
-    (subst (λ (x : Results). (x g b p ≡ s.results g b p) ⊎ ((r.group ≡ g) × Contains values (x g b p))) (sym is) (round_or k (length (group_at s r.group).rounds) r.group (group_at s r.group).chosen values s.results g b p))
+    (subst (λ (x : Results). (held_in x g b p ≡ held_in s.results g b p) ⊎ ((r.group ≡ g) × Contains values (held_in x g b p))) (sym is) (round_or k (length (group_at s r.group).rounds) r.group (group_at s r.group).chosen values s.results g b p))
   where
-    by_place : (e : Seen) (values : List ℕ) → IsRound d r.group e past values → (e.holds g b p ≡ e.held g b p) ⊎ ((r.group ≡ g) × Contains values (e.holds g b p)) → Places d past e g b p
+    by_place : (e : Seen) (values : List ℕ) → IsRound d r.group e past values → (held_in e.holds g b p ≡ held_in e.held g b p) ⊎ ((r.group ≡ g) × Contains values (held_in e.holds g b p)) → Places d past e g b p
     by_place e values round (inl same) = Left same
     by_place e values round (inr here) = Taken values (subst (λ n. IsRound d n e past values) here.0 round) here.1
 
@@ -179,15 +179,15 @@ serve_place d w s l received out past g b p true line e t =
     let is : served_round d w s (l - 24) (round_at s (l - 24)) ≡ out =
     ap (λ x. cond x (served_round d w s (l - 24) (round_at s (l - 24))) (outcome (served_trigger d s (l - 28)) tells_nothing)) (sym line) ∙ allowed_is (ready d w s l) (served d w s l) out e in
     subst (λ (x : Outcome AdcState). Places d past (seen d w (Serves l received) s x) g b p) is (round_place d w s l received (round_at s (l - 24)) past g b p line refl t)
-serve_place d w s l received out past g b p false line e t = Left (ap (λ (x : Results). x g b p) (leaves_results d w s (Serves l received) out e line))
+serve_place d w s l received out past g b p false line e t = Left (ap (λ (x : Results). held_in x g b p) (leaves_results d w s (Serves l received) out e line))
 
 place_goes : (d : AdcTable) (w : World) (s : AdcState) (h : Happening Call) (out : Outcome AdcState) (past : List Seen) → happens d w s h ≡ Some out → Tells d past s → PlacesGo d (seen d w h s out) past
-place_goes d w s (Acts call times) out past e t g b p = Left (ap (λ (x : Results). x g b p) (leaves_results d w s (Acts call times) out e tt))
+place_goes d w s (Acts call times) out past e t g b p = Left (ap (λ (x : Results). held_in x g b p) (leaves_results d w s (Acts call times) out e tt))
 place_goes d w s (Serves l received) out past e t g b p = serve_place d w s l received out past g b p (is_unit_line l) refl e t
-place_goes d w s (Starts u received) out past e t g b p = Left (ap (λ (x : Results). x g b p) (leaves_results d w s (Starts u received) out e tt))
-place_goes d w s (Aborts u) out past e t g b p = Left (ap (λ (x : Results). x g b p) (leaves_results d w s (Aborts u) out e tt))
-place_goes d w s (Moves order) out past e t g b p = Left (ap (λ (x : Results). x g b p) (leaves_results d w s (Moves order) out e tt))
-place_goes d w s (Restarts reason) out past e t g b p = Reset refl (sym (ap (λ (x : Outcome AdcState). x.state.results g b p) (some_is e)))
+place_goes d w s (Starts u received) out past e t g b p = Left (ap (λ (x : Results). held_in x g b p) (leaves_results d w s (Starts u received) out e tt))
+place_goes d w s (Aborts u) out past e t g b p = Left (ap (λ (x : Results). held_in x g b p) (leaves_results d w s (Aborts u) out e tt))
+place_goes d w s (Moves order) out past e t g b p = Left (ap (λ (x : Results). held_in x g b p) (leaves_results d w s (Moves order) out e tt))
+place_goes d w s (Restarts reason) out past e t g b p = Reset refl (sym (ap (λ (x : Outcome AdcState). held_in x.state.results g b p) (some_is e)))
   where
     some_is : Some (outcome first_state tells_nothing) ≡ Some out → outcome first_state tells_nothing ≡ out
     some_is f = cc f

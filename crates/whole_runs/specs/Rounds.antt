@@ -3,7 +3,7 @@ use Rattle.std.specs.Prelude.{◌≡◌, ℕ, ◌-◌, ◌/◌, ◌<◌, true, f
 use Rattle.mcal_base.specs.declared.answer_name.AnswerName.TheVariants.{EOk}
 use Rattle.run_model.specs.Machine.{Happening, Acts}
 use Rattle.service_outline.specs.Done.{named_with}
-use Rattle.adc_machine.specs.Groups.{inputs_of, suspends, levels_from}
+use Rattle.adc_machine.specs.Groups.{inputs_of, suspends, levels_from, held_in}
 use Rattle.adc_machine.specs.Table.{group_of}
 use Rattle.adc_machine.specs.declared.call.Call.{Call}
 use Rattle.adc_machine.specs.declared.call.Call.TheVariants.{Group}
@@ -104,7 +104,7 @@ pub data NewestGoes (d : AdcTable) (g : ℕ) (e : Seen) (past : List Seen) (befo
 
 -- a place takes a value, and a group, of the numbers 0 to 15, gets a newest round, only by the serving of a round that was started for a request of that group
 abbrev pub PlacesGo : AdcTable → Seen → List Seen → Type 0
-PlacesGo d e past = (g : ℕ) (b : ResultBuffer) (place : ℕ) → PlaceGoes d g e past (e.held g b place) (e.holds g b place)
+PlacesGo d e past = (g : ℕ) (b : ResultBuffer) (place : ℕ) → PlaceGoes d g e past (held_in e.held g b place) (held_in e.holds g b place)
 
 abbrev pub NewestGo : AdcTable → Seen → List Seen → Type 0
 NewestGo d e past = (g : ℕ) → g < 16 → NewestGoes d g e past (e.had_newest g) (e.has_newest g)

@@ -18,4 +18,4 @@ returns c =
     c.word.ensures
     ∙ ap (λ (k : ℕ). word_of c.bus.result.now k) c.place-word.ensures.word
     ∙ ap (λ (x : Chip). word_of x (place_of c.args.array c.args.place)) c.bus.ensures.chip
-    ∙ user_there c.self.inside.engine c.self.invariant.made c.args.self.now c.self.view_is c.bus.ensures.stands c.args.array c.args.place c.requires.there c.requires.kept c.requires.rest c.self.invariant.valid
+    ∙ user_there c.self.inside.engine c.self.invariant.made c.args.self.now c.self.view_is c.bus.ensures.stands c.args.array c.args.place c.requires.there c.requires.rest c.self.invariant.valid

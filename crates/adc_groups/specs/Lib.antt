@@ -1,0 +1,5 @@
+pub mod Ground
+pub mod Owed
+pub mod Places
+pub mod Stored
+pub mod laws

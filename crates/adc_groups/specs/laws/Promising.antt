@@ -1,0 +1,129 @@
+-- What is promised of units: after a change of one group the other unit has no more to start or to abort than before.
+use Rattle.std.proofs.Common.{◌≡◌, ◌≢◌, ℕ, Bool, true, false, ◌&&◌, ◌||◌, not, nat_lt, cond, List, [], ◌∷◌, Option, Some, None, refl, sym, ◌∙◌, ap, arith, ◌⊎◌, inl, inr}
+use Rattle.std.specs.Prelude.{is_some}
+use Rattle.std.specs.List.{list_any}
+use Rattle.run_model.specs.World.{World}
+use Rattle.adc_machine.specs.Groups.{Round, is_finished}
+use Rattle.adc_machine.specs.Table.{group_of, all_groups}
+use Rattle.adc_machine.specs.Turns.{AdcState, group_at, round_at, is_on, rank_of, priority_of, waits_for, next_group, starts, starts_by, is_outranked, aborts, aborts_by}
+use Rattle.adc_machine.specs.declared.table.AdcTable.{AdcTable}
+use Rattle.adc_machine.proofs.Next.{next_is, none_is}
+use Rattle.adc_groups.specs.Ground.{Holds, some_hold, starts_on, yields_on, Promised}
+
+any_same : (p q : ℕ → Bool) → ((h : ℕ) → p h ≡ q h) → (gs : List ℕ) → list_any p gs ≡ list_any q gs
+any_same p q same [] = refl
+any_same p q same (g ∷ gs) = ap (λ b. b || list_any p gs) (same g) ∙ ap (λ b. q g || b) (any_same p q same gs)
+
+-- where each group waits for the unit as before
+module _ (d : AdcTable) (w : World) (s t : AdcState) (v : ℕ) (round : round_at t v ≡ round_at s v) (waits : (h : ℕ) → waits_for d t v h ≡ waits_for d s v h) where
+  starts_before : is_some (starts d t v) ≡ true → is_some (starts d s v) ≡ true
+  starts_before e = by (round_at s v) refl (next_group d t v) refl (sym (ap (λ q. is_some (starts_by q (next_group d t v))) round) ∙ e)
+    where
+      found : (k : ℕ) → next_group d t v ≡ Some k → is_some (next_group d s v) ≡ true
+      found k f = none (next_group d s v) refl
+        where
+          none : (o : Option ℕ) → next_group d s v ≡ o → is_some o ≡ true
+          none None i = let there : waits_for d s v k ≡ true = sym (waits k) ∙ (next_is d t v k f).waits in let off = none_is d s v k i in absurd (cc)
+          none (Some j) i = refl
+
+      by : (q : Option Round) → round_at s v ≡ q → (o : Option ℕ) → next_group d t v ≡ o → is_some (starts_by q o) ≡ true → is_some (starts d s v) ≡ true
+      by (Some r) i o f g = absurd (cc)
+      by None i None f g = absurd (cc)
+      by None i (Some k) f g = ap (λ q. is_some (starts_by q (next_group d s v))) i ∙ found k f
+
+  outranked_same : (g : ℕ) → is_outranked d t v g ≡ is_outranked d s v g
+  outranked_same g = any_same (λ h. waits_for d t v h && nat_lt (rank_of d g) (rank_of d h)) (λ h. waits_for d s v h && nat_lt (rank_of d g) (rank_of d h)) (λ h. ap (λ q. q && nat_lt (rank_of d g) (rank_of d h)) (waits h)) all_groups
+
+  aborts_in : (q : Option Round) → is_some (aborts_by d w t v q) ≡ is_some (aborts_by d w s v q)
+  aborts_in None = refl
+  aborts_in (Some r) = ap (λ q. is_some (cond (not (is_finished w (group_of d r.group) r) && q) (Some r) None)) (outranked_same r.group)
+
+  aborts_before : is_some (aborts d w t v) ≡ true → is_some (aborts d w s v) ≡ true
+  aborts_before e = sym (ap (λ q. is_some (aborts_by d w t v q)) round ∙ aborts_in (round_at s v)) ∙ e
+
+  pub promised_same : (before after : Holds) → (some_hold (starts_on v) before ≡ true → some_hold (starts_on v) after ≡ true) → (some_hold (yields_on v) before ≡ true → some_hold (yields_on v) after ≡ true) → Promised d before w s v → Promised d after w t v
+  promised_same before after f h p = record { starts = λ e. f (p.starts (starts_before e)); yields = λ e. h (p.yields (aborts_before e)) }
+
+-- a change of one group leaves how groups wait for another unit
+pub waits_other : (d : AdcTable) (s t : AdcState) (g v : ℕ) → is_on v (group_of d g) ≡ false → ((k : ℕ) → k ≢ g → is_some (group_at t k).waiting ≡ is_some (group_at s k).waiting) → (h : ℕ) → waits_for d t v h ≡ waits_for d s v h
+waits_other d s t g v off waits h = by (cases h g)
+  where
+    cases : (x y : ℕ) → (x ≡ y) ⊎ (x ≢ y)
+    cases x y = grind arith
+
+    by : (h ≡ g) ⊎ (h ≢ g) → is_on v (group_of d h) && is_some (group_at t h).waiting ≡ is_on v (group_of d h) && is_some (group_at s h).waiting
+    by (inl e) =
+        let none : is_on v (group_of d h) ≡ false = ap (λ k. is_on v (group_of d k)) e ∙ off in
+        ap (λ q. q && is_some (group_at t h).waiting) none ∙ sym (ap (λ q. q && is_some (group_at s h).waiting) none)
+    by (inr ne) = ap (λ q. is_on v (group_of d h) && q) (waits h ne)
+
+-- without priorities nothing yields
+none_ranks : (p q : ℕ → Bool) → ((h : ℕ) → q h ≡ false) → (gs : List ℕ) → list_any (λ h. p h && q h) gs ≡ false
+none_ranks p q off [] = refl
+none_ranks p q off (g ∷ gs) = ap (λ b. (p g && b) || list_any (λ h. p h && q h) gs) (off g) ∙ (ap (λ b. b || list_any (λ h. p h && q h) gs) (and_off (p g)) ∙ none_ranks p q off gs)
+  where
+    and_off : (a : Bool) → a && false ≡ false
+    and_off true = refl
+    and_off false = refl
+
+pub none_yields : (d : AdcTable) (w : World) (s : AdcState) (v : ℕ) → d.priorities ≡ false → is_some (aborts d w s v) ≡ false
+none_yields d w s v flat = by (round_at s v)
+  where
+    rank : (g : ℕ) → rank_of d g ≡ 0
+    rank g = ap (λ q. cond q (priority_of (group_of d g)) 0) flat
+
+    below : (g h : ℕ) → nat_lt (rank_of d g) (rank_of d h) ≡ false
+    below g h = ap (λ n. nat_lt n (rank_of d h)) (rank g) ∙ ap (λ n. nat_lt 0 n) (rank h)
+
+    off : (g : ℕ) → is_outranked d s v g ≡ false
+    off g = none_ranks (λ h. waits_for d s v h) (λ h. nat_lt (rank_of d g) (rank_of d h)) (λ h. below g h) all_groups
+
+    and_none : (a : Bool) (r : Round) → is_some (cond (a && false) (Some r) None) ≡ false
+    and_none true r = refl
+    and_none false r = refl
+
+    by : (q : Option Round) → is_some (aborts_by d w s v q) ≡ false
+    by None = refl
+    by (Some r) = ap (λ q. is_some (cond (not (is_finished w (group_of d r.group) r) && q) (Some r) None)) (off r.group) ∙ and_none (not (is_finished w (group_of d r.group) r)) r
+
+-- where fewer groups wait, and no unit has another round, no more may be aborted, and no more may start where the round is the same
+any_more : (p q : ℕ → Bool) → ((h : ℕ) → p h ≡ true → q h ≡ true) → (gs : List ℕ) → list_any p gs ≡ true → list_any q gs ≡ true
+any_more p q more [] e = e
+any_more p q more (g ∷ gs) e = by (λ f. any_more p q more gs f) (p g) refl e
+  where
+    or_more : (a b : Bool) → b ≡ true → a || b ≡ true
+    or_more true b f = refl
+    or_more false b f = f
+
+    by : (list_any p gs ≡ true → list_any q gs ≡ true) → (b : Bool) → p g ≡ b → b || list_any p gs ≡ true → q g || list_any q gs ≡ true
+    by rest true i f = ap (λ b. b || list_any q gs) (more g i)
+    by rest false i f = or_more (q g) (list_any q gs) (rest f)
+
+module _ (d : AdcTable) (w : World) (s t : AdcState) (v : ℕ) (waits : (h : ℕ) → waits_for d t v h ≡ true → waits_for d s v h ≡ true) (round : (r : Round) → round_at t v ≡ Some r → round_at s v ≡ Some r) where
+  both_parts : (a b : Bool) → a && b ≡ true → (a ≡ true) × (b ≡ true)
+  both_parts true true e = (refl, refl)
+  both_parts true false e = absurd (cc)
+  both_parts false b e = absurd (cc)
+
+  and_on : (a b : Bool) → a ≡ true → b ≡ true → a && b ≡ true
+  and_on true true e f = refl
+  and_on true false e f = absurd (cc)
+  and_on false b e f = absurd (cc)
+
+  outranked_more : (g : ℕ) → is_outranked d t v g ≡ true → is_outranked d s v g ≡ true
+  outranked_more g = any_more (λ h. waits_for d t v h && nat_lt (rank_of d g) (rank_of d h)) (λ h. waits_for d s v h && nat_lt (rank_of d g) (rank_of d h))
+      (λ h e. let k = both_parts (waits_for d t v h) (nat_lt (rank_of d g) (rank_of d h)) e in and_on (waits_for d s v h) (nat_lt (rank_of d g) (rank_of d h)) (waits h k.0) k.1) all_groups
+
+  pub aborts_fewer : is_some (aborts d w t v) ≡ true → is_some (aborts d w s v) ≡ true
+  aborts_fewer e = by (round_at t v) refl e
+    where
+      holds : (q : Bool) (r : Round) → is_some (cond q (Some r) None) ≡ true → q ≡ true
+      holds true r f = refl
+      holds false r f = absurd (cc)
+
+      by : (q : Option Round) → round_at t v ≡ q → is_some (aborts_by d w t v q) ≡ true → is_some (aborts d w s v) ≡ true
+      by None i f = absurd (cc)
+      by (Some r) i f =
+          let k = both_parts (not (is_finished w (group_of d r.group) r)) (is_outranked d t v r.group) (holds (not (is_finished w (group_of d r.group) r) && is_outranked d t v r.group) r f) in
+          let on = and_on (not (is_finished w (group_of d r.group) r)) (is_outranked d s v r.group) k.0 (outranked_more r.group k.1) in
+          ap (λ q. is_some (aborts_by d w s v q)) (round r i) ∙ ap (λ b. is_some (cond b (Some r) None)) on

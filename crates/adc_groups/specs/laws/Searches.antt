@@ -1,0 +1,48 @@
+-- The steps of windows that look for what may start or has to yield on a unit, and that seek it.
+use Rattle.std.proofs.Common.{ℕ, Bool, List, refl, arith}
+use Rattle.chip_model.specs.Chip.{Chip, value_of}
+use Rattle.run_model.specs.Frame.{Origin, missed_after}
+use Rattle.run_model.specs.World.{World}
+use Rattle.service_outline.specs.Past.{Past}
+use Rattle.service_outline.specs.Services.{Stand, RightOr, with_holds, ended_at}
+use Rattle.word_shapes.specs.declared.choosing.Front.{Front}
+use Rattle.adc_machine.specs.Machine.{adc_machine}
+use Rattle.adc_machine.specs.Turns.{AdcState}
+use Rattle.adc_machine.specs.declared.call.Call.{Call}
+use Rattle.adc_machine.specs.declared.table.AdcTable.{AdcTable}
+use Rattle.adc_groups.specs.Ground.{FitsAdc, Holds, Agrees, foot_of}
+use Rattle.adc_groups.specs.Places.{AdcGround, InWindow, MaySeek, IsSeeking, hold_in, adc_bodies}
+use Rattle.adc_groups.specs.declared.body.AdcBody.{AdcBody}
+use Rattle.adc_groups.specs.declared.body.Place.{Place}
+use Rattle.adc_groups.specs.declared.body.Place.TheVariants.{Looks, Seeks}
+use Rattle.adc_groups.specs.declared.window.Window.{Window}
+use Rattle.adc_groups.specs.declared.window.Window.TheVariants as windows
+use Rattle.adc_groups.specs.laws.Body.{body_work, body_ends}
+use Rattle.adc_groups.specs.laws.Looking.{looks_right}
+use Rattle.adc_groups.specs.laws.Seeking.{seek_step, begin_sought, suspend_sought}
+use Rattle.adc_groups.specs.laws.Steps.{held}
+use Rattle.adc_groups.specs.laws.Yielding.{begins_right, yields_right}
+
+module _ (d : AdcTable) (fits : FitsAdc d) (f r : AdcBody → ℕ) (below : Holds) (chip : Chip) (w : World) (s : AdcState) (m : ℕ → Bool) (y : ℕ) (o : Origin Call) (p : Past) (u : ℕ) where
+  abbrev StepRight : Place → Type 0
+  StepRight k = RightOr (AdcGround d) (adc_bodies d f r) below chip w s (record { table = d; place = k }) o y p m (ended_at (adc_bodies d f r) body_ends (record { table = d; place = k }) (value_of chip (body_work (record { table = d; place = k }))))
+
+  abbrev At : Place → Type 0
+  At k = Stand (AdcGround d) (adc_bodies d f r) below chip w s (record { table = d; place = k }) o p
+
+  abbrev words_held : Window → List ℕ
+  words_held win = held d fits f r below chip w s m y win
+
+  pub yield_looks : (seen : List ℕ) → InWindow d (windows.Yield u) below w s o p → At (Looks (windows.Yield u) seen) → StepRight (Looks (windows.Yield u) seen)
+  yield_looks seen is stand = looks_right d f r below chip w s (windows.Yield u) o y p m (omega arith) seen stand (λ k v. yields_right d fits f r below chip w s (missed_after (adc_machine d) w s m) y u is.1 is.2 o p is.0 (Looks (windows.Yield u) (words_held (windows.Yield u))) k v refl stand.0)
+
+  pub begin_looks : (seen : List ℕ) → InWindow d (windows.Begin u) below w s o p → At (Looks (windows.Begin u) seen) → StepRight (Looks (windows.Begin u) seen)
+  begin_looks seen is stand = looks_right d f r below chip w s (windows.Begin u) o y p m (omega arith) seen stand (λ k v. begins_right d fits f r below chip w s (missed_after (adc_machine d) w s m) y u is.1 is.2 o p is.0 (Looks (windows.Begin u) (words_held (windows.Begin u))) k v refl stand.0)
+
+  pub begin_seeks : (q : Front) → MaySeek d (windows.Begin u) below w s o p → IsSeeking d (foot_of chip) (windows.Begin u) q → Agrees d (with_holds o p.acted (hold_in (windows.Begin u)) below) chip w s → StepRight (Seeks (windows.Begin u) q)
+  begin_seeks q is seek h =
+      seek_step d fits f r below chip w s m y o p (windows.Begin u) is h seek.1 seek.3 (λ K k v ends. begin_sought d fits f r below chip w s m y o p u is.1 is.2 is.0 seek.1 seek.3 K k v ends h is.3 is.4) q.search q.ranks seek.0 seek.2 seek.4
+
+  pub suspend_seeks : (g : ℕ) (q : Front) → MaySeek d (windows.Suspend u g) below w s o p → IsSeeking d (foot_of chip) (windows.Suspend u g) q → Agrees d (with_holds o p.acted (hold_in (windows.Suspend u g)) below) chip w s → StepRight (Seeks (windows.Suspend u g) q)
+  suspend_seeks g q is seek h =
+      seek_step d fits f r below chip w s m y o p (windows.Suspend u g) is h seek.1 seek.3 (λ K k v ends. suspend_sought d fits f r below chip w s m y o p u is.1 is.2 is.0 seek.1 seek.3 K k v ends g h is.3 is.4) q.search q.ranks seek.0 seek.2 seek.4

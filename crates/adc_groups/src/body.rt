@@ -1,0 +1,237 @@
+ghost use Rattle.std.specs.Prelude.{◌≡◌, None};
+ghost use Rattle.adc_groups.specs.laws.Body as spec;
+
+use crate::making::{Making, Then};
+use crate::outside::{Outside, Suspended};
+use crate::service::read::Newest;
+use crate::service::{self, read, request, serve, turn};
+use crate::window::Window;
+use crate::words::{Phase, Word, rounds_of, word_number};
+use adc_machine::AdcTable;
+use adc_stream::Bank;
+use mcal_base::{Answer, Move, Reg, Routine, Short};
+use service_outline::{Body, BodyTaken, Owed, ends, goes, nothing};
+use word_shapes::{Front, Put, Take, TakePart};
+
+/// What a window has seen of its words.
+pub type Seen = Short<u32, 6>;
+
+/// A place in a frame of the driver, from the load of the state word on.
+#[derive(Debug, Drop)]
+pub enum Place {
+    /// It reads a register that tells whether the line is ready.
+    Flag(Window),
+    /// It looks at the words that decide, one after the other.
+    Looks(Window, Seen),
+    /// It looks whether this group is under way, and then at the next one.
+    Surveys(Window, u8),
+    /// It looks which request waits first on a unit.
+    Seeks(Window, Front),
+    /// It looks for a bank, to take the round of a unit, of this group.
+    Chooses(u8, u8, Put),
+    /// It pins the newest bank of a group, which has this phase then.
+    Pins(u8, Phase),
+    /// It reads the bank that it has pinned.
+    Reads(Newest),
+    /// It aborts a unit's round, if that isn't finished.
+    Aborts(Suspended),
+    /// It makes its moves.
+    Makes(Making),
+    /// It has nothing to serve, and ends with its claim on this unit.
+    Quits(u8),
+    /// It opens the mask.
+    Opens(Outside),
+    /// The mask is open.
+    Out(Outside),
+}
+
+/// What is decided.
+pub enum Decided {
+    /// The frame is done with the step, at which this event stands.
+    Ends(BodyTaken),
+    /// It goes on.
+    Goes(Place),
+}
+
+/// A frame of the driver, from the load of the state word on.
+#[derive(Debug, Drop)]
+pub struct AdcBody {
+    /// The driver.
+    pub table: AdcTable,
+    /// Where it stands.
+    pub place: Place,
+}
+
+impl Body for AdcBody {
+    ghost use Rattle.adc_groups.specs.laws.Body.{body_work, body_takes};
+
+    ghost work_of = { body_work };
+
+    ghost takes = { body_takes };
+
+    fn next(&self) -> Move {
+        match &self.place {
+            Place::Flag(window) => Move::Read(flag_register(*window)),
+            Place::Looks(window, seen) => match window.word(seen.len()) {
+                Some(word) => Move::Load(word_number(&self.table, word)),
+                None => Move::Unmask,
+            },
+            Place::Surveys(_, group) => Move::Load(word_number(&self.table, Word::Phase(*group))),
+            Place::Seeks(_, front) => front.next(),
+            Place::Chooses(_, _, put) => put.next(),
+            Place::Pins(group, _) => pin_of(&self.table, *group).next(),
+            Place::Reads(newest) => newest.next(),
+            Place::Aborts(round) => Move::Read(Reg::ConverterAbort(u32::from(round.unit))),
+            Place::Makes(making) => making.next(&self.table),
+            Place::Quits(unit) => Move::Store(word_number(&self.table, Word::Claim(*unit)), 0),
+            Place::Opens(_) => Move::Unmask,
+            Place::Out(outside) => outside.next(),
+        }
+    }
+
+    fn took(&mut self, value: u32) -> BodyTaken {
+        match &mut self.place {
+            Place::Makes(making) => {
+                let event = making.took(value);
+                if making.is_over() {
+                    match making.after {
+                        Then::Ends(done) => BodyTaken {
+                            event,
+                            done: Some(done),
+                        },
+                        Then::Goes(outside) => {
+                            self.place = Place::Opens(outside);
+                            BodyTaken { event, done: None }
+                        }
+                    }
+                } else {
+                    BodyTaken { event, done: None }
+                }
+            }
+            Place::Looks(window, seen) => {
+                if seen.len() < 6 {
+                    seen.push(value);
+                }
+                if window.word(seen.len()).is_none() {
+                    let decided = service::decided(&self.table, *window, seen.as_slice());
+                    self.follows(decided)
+                } else {
+                    goes()
+                }
+            }
+            Place::Out(outside) => {
+                self.place = outside.after(&self.table, value);
+                goes()
+            }
+            Place::Opens(outside) => {
+                self.place = opened(&self.table, *outside);
+                goes()
+            }
+            Place::Pins(group, phase) => {
+                self.place = pinned(&self.table, *group, *phase, value);
+                goes()
+            }
+            Place::Reads(newest) => newest.took(value),
+            Place::Quits(_) => ends(None, nothing(), Owed::Nothing),
+            Place::Flag(window) => {
+                let decided = service::flagged(*window, value);
+                self.follows(decided)
+            }
+            Place::Surveys(window, group) => {
+                let decided = request::surveyed(&self.table, *window, *group, value);
+                self.follows(decided)
+            }
+            Place::Seeks(window, front) => match front.took(value).ended {
+                Some(found) => {
+                    let decided = turn::sought(&self.table, *window, given(&found));
+                    self.follows(decided)
+                }
+                None => goes(),
+            },
+            Place::Chooses(unit, group, put) => match put.took(value).ended {
+                Some(found) => {
+                    let decided = serve::chosen(*unit, *group, Bank::of(given(&found)));
+                    self.follows(decided)
+                }
+                None => goes(),
+            },
+            Place::Aborts(round) => {
+                let (event, place) = turn::aborted(&self.table, *round, value);
+                self.place = place;
+                BodyTaken { event, done: None }
+            }
+        }
+    }
+}
+
+impl AdcBody {
+    /// Writes the answer of a call that has ended with what it has read.
+    pub fn finish(&self, ended: &mut Option<Answer>)
+        requires { ended.old ≡ None }
+        ensures { ended.new ≡ spec.body_ends self.now }
+    {
+        if let Place::Reads(newest) = &self.place {
+            newest.finish(ended);
+        }
+    }
+
+    /// What was decided.
+    fn follows(&mut self, decided: Decided) -> BodyTaken
+        ensures state { self.new ≡ record self.old { place = (spec.follows self.old.place decided).0 } }
+        ensures taken { result ≡ (spec.follows self.old.place decided).1 }
+    {
+        match decided {
+            Decided::Ends(taken) => taken,
+            Decided::Goes(place) => {
+                self.place = place;
+                goes()
+            }
+        }
+    }
+}
+
+/// Where a frame goes on once the mask is open.
+fn opened(table: &AdcTable, outside: Outside) -> Place
+    ensures { result ≡ spec.opened table.now outside }
+{
+    match outside {
+        Outside::Reads(group, bank) => Place::Reads(read::reading(table, group, bank)),
+        other => Place::Out(other),
+    }
+}
+
+/// The pin of a group's newest bank.
+fn pin_of(table: &AdcTable, group: u8) -> Take
+    ensures { result ≡ spec.pin_of table.now group }
+{
+    rounds_of(table, group).trio().take(TakePart::Pin)
+}
+
+/// Where a call goes on that pins the newest bank, once it has looked which one it is.
+fn pinned(table: &AdcTable, group: u8, phase: Phase, value: u32) -> Place
+    ensures { result ≡ spec.pinned table.now group phase value }
+{
+    let mut take = pin_of(table, group);
+    take.took(value);
+    read::pin(group, phase, take, Bank::of(value % 4))
+}
+
+/// The register that tells whether the line is ready.
+fn flag_register(window: Window) -> Reg
+    ensures { result ≡ spec.flag_register window }
+{
+    match window {
+        Window::Take(unit) => Reg::ConverterState(u32::from(unit)),
+        _ => Reg::TriggerFlags,
+    }
+}
+
+/// The number that a routine gave.
+fn given(answer: &Answer) -> u32
+    ensures { result ≡ spec.given answer.now }
+{
+    match answer.words.as_slice().get(0) {
+        Some(number) => *number,
+        None => 0,
+    }
+}

@@ -1,0 +1,21 @@
+//! The converter driver: its calls and handlers as frames of single steps.
+#![tactic(auto)]
+
+mod asked;
+mod body;
+mod making;
+mod outside;
+mod service;
+mod window;
+mod words;
+
+pub use asked::{AnyBody, Asked};
+pub use body::{AdcBody, Decided, Place, Seen};
+pub use making::{Deed, Deeds, Making, Shape, Then};
+pub use outside::{Copied, Outside, Suspended, Taken};
+pub use service::module::{InitBody, Setup};
+pub use service::read::{Newest, Stage};
+pub use service::serve::RoundSeen;
+pub use service::stop::StopSeen;
+pub use window::Window;
+pub use words::{Phase, Word, word_number};

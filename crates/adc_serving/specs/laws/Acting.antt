@@ -1,0 +1,696 @@
+-- A finished round is served: all agrees after the acknowledgement, the change of the unit's order, the new newest bank and the deeds.
+use Rattle.std.proofs.Common.{◌≡◌, ◌≢◌, ℕ, ◌+◌, ◌*◌, ◌/◌, ◌%◌, ◌<◌, ◌≤◌, Bool, true, false, ◌&&◌, ◌||◌, ◌==◌, not, nat_lt, nat_le, min, List, [], ◌∷◌, ◌++◌, length, Option, Some, None, refl, sym, ◌∙◌, ap, subst, arith, ◌⊎◌, inl, inr, length-set}
+use Rattle.std.specs.Prelude.{is_some, if◌then◌else◌, slice_get}
+use Rattle.std.proofs.Math.Nat.{mod-lt}
+use Rattle.std.proofs.lemmas.Bool.Decides.{nat_tests}
+use Rattle.std.proofs.lemmas.List.{length_push, length-drop}
+use Rattle.chip_converter.specs.Converters as chips
+use Rattle.chip_converter.specs.Converters.{Converters}
+use Rattle.chip_converter.specs.declared.converter.Converter.{Converter}
+use Rattle.chip_model.specs.Chip.{Chip, word_of, chip_after}
+use Rattle.mcal_base.specs.Bits.{has_bit, bit_of}
+use Rattle.mcal_base.specs.declared.register.Reg.TheVariants.{ConverterAck}
+use Rattle.run_model.specs.Frame.{Entered}
+use Rattle.run_model.specs.World.{World}
+use Rattle.service_outline.specs.Services.{Held}
+use Rattle.shapes_on_chip.specs.OnChip.{HasWords}
+use Rattle.shapes_on_chip.specs.Parts.{DiffersIn}
+use Rattle.word_shapes.specs.Order.{Entry, waiting, without as left_of}
+use Rattle.word_shapes.specs.Ranked as ranked
+use Rattle.word_shapes.specs.Ranked.{Holds as HoldsOrder}
+use Rattle.word_shapes.specs.Trio.{own_of}
+use Rattle.adc_stream.specs.Rounds.{trio_of, bank_number, bank_word}
+use Rattle.adc_stream.specs.declared.column.Column.{Column}
+use Rattle.adc_stream.specs.declared.rounds.Bank.{Bank}
+use Rattle.adc_machine.specs.Configured.{unit_of}
+use Rattle.adc_machine.specs.Groups.{Idle, GroupState, Request, Round, inputs_of, samples_of, trigger_input, is_continuous, is_finished, is_full, values_of, newest, status_after, with_round_of, untouched, held_in}
+use Rattle.adc_machine.specs.Machine.{is_done, place_value}
+use Rattle.adc_machine.specs.Table.{group_of}
+use Rattle.adc_machine.specs.Triggers.{mark_at, without_mark, listener}
+use Rattle.adc_machine.specs.Turns.{AdcState, group_at, round_at, has_turn, is_round_of, is_on, aborts, aborts_by}
+use Rattle.adc_machine.specs.Words.{result_word, place_count}
+use Rattle.adc_machine.specs.declared.call.Call.{Call}
+use Rattle.adc_machine.specs.declared.call.ResultBuffer.{ResultBuffer}
+use Rattle.adc_machine.specs.declared.table.AdcTable.{AdcTable}
+use Rattle.adc_machine.proofs.Rounds.{whole_values}
+use Rattle.adc_groups.specs.Ground.{FitsAdc, Hold, Full, Copies, Holds, some_hold, starts_on, claims_on, SoundGroup, IsSoundGroup, IsSoundRequest, HeldRight, AllRight, CopiesRight, kept_in, kept_by, kept_of_round, number_at, number_by, phase_of, chosen_of, running_of, GroupAgrees, UnitAgrees, IsOrder, claim_right, IsOver, RoundAgrees, IsBlock, TriggersAgree, put_of, first_held, or_else, is_owed, buffer_by, BanksAgree, Promised, Agrees}
+use Rattle.adc_groups.specs.Owed.{Is_finished}
+use Rattle.adc_groups.specs.Places.{IsAlone}
+use Rattle.adc_groups.specs.Stored.{word_number, group_word, order_of, rounds_of}
+use Rattle.adc_groups.specs.declared.making.Deed.TheVariants as deeds
+use Rattle.adc_groups.specs.declared.words.TheConstants.{STATE}
+use Rattle.adc_groups.specs.declared.words.Word.TheVariants as words
+use Rattle.adc_groups.specs.laws.Alike.{unit_set, unit_other}
+use Rattle.adc_groups.specs.laws.Apartness.{start_from}
+use Rattle.adc_groups.specs.laws.Basis.{finished_here}
+use Rattle.adc_groups.specs.laws.Changed.{Stays, Fresh, AllSpare, all_changed, changed, turn_same, place_stays, claim_stays}
+use Rattle.adc_groups.specs.laws.Deciding.{trigger_bit}
+use Rattle.adc_groups.specs.laws.Making.{deed_move}
+use Rattle.adc_groups.specs.laws.Orders.{order_waiting, order_without}
+use Rattle.adc_groups.specs.laws.Own.{on_there, unit_is, within, some_samples, bank_below}
+use Rattle.adc_groups.specs.laws.Owed.{acknowledged_list, acknowledged_over}
+use Rattle.adc_groups.specs.laws.Promising.{promised_same, waits_other}
+use Rattle.adc_groups.specs.laws.Requesting.{sound_past, listener_as}
+use Rattle.adc_groups.specs.laws.Stops.{off_block, off_unit, off_time}
+use Rattle.adc_groups.specs.laws.Switched.{marks_off, triggers_off}
+use Rattle.adc_groups.specs.laws.Turned.{round_turn, none_past, unit_of_round, turn_round, off_unit as off_group}
+use Rattle.adc_serving.specs.laws.Claiming.{claiming, claimed_parts}
+use Rattle.adc_serving.specs.laws.Committed.{part_of, newest_pushed, quarter_left, rest_left, committed, stands_committed, newest_committed, value_stored, group_unstored, place_unstored}
+use Rattle.adc_serving.specs.laws.Filling.{got}
+use Rattle.adc_serving.specs.laws.Leaving.{no_puts, none_right}
+use Rattle.adc_serving.specs.laws.Moves.{turn_set, last, low_served, control_served, running_served, claim_served, other_served, order_served, block_served, lines_served, stands_served}
+use Rattle.adc_serving.specs.laws.Served.{served, served_group, is_group, is_other, is_free, other_round, is_rest, marks_full, marks_rest}
+use Rattle.adc_serving.specs.laws.Sounds.{not_idle, after_full, after_again, after_rest}
+use Rattle.adc_serving.specs.laws.Words.{same_or, itself, equal, unlike}
+
+three_off : (a b c : Bool) → b ≡ false → c ≡ false → a || b || c ≡ a
+three_off true b c e f = refl
+three_off false false false e f = refl
+three_off false true c e f = absurd (cc)
+three_off false false true e f = absurd (cc)
+
+module _ (d : AdcTable) (fits : FitsAdc d) (below : Holds) (chip : Chip) (w : World) (s : AdcState) (u g : ℕ) (b : Bank) (few : u < 2) (alone : IsAlone (24 + u) below) (x : Round) (is : round_at s u ≡ Some x) (h : Agrees d (claiming u (Full u g b) below) chip w s) where
+  abbrev before : Holds
+  before = claiming u (Full u g b) below
+
+  on : s.initialised ≡ true
+  on = h.right.0.1
+
+  at : is_on u (group_of d g) ≡ true
+  at = h.right.0.2
+
+  pub there : is_some (group_of d g) ≡ true
+  there = on_there u (group_of d g) at
+
+  pub lt : g < 16
+  lt = within d g there
+
+  here : unit_of (group_of d g) ≡ u
+  here = unit_is d fits u (group_of d g) at
+
+  pub group_is : x.group ≡ g
+  group_is = (h.right.0.3.same x is).0
+
+  pub finished : is_finished w (group_of d g) x ≡ true
+  finished = (h.right.0.3.same x is).1
+
+  abbrev pub values : List ℕ
+  values = values_of w (group_of d g) x
+
+  pub past : (k : ℕ) → 16 ≤ k → group_at s k ≡ untouched
+  past = sound_past d s h.sound.groups
+
+  -- what is so of its round
+  waits_none : (group_at s g).waiting ≡ None
+  waits_none = subst (λ n. (group_at s n).waiting ≡ None) group_is (h.sound.runs u x is).2
+
+  sound_request : IsSoundRequest d s g x.request
+  sound_request = subst (λ n. IsSoundRequest d s n x.request) group_is (h.sound.runs u x is).4
+
+  of_group : is_round_of g (round_at s u) ≡ true
+  of_group = ap (λ q. is_round_of g q) is ∙ (ap (λ n. n == g) group_is ∙ itself g)
+
+  pub turn_was : has_turn s g ≡ true
+  turn_was = round_turn s g u few of_group
+
+  whole_round : length values ≡ length (inputs_of (group_of d g))
+  whole_round =
+      let count = (whole_values w (group_of d g) x).count in
+      let left = length-drop (length x.request.kept) (inputs_of (group_of d g)) in
+      let less = sound_request.2 in
+      omega (arith, count, left, less)
+
+  was_sound : SoundGroup (group_of d g) true (group_at s g)
+  was_sound = subst (λ q. SoundGroup (group_of d g) q (group_at s g)) turn_was (h.sound.groups g)
+
+  awake : (group_at s g).status ≢ Idle
+  awake e = absurd (let off = was_sound.turn e in cc)
+
+  claim_parts : (word_of chip (word_number d (words.Claim u)) ≡ 1) × (some_hold (claims_on u) below ≡ false)
+  claim_parts = claimed_parts u (word_of chip (word_number d (words.Claim u))) below (claim_right below u (word_of chip (word_number d (words.Claim u)))) ((h.settled on).claims u few)
+
+  was : GroupAgrees d (word_of chip) s g
+  was = (h.settled on).groups g there
+
+  pub unit_was : UnitAgrees d (word_of chip) s u
+  unit_was = (h.settled on).units u few
+
+  abbrev pub xs : List Entry
+  xs = unit_was.order.0
+
+  pub whole : HasWords chip
+  whole = h.outside.all.words
+
+  -- ---- the state, by whether its stream is full and whether it is continuous
+
+  module _ (f c : Bool) where
+    abbrev pub t : AdcState
+    t = served d s g u few lt past x.request.number values f c
+
+    abbrev pub again : Bool
+    again = c && not f
+
+    group_now : group_at t g ≡ served_group d s g u few lt past x.request.number values f c
+    group_now = is_group d s g u few lt past x.request.number values f c
+
+    others_as : (k : ℕ) → k ≢ g → group_at t k ≡ group_at s k
+    others_as = is_other d s g u few lt past x.request.number values f c
+
+    free : round_at t u ≡ None
+    free = is_free d s g u few lt past x.request.number values f c
+
+    rounds_as : (v : ℕ) → v ≢ u → round_at t v ≡ round_at s v
+    rounds_as = other_round d s g u few lt past x.request.number values f c (none_past d w s h.sound)
+
+    rest_as : (t.results ≡ with_round_of (group_of d g) (length (group_at s g).rounds) g (group_at s g).chosen values s.results) × (t.requests ≡ s.requests) × (t.initialised ≡ s.initialised)
+    rest_as = is_rest d s g u few lt past x.request.number values f c
+
+    still : t.initialised ≡ true
+    still = rest_as.2 ∙ on
+
+    none_of_group : (v : ℕ) → is_round_of g (round_at t v) ≡ false
+    none_of_group v = by (same_or v u)
+      where
+        not_here : v ≢ u → (q : Bool) → is_round_of g (round_at s v) ≡ q → q ≡ false
+        not_here ne true e = absurd (ne (unit_of_round d fits w s h.sound g v e ∙ here))
+        not_here ne false e = refl
+
+        by : (v ≡ u) ⊎ (v ≢ u) → is_round_of g (round_at t v) ≡ false
+        by (inl e) = ap (λ n. is_round_of g (round_at t n)) e ∙ ap (λ q. is_round_of g q) free
+        by (inr ne) = ap (λ q. is_round_of g q) (rounds_as v ne) ∙ not_here ne (is_round_of g (round_at s v)) refl
+
+    waiting_by : (f c : Bool) → is_some (served_group d s g u few lt past x.request.number values f c).waiting ≡ c && not f
+    waiting_by true true = ap (λ q. is_some q) waits_none
+    waiting_by true false = ap (λ q. is_some q) waits_none
+    waiting_by false true = refl
+    waiting_by false false = ap (λ q. is_some q) waits_none
+
+    waits_now : is_some (group_at t g).waiting ≡ c && not f
+    waits_now = ap (λ (z : GroupState). is_some z.waiting) group_now ∙ waiting_by f c
+
+    turn_now : has_turn t g ≡ c && not f
+    turn_now = three_off (is_some (group_at t g).waiting) (is_round_of g (round_at t 0)) (is_round_of g (round_at t 1)) (none_of_group 0) (none_of_group 1) ∙ waits_now
+
+    -- what is new of the group
+    rounds_now : (group_at t g).rounds ≡ (group_at s g).rounds ++ values ∷ []
+    rounds_now = ap (λ (z : GroupState). z.rounds) group_now ∙ by f c
+      where
+        by : (f c : Bool) → (served_group d s g u few lt past x.request.number values f c).rounds ≡ (group_at s g).rounds ++ values ∷ []
+        by true c = refl
+        by false true = refl
+        by false false = refl
+
+    status_now : (group_at t g).status ≡ status_after (length (group_at s g).rounds % samples_of (group_of d g) + 1 == samples_of (group_of d g)) (group_at s g).status
+    status_now = ap (λ (z : GroupState). z.status) group_now ∙ by f c
+      where
+        by : (f c : Bool) → (served_group d s g u few lt past x.request.number values f c).status ≡ status_after (length (group_at s g).rounds % samples_of (group_of d g) + 1 == samples_of (group_of d g)) (group_at s g).status
+        by true c = refl
+        by false true = refl
+        by false false = refl
+
+    chosen_now : (group_at t g).chosen ≡ (group_at s g).chosen
+    chosen_now = ap (λ (z : GroupState). z.chosen) group_now ∙ by f c
+      where
+        by : (f c : Bool) → (served_group d s g u few lt past x.request.number values f c).chosen ≡ (group_at s g).chosen
+        by true c = refl
+        by false true = refl
+        by false false = refl
+
+    notified_now : (group_at t g).notification ≡ (group_at s g).notification
+    notified_now = ap (λ (z : GroupState). z.notification) group_now ∙ by f c
+      where
+        by : (f c : Bool) → (served_group d s g u few lt past x.request.number values f c).notification ≡ (group_at s g).notification
+        by true c = refl
+        by false true = refl
+        by false false = refl
+
+    trigger_now : (group_at t g).trigger ≡ (group_at s g).trigger && not f
+    trigger_now = ap (λ (z : GroupState). z.trigger) group_now ∙ by f c
+      where
+        and_off : (q : Bool) → false ≡ q && false
+        and_off true = refl
+        and_off false = refl
+
+        and_on : (q : Bool) → q ≡ q && true
+        and_on true = refl
+        and_on false = refl
+
+        by : (f c : Bool) → (served_group d s g u few lt past x.request.number values f c).trigger ≡ (group_at s g).trigger && not f
+        by true c = and_off (group_at s g).trigger
+        by false true = and_on (group_at s g).trigger
+        by false false = and_on (group_at s g).trigger
+
+    sound : is_full (group_of d g) (length (group_at s g).rounds + 1) ≡ f → is_continuous (group_of d g) ≡ c → IsSoundGroup d t g
+    sound ef ec = subst (λ z. SoundGroup (group_of d g) (has_turn t g) z) (sym group_now) (subst (λ q. SoundGroup (group_of d g) q (served_group d s g u few lt past x.request.number values f c)) (sym turn_now) (by f c ef ec))
+      where
+        hears : is_some (trigger_input (group_of d g)) ≡ true → (group_at s g).trigger ≡ true
+        hears i = h.sound.hears g turn_was i
+
+        by : (f c : Bool) → is_full (group_of d g) (length (group_at s g).rounds + 1) ≡ f → is_continuous (group_of d g) ≡ c → SoundGroup (group_of d g) (c && not f) (served_group d s g u few lt past x.request.number values f c)
+        by true true ef ec = after_full (group_of d g) (group_at s g) there (some_samples d fits g there) was_sound hears values whole_round ef
+        by true false ef ec = after_full (group_of d g) (group_at s g) there (some_samples d fits g there) was_sound hears values whole_round ef
+        by false true ef ec = after_again (group_of d g) (group_at s g) there (some_samples d fits g there) was_sound hears values whole_round (Some (record { number = x.request.number; kept = [] })) ef ec
+        by false false ef ec = after_rest (group_of d g) (group_at s g) there (some_samples d fits g there) was_sound hears values whole_round ef ec
+
+  -- ---- the chip after all moves
+
+  module _ (f c : Bool) (ef : is_full (group_of d g) (length (group_at s g).rounds + 1) ≡ f) (ec : is_continuous (group_of d g) ≡ c) (a : Chip) (differs : DiffersIn (ranked.own_of (order_of u)) (chip_after chip (deed_move d (deeds.Write (ConverterAck u) 1)) 0) a)
+      (holds : HoldsOrder (order_of u) (word_of a) (if c && not f then waiting g true unit_was.order.0 else left_of g unit_was.order.0)) (count place phase : ℕ) (count_is : count ≡ min (length (group_at s g).rounds + 1) (samples_of (group_of d g))) (place_is : place ≡ (length (group_at s g).rounds + 1) % samples_of (group_of d g))
+      (phase_is : phase ≡ phase_of (status_after (length (group_at s g).rounds % samples_of (group_of d g) + 1 == samples_of (group_of d g)) (group_at s g).status) (c && not f || (group_at s g).trigger && not f)) (second : Bool) (chosen : (group_at s g).chosen ≡ Some (buffer_by second)) where
+    abbrev v : ℕ
+    v = word_of a (trio_of (rounds_of d g)).control
+
+    abbrev value : ℕ
+    value = bank_number b % 4 + 4 * (word_of a (trio_of (rounds_of d g)).control / 4)
+
+    abbrev z : Chip
+    z = last d fits g u there few chip whole a differs (bank_number b % 4 + 4 * (word_of a (trio_of (rounds_of d g)).control / 4)) count place phase (c && not f) (f && is_some (trigger_input (group_of d g)))
+
+    abbrev t1 : AdcState
+    t1 = served d s g u few lt past x.request.number values f c
+
+    abbrev col : Column
+    col = record { group = g; second = second; samples = samples_of (group_of d g); place = length (group_at s g).rounds % samples_of (group_of d g) }
+
+    abbrev after : Holds
+    after = claiming u (Copies b (record { group = g; second = second; samples = samples_of (group_of d g); place = length (group_at s g).rounds % samples_of (group_of d g) }) 0 None) below
+
+    low : (j : ℕ) → j ≢ 7 → word_of z (group_word d g j) ≡ turn_set (c && not f) j (if 0 == j then phase else (if 5 == j then place else (if 4 == j then count else word_of chip (group_word d g j))))
+    low = low_served d fits g u there few chip whole a differs value count place phase (c && not f) (f && is_some (trigger_input (group_of d g)))
+
+    claim_now : word_of z (word_number d (words.Claim u)) ≡ 0
+    claim_now = claim_served d fits g u there few chip whole a differs value count place phase (c && not f) (f && is_some (trigger_input (group_of d g)))
+
+    running_now : word_of z (word_number d (words.Running u)) ≡ 0
+    running_now = running_served d fits g u there few chip whole a differs value count place phase (c && not f) (f && is_some (trigger_input (group_of d g)))
+
+    control_now : word_of z (group_word d g 7) ≡ value
+    control_now = control_served d fits g u there few chip whole a differs value count place phase (c && not f) (f && is_some (trigger_input (group_of d g)))
+
+    elsewhere : (k : ℕ) → ((i : ℕ) → i < 8 → k ≢ group_word d g i) → ((i : ℕ) → i < 5 → k ≢ STATE + 8 + 8 * u + i) → word_of z k ≡ word_of chip k
+    elsewhere = other_served d fits g u there few chip whole a differs value count place phase (c && not f) (f && is_some (trigger_input (group_of d g)))
+
+    -- ---- the block
+
+    abbrev unit_a : Converter
+    unit_a = chips.unit_at chip.converters u
+
+    abbrev acked : Converters
+    acked = chips.with_unit chip.converters u (chips.acknowledged chip.converters.time (chips.unit_at chip.converters u))
+
+    block : z.converters ≡ off_block (f && is_some (trigger_input (group_of d g))) (trigger_bit d g) acked
+    block = block_served d fits g u there few chip whole a differs value count place phase (c && not f) (f && is_some (trigger_input (group_of d g)))
+
+    lines : z.control ≡ chip.control
+    lines = lines_served d fits g u there few chip whole a differs value count place phase (c && not f) (f && is_some (trigger_input (group_of d g)))
+
+    within_units : u < length chip.converters.units
+    within_units = let all = h.block.all in let l = few in omega (arith, all, l)
+
+    is_unit : chips.unit_at acked u ≡ chips.acknowledged chip.converters.time (chips.unit_at chip.converters u)
+    is_unit = unit_set chip.converters.units u (chips.acknowledged chip.converters.time (chips.unit_at chip.converters u)) within_units
+
+    other_units : (k : ℕ) → k ≢ u → chips.unit_at acked k ≡ chips.unit_at chip.converters k
+    other_units k ne = unit_other chip.converters.units u k (chips.acknowledged chip.converters.time (chips.unit_at chip.converters u)) ne
+
+    acked_block : IsBlock acked w
+    acked_block = record {
+      all = length-set chip.converters.units u (chips.acknowledged chip.converters.time (chips.unit_at chip.converters u)) ∙ h.block.all;
+      lists = λ k less. by k less (same_or k u);
+      past = h.block.past;
+      samples = h.block.samples;
+    }
+      where
+        by : (k : ℕ) → k < 2 → (k ≡ u) ⊎ (k ≢ u) → length (chips.unit_at acked k).list ≡ 8
+        by k less (inl i) = subst (λ n. length (chips.unit_at acked n).list ≡ 8) (sym i) (ap (λ (q : Converter). length q.list) is_unit ∙ (ap length (acknowledged_list unit_a chip.converters.time) ∙ h.block.lists u few))
+        by k less (inr ne) = ap (λ (q : Converter). length q.list) (other_units k ne) ∙ h.block.lists k less
+
+    off_same : (q : Bool) (n : ℕ) (e : Converters) → IsBlock e w → IsBlock (off_block q n e) w
+    off_same true n e k = record { all = k.all; lists = k.lists; past = k.past; samples = k.samples }
+    off_same false n e k = k
+
+    off_levels : (q : Bool) (n : ℕ) (e : Converters) → (off_block q n e).levels ≡ e.levels
+    off_levels true n e = refl
+    off_levels false n e = refl
+
+    unit_z : (k : ℕ) → chips.unit_at z.converters k ≡ chips.unit_at acked k
+    unit_z k = ap (λ e. chips.unit_at e k) block ∙ off_unit (f && is_some (trigger_input (group_of d g))) (trigger_bit d g) k acked
+
+    time_z : z.converters.time ≡ chip.converters.time
+    time_z = ap (λ (e : Converters). e.time) block ∙ off_time (f && is_some (trigger_input (group_of d g))) (trigger_bit d g) acked
+
+    round_over : IsOver (chips.unit_at z.converters u).round z.converters.time
+    round_over = subst (λ n. IsOver (chips.unit_at z.converters u).round n) (sym time_z) (subst (λ (q : Converter). IsOver q.round chip.converters.time) (sym (unit_z u ∙ is_unit)) (acknowledged_over unit_a chip.converters.time (Is_finished (finished_here d fits before chip w s h u few ∙ (ap (λ q. is_done d w q) is ∙ (ap (λ n. is_finished w (group_of d n) x) group_is ∙ finished))))))
+
+    -- ---- triggers
+
+    deaf : f ≡ true → (group_at t1 g).trigger ≡ false
+    deaf e = trigger_now f c ∙ (ap (λ q. (group_at s g).trigger && not q) e ∙ and_off (group_at s g).trigger)
+      where
+        and_off : (q : Bool) → q && false ≡ false
+        and_off true = refl
+        and_off false = refl
+
+    trigger_others : (k : ℕ) → k ≢ g → (group_at t1 k).trigger ≡ (group_at s k).trigger
+    trigger_others k ne = ap (λ (q : GroupState). q.trigger) (others_as f c k ne)
+
+    -- what the block's gates and flags are, and which marks some group listens to
+    module _ (e : f ≡ true) where
+      marks_left : (i : ℕ) → mark_at t1 i ≡ mark_at (without_mark s (trigger_input (group_of d g))) i
+      marks_left i = ap (λ q. mark_at (served d s g u few lt past x.request.number values q c) i) e ∙ marks_full d s g u few lt past x.request.number values c i
+
+      full_marks : (i : ℕ) → mark_at t1 i ≡ true → is_some (listener d t1 i) ≡ true
+      full_marks = marks_off d fits s t1 g was_sound.input trigger_others (deaf e) marks_left h.sound.marks
+
+      full_triggers : TriggersAgree d z.converters t1
+      full_triggers =
+          let q = triggers_off d fits s t1 g was_sound.input trigger_others (deaf e) marks_left acked (record { gates = h.triggers.gates; flags = h.triggers.flags; others = h.triggers.others }) in
+          subst (λ e. TriggersAgree d e t1) (sym (block ∙ ap (λ n. off_block (n && is_some (trigger_input (group_of d g))) (trigger_bit d g) acked) e)) q
+
+    module _ (e : f ≡ false) where
+      marks_same : (i : ℕ) → mark_at t1 i ≡ mark_at s i
+      marks_same i = ap (λ q. mark_at (served d s g u few lt past x.request.number values q c) i) e ∙ marks_rest d s g u few lt past x.request.number values c i
+
+      listens_as : (i : ℕ) → listener d t1 i ≡ listener d s i
+      listens_as = listener_as d s t1 (λ k. by k (same_or k g))
+        where
+          and_on : (q : Bool) → q && true ≡ q
+          and_on true = refl
+          and_on false = refl
+
+          by : (k : ℕ) → (k ≡ g) ⊎ (k ≢ g) → (group_at t1 k).trigger ≡ (group_at s k).trigger
+          by k (inl i) = subst (λ n. (group_at t1 n).trigger ≡ (group_at s n).trigger) (sym i) (trigger_now f c ∙ (ap (λ q. (group_at s g).trigger && not q) e ∙ and_on (group_at s g).trigger))
+          by k (inr ne) = trigger_others k ne
+
+      rest_triggers : TriggersAgree d z.converters t1
+      rest_triggers =
+          subst (λ e. TriggersAgree d e t1) (sym (block ∙ ap (λ n. off_block (n && is_some (trigger_input (group_of d g))) (trigger_bit d g) acked) e)) (record {
+            gates = λ i less. h.triggers.gates i less ∙ ap (λ q. is_some q) (sym (listens_as i));
+            flags = λ i less. h.triggers.flags i less ∙ sym (marks_same i);
+            others = h.triggers.others;
+          })
+
+    triggers : (q : Bool) → f ≡ q → TriggersAgree d z.converters t1
+    triggers true e = full_triggers e
+    triggers false e = rest_triggers e
+
+    marks_now : (q : Bool) → f ≡ q → (i : ℕ) → mark_at t1 i ≡ true → is_some (listener d t1 i) ≡ true
+    marks_now true e i m = full_marks e i m
+    marks_now false e i m = ap (λ q. is_some q) (listens_as e i) ∙ h.sound.marks i (sym (marks_same e i) ∙ m)
+
+    -- ---- what stays
+
+    -- the new results are those of a stored round
+    results_now : t1.results ≡ with_round_of (group_of d g) (length (group_at s g).rounds) g (Some (buffer_by second)) values s.results
+    results_now = (rest_as f c).0 ∙ ap (λ o. with_round_of (group_of d g) (length (group_at s g).rounds) g o values s.results) chosen
+
+    results_other : (k : ℕ) → k ≢ g → (n : ResultBuffer) (p : ℕ) → place_value t1 k n p ≡ place_value s k n p
+    results_other k ne n p = ap (λ r. held_in r k n p) results_now ∙ group_unstored (group_of d g) (some_samples d fits g there) (length (group_at s g).rounds) g second values s.results k n p ne
+
+    stays : Stays d before after chip z s t1 g u
+    stays = record {
+      on = on;
+      still = still f c;
+      requests = (let same = (rest_as f c).1 in omega (arith, same));
+      others = others_as f c;
+      rounds = rounds_as f c;
+      from = λ y i ne. absurd (let none : None ≡ Some y = sym (free f c) ∙ i in cc);
+      to = λ y i ne. absurd (ne (let same : Some x ≡ Some y = sym is ∙ i in let q : x ≡ y = cc in ap (λ (r : Round). r.group) (sym q) ∙ group_is));
+      results = results_other;
+      elsewhere = elsewhere;
+      claim_from = λ k ne i. absurd (let none = claim_now in omega (arith, none, i));
+      claim_to = λ k ne i. absurd (let one = claim_parts.0 in omega (arith, one, i));
+      unit = λ k ne i. absurd (let none = claim_now in omega (arith, none, i));
+      units = λ k less ne. unit_z k ∙ other_units k ne;
+      levels = ap (λ (e : Converters). e.levels) block ∙ off_levels (f && is_some (trigger_input (group_of d g))) (trigger_bit d g) acked;
+      time = time_z;
+      enabled = λ l i. ap (λ e. has_bit e.enabled l) lines;
+      puts = λ k ne. sym (ap (λ q. or_else (if q then Some (bank_number b, length (inputs_of (group_of d k))) else None) (first_held (put_of d k) below)) (unlike k g ne));
+      takes = λ k ne. refl;
+    }
+
+    -- ---- what is held
+
+    stays_control : word_of a (trio_of (rounds_of d g)).control ≡ word_of chip (trio_of (rounds_of d g)).control
+    stays_control = differs.others (trio_of (rounds_of d g)).control (off (trio_of (rounds_of d g)).control (STATE + 10 + 8 * u) (let low = (start_from d fits g there).0 in omega (arith, low, few)))
+      where
+        off : (k at : ℕ) → at + 2 < k → k == at || (k == at + 1 || k == at + 2) ≡ false
+        off k at lt = grind (arith, nat_tests)
+
+    value_is : value ≡ bank_number b % 4 + 4 * (word_of chip (trio_of (rounds_of d g)).control / 4)
+    value_is = ap (λ n. bank_number b % 4 + 4 * (n / 4)) stays_control
+
+    bank_small : bank_number b < 4
+    bank_small = let less = bank_below d fits b in omega (arith, less)
+
+    is_control : group_word d g 7 ≡ (trio_of (rounds_of d g)).control
+    is_control = omega arith
+
+    control_is : word_of z (trio_of (rounds_of d g)).control ≡ bank_number b % 4 + 4 * (word_of chip (trio_of (rounds_of d g)).control / 4)
+    control_is = ap (λ k. word_of z k) (sym is_control) ∙ (control_now ∙ value_is)
+
+    pinned_same : word_of z (group_word d g 7) / 4 ≡ word_of chip (group_word d g 7) / 4
+    pinned_same = ap (λ n. n / 4) (control_now ∙ value_is) ∙ (quarter_left (bank_number b) (word_of chip (trio_of (rounds_of d g)).control) bank_small ∙ ap (λ k. word_of chip k / 4) (sym is_control))
+
+    -- frames below claim nothing of the unit, and copy nothing of the group
+    spare : (hs : Holds) → AllRight d chip w s hs → IsAlone (24 + u) hs → some_hold (claims_on u) hs ≡ false → AllSpare d chip z s t1 g u hs
+    spare [] r al e = tt
+    spare (y ∷ ys) r al e =
+        let k = none_of (claims_on u y.what) (some_hold (claims_on u) ys) e in (
+          record {
+            rounds = λ i. absurd (let off = k.0 in cc);
+            unkept = λ i. absurd (let off = k.0 in cc);
+            lost = λ i. absurd (let off = k.0 in cc);
+            copies = λ n q j o i same. absurd (al.0 (by_line y y.what n q j o r.0 i same));
+            reads = λ n q vs i same. pinned_same;
+          },
+          spare ys r.1 al.1 k.1,
+        )
+      where
+        none_of : (i j : Bool) → i || j ≡ false → (i ≡ false) × (j ≡ false)
+        none_of true j f = absurd (cc)
+        none_of false j f = (refl, f)
+
+        by_line : (y : Held Call Hold) (m : Hold) (n : Bank) (q : Column) (j : ℕ) (o : Option ℕ) → HeldRight d chip w s y m → m ≡ Copies n q j o → q.group ≡ g → y.by ≡ Entered (24 + u)
+        by_line y m n q j o r i same = (subst (λ e. HeldRight d chip w s y e) i r).0 ∙ ap (λ k. Entered (24 + k)) (ap (λ k. unit_of (group_of d k)) same ∙ here)
+
+    right_below : AllRight d z w t1 below
+    right_below = all_changed d fits before after chip z w s t1 h g u at stays below (spare below h.right.1.1 alone claim_parts.1) h.right.1.1
+
+    -- ---- the banks
+
+    trio_other : (j : ℕ) → own_of (trio_of (rounds_of d g)) j ≡ true → j ≢ (trio_of (rounds_of d g)).control → word_of z j ≡ word_of chip j
+    trio_other j own ne =
+        let from = in_banks (trio_of (rounds_of d g)).control (trio_of (rounds_of d g)).banks (3 * length (inputs_of (group_of d g))) j (unlike j (trio_of (rounds_of d g)).control ne) own in
+        let start = (start_from d fits g there).0 in
+        elsewhere j (λ i less e. omega (arith, from, less, e)) (λ i less e. omega (arith, from, less, e, start, few))
+      where
+        in_banks : (control first len k : ℕ) → (k == control) ≡ false → k == control || (nat_le first k && nat_lt k (first + len)) ≡ true → first ≤ k
+        in_banks control first len k off e = grind (arith, nat_tests)
+
+    filled_is : (j n : ℕ) → slice_get values j ≡ Some n → word_of chip (bank_word (rounds_of d g) b j) ≡ n
+    filled_is j n e = h.right.0.3.filled x j n is e
+
+    put_is : part_of (h.banks g there).banks.put ≡ Some (bank_number b, length (inputs_of (group_of d g)))
+    put_is = (h.banks g there).put ∙ ap (λ q. or_else (if q then Some (bank_number b, length (inputs_of (group_of d g))) else None) (first_held (put_of d g) below)) (itself g)
+
+    awake_now : (group_at t1 g).status ≢ Idle
+    awake_now e = not_idle (length (group_at s g).rounds % samples_of (group_of d g) + 1 == samples_of (group_of d g)) (group_at s g).status (sym (status_now f c) ∙ e)
+
+    banks : BanksAgree d after (word_of z) t1 g
+    banks =
+        let k = h.banks g there in record {
+          banks = committed d fits g there (word_of chip) (word_of z) b values whole_round filled_is k.banks k.stands put_is control_is trio_other;
+          stands = stands_committed d fits g there (word_of chip) (word_of z) b values whole_round filled_is k.banks k.stands put_is control_is trio_other;
+          newest = λ ne more. newest_committed d fits g there (word_of chip) (word_of z) b values whole_round filled_is k.banks k.stands put_is control_is trio_other ∙ sym (ap (λ r. newest r) (rounds_now f c) ∙ newest_pushed (group_at s g).rounds values);
+          put = sym (no_puts d fits chip w s u g at below h.right.1.1 claim_parts.1);
+          take = k.take;
+        }
+
+    -- ---- what is copied next
+
+    -- each value's word in the bank, and its place in the buffer
+    value_now : (j : ℕ) → j < length (inputs_of (group_of d g)) → word_of z (bank_word (rounds_of d g) b j) ≡ place_value t1 g (buffer_by second) (j * samples_of (group_of d g) + length (group_at s g).rounds % samples_of (group_of d g))
+    value_now j less =
+        let n = got values j (let all = whole_round in omega (arith, less, all)) in
+        let start = (start_from d fits g there).0 in
+        let at_word : bank_word (rounds_of d g) b j ≡ STATE + (rounds_of d g).start + 32 + bank_number b * length (inputs_of (group_of d g)) + j = omega arith in
+        elsewhere (bank_word (rounds_of d g) b j) (λ i lt e. far (bank_number b * length (inputs_of (group_of d g))) i j lt (sym at_word ∙ e)) (λ i lt e. past_unit (bank_number b * length (inputs_of (group_of d g))) i j lt start few (sym at_word ∙ e))
+        ∙ (filled_is j n.0 n.1 ∙ sym (ap (λ r. held_in r g (buffer_by second) (j * samples_of (group_of d g) + length (group_at s g).rounds % samples_of (group_of d g))) results_now ∙ value_stored (group_of d g) (some_samples d fits g there) (length (group_at s g).rounds) g second values s.results j n.0 n.1))
+      where
+        far : (m i j : ℕ) → i < 8 → STATE + (rounds_of d g).start + 32 + m + j ≡ group_word d g i → ⊥
+        far m i j lt e = omega (arith, lt, e)
+
+        past_unit : (m i j : ℕ) → i < 5 → 64 ≤ (rounds_of d g).start → u < 2 → STATE + (rounds_of d g).start + 32 + m + j ≡ STATE + 8 + 8 * u + i → ⊥
+        past_unit m i j lt start small e = omega (arith, lt, start, small, e)
+
+    copies_right : CopiesRight d z t1 b col 0 None
+    copies_right = record {
+      newest = ap (λ n. n % 4) control_is ∙ rest_left (bank_number b) (word_of chip (trio_of (rounds_of d g)).control) bank_small;
+      values = λ j less le. value_now j less;
+      next = λ n e. absurd (cc);
+    }
+
+    right : AllRight d z w t1 after
+    right = ((ap (λ n. Entered (24 + n)) (sym here), still f c, there, copies_right), (still f c, right_below))
+
+    -- a place that isn't owed is as before
+    places : (k : ℕ) (n : ResultBuffer) (p : ℕ) → p < place_count d k → some_hold (is_owed k n p) after ≡ false → word_of z (result_word k n p) ≡ place_value t1 k n p
+    places k n p less left =
+        let both = none_of (is_owed k n p (Copies b col 0 None)) (some_hold (is_owed k n p) below) left in
+        place_stays d fits before after chip z w s t1 h g u at stays k n p
+        ∙ (h.places k n p less both.1
+        ∙ sym (ap (λ r. held_in r k n p) results_now ∙ place_unstored (group_of d g) (some_samples d fits g there) (length (group_at s g).rounds) g second values s.results k n p b (mod-lt (length (group_at s g).rounds) (some_samples d fits g there)) both.0))
+      where
+        none_of : (i j : Bool) → i || j ≡ false → (i ≡ false) × (j ≡ false)
+        none_of true j e = absurd (cc)
+        none_of false j e = (refl, e)
+
+    -- ---- the group's words
+
+    count_word : min (length (group_at t1 g).rounds) (samples_of (group_of d g)) ≡ count
+    count_word = ap (λ r. min (length r) (samples_of (group_of d g))) (rounds_now f c) ∙ (ap (λ n. min n (samples_of (group_of d g))) (length_push (group_at s g).rounds values) ∙ sym count_is)
+
+    place_word : length (group_at t1 g).rounds % samples_of (group_of d g) ≡ place
+    place_word = ap (λ r. length r % samples_of (group_of d g)) (rounds_now f c) ∙ (ap (λ n. n % samples_of (group_of d g)) (length_push (group_at s g).rounds values) ∙ sym place_is)
+
+    phase_word : phase_of (group_at t1 g).status (has_turn t1 g || (group_at t1 g).trigger) ≡ phase
+    phase_word =
+        ap (λ q. phase_of q (has_turn t1 g || (group_at t1 g).trigger)) (status_now f c)
+        ∙ (ap (λ q. phase_of (status_after (length (group_at s g).rounds % samples_of (group_of d g) + 1 == samples_of (group_of d g)) (group_at s g).status) (q || (group_at t1 g).trigger)) (turn_now f c)
+        ∙ (ap (λ q. phase_of (status_after (length (group_at s g).rounds % samples_of (group_of d g) + 1 == samples_of (group_of d g)) (group_at s g).status) (c && not f || q)) (trigger_now f c) ∙ sym phase_is))
+
+    kept_by_turn : (q : Bool) → c && not f ≡ q → (has_turn t1 g ≡ true → word_of z (group_word d g 6) ≡ length (kept_in d t1 g)) × ((i n : ℕ) → has_turn t1 g ≡ true → slice_get (kept_in d t1 g) i ≡ Some n → ⊥)
+    kept_by_turn false e = (λ k. absurd (let off : has_turn t1 g ≡ false = turn_now f c ∙ e in cc), λ i n k. absurd (let off : has_turn t1 g ≡ false = turn_now f c ∙ e in cc))
+    kept_by_turn true e = (λ k. low 6 (λ i. omega (arith, i)) ∙ (ap (λ q. turn_set q 6 (word_of chip (group_word d g 6))) e ∙ sym (ap length none)), λ i n k o. let gone : slice_get [] i ≡ Some n = sym (ap (λ vs. slice_get vs i) none) ∙ o in cc)
+      where
+        asks : (f c : Bool) → c && not f ≡ true → (served_group d s g u few lt past x.request.number values f c).waiting ≡ Some (record { number = x.request.number; kept = [] })
+        asks true true i = absurd (cc)
+        asks true false i = absurd (cc)
+        asks false true i = refl
+        asks false false i = absurd (cc)
+
+        none : kept_in d t1 g ≡ []
+        none = ap (λ q. kept_by q (kept_of_round g (round_at t1 (unit_of (group_of d g))))) (ap (λ (q : GroupState). q.waiting) (group_now f c) ∙ asks f c e)
+
+    group : GroupAgrees d (word_of z) t1 g
+    group = record {
+      phase = low 0 (λ i. omega (arith, i)) ∙ (by_turn (c && not f) 0 phase refl refl ∙ sym phase_word);
+      chosen = low 1 (λ i. omega (arith, i)) ∙ (by_turn (c && not f) 1 (word_of chip (group_word d g 1)) refl refl ∙ (was.chosen ∙ sym (ap (λ o. chosen_of o) (chosen_now f c))));
+      notified = low 2 (λ i. omega (arith, i)) ∙ (by_turn (c && not f) 2 (word_of chip (group_word d g 2)) refl refl ∙ (was.notified ∙ sym (ap (λ q. bit_of q) (notified_now f c))));
+      turn = low 3 (λ i. omega (arith, i)) ∙ (turn_word (c && not f) ∙ sym (ap (λ q. bit_of q) (turn_now f c)));
+      count = λ ne. low 4 (λ i. omega (arith, i)) ∙ (by_turn (c && not f) 4 count refl refl ∙ sym count_word);
+      place = λ ne. low 5 (λ i. omega (arith, i)) ∙ (by_turn (c && not f) 5 place refl refl ∙ sym place_word);
+      kept = λ k ne. (kept_by_turn (c && not f) refl).0 k;
+      values = λ k ne i n e. absurd ((kept_by_turn (c && not f) refl).1 i n k e);
+    }
+      where
+        by_turn : (q : Bool) (j y : ℕ) → (3 == j) ≡ false → (6 == j) ≡ false → turn_set q j y ≡ y
+        by_turn true j y e i = ap (λ b. if b then 0 else y) i
+        by_turn false j y e i = ap (λ b. if b then 0 else y) e
+
+        turn_word : (q : Bool) → turn_set q 3 (word_of chip (group_word d g 3)) ≡ bit_of q
+        turn_word true = was.turn ∙ ap (λ q. bit_of q) turn_was
+        turn_word false = refl
+
+    -- ---- the order
+
+    turns : (k : ℕ) → k ≢ g → has_turn t1 k ≡ has_turn s k
+    turns k ne = turn_same d fits before after chip z w s t1 h g u at stays k ne
+
+    waits : (k : ℕ) → k ≢ g → is_some (group_at t1 k).waiting ≡ is_some (group_at s k).waiting
+    waits k ne = ap (λ (q : GroupState). is_some q.waiting) (others_as f c k ne)
+
+    numbers_other : (k : ℕ) → k ≢ g → has_turn s k ≡ true → is_on u (group_of d k) ≡ true → number_at d t1 k ≡ number_at d s k
+    numbers_other k ne turned unit = ap (λ (q : GroupState). number_by q.waiting (round_at t1 (unit_of (group_of d k)))) (others_as f c k ne) ∙ by (group_at s k).waiting refl
+      where
+        by : (q : Option Request) → (group_at s k).waiting ≡ q → number_by q (round_at t1 (unit_of (group_of d k))) ≡ number_by q (round_at s (unit_of (group_of d k)))
+        by (Some q) e = refl
+        by None e = absurd (ne (sym (equal x.group k (sym (ap (λ q. is_round_of k q) is) ∙ turn_round d fits w s h.sound u k turned e unit)) ∙ group_is))
+
+    order_by : (q : Bool) → c && not f ≡ q → IsOrder d t1 u (if q then waiting g true unit_was.order.0 else left_of g unit_was.order.0)
+    order_by true e = order_waiting d s t1 g u at turns waits unit_was.order.0 unit_was.order.2 (λ k turned unit. numbers k turned unit (same_or k g)) (turn_now f c ∙ (e ∙ sym turn_was)) true (waits_now f c ∙ e)
+      where
+        own : (f c : Bool) → c && not f ≡ true → number_by (served_group d s g u few lt past x.request.number values f c).waiting (round_at t1 (unit_of (group_of d g))) ≡ x.request.number
+        own true true i = absurd (cc)
+        own true false i = absurd (cc)
+        own false true i = refl
+        own false false i = absurd (cc)
+
+        own_was : number_at d s g ≡ x.request.number
+        own_was = ap (λ q. number_by q (round_at s (unit_of (group_of d g)))) waits_none ∙ (ap (λ n. number_by None (round_at s n)) here ∙ ap (λ q. number_by None q) is)
+
+        numbers : (k : ℕ) → has_turn s k ≡ true → is_on u (group_of d k) ≡ true → (k ≡ g) ⊎ (k ≢ g) → number_at d t1 k ≡ number_at d s k
+        numbers k turned unit (inl i) = subst (λ n. number_at d t1 n ≡ number_at d s n) (sym i) (ap (λ (q : GroupState). number_by q.waiting (round_at t1 (unit_of (group_of d g)))) (group_now f c) ∙ (own f c e ∙ sym own_was))
+        numbers k turned unit (inr ne) = numbers_other k ne turned unit
+    order_by false e = order_without d s t1 g u at turns waits unit_was.order.0 unit_was.order.2 numbers_other unit_was.order.1.once (turn_now f c ∙ e)
+
+    order : IsOrder d t1 u (if c && not f then waiting g true unit_was.order.0 else left_of g unit_was.order.0)
+    order = order_by (c && not f) refl
+
+    -- ---- claims and promises
+
+    claims : (k : ℕ) → k < 2 → (k ≡ u) ⊎ (k ≢ u) → claim_right after k (word_of z (word_number d (words.Claim k))) ≡ true
+    claims k less (inl i) = subst (λ n. claim_right below n (word_of z (word_number d (words.Claim n))) ≡ true) (sym i) (none_right u (word_of z (word_number d (words.Claim u))) below claim_parts.1 claim_now)
+    claims k less (inr ne) =
+        ap (λ n. claim_right below k n) (claim_stays d fits before after chip z w s t1 h g u at stays k less ne)
+        ∙ (sym (ap (λ q. if q then (word_of chip (word_number d (words.Claim k)) == 1) && not (some_hold (claims_on k) below) else claim_right below k (word_of chip (word_number d (words.Claim k)))) (unlike k u ne)) ∙ (h.settled on).claims k less)
+
+    promised : (k : ℕ) → (k ≡ u) ⊎ (k ≢ u) → Promised d after w t1 k
+    promised k (inl i) = subst (λ n. Promised d after w t1 n) (sym i) (record {
+      starts = λ e. ap (λ q. q || some_hold (starts_on u) below) (itself u);
+      yields = λ e. absurd (let none : is_some (aborts d w t1 u) ≡ false = ap (λ q. is_some (aborts_by d w t1 u q)) (free f c) in cc);
+    })
+    promised k (inr ne) = promised_same d w s t1 k (rounds_as f c k ne) (waits_other d s t1 g k (off_group d fits g u k at ne) waits) before after (λ e. e) (λ e. e) ((h.settled on).promised k)
+
+    waits_fresh : (r : Request) → (group_at t1 g).waiting ≡ Some r → IsSoundRequest d t1 g r
+    waits_fresh r e = by f c (sym (ap (λ (q : GroupState). q.waiting) (group_now f c)) ∙ e) (rest_as f c).1
+      where
+        none : (o : Option Request) → o ≡ None → o ≡ Some r → ⊥
+        none o i j = absurd (let k : None ≡ Some r = sym i ∙ j in cc)
+
+        some_inputs_left : 0 < length (inputs_of (group_of d g))
+        some_inputs_left = let less = sound_request.2 in omega (arith, less)
+
+        by : (f c : Bool) → (served_group d s g u few lt past x.request.number values f c).waiting ≡ Some r → t1.requests ≡ s.requests → IsSoundRequest d t1 g r
+        by true true i same = absurd (none (group_at s g).waiting waits_none i)
+        by true false i same = absurd (none (group_at s g).waiting waits_none i)
+        by false true i same =
+            let is_r : record { number = x.request.number; kept = [] } ≡ r = cc in
+            subst (λ (q : Request). IsSoundRequest d t1 g q) is_r (sound_request.0, (let le = sound_request.1 in omega (arith, le, same)), some_inputs_left, λ k. refl)
+        by false false i same = absurd (none (group_at s g).waiting waits_none i)
+
+    hears_now : has_turn t1 g ≡ true → is_some (trigger_input (group_of d g)) ≡ true → (group_at t1 g).trigger ≡ true
+    hears_now turned i = trigger_now f c ∙ (ap (λ q. q && not f) (h.sound.hears g turn_was i) ∙ by f c (sym (turn_now f c) ∙ turned))
+      where
+        by : (f c : Bool) → c && not f ≡ true → not f ≡ true
+        by true true e = absurd (cc)
+        by true false e = absurd (cc)
+        by false c e = refl
+
+    -- ---- all of it
+
+    fresh : Fresh d after z w t1 g u
+    fresh = record {
+      sound = sound f c ef ec;
+      waits = waits_fresh;
+      runs = λ r i same. absurd (let none : None ≡ Some r = sym (free f c) ∙ i in cc);
+      marks = marks_now f refl;
+      hears = hears_now;
+      outside = stands_served d fits g u there few chip whole a differs value count place phase (c && not f) (f && is_some (trigger_input (group_of d g))) w h.outside;
+      block = subst (λ e. IsBlock e w) (sym block) (off_same (f && is_some (trigger_input (group_of d g))) (trigger_bit d g) acked acked_block);
+      round = subst (λ q. RoundAgrees d z.converters w (chips.unit_at z.converters u) q) (sym (free f c)) round_over;
+      triggers = triggers f refl;
+      right = right;
+      banks = banks;
+      places = places;
+      backed = (λ k e. absurd (cc), (λ k e. absurd (cc), h.backed.1.1));
+      group = group;
+      unit = record { running = running_now ∙ sym (ap (λ q. running_of q) (free f c)); order = ((if c && not f then waiting g true unit_was.order.0 else left_of g unit_was.order.0), order_served d fits g u there few chip whole a differs value count place phase (c && not f) (f && is_some (trigger_input (group_of d g))) (if c && not f then waiting g true unit_was.order.0 else left_of g unit_was.order.0) holds, order) };
+      claims = λ k less. claims k less (same_or k u);
+      promised = λ k. promised k (same_or k u);
+    }
+
+    pub acts_agree : Agrees d (claiming u (Copies b (record { group = g; second = second; samples = samples_of (group_of d g); place = length (group_at s g).rounds % samples_of (group_of d g) }) 0 None) below)
+        (last d fits g u there few chip whole a differs (bank_number b % 4 + 4 * (word_of a (trio_of (rounds_of d g)).control / 4)) count place phase (c && not f) (f && is_some (trigger_input (group_of d g)))) w (served d s g u few lt past x.request.number values f c)
+    acts_agree = changed d fits before after chip z w s t1 h g u at stays fresh

@@ -1,0 +1,133 @@
+-- Each step of a handler that copies a served round to the user's buffer, and the notice after the whole copy.
+use Rattle.std.proofs.Common.{◌≡◌, ◌≢◌, ℕ, ◌+◌, ◌/◌, ◌%◌, ◌<◌, ◌≤◌, Bool, true, false, ◌&&◌, ◌||◌, ◌==◌, nat_lt, nat_le, [], ◌∷◌, length, Option, Some, None, refl, sym, ◌∙◌, ap, subst, arith}
+use Rattle.std.specs.Prelude.{if◌then◌else◌}
+use Rattle.std.proofs.lemmas.Bool.Decides.{nat_tests}
+use Rattle.chip_model.specs.Chip.{Chip, word_of, value_of, chip_after}
+use Rattle.mcal_base.specs.declared.moves.Move.TheVariants.{Store}
+use Rattle.run_model.specs.Frame.{Origin, Entered}
+use Rattle.run_model.specs.World.{World}
+use Rattle.service_outline.specs.Past.{Past, Is_being}
+use Rattle.service_outline.specs.Services.{Held, Stand, RightOr, ended_at, with_holds}
+use Rattle.adc_stream.specs.Rounds.{bank_word, column_word}
+use Rattle.adc_stream.specs.declared.column.Column.{Column}
+use Rattle.adc_stream.specs.declared.copying.Copied.TheVariants as copied
+use Rattle.adc_stream.specs.declared.copying.Copying.{Copying}
+use Rattle.adc_stream.specs.declared.rounds.Bank.{Bank}
+use Rattle.adc_machine.specs.Configured.{unit_of}
+use Rattle.adc_machine.specs.Groups.{inputs_of, samples_of, is_same}
+use Rattle.adc_machine.specs.Table.{group_of}
+use Rattle.adc_machine.specs.Turns.{AdcState, is_on}
+use Rattle.adc_machine.specs.declared.call.Call.{Call}
+use Rattle.adc_machine.specs.declared.call.ResultBuffer.{ResultBuffer}
+use Rattle.adc_machine.specs.declared.table.AdcTable.{AdcTable}
+use Rattle.adc_groups.specs.Ground.{FitsAdc, Hold, Clears, Starts, Yields, Fills, Full, Keeps, Whole, Claims, Copies, Reads, Holds, HeldRight, AllRight, Agrees, buffer_in, is_owed, some_hold}
+use Rattle.adc_groups.specs.Places.{AdcGround, IsAlone, MayCopy, Has_served, has_served, owes_note, adc_bodies, place_out}
+use Rattle.adc_groups.specs.Stored.{rounds_of}
+use Rattle.adc_groups.specs.declared.body.AdcBody.{AdcBody}
+use Rattle.adc_groups.specs.declared.body.Place.TheVariants.{Out}
+use Rattle.adc_groups.specs.declared.outside.Copied.TheVariants.{Tells}
+use Rattle.adc_groups.specs.declared.outside.Outside.TheVariants as outsides
+use Rattle.adc_groups.specs.laws.Body.{body_work, body_ends, copies_on}
+use Rattle.adc_groups.specs.laws.Own.{unit_is}
+use Rattle.adc_serving.specs.laws.Telling.{teller, column_is, tells_value, tells_all, told_agrees}
+use Rattle.adc_serving.specs.laws.Words.{equal}
+
+-- what a handler has done that copies a served round, by whether the group's notification is on
+abbrev pub told : (unit group : ℕ) → Bool → Past
+told u g true = owes_note (24 + u) g
+told u g false = has_served (24 + u)
+
+module _ (d : AdcTable) (fits : FitsAdc d) (f r : AdcBody → ℕ) (below : Holds) (chip : Chip) (w : World) (s : AdcState) (m : ℕ → Bool) (y : ℕ) (u : ℕ) (b : Bank) (c : Column) where
+  abbrev copying_at : ℕ → Option ℕ → Copying
+  copying_at n v = record { what = copied.Bank (rounds_of d c.group) b c; done = n; value = v }
+
+  abbrev body : ℕ → Option ℕ → Bool → AdcBody
+  body i v on = record { table = d; place = Out (outsides.Copies (copying_at i v) (Tells u c.group on)) }
+
+  abbrev StepRight : ℕ → Option ℕ → Bool → Type 0
+  StepRight i v on = RightOr (AdcGround d) (adc_bodies d f r) below chip w s (body i v on) (Entered (24 + u)) y (told u c.group on) m (ended_at (adc_bodies d f r) body_ends (body i v on) (value_of chip (body_work (body i v on))))
+
+  module _ (few : u < 2) (alone : IsAlone (24 + u) below) (at : is_on u (group_of d c.group) ≡ true) (samples : c.samples ≡ samples_of (group_of d c.group)) (within : c.place < c.samples) (i : ℕ) (lt : i < length (inputs_of (group_of d c.group))) where
+    may_copy : (on : Bool) → MayCopy d below (Tells u c.group on) (Entered (24 + u)) (told u c.group on)
+    may_copy true = (Is_being, alone, few, at)
+    may_copy false = (Is_being, alone, few, at)
+
+    -- the next value
+    pub gets_told : (on : Bool) → Agrees d (record { by = Entered (24 + u); what = Copies b c i None; acted = None } ∷ record { by = Entered (24 + u); what = Starts u; acted = None } ∷ below) chip w s → StepRight i None on
+    gets_told true h = (tells_value d below chip w s u b c i None (Some (word_of chip (bank_word (rounds_of d c.group) b i))) (λ n e. (let same : word_of chip (bank_word (rounds_of d c.group) b i) ≡ n = cc in sym same ∙ h.right.0.3.values i lt (omega arith))) h, (refl, ((refl, refl, samples, within), lt, may_copy true)))
+    gets_told false h = (tells_value d below chip w s u b c i None (Some (word_of chip (bank_word (rounds_of d c.group) b i))) (λ n e. (let same : word_of chip (bank_word (rounds_of d c.group) b i) ≡ n = cc in sym same ∙ h.right.0.3.values i lt (omega arith))) h, (refl, ((refl, refl, samples, within), lt, may_copy false)))
+
+    -- it is stored
+    module _ (x : ℕ) (h : Agrees d (teller u b c i (Some x) below) chip w s) where
+      is_below : (a n : ℕ) → nat_lt a n ≡ true → a < n
+      is_below a n z = grind (arith, nat_tests)
+
+      is_past : (a n : ℕ) → nat_lt a n ≡ false → n ≤ a
+      is_past a n z = grind (arith, nat_tests)
+
+      abbrev later : Chip
+      later = chip_after chip (Store (column_word c i) x) 0
+
+      now : Agrees d (teller u b c (i + 1) None below) (chip_after chip (Store (column_word c i) x) 0) w s
+      now = subst (λ k. Agrees d (teller u b c (i + 1) None below) (chip_after chip (Store k x) 0) w s) (sym (column_is d fits c h.right.0.2 samples within i)) (told_agrees d fits below chip w s u b c i x samples within h lt)
+
+      abbrev next : Bool → Bool → AdcBody
+      next on q = record { table = d; place = Out (copies_on (Tells u c.group on) (if q then Some (copying_at (i + 1) None) else None)) }
+
+      abbrev Stands : Bool → Bool → Type 0
+      Stands on q = Stand (AdcGround d) (adc_bodies d f r) below (chip_after chip (Store (column_word c i) x) 0) w s (next on q) (Entered (24 + u)) (told u c.group on)
+
+      all_told : nat_lt (i + 1) (length (inputs_of (group_of d c.group))) ≡ false → Agrees d (record { by = Entered (24 + u); what = Starts u; acted = None } ∷ below) (chip_after chip (Store (column_word c i) x) 0) w s
+      all_told z = tells_all d below (chip_after chip (Store (column_word c i) x) 0) w s u b c fits samples within (subst (λ n. Agrees d (teller u b c n None below) (chip_after chip (Store (column_word c i) x) 0) w s) (let le = is_past (i + 1) (length (inputs_of (group_of d c.group))) z in omega (arith, le, lt)) now)
+
+      stands_told : (on q : Bool) → nat_lt (i + 1) (length (inputs_of (group_of d c.group))) ≡ q → Stands on q
+      stands_told true true z = (now, (refl, ((refl, refl, samples, within), is_below (i + 1) (length (inputs_of (group_of d c.group))) z, may_copy true)))
+      stands_told false true z = (now, (refl, ((refl, refl, samples, within), is_below (i + 1) (length (inputs_of (group_of d c.group))) z, may_copy false)))
+      stands_told true false z = (all_told z, (refl, (Is_being, alone, few, at)))
+      stands_told false false z = (all_told z, (refl, (Has_served (24 + u) Is_being, few)))
+
+      pub puts_told : (on : Bool) → StepRight i (Some x) on
+      puts_told true = stands_told true (nat_lt (i + 1) (length (inputs_of (group_of d c.group)))) refl
+      puts_told false = stands_told false (nat_lt (i + 1) (length (inputs_of (group_of d c.group)))) refl
+
+    pub tells_step : (v : Option ℕ) (on : Bool) → Agrees d (teller u b c i v below) chip w s → StepRight i v on
+    tells_step None on h = gets_told on h
+    tells_step (Some x) on h = puts_told x h on
+
+-- ---- the notice
+
+-- no other frame copies a round of a group of the unit
+module _ (d : AdcTable) (fits : FitsAdc d) (chip : Chip) (w : World) (s : AdcState) (u g : ℕ) (at : is_on u (group_of d g) ≡ true) where
+  not_owed : (x : Held Call Hold) (z : Hold) (n : ResultBuffer) (p : ℕ) → HeldRight d chip w s x z → x.by ≢ Entered (24 + u) → is_owed g n p z ≡ false
+  not_owed x (Copies b c i v) n p right ne = by (c.group == g) refl
+    where
+      by : (q : Bool) → (c.group == g) ≡ q → q && (is_same (buffer_in c) n && (p % c.samples == c.place && nat_le i (p / c.samples))) ≡ false
+      by true e = absurd (ne (right.0 ∙ ap (λ k. Entered (24 + k)) (ap (λ k. unit_of (group_of d k)) (equal c.group g e) ∙ unit_is d fits u (group_of d g) at)))
+      by false e = refl
+  not_owed x (Clears k) n p right ne = refl
+  not_owed x (Starts k) n p right ne = refl
+  not_owed x (Yields k) n p right ne = refl
+  not_owed x (Fills k j e b i v) n p right ne = refl
+  not_owed x (Full k j b) n p right ne = refl
+  not_owed x (Keeps k j e q i v) n p right ne = refl
+  not_owed x (Whole k j e) n p right ne = refl
+  not_owed x (Claims k) n p right ne = refl
+  not_owed x (Reads j b vs) n p right ne = refl
+
+  or_off : (a c : Bool) → a ≡ false → c ≡ false → a || c ≡ false
+  or_off false c e z = z
+  or_off true c e z = absurd (cc)
+
+  pub none_owed : (hs : Holds) (n : ResultBuffer) (p : ℕ) → AllRight d chip w s hs → IsAlone (24 + u) hs → some_hold (is_owed g n p) hs ≡ false
+  none_owed [] n p right alone = refl
+  none_owed (x ∷ xs) n p right alone = or_off (is_owed g n p x.what) (some_hold (is_owed g n p) xs) (not_owed x x.what n p right.0 alone.0) (none_owed xs n p right.1 alone.1)
+
+pub notes_step : (d : AdcTable) (fits : FitsAdc d) (f r : AdcBody → ℕ) (below : Holds) (chip : Chip) (w : World) (s : AdcState) (m : ℕ → Bool) (y u g : ℕ) (o : Origin Call) (p : Past) → place_out d (outsides.Notes g u) below o p → Agrees d (with_holds o p.acted (Starts u ∷ []) below) chip w s
+    → RightOr (AdcGround d) (adc_bodies d f r) below chip w s (record { table = d; place = Out (outsides.Notes g u) }) o y p m (ended_at (adc_bodies d f r) body_ends (record { table = d; place = Out (outsides.Notes g u) }) (value_of chip (body_work (record { table = d; place = Out (outsides.Notes g u) }))))
+notes_step d fits f r below chip w s m y u g _ _ (Is_being, alone, few, at) h = record {
+  served = true;
+  others = [];
+  is = refl;
+  shown = λ e n p lt. h.places g n p lt (none_owed d fits chip w s u g at below n p h.right.1 alone);
+  next = (h, (refl, (Has_served (24 + u) Is_being, few)));
+}

@@ -1,0 +1,11 @@
+pub mod Aborting
+pub mod Begun
+pub mod Ended
+pub mod Going
+pub mod Keeping
+pub mod Listed
+pub mod Made
+pub mod Outranked
+pub mod Quitting
+pub mod Starting
+pub mod Turning

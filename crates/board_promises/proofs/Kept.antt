@@ -1,0 +1,58 @@
+-- A legal journal of a board whose configuration is valid keeps what is promised of it.
+use Rattle.std.proofs.Common.{◌≡◌, ℕ, ◌≤◌, List, [], Option, Some, None, refl, sym, ◌∙◌, ap, subst, arith}
+use Rattle.mcal_base.specs.declared.config.whole.Config.{Config}
+use Rattle.mcal_base.specs.declared.directive.Directive.{Directive}
+use Rattle.run_model.specs.Entry.{Entry}
+use Rattle.run_model.specs.Legal.{IsLegal}
+use Rattle.run_model.specs.Moment.{start_moment}
+use Rattle.script_runner.specs.Scripts.{chip_for}
+use Rattle.config_facts.specs.Valid.{IsValid}
+use Rattle.adc_machine.specs.Table as converter_table
+use Rattle.adc_machine.specs.Turns as groups
+use Rattle.spi_machine.specs.Fits.{FitsSpi}
+use Rattle.spi_machine.specs.Promised.{HasPriorities}
+use Rattle.spi_machine.specs.State as sequences
+use Rattle.spi_machine.specs.Table.{job_of, priority_by}
+use Rattle.spi_machine.specs.Table as serial_table
+use Rattle.spi_machine.specs.declared.table.Job.{Job}
+use Rattle.spi_machine.specs.declared.table.SpiTable.{SpiTable}
+use Rattle.spi_driver.specs.laws.Fits as serial_fits
+use Rattle.whole_runs.proofs.EndsOnce.{end_once}
+use Rattle.whole_runs.proofs.WholeRounds.{whole_rounds}
+use Rattle.whole_runs.proofs.Promises.{groups_keep, sequences_keep, journal_says}
+use Rattle.mcal_system.proofs.SoundSerial.{sound_serial}
+use Rattle.mcal_system.specs.Setting.{system_setting}
+use Rattle.board_promises.specs.Places.{converter_place, serial_place}
+use Rattle.board_promises.specs.Promised.{KeepsPromises, deeds_in}
+use Rattle.board_promises.proofs.Parts.{converter_part, serial_part}
+
+-- the jobs of a configuration that is valid have the priorities 0 to 3
+has_priorities : (d : SpiTable) → FitsSpi d → HasPriorities d
+has_priorities d fits job = by (job_of d job) refl
+  where
+    by : (k : Option Job) → job_of d job ≡ k → priority_by k ≤ 3
+    by None e = omega arith
+    by (Some k) e = (fits.jobs job k e).priority
+
+pub promises_kept : (c : Config) (script : List Directive) (journal : List Entry) → IsValid c → IsLegal (system_setting c) (start_moment (system_setting c) (chip_for c script)) (deeds_in script journal) → KeepsPromises c script journal
+unfolding system_setting
+promises_kept c script journal valid legal =
+    let rounds = groups_keep (converter_table.table_of c.adc) (system_setting c) (converter_place c) (converter_part c) refl (chip_for c script) (deeds_in script journal) legal in
+    let kept = sequences_keep (serial_table.table_of c.spi) (system_setting c) (serial_place c) (serial_part c) refl (chip_for c script) (deeds_in script journal) legal in
+    record {
+      rounds = rounds.whole;
+      order = kept.order (has_priorities (serial_table.table_of c.spi) (serial_fits.fits_of c.spi (sound_serial c.spi valid.spi)));
+      results = kept.results;
+      ends = kept.ends;
+      frames = journal_says (system_setting c) (chip_for c script) (deeds_in script journal) legal;
+    }
+
+-- and so does a journal of nothing, under any configuration
+pub nothing_kept : (c : Config) (script : List Directive) → KeepsPromises c script []
+nothing_kept c script = record {
+  rounds = whole_rounds (converter_table.table_of c.adc) [] tt;
+  order = tt;
+  results = tt;
+  ends = λ sequence. end_once (serial_table.table_of c.spi) [] sequence tt;
+  frames = tt;
+}

@@ -1,0 +1,44 @@
+-- Where the machines of converter and serial units stand in that of all modules.
+use Rattle.mcal_base.specs.declared.config.whole.Config.{Config}
+use Rattle.run_model.specs.Moment.{Setting}
+use Rattle.step_runner.specs.declared.either.Either.{Either}
+use Rattle.mcu_driver.specs.Machine.{McuState}
+use Rattle.mcu_driver.specs.declared.call.Call as clocks
+use Rattle.port_driver.specs.Machine.{PortState}
+use Rattle.port_driver.specs.declared.call.Call as pins
+use Rattle.gpt_driver.specs.Machine.{GptState}
+use Rattle.gpt_driver.specs.declared.call.Call as timers
+use Rattle.pwm_driver.specs.Machine.{PwmState}
+use Rattle.pwm_driver.specs.declared.call.Call as pulses
+use Rattle.icu_driver.specs.Machine.{IcuState}
+use Rattle.icu_driver.specs.declared.call.Call as captures
+use Rattle.adc_machine.specs.Turns.{AdcState}
+use Rattle.adc_machine.specs.declared.call.Call as converter
+use Rattle.spi_machine.specs.State.{SpiState}
+use Rattle.spi_machine.specs.declared.call.Call as serial
+use Rattle.whole_runs.specs.Members.{Place, first_place, second_place, within}
+use Rattle.mcal_system.specs.Setting.{SystemState, SystemCall, joined, clock_setting, pin_setting, timer_setting, pulse_setting, capture_setting, converter_setting, serial_setting}
+
+-- clock, pins and timers as one; pulses and captures; converter and serial units; and all but the first three
+abbrev pub first_modules : Config → Setting (McuState × (PortState × GptState)) (Either clocks.Call (Either pins.Call timers.Call))
+first_modules c = joined (clock_setting c) (joined (pin_setting c) (timer_setting c))
+
+abbrev pub edge_modules : Config → Setting (PwmState × IcuState) (Either pulses.Call captures.Call)
+edge_modules c = joined (pulse_setting c) (capture_setting c)
+
+abbrev pub unit_modules : Config → Setting (AdcState × SpiState) (Either converter.Call serial.Call)
+unit_modules c = joined (converter_setting c) (serial_setting c)
+
+abbrev pub last_modules : Config → Setting ((PwmState × IcuState) × (AdcState × SpiState)) (Either (Either pulses.Call captures.Call) (Either converter.Call serial.Call))
+last_modules c = joined (edge_modules c) (unit_modules c)
+
+-- ---- their places
+
+abbrev pub units_place : (c : Config) → Place (AdcState × SpiState) (Either converter.Call serial.Call) SystemState SystemCall
+units_place c = within (second_place (edge_modules c).used (edge_modules c).machine) (second_place (first_modules c).used (first_modules c).machine)
+
+abbrev pub converter_place : (c : Config) → Place AdcState converter.Call SystemState SystemCall
+converter_place c = within (first_place (converter_setting c).used (converter_setting c).machine) (units_place c)
+
+abbrev pub serial_place : (c : Config) → Place SpiState serial.Call SystemState SystemCall
+serial_place c = within (second_place (converter_setting c).used (converter_setting c).machine) (units_place c)

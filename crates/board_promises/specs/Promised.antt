@@ -1,0 +1,43 @@
+-- What is promised of a whole run of a board, over the events of its journal.
+use Rattle.std.specs.Prelude.{ℕ, List}
+use Rattle.mcal_base.specs.declared.config.whole.Config.{Config}
+use Rattle.mcal_base.specs.declared.directive.Directive.{Directive}
+use Rattle.run_model.specs.Entry.{Entry}
+use Rattle.run_model.specs.Moment.{Deed}
+use Rattle.run_model.specs.Script.{deeds_of}
+use Rattle.script_runner.specs.Scripts.{chip_for}
+use Rattle.adc_machine.specs.Table as converter_table
+use Rattle.adc_machine.specs.declared.call.Call as converter
+use Rattle.spi_machine.specs.Table as serial_table
+use Rattle.spi_machine.specs.declared.call.Call as serial
+use Rattle.whole_runs.specs.Ends.{AreEnded, HasOneEnd}
+use Rattle.whole_runs.specs.GroupRuns as groups
+use Rattle.whole_runs.specs.Order.{AreInOrder}
+use Rattle.whole_runs.specs.Promises.{part_events, FramesSay}
+use Rattle.whole_runs.specs.Rounds.{AreWhole}
+use Rattle.whole_runs.specs.Runs.{Event}
+use Rattle.whole_runs.specs.SequenceRuns as sequences
+use Rattle.mcal_system.specs.Setting.{SystemCall, system_setting, call_of}
+use Rattle.board_promises.specs.Places.{converter_place, serial_place}
+
+-- the deeds of a journal, and those of its events that are of converter groups or of the serial driver, the newest first
+abbrev pub deeds_in : List Directive → List Entry → List (Deed SystemCall)
+deeds_in script journal = deeds_of call_of script journal
+
+abbrev pub group_events : Config → List Directive → List Entry → List (Event converter.Call)
+group_events c script journal = part_events (system_setting c) (converter_place c) (chip_for c script) (deeds_in script journal)
+
+abbrev pub sequence_events : Config → List Directive → List Entry → List (Event serial.Call)
+sequence_events c script journal = part_events (system_setting c) (serial_place c) (chip_for c script) (deeds_in script journal)
+
+-- A run keeps what is promised of it.
+pub record KeepsPromises (c : Config) (script : List Directive) (journal : List Entry) : Type 0 where
+  -- an E_OK of a read hands out the newest round of its group that was served, and places and newest rounds change by such servings alone
+  pub rounds : AreWhole (converter_table.table_of c.adc) (groups.seen_of (converter_table.table_of c.adc) (group_events c script journal))
+  -- each start of a serial unit starts the next job
+  pub order : AreInOrder (serial_table.table_of c.spi) (sequences.seen_of (serial_table.table_of c.spi) (sequence_events c script journal))
+  -- between an accepted request of a sequence and the next one there is one end, which tells its notice once
+  pub results : AreEnded (serial_table.table_of c.spi) (sequences.seen_of (serial_table.table_of c.spi) (sequence_events c script journal))
+  pub ends : (sequence : ℕ) → HasOneEnd sequence (sequences.seen_of (serial_table.table_of c.spi) (sequence_events c script journal))
+  -- a frame that ends has given each notice that its events told, once, in their order, and prints the answer of its act
+  pub frames : FramesSay (system_setting c) (chip_for c script) (deeds_in script journal)
