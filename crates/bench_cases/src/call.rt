@@ -2,11 +2,15 @@ use crate::oddity::Oddity;
 use crate::turn::Turn;
 use bench_top::bench;
 use mcal_base::{ListSink, ListSource};
+use serial_devices::{ListDevice, PlainDevice, SerialDevice};
 use std::alloc::{AllocError, Global};
 use std::str;
 
 /// The most bytes that a call may write.
 const ROOM: usize = 1_000_000;
+
+/// The most exchanges that a device keeps.
+const EXCHANGES: usize = 1_000;
 
 /// The line of an input in which a number of steps is to stand.
 const STEPS: &[u8] = b"run *\n";
@@ -27,7 +31,18 @@ pub struct Ended {
     pub written: Vec<u8>,
 }
 
-/// The ends of a call: where its input comes from and where its output goes to.
+/// What hangs on the serial bus.
+#[derive(Drop)]
+enum Hanging {
+    /// No device.
+    Nothing,
+    /// The two devices of the program.
+    Two,
+    /// A device that answers each word's complement, and fails at the exchanges of these numbers.
+    One(Vec<u64>),
+}
+
+/// The ends of a call: where its input comes from, where its output goes to, and what hangs on the serial bus.
 #[derive(Drop)]
 struct Ends {
     input: Vec<u8>,
@@ -35,6 +50,7 @@ struct Ends {
     failing_reads: Vec<u64>,
     most_written: usize,
     failing_writes: Vec<u64>,
+    hanging: Hanging,
 }
 
 impl Call {
@@ -71,15 +87,19 @@ impl Call {
         self.parts().skip(1).find_map(Turn::read)
     }
 
-    /// Makes the call, with one more thing out of the ordinary, where there is one.
-    pub fn made(&self, alloc: Global, more: Option<Oddity>) -> Result<Ended, AllocError> {
-        let mut parts = self.parts();
+    /// The words of its command line.
+    fn words(&self, alloc: Global) -> Result<Vec<String>, AllocError> {
         let mut words = Vec::new(alloc);
-        for word in parts.next().unwrap_or("").split_ascii_whitespace() {
+        for word in self.parts().next().unwrap_or("").split_ascii_whitespace() {
             words.push(String::from_str(alloc, word)?)?;
         }
+        Ok(words)
+    }
+
+    /// Its ends, with one more thing out of the ordinary, where there is one.
+    fn ends(&self, alloc: Global, more: Option<Oddity>) -> Result<Ends, AllocError> {
         let mut ends = Ends::usual(alloc, &self.input)?;
-        for part in parts {
+        for part in self.parts().skip(1) {
             if let Some(oddity) = Oddity::read(alloc, part)? {
                 ends.make(alloc, oddity)?;
             }
@@ -87,12 +107,33 @@ impl Call {
         if let Some(oddity) = more {
             ends.make(alloc, oddity)?;
         }
+        Ok(ends)
+    }
+
+    /// Makes the call, with one more thing out of the ordinary, where there is one.
+    pub fn made(&self, alloc: Global, more: Option<Oddity>) -> Result<Ended, AllocError> {
+        let words = self.words(alloc)?;
+        let ends = self.ends(alloc, more)?;
         let mut source = ListSource::new(ends.input, ends.most_read.max(1), ends.failing_reads);
         let Ok(mut sink) = ListSink::new(alloc, ends.most_written.max(1), ROOM, ends.failing_writes)
         else {
             return Err(AllocError);
         };
-        let outcome = bench(alloc, &words, &mut source, &mut sink);
+        let mut rack: Vec<Box<dyn SerialDevice>> = Vec::new(alloc);
+        match ends.hanging {
+            Hanging::Nothing => {}
+            Hanging::Two => {
+                rack.push(Box::new(alloc, PlainDevice::new(false))?)?;
+                rack.push(Box::new(alloc, PlainDevice::new(true))?)?;
+            }
+            Hanging::One(failing) => {
+                let Ok(device) = ListDevice::new(alloc, false, EXCHANGES, failing) else {
+                    return Err(AllocError);
+                };
+                rack.push(Box::new(alloc, device)?)?;
+            }
+        }
+        let outcome = bench(alloc, &words, &mut source, &mut sink, &mut rack);
         Ok(Ended {
             status: outcome.status,
             written: sink.bytes().to_vec(alloc)?,
@@ -101,7 +142,7 @@ impl Call {
 }
 
 impl Ends {
-    /// The usual ends over an input: pieces of up to 1,000 bytes, and no fault.
+    /// The usual ends over an input: pieces of up to 1,000 bytes, no fault, and no device.
     fn usual(alloc: Global, input: &[u8]) -> Result<Ends, AllocError> {
         Ok(Ends {
             input: input.to_vec(alloc)?,
@@ -109,6 +150,7 @@ impl Ends {
             failing_reads: Vec::new(alloc),
             most_written: 1_000,
             failing_writes: Vec::new(alloc),
+            hanging: Hanging::Nothing,
         })
     }
 
@@ -135,6 +177,8 @@ impl Ends {
             Oddity::Bytes(count) => self.input.truncate(count),
             Oddity::Bad => self.input.extend_from_slice(b"bad\n")?,
             Oddity::Steps(number) => self.put_steps(alloc, number)?,
+            Oddity::Rack => self.hanging = Hanging::Two,
+            Oddity::Device(failing) => self.hanging = Hanging::One(failing),
         }
         Ok(())
     }

@@ -19,6 +19,11 @@ pub enum Oddity {
     Bad,
     /// `steps N`: the number N stands in each line `run *` of the input.
     Steps(usize),
+    /// `rack`: the two devices of the program hang on the serial bus.
+    Rack,
+    /// `device F..`: one device hangs there, which answers each word's complement, and the exchanges of these numbers, from
+    /// 1, fail.
+    Device(Vec<u64>),
 }
 
 impl Oddity {
@@ -43,6 +48,8 @@ impl Oddity {
             Some("bytes") => Some(Oddity::Bytes(first)),
             Some("bad") => Some(Oddity::Bad),
             Some("steps") => Some(Oddity::Steps(first)),
+            Some("rack") => Some(Oddity::Rack),
+            Some("device") => Some(Oddity::Device(numbers)),
             _ => None,
         })
     }

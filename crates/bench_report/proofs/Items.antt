@@ -119,6 +119,7 @@ gives_each g call_of m line (orders.Analog i v) items e h = one_each m line show
 gives_each g call_of m line (orders.Trigger i) items e h = one_each m line shows_nothing (entry.Happens (orders.Trigger i)) items refl h
 gives_each g call_of m line (orders.Miso u ws) items e h = one_each m line shows_nothing (entry.Happens (orders.Miso u ws)) items refl h
 gives_each g call_of m line (orders.SpiFault u) items e h = one_each m line shows_nothing (entry.Happens (orders.SpiFault u)) items refl h
+gives_each g call_of m line orders.Detach items e h = happens_each m line orders.Detach _ items refl h
 gives_each g call_of m line (orders.Fill c ws) items e h = happens_each m line (orders.Fill c ws) _ items refl h
 gives_each g call_of m line (orders.Reset PowerOn) items e h = one_each m line shows_nothing _ items tt h
 gives_each g call_of m line (orders.Reset Watchdog) items e h = one_each m line shows_nothing _ items tt h

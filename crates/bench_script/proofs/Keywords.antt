@@ -6,7 +6,7 @@ use Rattle.std.proofs.lemmas.Bool.{ne_eqb}
 use Rattle.std.proofs.lemmas.Slice.Eq.{bytes_eq-Decides}
 use Rattle.bench_script.specs.Orders.{known, choice}
 use Rattle.bench_script.specs.Words.{named, keyword_text, all_keywords}
-use Rattle.bench_script.specs.declared.words.Keyword.TheVariants.{Finish, Analog, Trigger, SpiFault}
+use Rattle.bench_script.specs.declared.words.Keyword.TheVariants.{Finish, Analog, Trigger, SpiFault, Detach}
 use Rattle.bench_script.specs.declared.fault.LineFault.TheVariants.{Word}
 
 -- words that one test tells apart are unequal
@@ -34,9 +34,13 @@ two_known : {T : Type 0} (b c : Bool) (x y : T) → known (cond b (Some x) (cond
 two_known true c x y = refl
 two_known false c x y = one_known c y
 
+three_known : {T : Type 0} (b c d : Bool) (x y z : T) → known (cond b (Some x) (cond c (Some y) (cond d (Some z) None))) ≡ cond b (known (Some x)) (cond c (known (Some y)) (cond d (known (Some z)) (Err Word)))
+three_known true c d x y z = refl
+three_known false c d x y z = two_known c d y z
+
 -- of six, seven and eight letters
-pub of_six : (word : List ℕ) → length word ≡ 6 → choice keyword_text all_keywords word ≡ cond (bytes_eq (codes "finish") word) (known (Some Finish)) (cond (bytes_eq (codes "analog") word) (known (Some Analog)) (Err Word))
-of_six word e = keywords_of 6 word e ∙ two_known (bytes_eq (codes "finish") word) (bytes_eq (codes "analog") word) Finish Analog
+pub of_six : (word : List ℕ) → length word ≡ 6 → choice keyword_text all_keywords word ≡ cond (bytes_eq (codes "finish") word) (known (Some Finish)) (cond (bytes_eq (codes "analog") word) (known (Some Analog)) (cond (bytes_eq (codes "detach") word) (known (Some Detach)) (Err Word)))
+of_six word e = keywords_of 6 word e ∙ three_known (bytes_eq (codes "finish") word) (bytes_eq (codes "analog") word) (bytes_eq (codes "detach") word) Finish Analog Detach
 
 pub of_seven : (word : List ℕ) → length word ≡ 7 → choice keyword_text all_keywords word ≡ cond (bytes_eq (codes "trigger") word) (known (Some Trigger)) (Err Word)
 of_seven word e = keywords_of 7 word e ∙ one_known (bytes_eq (codes "trigger") word) Trigger

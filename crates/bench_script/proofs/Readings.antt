@@ -2,7 +2,7 @@
 use Rattle.std.proofs.Common.{◌≡◌, ℕ, zero, suc, ◌≤◌, List, [], ◌∷◌, Some, true, false, refl, sym, ◌∙◌, ap, subst, codes, arith}
 use Rattle.std.specs.Prelude.{Ok, ◌==◌}
 use Rattle.mcal_base.specs.declared.directive.Order.{Order}
-use Rattle.mcal_base.specs.declared.directive.Order.TheVariants.{Call, Do, Enter, Serve, Run, Upto, Finish, Tick, Level, Analog, Trigger, Miso, SpiFault, Fill, Reset, Show}
+use Rattle.mcal_base.specs.declared.directive.Order.TheVariants.{Call, Do, Enter, Serve, Run, Upto, Finish, Tick, Level, Analog, Trigger, Miso, SpiFault, Detach, Fill, Reset, Show}
 use Rattle.mcal_base.specs.declared.directive.Request.{Request}
 use Rattle.mcal_base.specs.declared.directive.Reason.{Reason}
 use Rattle.mcal_base.specs.declared.directive.Reason.TheVariants as reasons
@@ -98,6 +98,10 @@ order_after_is keywords.SpiFault o words h =
     let a = bind_ok (one 1 words) (λ (n : ℕ). Ok (SpiFault n)) o h in
     let e : SpiFault a.0 ≡ o = cc in
     subst (λ (x : Order). (keyword_text keywords.SpiFault ≡ first_word x) × IsOrderAfter x words) e (refl, one_is 1 a.0 words a.1)
+order_after_is keywords.Detach o words h =
+    let a = bind_ok (nothing words) (λ (u : Unit {0}). Ok (Detach)) o h in
+    let e : Detach ≡ o = cc in
+    subst (λ (x : Order). (keyword_text keywords.Detach ≡ first_word x) × IsOrderAfter x words) e (refl, nothing_is a.0 words a.1)
 order_after_is keywords.Fill o words h =
     let a = bind_ok (several 4294967295 4294967295 words) (λ (p : ℕ × List ℕ). Ok (Fill p.0 p.1)) o h in
     let e : Fill a.0.0 a.0.1 ≡ o = cc in
@@ -137,6 +141,7 @@ read_again words (Analog input value) h = ap order_of h.spelled ∙ rw (two_agai
 read_again words (Trigger n) h = ap order_of h.spelled ∙ rw (one_again 3 n h.after h.given) refl
 read_again words (Miso unit ns) h = ap order_of h.spelled ∙ rw (several_again 1 65535 unit ns h.after h.given) refl
 read_again words (SpiFault n) h = ap order_of h.spelled ∙ rw (one_again 1 n h.after h.given) refl
+read_again words Detach h = ap order_of h.spelled ∙ rw h.given refl
 read_again words (Fill channel ns) h = ap order_of h.spelled ∙ rw (several_again 4294967295 4294967295 channel ns h.after h.given) refl
 read_again words (Reset reasons.PowerOn) h = ap order_of h.spelled ∙ rw h.given refl
 read_again words (Reset reasons.Watchdog) h = ap order_of h.spelled ∙ rw h.given refl

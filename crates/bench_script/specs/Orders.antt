@@ -4,7 +4,7 @@ use Rattle.mcal_base.specs.Names.{service_text}
 use Rattle.mcal_base.specs.declared.service.Service.{Service}
 use Rattle.mcal_base.specs.declared.directive.Request.{Request}
 use Rattle.mcal_base.specs.declared.directive.Order.{Order}
-use Rattle.mcal_base.specs.declared.directive.Order.TheVariants.{Call, Do, Enter, Serve, Run, Upto, Finish, Tick, Level, Analog, Trigger, Miso, SpiFault, Fill, Reset, Show}
+use Rattle.mcal_base.specs.declared.directive.Order.TheVariants.{Call, Do, Enter, Serve, Run, Upto, Finish, Tick, Level, Analog, Trigger, Miso, SpiFault, Detach, Fill, Reset, Show}
 use Rattle.bench_script.specs.Arguments.{arguments}
 use Rattle.bench_script.specs.Numbers.{number_up_to}
 use Rattle.bench_script.specs.Steps.{◌>>=◌}
@@ -129,6 +129,9 @@ order_by_keyword keywords.Miso words = do
 order_by_keyword keywords.SpiFault words = do
   n ← one 1 words
   Ok (SpiFault n)
+order_by_keyword keywords.Detach words = do
+  _ ← nothing words
+  Ok Detach
 order_by_keyword keywords.Fill words = do
   p ← several 4294967295 4294967295 words
   Ok (Fill p.0 p.1)
@@ -154,6 +157,7 @@ keyword_of (Analog input value) = keywords.Analog
 keyword_of (Trigger input) = keywords.Trigger
 keyword_of (Miso unit words) = keywords.Miso
 keyword_of (SpiFault unit) = keywords.SpiFault
+keyword_of Detach = keywords.Detach
 keyword_of (Fill channel words) = keywords.Fill
 keyword_of (Reset reason) = keywords.Reset
 keyword_of (Show shown) = keywords.Show

@@ -8,7 +8,7 @@ use Rattle.mcal_base.specs.declared.directive.Argument.{Argument}
 use Rattle.mcal_base.specs.declared.directive.Argument.TheVariants as values
 use Rattle.mcal_base.specs.declared.directive.Directive.{Directive}
 use Rattle.mcal_base.specs.declared.directive.Order.{Order}
-use Rattle.mcal_base.specs.declared.directive.Order.TheVariants.{Call, Do, Enter, Serve, Run, Upto, Finish, Tick, Level, Analog, Trigger, Miso, SpiFault, Fill, Reset, Show}
+use Rattle.mcal_base.specs.declared.directive.Order.TheVariants.{Call, Do, Enter, Serve, Run, Upto, Finish, Tick, Level, Analog, Trigger, Miso, SpiFault, Detach, Fill, Reset, Show}
 use Rattle.mcal_base.specs.declared.directive.Request.{Request}
 use Rattle.mcal_base.specs.declared.directive.Reason.TheVariants as reasons
 use Rattle.bench_script.specs.Lines.{before_comment, is_text, words_of}
@@ -100,6 +100,7 @@ IsOrderAfter (Analog input value) words = IsTwo 31 4095 input value words
 IsOrderAfter (Trigger n) words = IsOne 3 n words
 IsOrderAfter (Miso unit ns) words = IsRow 1 65535 unit ns words
 IsOrderAfter (SpiFault n) words = IsOne 1 n words
+IsOrderAfter Detach words = words ≡ []
 IsOrderAfter (Fill channel ns) words = IsRow 4294967295 4294967295 channel ns words
 IsOrderAfter (Reset reasons.PowerOn) words = words ≡ codes "power" ∷ []
 IsOrderAfter (Reset reasons.Watchdog) words = words ≡ codes "watchdog" ∷ []
@@ -121,6 +122,7 @@ first_word (Analog input value) = codes "analog"
 first_word (Trigger n) = codes "trigger"
 first_word (Miso unit ns) = codes "miso"
 first_word (SpiFault n) = codes "spifault"
+first_word Detach = codes "detach"
 first_word (Fill channel ns) = codes "fill"
 first_word (Reset reason) = codes "reset"
 first_word (Show shown) = codes "show"

@@ -32,13 +32,14 @@ keyword_text keywords.Analog = codes "analog"
 keyword_text keywords.Trigger = codes "trigger"
 keyword_text keywords.Miso = codes "miso"
 keyword_text keywords.SpiFault = codes "spifault"
+keyword_text keywords.Detach = codes "detach"
 keyword_text keywords.Fill = codes "fill"
 keyword_text keywords.Reset = codes "reset"
 keyword_text keywords.Show = codes "show"
 
 -- each keyword
 abbrev pub all_keywords : List Keyword
-all_keywords = keywords.Call ∷ keywords.Do ∷ keywords.Enter ∷ keywords.Serve ∷ keywords.Run ∷ keywords.Upto ∷ keywords.Finish ∷ keywords.Tick ∷ keywords.Level ∷ keywords.Analog ∷ keywords.Trigger ∷ keywords.Miso ∷ keywords.SpiFault ∷ keywords.Fill ∷ keywords.Reset ∷ keywords.Show ∷ []
+all_keywords = keywords.Call ∷ keywords.Do ∷ keywords.Enter ∷ keywords.Serve ∷ keywords.Run ∷ keywords.Upto ∷ keywords.Finish ∷ keywords.Tick ∷ keywords.Level ∷ keywords.Analog ∷ keywords.Trigger ∷ keywords.Miso ∷ keywords.SpiFault ∷ keywords.Detach ∷ keywords.Fill ∷ keywords.Reset ∷ keywords.Show ∷ []
 
 -- where `upto` may stop
 abbrev pub stop_text : Stop → List ℕ

@@ -34,6 +34,8 @@ pub(crate) enum Keyword {
     Miso,
     /// `spifault`
     SpiFault,
+    /// `detach`
+    Detach,
     /// `fill`
     Fill,
     /// `reset`
@@ -60,6 +62,7 @@ pub(crate) fn keyword_named(word: &[u8]) -> Result<Keyword, LineFault>
         b"trigger" => Ok(Keyword::Trigger),
         b"miso" => Ok(Keyword::Miso),
         b"spifault" => Ok(Keyword::SpiFault),
+        b"detach" => Ok(Keyword::Detach),
         b"fill" => Ok(Keyword::Fill),
         b"reset" => Ok(Keyword::Reset),
         b"show" => Ok(Keyword::Show),

@@ -2,7 +2,7 @@
 use Rattle.std.proofs.Common.{◌≡◌, ap, Option, Some, None}
 use Rattle.std.specs.Prelude.{Ok, Err, IsSome, List, ℕ}
 use Rattle.mcal_base.specs.declared.config.whole.Config.{Config}
-use Rattle.config_rows.specs.declared.fault.ConfigFault.{ConfigFault}
+use Rattle.config_keys.specs.declared.fault.ConfigFault.{ConfigFault}
 use Rattle.mcal_config.specs.Whole.{fault_of, record_of}
 use Rattle.mcal_config.proofs.Recorded.{faultless}
 use Rattle.bench_top.specs.Judged.{fault_or_record, configuration_of}

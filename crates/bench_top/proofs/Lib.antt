@@ -1,5 +1,8 @@
+pub mod Calling
 pub mod Configurations
 pub mod Deciding
+pub mod Forms
+pub mod Generating
 pub mod Judging
 pub mod Keeping
 pub mod Known
@@ -9,3 +12,4 @@ pub mod Numerals
 pub mod Promised
 pub mod Rows
 pub mod Scripts
+pub mod Stopping

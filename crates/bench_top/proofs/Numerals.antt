@@ -5,7 +5,7 @@ use Rattle.std.specs.List.{list_all}
 use Rattle.std.specs.Char.{is_digit}
 use Rattle.std.specs.Str.Parse.{AllDigits, IsNumeral, ParsesUnsigned, digits_value, without_leading_plus}
 use Rattle.std.proofs.lemmas.Bool.Decides.{nat_tests}
-use Rattle.bench_top.specs.Words.{is_decimal, is_in_range, lines_of}
+use Rattle.bench_top.specs.Words.{is_decimal, is_between, number_between}
 
 no_plus : (bs : List ℕ) → (slice_index bs 0 == 43) ≡ false → without_leading_plus bs ≡ bs
 no_plus bs e = rw e refl
@@ -31,21 +31,23 @@ is_numeral [] h = cc
 is_numeral (b ∷ bs) h = (omega arith, digits_are (b ∷ bs) h)
 
 -- what was read of a word
-pub lines_read : (bs : List ℕ) (n : ℕ) → (slice_index bs 0 == 43) ≡ false → IsNumeral 10 (without_leading_plus bs) → n ≡ digits_value 10 (without_leading_plus bs) → 1 ≤ n → n ≤ 10000 → Some n ≡ lines_of bs
-lines_read bs n plus h is low high =
+pub number_read : (least most : ℕ) (bs : List ℕ) (n : ℕ) → (slice_index bs 0 == 43) ≡ false → IsNumeral 10 (without_leading_plus bs) → n ≡ digits_value 10 (without_leading_plus bs) → least ≤ n → n ≤ most →
+    Some n ≡ number_between least most bs
+number_read least most bs n plus h is low high =
     let same = no_plus bs plus in
     let numeral = subst (λ (ws : List ℕ). IsNumeral 10 ws) same h in
     let value : n ≡ digits_value 10 bs = is ∙ ap (λ ws. digits_value 10 ws) same in
-    let inside : is_in_range n ≡ true = grind (arith, nat_tests, low, high) in
-    let range : is_in_range (digits_value 10 bs) ≡ true = sym (ap (λ k. is_in_range k) value) ∙ inside in
+    let inside : is_between least most n ≡ true = grind (arith, nat_tests, low, high) in
+    let range : is_between least most (digits_value 10 bs) ≡ true = sym (ap (λ k. is_between least most k) value) ∙ inside in
     rw (numeral_is bs numeral, range) (ap (λ k. Some k) value)
 
-none_by : (bs : List ℕ) (t u : Bool) → is_decimal bs ≡ t → is_in_range (digits_value 10 bs) ≡ u → (IsNumeral 10 bs × (digits_value 10 bs < 2 ^ 64) → ⊥) → None ≡ lines_of bs
-none_by bs false u e f h = rw e refl
-none_by bs true false e f h = rw (e, f) refl
-none_by bs true true e f h = let low : digits_value 10 bs ≤ 10000 = grind (arith, nat_tests, f) in absurd (h (is_numeral bs e, omega (arith, low)))
+none_by : (least most : ℕ) (bs : List ℕ) (t u : Bool) → most ≤ 4294967295 → is_decimal bs ≡ t → is_between least most (digits_value 10 bs) ≡ u → (IsNumeral 10 bs × (digits_value 10 bs < 2 ^ 64) → ⊥) →
+    None ≡ number_between least most bs
+none_by least most bs false u few e f h = rw e refl
+none_by least most bs true false few e f h = rw (e, f) refl
+none_by least most bs true true few e f h = let low : digits_value 10 bs ≤ most = grind (arith, nat_tests, f) in absurd (h (is_numeral bs e, omega (arith, low, few)))
 
-pub none_read : (E : Type 0) (bs : List ℕ) (e : E) → (slice_index bs 0 == 43) ≡ false → ParsesUnsigned 64 10 bs (Err e) → None ≡ lines_of bs
-none_read E bs e plus h =
+pub none_read : (E : Type 0) (least most : ℕ) (bs : List ℕ) (e : E) → most ≤ 4294967295 → (slice_index bs 0 == 43) ≡ false → ParsesUnsigned 64 10 bs (Err e) → None ≡ number_between least most bs
+none_read E least most bs e few plus h =
     let same = no_plus bs plus in
-    none_by bs (is_decimal bs) (is_in_range (digits_value 10 bs)) refl refl (λ both. h (subst (λ (ws : List ℕ). IsNumeral 10 ws × (digits_value 10 ws < 2 ^ 64)) (sym same) both))
+    none_by least most bs (is_decimal bs) (is_between least most (digits_value 10 bs)) few refl refl (λ both. h (subst (λ (ws : List ℕ). IsNumeral 10 ws × (digits_value 10 ws < 2 ^ 64)) (sym same) both))

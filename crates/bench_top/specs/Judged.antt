@@ -2,12 +2,10 @@
 use Rattle.std.specs.Prelude.{◌≡◌, ℕ, ◌++◌, nat_lt, List, length, Option, Some, None, IsSome, Result, Ok, Err, codes, decimal, if◌then◌else◌}
 use Rattle.std.proofs.Common.{refl}
 use Rattle.std.proofs.lemmas.Bool.{false≢true}
-use Rattle.mcal_base.specs.Names.{module_text}
 use Rattle.mcal_base.specs.declared.config.whole.Config.{Config}
 use Rattle.mcal_base.specs.declared.directive.Directive.{Directive}
-use Rattle.mcal_base.specs.declared.module_name.ModuleName.{ModuleName}
-use Rattle.config_rows.specs.Printed.{fault_text}
-use Rattle.config_rows.specs.declared.fault.ConfigFault.{ConfigFault}
+use Rattle.config_keys.specs.Printed.{fault_text}
+use Rattle.config_keys.specs.declared.fault.ConfigFault.{ConfigFault}
 use Rattle.mcal_config.specs.Whole.{fault_of, record_of}
 use Rattle.mcal_config.proofs.Recorded.{faultless}
 use Rattle.bench_script.specs.Faults.{line_of, kind_text}
@@ -15,22 +13,30 @@ use Rattle.bench_script.specs.Lines.{file}
 use Rattle.bench_script.specs.Script.{script}
 use Rattle.bench_script.specs.declared.fault.ScriptFault.{ScriptFault}
 use Rattle.bench_script.specs.declared.fault.ScriptFault.TheVariants.{Long}
-use Rattle.bench_top.specs.Built.{unbuilt_module, unbuilt_line}
 use Rattle.bench_top.specs.declared.refusal.Refusal.{Refusal}
 use Rattle.bench_top.specs.declared.refusal.Refusal.TheVariants as refusals
 use Rattle.bench_top.specs.declared.words.Form.{Form}
-use Rattle.bench_top.specs.declared.words.Form.TheVariants.{Check, Run}
+use Rattle.bench_top.specs.declared.words.Form.TheVariants.{File, Gen}
 use Rattle.bench_top.specs.declared.words.Printing.{Printing}
+use Rattle.bench_top.specs.declared.words.Task.{Task}
+use Rattle.bench_top.specs.declared.words.Task.TheVariants.{Check, Run}
 
 -- a status, and all that is printed
 pub record Ending : Type 0 where
   pub status : ℕ
   pub text : List ℕ
 
--- a text is printed and nothing runs, or a script runs on a configuration, and its report is printed in some way
+-- a text is printed and nothing runs, or a script runs on a configuration, and its report is printed in some way, or the
+-- bench of so many directives runs that is generated from a seed, and two lines tell of it
 pub data Judgement : Type 0 where
   Prints : Ending → Judgement
   Runs : Printing → Config → List Directive → Judgement
+  Generates : (seed count : ℕ) → Judgement
+
+-- the directives are what some text is read as
+pub record IsRead (directives : List Directive) : Type 0 where
+  pub text : List ℕ
+  pub is : script text ≡ Ok directives
 
 -- ---- endings without a run
 
@@ -64,26 +70,18 @@ ending_of refusals.NoSeparator = record { status = 7; text = codes "script fault
 ending_of (refusals.Configuration fault) = record { status = 6; text = codes "configuration fault " ++ (fault_text fault ++ codes "\n") }
 ending_of (refusals.Script (Long line)) = too_many_directives
 ending_of (refusals.Script fault) = record { status = 7; text = codes "script fault " ++ (decimal (line_of fault) ++ (codes " " ++ (kind_text fault ++ codes "\n"))) }
-ending_of (refusals.ModuleNotBuilt m) = record { status = 6; text = codes "configuration not built " ++ (module_text m ++ codes "\n") }
-ending_of (refusals.LineNotBuilt line) = record { status = 7; text = codes "script fault " ++ (decimal line ++ codes " NotBuilt\n") }
 
 -- ---- the order of the refusals
 
--- what is configured, and then the directives, can be run
-abbrev pub judged_built : Printing → Config → List Directive → Option ModuleName → Option ℕ → Judgement
-judged_built printing config directives (Some m) line = Prints (ending_of (refusals.ModuleNotBuilt m))
-judged_built printing config directives None (Some line) = Prints (ending_of (refusals.LineNotBuilt line))
-judged_built printing config directives None None = Runs printing config directives
-
--- a file that was read: `check` says so, whether it can be run or not
-abbrev pub judged_whole : Form → Config → List Directive → Judgement
+-- a file that was read
+abbrev pub judged_whole : Task → Config → List Directive → Judgement
 judged_whole Check config directives = Prints (checked (length directives))
-judged_whole (Run printing) config directives = judged_built printing config directives (unbuilt_module config) (unbuilt_line directives)
+judged_whole (Run printing) config directives = Runs printing config directives
 
 -- the script
-abbrev pub judged_script : Form → Config → Result (List Directive) ScriptFault → Judgement
-judged_script form config (Ok directives) = judged_whole form config directives
-judged_script form config (Err fault) = Prints (ending_of (refusals.Script fault))
+abbrev pub judged_script : Task → Config → Result (List Directive) ScriptFault → Judgement
+judged_script task config (Ok directives) = judged_whole task config directives
+judged_script task config (Err fault) = Prints (ending_of (refusals.Script fault))
 
 -- the fault of a configuration, or else its record, which is there where no fault is
 abbrev pub fault_or_record : (fault : Option ConfigFault) (config : Option Config) → (fault ≡ None → IsSome config) → Result Config ConfigFault
@@ -95,16 +93,21 @@ abbrev pub configuration_of : List ℕ → Result Config ConfigFault
 configuration_of text = fault_or_record (fault_of text) (record_of text) (faultless text)
 
 -- the configuration, and then the script
-abbrev pub judged_parts : Form → Result Config ConfigFault → List ℕ → Judgement
-judged_parts form (Err fault) text = Prints (ending_of (refusals.Configuration fault))
-judged_parts form (Ok config) text = judged_script form config (script text)
+abbrev pub judged_parts : Task → Result Config ConfigFault → List ℕ → Judgement
+judged_parts task (Err fault) text = Prints (ending_of (refusals.Configuration fault))
+judged_parts task (Ok config) text = judged_script task config (script text)
 
 -- the separator, and then both parts
-abbrev pub judged_file : Form → Option (List ℕ × List ℕ) → Judgement
-judged_file form None = Prints (ending_of refusals.NoSeparator)
-judged_file form (Some parts) = judged_parts form (configuration_of parts.0) parts.1
+abbrev pub judged_file : Task → Option (List ℕ × List ℕ) → Judgement
+judged_file task None = Prints (ending_of refusals.NoSeparator)
+judged_file task (Some parts) = judged_parts task (configuration_of parts.0) parts.1
 
--- the words, and then the number of bytes
+-- the number of bytes, and then the file
+abbrev pub judged_bytes : Task → List ℕ → Judgement
+judged_bytes task bytes = if nat_lt 1048576 (length bytes) then Prints too_many_bytes else judged_file task (file bytes)
+
+-- the words first; a generated bench needs no bytes
 abbrev pub judged : Option Form → List ℕ → Judgement
 judged None bytes = Prints usage
-judged (Some form) bytes = if nat_lt 1048576 (length bytes) then Prints too_many_bytes else judged_file form (file bytes)
+judged (Some (File task)) bytes = judged_bytes task bytes
+judged (Some (Gen seed count)) bytes = Generates seed count

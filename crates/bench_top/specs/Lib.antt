@@ -1,4 +1,3 @@
-pub mod Built
 pub mod Judged
 pub mod Outcomes
 pub mod Runs

@@ -1,13 +1,13 @@
 -- What the run of a script leaves: a run of all modules' machine over a configuration, from power on with the chip that
--- the configuration wires and that has room for the words that the script gives to come in.
-use Rattle.std.specs.Prelude.{◌≡◌, ℕ, ◌<◌, ◌≤◌, Bool, List, Option}
+-- the configuration wires, that has room for the words that the script gives to come in, and on which so many devices hang.
+use Rattle.std.specs.Prelude.{◌≡◌, ℕ, ◌<◌, ◌≤◌, Bool, false, List, [], Option}
 use Rattle.mcal_base.specs.declared.config.whole.Config.{Config}
 use Rattle.mcal_base.specs.declared.directive.Directive.{Directive}
 use Rattle.run_model.specs.Entry.{Entry}
 use Rattle.run_model.specs.Moment.{start_moment}
 use Rattle.run_model.specs.Stops.{steps_in}
 use Rattle.script_runner.specs.Scripts.{IsRun, IsStopped, chip_for}
-use Rattle.bench_report.specs.Report.{report}
+use Rattle.bench_report.specs.Report.{report, report_lines, end_of}
 use Rattle.bench_report.specs.Rows.{Row}
 use Rattle.bench_report.specs.Showing.{shows_from}
 use Rattle.bench_report.specs.Shown.{kept, texts_of}
@@ -16,27 +16,31 @@ use Rattle.mcal_system.specs.Setting.{system_setting, call_of}
 use Rattle.bench_top.specs.Shows.{show_rows}
 
 -- The whole script was run.
-pub record IsWholeRun (config : Config) (script : List Directive) (journal : List Entry) : Type 0 where
-  pub run : IsRun (system_setting config) (chip_for config script) call_of script journal
+pub record IsWholeRun (devices : ℕ) (config : Config) (script : List Directive) (journal : List Entry) : Type 0 where
+  pub run : IsRun (system_setting config) (chip_for devices config script) call_of script journal
   pub steps : steps_in journal ≤ most_steps
 
 -- The run stopped where one more step than the most would have been taken, which needs frames whose bounds come to more.
-pub record IsStoppedRun (config : Config) (script : List Directive) (journal : List Entry) : Type 0 where
-  pub run : IsStopped (system_setting config) (chip_for config script) call_of most_steps script journal
+pub record IsStoppedRun (devices : ℕ) (config : Config) (script : List Directive) (journal : List Entry) : Type 0 where
+  pub run : IsStopped (system_setting config) (chip_for devices config script) call_of most_steps script journal
   pub bound : most_steps < bound_of config script
 
 -- the rows of each show of a run, as the machine's state is there
-abbrev pub shows_of : Config → List Directive → List Entry → List (List Row)
-shows_of config script journal = shows_from (system_setting config) call_of (show_rows config) script (start_moment (system_setting config) (chip_for config script)) journal
+abbrev pub shows_of : (devices : ℕ) → Config → List Directive → List Entry → List (List Row)
+shows_of devices config script journal = shows_from (system_setting config) call_of (show_rows config) script (start_moment (system_setting config) (chip_for devices config script)) journal
 
 -- the report of a run
-abbrev pub report_of : (traced : Bool) → Config → List Directive → List Entry → List ℕ
-report_of traced config script journal = report traced script journal (shows_of config script journal)
+abbrev pub report_of : (devices : ℕ) → (traced : Bool) → Config → List Directive → List Entry → List ℕ
+report_of devices traced config script journal = report traced script journal (shows_of devices config script journal)
+
+-- the last line of that report
+abbrev pub end_line_of : (devices : ℕ) → Config → List Directive → List Entry → List ℕ
+end_line_of devices config script journal = end_of (report_lines false [] (shows_of devices config script journal) script journal)
 
 -- what was shown is kept
-abbrev pub IsShown : Config → List Directive → List Entry → Option (List (List ℕ)) → Type 0
-IsShown config script journal shown = shown ≡ kept (texts_of journal (shows_of config script journal))
+abbrev pub IsShown : (devices : ℕ) → Config → List Directive → List Entry → Option (List (List ℕ)) → Type 0
+IsShown devices config script journal shown = shown ≡ kept (texts_of journal (shows_of devices config script journal))
 
 -- the same of a run under way
 abbrev pub IsKept : SystemRun → Option (List (List ℕ)) → Type 0
-IsKept run shown = IsShown run.config run.script run.journal.entries shown
+IsKept run shown = IsShown run.devices run.config run.script run.journal.entries shown

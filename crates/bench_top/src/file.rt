@@ -3,10 +3,9 @@ ghost use Rattle.mcal_base.specs.declared.config.whole.Config as records;
 ghost use Rattle.config_facts.specs.Valid.{IsValid};
 ghost use Rattle.bench_script.specs.Lines.{file};
 ghost use Rattle.bench_script.specs.Script as spec_script;
-ghost use Rattle.bench_top.specs.Built.{IsRead};
 ghost use Rattle.bench_top.specs.Judged as spec;
-ghost use Rattle.bench_top.specs.Judged.{Prints};
-ghost use Rattle.bench_top.specs.declared.words.Form.{Form};
+ghost use Rattle.bench_top.specs.Judged.{IsRead, Prints};
+ghost use Rattle.bench_top.specs.declared.words.Task.{Task};
 
 use crate::refusal::Refusal;
 use bench_script::{ScriptFault, read_script, split_file};
@@ -35,9 +34,9 @@ pub enum FileEnd {
 /// The configuration of a text.
 #[tactic(auto, using(crate::proofs::Configurations::record_is, crate::proofs::Configurations::fault_is))]
 fn configuration(alloc: Global, text: &[u8]) -> Result<Config, FileEnd>
-    ensures read { IfOk result (λ config. (script : List ℕ) (form : Form) → spec.judged_parts form (spec.configuration_of text.now) script ≡ spec.judged_script form config (spec_script.script script)) }
+    ensures read { IfOk result (λ config. (script : List ℕ) (task : Task) → spec.judged_parts task (spec.configuration_of text.now) script ≡ spec.judged_script task config (spec_script.script script)) }
     ensures valid { IfOk result IsValid }
-    ensures refused { (refusal : Refusal) → result ≡ Err (FileEnd.Refused refusal) → (script : List ℕ) (form : Form) → spec.judged_parts form (spec.configuration_of text.now) script ≡ Prints (spec.ending_of refusal) }
+    ensures refused { (refusal : Refusal) → result ≡ Err (FileEnd.Refused refusal) → (script : List ℕ) (task : Task) → spec.judged_parts task (spec.configuration_of text.now) script ≡ Prints (spec.ending_of refusal) }
 {
     match read_config(alloc, text) {
         Ok(config) => Ok(config),
@@ -50,7 +49,7 @@ fn configuration(alloc: Global, text: &[u8]) -> Result<Config, FileEnd>
 fn directives(alloc: Global, text: &[u8]) -> Result<Vec<Directive>, FileEnd>
     requires { length text.now ≤ 1048576 }
     ensures read { IfOk result (λ directives. spec_script.script text.now ≡ Ok directives.items) }
-    ensures refused { (refusal : Refusal) → result ≡ Err (FileEnd.Refused refusal) → (form : Form) (config : records.Config) → spec.judged_script form config (spec_script.script text.now) ≡ Prints (spec.ending_of refusal) }
+    ensures refused { (refusal : Refusal) → result ≡ Err (FileEnd.Refused refusal) → (task : Task) (config : records.Config) → spec.judged_script task config (spec_script.script text.now) ≡ Prints (spec.ending_of refusal) }
 {
     match read_script(alloc, text) {
         Ok(directives) => Ok(directives),
@@ -62,10 +61,10 @@ fn directives(alloc: Global, text: &[u8]) -> Result<Vec<Directive>, FileEnd>
 /// Reads a bench file: its configuration first, and then its script.
 pub fn read_file(alloc: Global, bytes: &[u8]) -> Result<BenchFile, FileEnd>
     requires { length bytes.now ≤ 1048576 }
-    ensures whole { IfOk result (λ read. (form : Form) → spec.judged_file form (file bytes.now) ≡ spec.judged_whole form read.config read.script.items) }
+    ensures whole { IfOk result (λ read. (task : Task) → spec.judged_file task (file bytes.now) ≡ spec.judged_whole task read.config read.script.items) }
     ensures valid { IfOk result (λ read. IsValid read.config) }
     ensures script { IfOk result (λ read. IsRead read.script.items) }
-    ensures refused { (refusal : Refusal) → result ≡ Err (FileEnd.Refused refusal) → (form : Form) → spec.judged_file form (file bytes.now) ≡ Prints (spec.ending_of refusal) }
+    ensures refused { (refusal : Refusal) → result ≡ Err (FileEnd.Refused refusal) → (task : Task) → spec.judged_file task (file bytes.now) ≡ Prints (spec.ending_of refusal) }
 {
     let Some((first, second)) = split_file(bytes) else {
         return Err(FileEnd::Refused(Refusal::NoSeparator));

@@ -1,8 +1,8 @@
 //! The top call of the bench: its words, its input, its refusals, the run and what is written.
 #![tactic(auto)]
 
-mod built;
 mod file;
+mod generated;
 mod input;
 mod output;
 mod refusal;
@@ -12,10 +12,9 @@ mod tail;
 mod top;
 mod words;
 
-pub use built::{unbuilt_line, unbuilt_module};
 pub use file::{BenchFile, FileEnd, read_file};
 pub use input::{LIMIT, ReadEnd, read_all};
 pub use output::write_all;
 pub use refusal::Refusal;
 pub use top::{Outcome, bench};
-pub use words::{Form, Printing, form_of};
+pub use words::{Form, Printing, Task, form_of};

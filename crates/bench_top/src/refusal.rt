@@ -2,7 +2,6 @@ ghost use Rattle.std.specs.Prelude.{◌≡◌, ◌≤◌, IfOk, string_bytes};
 ghost use Rattle.bench_top.specs.Judged.{ending_of};
 
 use bench_script::ScriptFault;
-use mcal_base::ModuleName;
 use mcal_config::{ConfigFault, Printed};
 use std::alloc::{AllocError, Global};
 
@@ -15,10 +14,6 @@ pub enum Refusal {
     Configuration(ConfigFault),
     /// The script has this fault; one directive too many is a limit, and no fault of a line.
     Script(ScriptFault),
-    /// This module is configured, and has no driver yet.
-    ModuleNotBuilt(ModuleName),
-    /// The script line of this number names what can't be run yet.
-    LineNotBuilt(u32),
 }
 
 impl Refusal {
@@ -29,8 +24,8 @@ impl Refusal {
     {
         match self {
             Refusal::Script(ScriptFault::Long(_)) => 5,
-            Refusal::Configuration(_) | Refusal::ModuleNotBuilt(_) => 6,
-            Refusal::NoSeparator | Refusal::Script(_) | Refusal::LineNotBuilt(_) => 7,
+            Refusal::Configuration(_) => 6,
+            Refusal::NoSeparator | Refusal::Script(_) => 7,
         }
     }
 
@@ -52,11 +47,6 @@ impl Refusal {
                 let kind = fault.kind_text();
                 format!(in alloc; "script fault {line} {kind}\n")
             }
-            Refusal::ModuleNotBuilt(module) => {
-                let module = module.text();
-                format!(in alloc; "configuration not built {module}\n")
-            }
-            Refusal::LineNotBuilt(line) => format!(in alloc; "script fault {line} NotBuilt\n"),
         }
     }
 }

@@ -1,8 +1,9 @@
-ghost use Rattle.std.specs.Prelude.{◌≡◌, ◌<◌, [], IfOk, OnOk, Some, length, slice_get};
+ghost use Rattle.std.specs.Prelude.{◌≡◌, ◌<◌, IfOk, OnOk, Some, length, map, slice_get, vec_len, MatchResult};
 ghost use Rattle.std.specs.Bool.{OnFalse, OnTrue};
 ghost use Rattle.config_facts.specs.Valid.{IsValid};
 ghost use Rattle.script_runner.specs.Scripts.{IsScript, AllOffered};
 ghost use Rattle.bench_report.specs.Shown.{kept};
+ghost use Rattle.run_model.specs.Exchanges.{AreToldBy};
 ghost use Rattle.mcal_system.specs.Runs.{AddsItems, IsSameRun, SystemRun};
 ghost use Rattle.mcal_system.specs.Setting.{has_service};
 ghost use Rattle.bench_top.specs.Shows as spec;
@@ -13,6 +14,7 @@ use bench_report::ShownTexts;
 use mcal_base::{Config, Directive, NoMemory, Order, Shown};
 use mcal_system::System;
 use run_model::Journal;
+use serial_devices::SerialDevice;
 use std::alloc::{AllocError, Global};
 
 /// How a run ended.
@@ -24,6 +26,8 @@ pub(crate) struct Ran {
     pub(crate) shown: ShownTexts,
     /// Whether the run stopped, since one more step than the most would have been taken.
     pub(crate) too_long: bool,
+    /// Whether memory was not found for what was shown.
+    pub(crate) lost: bool,
 }
 
 /// The directive at a place of a script.
@@ -67,33 +71,46 @@ fn keep_shown(
 }
 
 /// Runs a script over all modules of a configuration: to its end, or until one more step than the most would be taken.
-pub(crate) fn run(alloc: Global, config: Config, script: &[Directive]) -> Result<Ran, NoMemory>
+/// Memory that is wanting for what is shown doesn't stop the run, for the journal is to tell of all that the devices were sent.
+pub(crate) fn run(
+    alloc: Global,
+    config: Config,
+    script: &[Directive],
+    rack: &mut Vec<Box<dyn SerialDevice>>,
+) -> Result<Ran, NoMemory>
     requires valid { IsValid config }
     requires script { IsScript script.now }
     requires offered { AllOffered has_service script.now }
-    ensures whole { IfOk result (λ ran. OnFalse ran.too_long (IsWholeRun config script.now ran.journal.entries)) }
-    ensures stopped { IfOk result (λ ran. OnTrue ran.too_long (IsStoppedRun config script.now ran.journal.entries)) }
+    ensures whole { IfOk result (λ ran. OnFalse ran.too_long (IsWholeRun (vec_len rack.old) config script.now ran.journal.entries)) }
+    ensures stopped { IfOk result (λ ran. OnTrue ran.too_long (IsStoppedRun (vec_len rack.old) config script.now ran.journal.entries)) }
     // What was shown is kept, as far as a report may have it.
-    ensures shown { IfOk result (λ ran. OnFalse ran.too_long (IsShown config script.now ran.journal.entries ran.shown)) }
+    ensures shown { IfOk result (λ ran. OnFalse ran.too_long (OnFalse ran.lost (IsShown (vec_len rack.old) config script.now ran.journal.entries ran.shown))) }
+    // The devices were called by the run's steps, and where no run began they were not.
+    ensures told { MatchResult result
+        (λ ran. AreToldBy (vec_len rack.old) ran.journal.entries (map (λ d. line d) rack.old.items) (map (λ d. line d) rack.new.items))
+        (λ e. map (λ d. line d) rack.new.items ≡ map (λ d. line d) rack.old.items) }
 {
-    let mut system = System::new(alloc, config, script)?;
+    let mut system = System::new(alloc, config, script, rack.len())?;
     let mut shown = ShownTexts::new(alloc);
+    let mut lost = false;
     for at in 0..script.len() {
         let directive = directive_at(script, at);
-        if system.obey(directive).is_err() {
+        if system.obey(directive, rack).is_err() {
             return Ok(Ran {
                 journal: system.into_journal(),
                 shown,
                 too_long: true,
+                lost,
             });
         }
-        if keep_shown(alloc, &system, directive, &mut shown).is_err() {
-            return Err(NoMemory);
+        if !lost && keep_shown(alloc, &system, directive, &mut shown).is_err() {
+            lost = true;
         }
     }
     Ok(Ran {
         journal: system.into_journal(),
         shown,
         too_long: false,
+        lost,
     })
 }

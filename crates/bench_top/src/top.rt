@@ -1,36 +1,39 @@
-ghost use Rattle.std.specs.Prelude.{◌≡◌, ◌≢◌, ◌≤◌, ◌++◌, ℕ, List, [], None, IfOk, codes, decimal, length, map, string_bytes};
+ghost use Rattle.std.specs.Prelude.{◌≡◌, ◌≢◌, ◌≤◌, ℕ, List, [], None, IfOk, codes, length, map, string_bytes, vec_len};
 ghost use Rattle.std.specs.Option.{IfSome};
-ghost use Rattle.std.specs.Io.KnownBytes.{Appends, IsAtEnd};
+ghost use Rattle.std.specs.Io.KnownBytes.{Appends};
 ghost use Rattle.mcal_base.specs.Causes.{Rose};
 ghost use Rattle.mcal_base.specs.declared.config.whole.Config as records;
 ghost use Rattle.config_facts.specs.Valid.{IsValid};
+ghost use Rattle.run_model.specs.Exchanges.{AreToldBy};
 ghost use Rattle.bench_report.specs.Limit.{most_bytes};
 ghost use Rattle.bench_script.specs.Lines.{file};
 ghost use Rattle.mcal_system.specs.Runs.{bound_of};
 ghost use Rattle.mcal_system.specs.Setting.{has_service};
 ghost use Rattle.script_runner.specs.Scripts.{IsScript, AllOffered};
-ghost use Rattle.bench_top.specs.Built.{IsRead};
 ghost use Rattle.bench_top.specs.Judged as spec;
-ghost use Rattle.bench_top.specs.Judged.{Ending, Judgement, Prints, Runs, judged};
-ghost use Rattle.bench_top.specs.Outcomes.{Concludes, Ends, EndsOnSome, IsEnded, FrontOf, FrontOnSome, Keeps, WritesFront};
+ghost use Rattle.bench_top.specs.Judged.{Ending, Generates, IsRead, Judgement, Prints, Runs, judged};
+ghost use Rattle.bench_top.specs.Outcomes.{Concludes, Ends, EndsOnSome, IsEnded, FrontOf, FrontOnSome, Keeps, LeavesInput, LeavesOnSome, LeavesRun, WritesFront};
 ghost use Rattle.bench_top.specs.Runs.{report_of};
 ghost use Rattle.bench_top.specs.Statuses.{IsDecided};
 ghost use Rattle.bench_top.specs.Tail.{is_traced};
 ghost use Rattle.bench_top.specs.Words.{form_of};
 ghost use Rattle.bench_top.specs.declared.words.Form.{Form};
 ghost use Rattle.bench_top.specs.declared.words.Printing.{Printing};
+ghost use Rattle.bench_top.specs.declared.words.Task.{Task};
 
-use crate::built::{unbuilt_line, unbuilt_module};
 use crate::file::{BenchFile, FileEnd, read_file};
+use crate::generated::generated_text;
 use crate::input::{ReadEnd, read_all};
 use crate::output::write_all;
 use crate::refusal::Refusal;
 use crate::run::run;
 use crate::tail::{printed, ring_for};
-use crate::words::{Form, Printing, form_of};
+use crate::words::{Form, Printing, Task, form_of};
+use bench_generator::board;
 use bench_report::{ReportEnd, report};
 use mcal_base::{Config, Directive, Sink, Source};
 use run_model::Journal;
+use serial_devices::SerialDevice;
 use std::alloc::{AllocError, Global};
 
 /// What is printed where the words are of no form.
@@ -67,8 +70,8 @@ fn finish<K: Sink>(out: &mut K, status: u8, text: &[u8], journal: Journal) -> Ou
     ensures remembers { result.status ≢ 4 }
     ensures journal { result.journal ≡ journal }
     // It ends as it was judged, where the call is to end with this status and this text.
-    ensures concludes { (judgement : Judgement) → Ends judgement (record { status = status; text = text.now }) journal.entries → Keeps judgement journal.entries →
-        Concludes judgement result.status result.journal.entries (K.taken out.old) (K.taken out.new) (K.faults out.old) (K.faults out.new) }
+    ensures concludes { (devices : ℕ) (judgement : Judgement) → Ends devices judgement (record { status = status; text = text.now }) journal.entries → Keeps devices judgement journal.entries →
+        Concludes devices judgement result.status result.journal.entries (K.taken out.old) (K.taken out.new) (K.faults out.old) (K.faults out.new) }
 {
     match write_all(out, text) {
         Ok(()) => Outcome { status, journal },
@@ -80,12 +83,20 @@ fn finish<K: Sink>(out: &mut K, status: u8, text: &[u8], journal: Journal) -> Ou
 fn no_memory(alloc: Global) -> Outcome
     ensures status { result.status ≡ 4 }
     ensures journal { result.journal.entries ≡ [] }
-    ensures keeps { (judgement : Judgement) → Keeps judgement result.journal.entries }
+    ensures keeps { (devices : ℕ) (judgement : Judgement) → Keeps devices judgement result.journal.entries }
 {
     Outcome {
         status: 4,
         journal: Journal::empty(alloc),
     }
+}
+
+/// The outcome where memory was not found for what is to be told of a run: nothing is written, and its journal is left.
+fn no_room(journal: Journal) -> Outcome
+    ensures status { result.status ≡ 4 }
+    ensures journal { result.journal ≡ journal }
+{
+    Outcome { status: 4, journal }
 }
 
 /// Writes a text, where nothing runs.
@@ -94,15 +105,15 @@ fn print<K: Sink>(alloc: Global, out: &mut K, status: u8, text: &str) -> Outcome
     requires memory { status ≢ 4 }
     requires known { status ≤ 7 }
     ensures remembers { result.status ≢ 4 }
-    ensures concludes { Concludes (Prints (record { status = status; text = text.now })) result.status result.journal.entries (K.taken out.old) (K.taken out.new) (K.faults out.old) (K.faults out.new) }
-    ensures keeps { (judgement : Judgement) → Keeps judgement result.journal.entries }
+    ensures concludes { (devices : ℕ) → Concludes devices (Prints (record { status = status; text = text.now })) result.status result.journal.entries (K.taken out.old) (K.taken out.new) (K.faults out.old) (K.faults out.new) }
+    ensures keeps { (devices : ℕ) (judgement : Judgement) → Keeps devices judgement result.journal.entries }
 {
     finish(out, status, text.as_bytes(), Journal::empty(alloc))
 }
 
 /// Writes the line of a file that is refused.
 fn refuse<K: Sink>(alloc: Global, out: &mut K, refusal: Refusal) -> Outcome
-    ensures { Concludes (Prints (spec.ending_of refusal)) result.status result.journal.entries (K.taken out.old) (K.taken out.new) (K.faults out.old) (K.faults out.new) }
+    ensures { (devices : ℕ) → Concludes devices (Prints (spec.ending_of refusal)) result.status result.journal.entries (K.taken out.old) (K.taken out.new) (K.faults out.old) (K.faults out.new) }
 {
     match refusal.text(alloc) {
         Ok(text) => print(alloc, out, refusal.status(), text.as_str()),
@@ -119,7 +130,7 @@ fn checked_text(alloc: Global, directives: usize) -> Result<String, AllocError>
 
 /// Says that a file was read.
 fn check<K: Sink>(alloc: Global, out: &mut K, script: &[Directive]) -> Outcome
-    ensures { Concludes (Prints (spec.checked (length script.now))) result.status result.journal.entries (K.taken out.old) (K.taken out.new) (K.faults out.old) (K.faults out.new) }
+    ensures { (devices : ℕ) → Concludes devices (Prints (spec.checked (length script.now))) result.status result.journal.entries (K.taken out.old) (K.taken out.new) (K.faults out.old) (K.faults out.new) }
 {
     match checked_text(alloc, script.len()) {
         Ok(text) => print(alloc, out, 0, text.as_str()),
@@ -134,20 +145,26 @@ fn run_and_report<K: Sink>(
     printing: Printing,
     config: Config,
     script: &[Directive],
+    rack: &mut Vec<Box<dyn SerialDevice>>,
 ) -> Outcome
     requires valid { IsValid config }
     requires script { IsScript script.now }
     requires offered { AllOffered has_service script.now }
-    ensures { Concludes (Runs printing config script.now) result.status result.journal.entries (K.taken out.old) (K.taken out.new) (K.faults out.old) (K.faults out.new) }
+    ensures concludes { Concludes (vec_len rack.old) (Runs printing config script.now) result.status result.journal.entries (K.taken out.old) (K.taken out.new) (K.faults out.old) (K.faults out.new) }
+    // The devices were called by the steps of its journal.
+    ensures told { AreToldBy (vec_len rack.old) result.journal.entries (map (λ d. line d) rack.old.items) (map (λ d. line d) rack.new.items) }
 {
     let Ok(mut starts) = ring_for(alloc, printing) else {
         return no_memory(alloc);
     };
-    let Ok(ran) = run(alloc, config, script) else {
+    let Ok(ran) = run(alloc, config, script, rack) else {
         return no_memory(alloc);
     };
     if ran.too_long {
         return finish(out, 5, TOO_MANY_STEPS.as_bytes(), ran.journal);
+    }
+    if ran.lost {
+        return no_room(ran.journal);
     }
     match report(
         alloc,
@@ -161,47 +178,71 @@ fn run_and_report<K: Sink>(
             finish(out, 0, part, ran.journal)
         }
         Err(ReportEnd::TooLong) => finish(out, 5, TOO_LONG_REPORT.as_bytes(), ran.journal),
-        Err(ReportEnd::NoMemory) => no_memory(alloc),
+        Err(ReportEnd::NoMemory) => no_room(ran.journal),
     }
 }
 
-/// Runs a file that was read, where all of it can be run.
-fn run_built<K: Sink>(alloc: Global, out: &mut K, printing: Printing, read: BenchFile) -> Outcome
+/// Does what is asked for with a file that was read.
+fn act<K: Sink>(
+    alloc: Global,
+    out: &mut K,
+    task: Task,
+    read: BenchFile,
+    rack: &mut Vec<Box<dyn SerialDevice>>,
+) -> Outcome
     requires valid { IsValid read.config }
     requires script { IsRead read.script.items }
-    ensures { Concludes (spec.judged_whole (Form.Run printing) read.config read.script.items) result.status result.journal.entries (K.taken out.old) (K.taken out.new) (K.faults out.old) (K.faults out.new) }
+    ensures concludes { Concludes (vec_len rack.old) (spec.judged_whole task read.config read.script.items) result.status result.journal.entries (K.taken out.old) (K.taken out.new) (K.faults out.old) (K.faults out.new) }
+    ensures told { AreToldBy (vec_len rack.old) result.journal.entries (map (λ d. line d) rack.old.items) (map (λ d. line d) rack.new.items) }
 {
-    if let Some(module) = unbuilt_module(&read.config) {
-        return refuse(alloc, out, Refusal::ModuleNotBuilt(module));
-    }
-    if let Some(line) = unbuilt_line(&read.script) {
-        return refuse(alloc, out, Refusal::LineNotBuilt(line));
-    }
     let BenchFile { config, script } = read;
-    run_and_report(alloc, out, printing, config, &script)
-}
-
-/// Does what a form asks for with a file that was read.
-fn act<K: Sink>(alloc: Global, out: &mut K, form: Form, read: BenchFile) -> Outcome
-    requires valid { IsValid read.config }
-    requires script { IsRead read.script.items }
-    ensures { Concludes (spec.judged_whole form read.config read.script.items) result.status result.journal.entries (K.taken out.old) (K.taken out.new) (K.faults out.old) (K.faults out.new) }
-{
-    match form {
-        Form::Check => check(alloc, out, &read.script),
-        Form::Run(printing) => run_built(alloc, out, printing, read),
+    match task {
+        Task::Check => check(alloc, out, &script),
+        Task::Run(printing) => run_and_report(alloc, out, printing, config, &script, rack),
     }
 }
 
-/// Does what a form asks for with a bench file.
-fn conclude<K: Sink>(alloc: Global, out: &mut K, form: Form, bytes: &[u8]) -> Outcome
+/// Does what is asked for with a bench file.
+fn conclude<K: Sink>(
+    alloc: Global,
+    out: &mut K,
+    task: Task,
+    bytes: &[u8],
+    rack: &mut Vec<Box<dyn SerialDevice>>,
+) -> Outcome
     requires { length bytes.now ≤ 1048576 }
-    ensures { Concludes (spec.judged_file form (file bytes.now)) result.status result.journal.entries (K.taken out.old) (K.taken out.new) (K.faults out.old) (K.faults out.new) }
+    ensures concludes { Concludes (vec_len rack.old) (spec.judged_file task (file bytes.now)) result.status result.journal.entries (K.taken out.old) (K.taken out.new) (K.faults out.old) (K.faults out.new) }
+    ensures told { AreToldBy (vec_len rack.old) result.journal.entries (map (λ d. line d) rack.old.items) (map (λ d. line d) rack.new.items) }
 {
     match read_file(alloc, bytes) {
-        Ok(read) => act(alloc, out, form, read),
+        Ok(read) => act(alloc, out, task, read, rack),
         Err(FileEnd::Refused(refusal)) => refuse(alloc, out, refusal),
         Err(FileEnd::NoMemory) => no_memory(alloc),
+    }
+}
+
+/// Generates a bench from a seed, runs it, and writes the two lines that tell of it. It comes to its end, for the bounds of
+/// its frames are within the limit of steps.
+fn generate<K: Sink>(
+    alloc: Global,
+    out: &mut K,
+    seed: u32,
+    count: u32,
+    rack: &mut Vec<Box<dyn SerialDevice>>,
+) -> Outcome
+    requires { count ≤ 20000 }
+    ensures concludes { Concludes (vec_len rack.old) (Generates seed count) result.status result.journal.entries (K.taken out.old) (K.taken out.new) (K.faults out.old) (K.faults out.new) }
+    ensures told { AreToldBy (vec_len rack.old) result.journal.entries (map (λ d. line d) rack.old.items) (map (λ d. line d) rack.new.items) }
+{
+    let Ok(script) = bench_generator::script(alloc, seed, count) else {
+        return no_memory(alloc);
+    };
+    let Ok(ran) = run(alloc, board(), &script, rack) else {
+        return no_memory(alloc);
+    };
+    match generated_text(alloc, seed, count, &script, &ran.journal) {
+        Ok(text) => finish(out, 0, text.as_bytes(), ran.journal),
+        Err(_) => no_room(ran.journal),
     }
 }
 
@@ -211,14 +252,15 @@ pub fn bench<S: Source, K: Sink>(
     words: &[String],
     input: &mut S,
     out: &mut K,
+    rack: &mut Vec<Box<dyn SerialDevice>>,
 ) -> Outcome
     // Where no fault was met and memory was found, the status, the journal and the output are those of the definition.
     ensures exact { result.status ≢ 2 → result.status ≢ 3 → result.status ≢ 4 → IfSome (S.left input.old) (λ bytes.
-        IsEnded (judged (form_of (map string_bytes words.now)) bytes) result.status result.journal.entries (K.taken out.old) (K.taken out.new)) }
+        IsEnded (vec_len rack.old) (judged (form_of (map string_bytes words.now)) bytes) result.status result.journal.entries (K.taken out.old) (K.taken out.new)) }
     // Whatever the source tells of its bytes, the call ends as it is to end on some bytes.
-    ensures on_some { result.status ≢ 2 → result.status ≢ 3 → result.status ≢ 4 → EndsOnSome (form_of (map string_bytes words.now)) result.status result.journal.entries (K.taken out.old) (K.taken out.new) }
-    // The status that the bytes come to, where the words are of a form.
-    ensures statuses { result.status ≢ 2 → result.status ≢ 3 → result.status ≢ 4 → IfSome (S.left input.old) (λ bytes. (form : Form) → form_of (map string_bytes words.now) ≡ Some form → IsDecided form bytes result.status result.journal.entries) }
+    ensures on_some { result.status ≢ 2 → result.status ≢ 3 → result.status ≢ 4 → EndsOnSome (vec_len rack.old) (form_of (map string_bytes words.now)) result.status result.journal.entries (K.taken out.old) (K.taken out.new) }
+    // The status that the bytes come to, where the words ask for something with them.
+    ensures statuses { result.status ≢ 2 → result.status ≢ 3 → result.status ≢ 4 → IfSome (S.left input.old) (λ bytes. (task : Task) → form_of (map string_bytes words.now) ≡ Some (Form.File task) → IsDecided (vec_len rack.old) task bytes result.status result.journal.entries) }
     // There are no other statuses.
     ensures known { result.status ≤ 7 }
     // The words alone decide on status 1, and on the line that is printed then.
@@ -233,31 +275,45 @@ pub fn bench<S: Source, K: Sink>(
     // A fault of the sink: a front of the whole output was written.
     ensures write { result.status ≡ 3 → Rose (K.faults out.old) (K.faults out.new) }
     ensures write_only { result.status ≢ 3 → K.faults out.new ≡ K.faults out.old }
-    ensures front { result.status ≡ 3 → IfSome (S.left input.old) (λ bytes. FrontOf (judged (form_of (map string_bytes words.now)) bytes) (Rose (S.faults input.old) (S.faults input.new)) result.journal.entries (K.taken out.old) (K.taken out.new)) }
-    ensures front_on_some { result.status ≡ 3 → FrontOnSome (form_of (map string_bytes words.now)) (Rose (S.faults input.old) (S.faults input.new)) result.journal.entries (K.taken out.old) (K.taken out.new) }
+    ensures front { result.status ≡ 3 → IfSome (S.left input.old) (λ bytes. FrontOf (vec_len rack.old) (judged (form_of (map string_bytes words.now)) bytes) (Rose (S.faults input.old) (S.faults input.new)) result.journal.entries (K.taken out.old) (K.taken out.new)) }
+    ensures front_on_some { result.status ≡ 3 → FrontOnSome (vec_len rack.old) (form_of (map string_bytes words.now)) (Rose (S.faults input.old) (S.faults input.new)) result.journal.entries (K.taken out.old) (K.taken out.new) }
     ensures read_front { result.status ≡ 3 → S.faults input.new ≢ S.faults input.old → WritesFront (K.taken out.old) (K.taken out.new) (codes "read fault\n") × (result.journal.entries ≡ []) }
     // Only a run leaves a journal.
-    ensures no_run { result.status ≢ 0 → result.status ≢ 3 → result.status ≢ 5 → result.journal.entries ≡ [] }
-    // Want of memory: nothing is written.
-    ensures nothing { result.status ≡ 4 → Appends (K.taken out.old) (K.taken out.new) [] × (result.journal.entries ≡ []) }
-    // Status 0 comes only where all was read.
-    ensures ended { result.status ≡ 0 → IsAtEnd (S.left input.new) }
+    ensures no_run { result.status ≢ 0 → result.status ≢ 3 → result.status ≢ 4 → result.status ≢ 5 → result.journal.entries ≡ [] }
+    // Want of memory: nothing is written, and the journal is empty, or that of the run.
+    ensures nothing { result.status ≡ 4 → Appends (K.taken out.old) (K.taken out.new) [] }
+    ensures memory { result.status ≡ 4 → IfSome (S.left input.old) (λ bytes. LeavesRun (vec_len rack.old) (judged (form_of (map string_bytes words.now)) bytes) result.journal.entries) }
+    ensures memory_on_some { result.status ≡ 4 → LeavesOnSome (vec_len rack.old) (form_of (map string_bytes words.now)) result.journal.entries }
+    // The devices were called by the journal's steps, each by those under its select, and dropped by what it says, whatever the status.
+    ensures devices { AreToldBy (vec_len rack.old) result.journal.entries (map (λ d. line d) rack.old.items) (map (λ d. line d) rack.new.items) }
+    // Status 0 comes only where all was read, or nothing where the bench was generated.
+    ensures ended { result.status ≡ 0 → LeavesInput (form_of (map string_bytes words.now)) (S.left input.old) (S.left input.new) }
     // A file that is not refused is run to its end and reported, where no fault is met, memory is found, the bounds of its frames are within the limit of steps and its report
     // within the limit of bytes.
     ensures complete { (Rose (S.faults input.old) (S.faults input.new) → ⊥) → (Rose (K.faults out.old) (K.faults out.new) → ⊥) → IfSome (S.left input.old) (λ bytes.
         (printing : Printing) (config : records.Config) (script : List Directive) → judged (form_of (map string_bytes words.now)) bytes ≡ Runs printing config script → bound_of config script ≤ 1000000 →
-        length (report_of (is_traced printing) config script result.journal.entries) ≤ most_bytes → result.status ≢ 4 → result.status ≡ 0) }
+        length (report_of (vec_len rack.old) (is_traced printing) config script result.journal.entries) ≤ most_bytes → result.status ≢ 4 → result.status ≡ 0) }
     // What is promised of a whole run: whole rounds, the standard's order, one end of each request, and what each frame has told.
-    ensures promises { IfSome (S.left input.old) (λ bytes. Keeps (judged (form_of (map string_bytes words.now)) bytes) result.journal.entries) }
+    ensures promises { IfSome (S.left input.old) (λ bytes. Keeps (vec_len rack.old) (judged (form_of (map string_bytes words.now)) bytes) result.journal.entries) }
     // And a file that is not refused is checked.
     ensures checks { (Rose (S.faults input.old) (S.faults input.new) → ⊥) → (Rose (K.faults out.old) (K.faults out.new) → ⊥) → IfSome (S.left input.old) (λ bytes.
         (ending : Ending) → judged (form_of (map string_bytes words.now)) bytes ≡ Prints ending → result.status ≢ 4 → result.status ≡ ending.status) }
+    // A generated bench needs no input, whatever the source tells or does: it is run to its end, and two lines tell of it.
+    ensures generated { (seed count : ℕ) → form_of (map string_bytes words.now) ≡ Some (Form.Gen seed count) →
+        Concludes (vec_len rack.old) (Generates seed count) result.status result.journal.entries (K.taken out.old) (K.taken out.new) (K.faults out.old) (K.faults out.new) }
+    ensures generated_statuses { (seed count : ℕ) → form_of (map string_bytes words.now) ≡ Some (Form.Gen seed count) → (result.status ≢ 2) × (result.status ≢ 5) }
+    ensures generated_complete { (seed count : ℕ) → form_of (map string_bytes words.now) ≡ Some (Form.Gen seed count) → (Rose (K.faults out.old) (K.faults out.new) → ⊥) → result.status ≢ 4 → result.status ≡ 0 }
+    ensures untouched { (seed count : ℕ) → form_of (map string_bytes words.now) ≡ Some (Form.Gen seed count) → (S.left input.new ≡ S.left input.old) × (S.faults input.new ≡ S.faults input.old) }
 {
     let Some(form) = form_of(words) else {
         return print(alloc, out, 1, USAGE);
     };
+    let task = match form {
+        Form::File(task) => task,
+        Form::Gen(seed, count) => return generate(alloc, out, seed, count, rack),
+    };
     match read_all(alloc, input) {
-        Ok(bytes) => conclude(alloc, out, form, &bytes),
+        Ok(bytes) => conclude(alloc, out, task, &bytes, rack),
         Err(ReadEnd::Fault) => print(alloc, out, 2, READ_FAULT),
         Err(ReadEnd::TooLong) => print(alloc, out, 5, TOO_MANY_BYTES),
         Err(ReadEnd::NoMemory) => no_memory(alloc),

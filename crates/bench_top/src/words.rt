@@ -1,13 +1,22 @@
-ghost use Rattle.std.specs.Prelude.{◌≡◌, map, string_bytes};
+ghost use Rattle.std.specs.Prelude.{◌≡◌, ◌≤◌, map, string_bytes};
 ghost use Rattle.bench_top.specs.Words as spec;
 ghost use Rattle.bench_top.specs.Tail.{is_traced};
 
 /// What the words ask for.
 #[derive(Clone, Copy, Debug, PartialEq, Eq)]
 pub enum Form {
-    /// Reads a bench file, and says that it is one.
+    /// To do something with a bench file.
+    File(Task),
+    /// To generate a bench from a seed, with so many directives, and to run it.
+    Gen(u32, u32),
+}
+
+/// What is to be done with a bench file.
+#[derive(Clone, Copy, Debug, PartialEq, Eq)]
+pub enum Task {
+    /// To say that it is one.
     Check,
-    /// Runs a bench file, and prints the report in this way.
+    /// To run it, and to print the report in this way.
     Run(Printing),
 }
 
@@ -34,13 +43,22 @@ impl Printing {
 /// The most lines that a tail may have.
 const MOST_LINES: usize = 10_000;
 
+/// The most directives of a generated bench.
+const MOST_GENERATED: usize = 20_000;
+
+/// The fewest directives of a generated bench.
+const FEWEST_GENERATED: usize = 8;
+
+/// The greatest seed.
+const MOST_SEED: usize = 4_294_967_295;
+
 /// The form of one word.
 fn one_word(word: &str) -> Option<Form>
     ensures { result ≡ spec.one_word word.now }
 {
     match word {
-        "check" => Some(Form::Check),
-        "run" => Some(Form::Run(Printing::Plain)),
+        "check" => Some(Form::File(Task::Check)),
+        "run" => Some(Form::File(Task::Run(Printing::Plain))),
         _ => None,
     }
 }
@@ -50,32 +68,55 @@ fn two_words(word: &str, option: &str) -> Option<Form>
     ensures { result ≡ spec.two_words word.now option.now }
 {
     if word == "run" && option == "--trace" {
-        Some(Form::Run(Printing::Traced))
+        Some(Form::File(Task::Run(Printing::Traced)))
     } else {
         None
     }
 }
 
-/// The number of lines that a word asks for.
-fn lines_of(word: &str) -> Option<usize>
-    ensures { result ≡ spec.lines_of word.now }
+/// The number that a word writes, where it lies between these.
+fn number_between(least: usize, most: usize, word: &str) -> Option<usize>
+    requires { most ≤ 4294967295 }
+    ensures { result ≡ spec.number_between least most word.now }
 {
     if word.starts_with('+') {
         return None;
     }
     match word.parse::<usize>() {
-        Ok(lines) if 1 <= lines && lines <= MOST_LINES => Some(lines),
+        Ok(number) if least <= number && number <= most => Some(number),
         _ => None,
     }
 }
 
-/// The form of three words.
-fn three_words(word: &str, option: &str, lines: &str) -> Option<Form>
-    ensures { result ≡ spec.three_words word.now option.now lines.now }
+/// A tail of so many lines.
+fn tail_of(lines: &str) -> Option<Form>
+    ensures { result ≡ spec.tail_of lines.now }
 {
-    if word == "run" && option == "--tail" {
-        let lines = lines_of(lines)?;
-        Some(Form::Run(Printing::Tail(lines)))
+    let lines = number_between(1, MOST_LINES, lines)?;
+    Some(Form::File(Task::Run(Printing::Tail(lines))))
+}
+
+/// A bench generated from this seed, with so many directives.
+fn generated_of(seed: &str, count: &str) -> Option<Form>
+    ensures { result ≡ spec.generated_of (spec.number_between 0 4294967295 seed.now) (spec.number_between 8 20000 count.now) }
+{
+    let seed = number_between(0, MOST_SEED, seed)?;
+    let count = number_between(FEWEST_GENERATED, MOST_GENERATED, count)?;
+    Some(Form::Gen(seed as u32, count as u32))
+}
+
+/// The form of three words.
+fn three_words(word: &str, first: &str, second: &str) -> Option<Form>
+    ensures { result ≡ spec.three_words word.now first.now second.now }
+{
+    if word == "run" {
+        if first == "--tail" {
+            tail_of(second)
+        } else {
+            None
+        }
+    } else if word == "gen" {
+        generated_of(first, second)
     } else {
         None
     }
@@ -88,7 +129,7 @@ pub fn form_of(words: &[String]) -> Option<Form>
     match words {
         [word] => one_word(word.as_str()),
         [word, option] => two_words(word.as_str(), option.as_str()),
-        [word, option, lines] => three_words(word.as_str(), option.as_str(), lines.as_str()),
+        [word, first, second] => three_words(word.as_str(), first.as_str(), second.as_str()),
         _ => None,
     }
 }

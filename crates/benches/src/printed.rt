@@ -1,6 +1,7 @@
 use crate::form::Form;
 use bench_top::bench;
 use mcal_base::{ListSink, ListSource};
+use serial_devices::{PlainDevice, SerialDevice};
 use std::alloc::{AllocError, Global};
 
 /// The most bytes that a run may print.
@@ -18,7 +19,7 @@ pub struct Ended {
     pub written: Vec<u8>,
 }
 
-/// Runs the bench on a file.
+/// Runs the bench on a file, with the devices of the program.
 pub fn printed(alloc: Global, form: Form, file: Vec<u8>) -> Result<Ended, AllocError> {
     let mut words = Vec::new(alloc);
     for word in form.words() {
@@ -28,7 +29,10 @@ pub fn printed(alloc: Global, form: Form, file: Vec<u8>) -> Result<Ended, AllocE
     let Ok(mut sink) = ListSink::new(alloc, PIECE, ROOM, Vec::new(alloc)) else {
         return Err(AllocError);
     };
-    let outcome = bench(alloc, &words, &mut source, &mut sink);
+    let mut rack: Vec<Box<dyn SerialDevice>> = Vec::new(alloc);
+    rack.push(Box::new(alloc, PlainDevice::new(false))?)?;
+    rack.push(Box::new(alloc, PlainDevice::new(true))?)?;
+    let outcome = bench(alloc, &words, &mut source, &mut sink, &mut rack);
     Ok(Ended {
         status: outcome.status,
         written: sink.bytes().to_vec(alloc)?,

@@ -1,5 +1,5 @@
 -- A legal journal of a board whose configuration is valid keeps what is promised of it.
-use Rattle.std.proofs.Common.{◌≡◌, ℕ, ◌≤◌, List, [], Option, Some, None, refl, sym, ◌∙◌, ap, subst, arith}
+use Rattle.std.proofs.Common.{◌≡◌, ℕ, ◌≤◌, List, [], Option, Some, None, refl, arith}
 use Rattle.mcal_base.specs.declared.config.whole.Config.{Config}
 use Rattle.mcal_base.specs.declared.directive.Directive.{Directive}
 use Rattle.run_model.specs.Entry.{Entry}
@@ -8,10 +8,8 @@ use Rattle.run_model.specs.Moment.{start_moment}
 use Rattle.script_runner.specs.Scripts.{chip_for}
 use Rattle.config_facts.specs.Valid.{IsValid}
 use Rattle.adc_machine.specs.Table as converter_table
-use Rattle.adc_machine.specs.Turns as groups
 use Rattle.spi_machine.specs.Fits.{FitsSpi}
 use Rattle.spi_machine.specs.Promised.{HasPriorities}
-use Rattle.spi_machine.specs.State as sequences
 use Rattle.spi_machine.specs.Table.{job_of, priority_by}
 use Rattle.spi_machine.specs.Table as serial_table
 use Rattle.spi_machine.specs.declared.table.Job.{Job}
@@ -34,22 +32,22 @@ has_priorities d fits job = by (job_of d job) refl
     by None e = omega arith
     by (Some k) e = (fits.jobs job k e).priority
 
-pub promises_kept : (c : Config) (script : List Directive) (journal : List Entry) → IsValid c → IsLegal (system_setting c) (start_moment (system_setting c) (chip_for c script)) (deeds_in script journal) → KeepsPromises c script journal
+pub promises_kept : (devices : ℕ) (c : Config) (script : List Directive) (journal : List Entry) → IsValid c → IsLegal (system_setting c) (start_moment (system_setting c) (chip_for devices c script)) (deeds_in script journal) → KeepsPromises devices c script journal
 unfolding system_setting
-promises_kept c script journal valid legal =
-    let rounds = groups_keep (converter_table.table_of c.adc) (system_setting c) (converter_place c) (converter_part c) refl (chip_for c script) (deeds_in script journal) legal in
-    let kept = sequences_keep (serial_table.table_of c.spi) (system_setting c) (serial_place c) (serial_part c) refl (chip_for c script) (deeds_in script journal) legal in
+promises_kept devices c script journal valid legal =
+    let rounds = groups_keep (converter_table.table_of c.adc) (system_setting c) (converter_place c) (converter_part c) refl (chip_for devices c script) (deeds_in script journal) legal in
+    let kept = sequences_keep (serial_table.table_of c.spi) (system_setting c) (serial_place c) (serial_part c) refl (chip_for devices c script) (deeds_in script journal) legal in
     record {
       rounds = rounds.whole;
       order = kept.order (has_priorities (serial_table.table_of c.spi) (serial_fits.fits_of c.spi (sound_serial c.spi valid.spi)));
       results = kept.results;
       ends = kept.ends;
-      frames = journal_says (system_setting c) (chip_for c script) (deeds_in script journal) legal;
+      frames = journal_says (system_setting c) (chip_for devices c script) (deeds_in script journal) legal;
     }
 
 -- and so does a journal of nothing, under any configuration
-pub nothing_kept : (c : Config) (script : List Directive) → KeepsPromises c script []
-nothing_kept c script = record {
+pub nothing_kept : (devices : ℕ) (c : Config) (script : List Directive) → KeepsPromises devices c script []
+nothing_kept devices c script = record {
   rounds = whole_rounds (converter_table.table_of c.adc) [] tt;
   order = tt;
   results = tt;

@@ -1,7 +1,5 @@
 -- The machines of converter and serial units are parts of that of all modules.
-use Rattle.std.proofs.Common.{◌≡◌, ℕ, Some, None, refl, sym, ◌∙◌, ap}
 use Rattle.mcal_base.specs.declared.config.whole.Config.{Config}
-use Rattle.run_model.specs.Machine.{Machine, Outcome, outcome, outcome_with, tells_nothing}
 use Rattle.adc_machine.specs.Machine.{adc_machine}
 use Rattle.adc_machine.specs.Table as converter_table
 use Rattle.spi_machine.specs.Machine.{spi_machine}
@@ -13,7 +11,7 @@ use Rattle.mcu_driver.specs.Machine as clocks
 use Rattle.port_driver.specs.Machine as pins
 use Rattle.gpt_driver.specs.Machine as timers
 use Rattle.pwm_driver.specs.Machine as pulses
-use Rattle.whole_runs.specs.Members.{IsPart, IsMute, first_place, second_place, within}
+use Rattle.whole_runs.specs.Members.{IsPart, IsMute, first_place, second_place}
 use Rattle.whole_runs.proofs.MemberRuns.{first_part, second_part, part_within, union_mute}
 use Rattle.whole_runs.proofs.Promises.{mute_by, converter_mute, serial_mute}
 use Rattle.mcal_system.specs.Setting.{joined, clock_setting, pin_setting, timer_setting, pulse_setting, capture_setting, converter_setting, serial_setting, system_setting}

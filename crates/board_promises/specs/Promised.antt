@@ -24,20 +24,20 @@ use Rattle.board_promises.specs.Places.{converter_place, serial_place}
 abbrev pub deeds_in : List Directive → List Entry → List (Deed SystemCall)
 deeds_in script journal = deeds_of call_of script journal
 
-abbrev pub group_events : Config → List Directive → List Entry → List (Event converter.Call)
-group_events c script journal = part_events (system_setting c) (converter_place c) (chip_for c script) (deeds_in script journal)
+abbrev pub group_events : (devices : ℕ) → Config → List Directive → List Entry → List (Event converter.Call)
+group_events devices c script journal = part_events (system_setting c) (converter_place c) (chip_for devices c script) (deeds_in script journal)
 
-abbrev pub sequence_events : Config → List Directive → List Entry → List (Event serial.Call)
-sequence_events c script journal = part_events (system_setting c) (serial_place c) (chip_for c script) (deeds_in script journal)
+abbrev pub sequence_events : (devices : ℕ) → Config → List Directive → List Entry → List (Event serial.Call)
+sequence_events devices c script journal = part_events (system_setting c) (serial_place c) (chip_for devices c script) (deeds_in script journal)
 
--- A run keeps what is promised of it.
-pub record KeepsPromises (c : Config) (script : List Directive) (journal : List Entry) : Type 0 where
+-- A run from power on with so many serial devices keeps what is promised of it.
+pub record KeepsPromises (devices : ℕ) (c : Config) (script : List Directive) (journal : List Entry) : Type 0 where
   -- an E_OK of a read hands out the newest round of its group that was served, and places and newest rounds change by such servings alone
-  pub rounds : AreWhole (converter_table.table_of c.adc) (groups.seen_of (converter_table.table_of c.adc) (group_events c script journal))
+  pub rounds : AreWhole (converter_table.table_of c.adc) (groups.seen_of (converter_table.table_of c.adc) (group_events devices c script journal))
   -- each start of a serial unit starts the next job
-  pub order : AreInOrder (serial_table.table_of c.spi) (sequences.seen_of (serial_table.table_of c.spi) (sequence_events c script journal))
+  pub order : AreInOrder (serial_table.table_of c.spi) (sequences.seen_of (serial_table.table_of c.spi) (sequence_events devices c script journal))
   -- between an accepted request of a sequence and the next one there is one end, which tells its notice once
-  pub results : AreEnded (serial_table.table_of c.spi) (sequences.seen_of (serial_table.table_of c.spi) (sequence_events c script journal))
-  pub ends : (sequence : ℕ) → HasOneEnd sequence (sequences.seen_of (serial_table.table_of c.spi) (sequence_events c script journal))
+  pub results : AreEnded (serial_table.table_of c.spi) (sequences.seen_of (serial_table.table_of c.spi) (sequence_events devices c script journal))
+  pub ends : (sequence : ℕ) → HasOneEnd sequence (sequences.seen_of (serial_table.table_of c.spi) (sequence_events devices c script journal))
   -- a frame that ends has given each notice that its events told, once, in their order, and prints the answer of its act
-  pub frames : FramesSay (system_setting c) (chip_for c script) (deeds_in script journal)
+  pub frames : FramesSay (system_setting c) (chip_for devices c script) (deeds_in script journal)

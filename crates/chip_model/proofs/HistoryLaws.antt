@@ -6,7 +6,7 @@ use Rattle.mcal_base.specs.Bits.{has_bit}
 use Rattle.mcal_base.specs.declared.TheConstants.{WORDS}
 use Rattle.mcal_base.specs.declared.config.whole.Config.{Config}
 use Rattle.mcal_base.specs.declared.directive.Order.{Order}
-use Rattle.mcal_base.specs.declared.directive.Order.TheVariants.{Tick, Level, Analog, Trigger, Miso, SpiFault, Fill}
+use Rattle.mcal_base.specs.declared.directive.Order.TheVariants.{Tick, Level, Analog, Trigger, Miso, SpiFault, Detach, Fill}
 use Rattle.mcal_base.specs.declared.directive.Reason.{Reason}
 use Rattle.mcal_base.specs.declared.moves.Move.{Move}
 use Rattle.mcal_base.specs.declared.moves.Move.TheVariants.{Read, Write, Load, Store, Mask, Unmask, Note, Report}
@@ -18,7 +18,7 @@ use Rattle.chip_converter.specs.Converters as converters
 use Rattle.chip_converter.specs.declared.converter.Levels.{Levels}
 use Rattle.chip_units.specs.Clock as clock
 use Rattle.chip_units.specs.Ram as ram
-use Rattle.chip_model.specs.Chip.{Chip, power_on, after_read, after_write, chip_after, happened, reset_chip, levelled, is_other, outside_at, word_of, is_masked, now_of}
+use Rattle.chip_model.specs.Chip.{Chip, power_on, hung, after_read, after_write, chip_after, happened, reset_chip, levelled, is_other, outside_at, word_of, is_masked, now_of}
 use Rattle.chip_model.specs.Histories.{Happening, chip_step, chip_after_all, chip_of, HasAll, sets_rate, LeavesWord, LeavesRam, LeavesMask, LeavesLevel}
 use Rattle.chip_model.specs.Histories as histories
 use Rattle.chip_model.proofs.WordLaws.{slice_index-blank, index-replicate}
@@ -29,8 +29,8 @@ pub after_all-append : (c : Chip) (xs ys : List Happening) → chip_after_all c 
 after_all-append c [] ys = refl
 after_all-append c (x ∷ xs) ys = after_all-append (chip_step c x) xs ys
 
-pub chip_of-append : (config : Config) (room : ℕ) (history : List Happening) (x : Happening) → chip_of config room (history ++ x ∷ []) ≡ chip_step (chip_of config room history) x
-chip_of-append config room history x = after_all-append (power_on config room) history (x ∷ [])
+pub chip_of-append : (config : Config) (room devices : ℕ) (history : List Happening) (x : Happening) → chip_of config room devices (history ++ x ∷ []) ≡ chip_step (chip_of config room devices history) x
+chip_of-append config room devices history x = after_all-append (hung devices (power_on config room)) history (x ∷ [])
 
 -- ---- a part of the chip that each happening of a history leaves
 
@@ -85,6 +85,7 @@ word_event k c (Analog i v) left = refl
 word_event k c (Trigger i) left = refl
 word_event k c (Miso u ws) left = refl
 word_event k c (SpiFault u) left = refl
+word_event k c Detach left = refl
 word_event k c (Fill channel ws) left = absurd left
 word_event k c _ left = refl
 
@@ -139,6 +140,7 @@ ram_event c (Analog i v) = refl
 ram_event c (Trigger i) = refl
 ram_event c (Miso u ws) = refl
 ram_event c (SpiFault u) = refl
+ram_event c Detach = refl
 ram_event c (Fill channel ws) = refl
 ram_event c _ = refl
 
@@ -195,6 +197,7 @@ mask_event c (Analog i v) = refl
 mask_event c (Trigger i) = refl
 mask_event c (Miso u ws) = refl
 mask_event c (SpiFault u) = refl
+mask_event c Detach = refl
 mask_event c (Fill channel ws) = refl
 mask_event c _ = refl
 
@@ -241,6 +244,7 @@ outside_event p c (Analog i v) left = refl
 outside_event p c (Trigger i) left = refl
 outside_event p c (Miso u ws) left = refl
 outside_event p c (SpiFault u) left = refl
+outside_event p c Detach left = refl
 outside_event p c (Fill channel ws) left = refl
 outside_event p c _ left = refl
 
@@ -364,6 +368,7 @@ rate-event c (Analog i v) = refl
 rate-event c (Trigger i) = refl
 rate-event c (Miso u ws) = refl
 rate-event c (SpiFault u) = refl
+rate-event c Detach = refl
 rate-event c (Fill channel ws) = refl
 rate-event c _ = refl
 
@@ -451,6 +456,7 @@ wiring_event c (Analog i v) = refl
 wiring_event c (Trigger i) = refl
 wiring_event c (Miso u ws) = refl
 wiring_event c (SpiFault u) = refl
+wiring_event c Detach = refl
 wiring_event c (Fill channel ws) = refl
 wiring_event c _ = refl
 

@@ -1,18 +1,19 @@
 -- The words that come in on a serial unit, over a history.
 use Rattle.std.proofs.Common.{◌≡◌, ℕ, ◌<◌, ◌≢◌, Bool, true, false, List, [], ◌∷◌, ◌++◌, length, take, drop, cond, refl, sym, ◌∙◌, ap, arith, append_assoc, append-nil, get_or-set_same, get_or-set_other, length-set}
-use Rattle.std.specs.Prelude.{◌==◌, ◌-◌, slice_index_or, slice_set}
+use Rattle.std.specs.Prelude.{◌==◌, ◌-◌, ◌&&◌, not, slice_index_or, slice_set}
 use Rattle.std.proofs.lemmas.List.{take-append-drop}
 use Rattle.std.proofs.lemmas.Bool.Decides.{nat_tests}
 use Rattle.mcal_base.specs.declared.directive.Order.{Order}
-use Rattle.mcal_base.specs.declared.directive.Order.TheVariants.{Tick, Level, Analog, Trigger, Miso, SpiFault, Fill}
+use Rattle.mcal_base.specs.declared.directive.Order.TheVariants.{Tick, Level, Analog, Trigger, Miso, SpiFault, Detach, Fill}
 use Rattle.mcal_base.specs.declared.moves.Move.{Move}
 use Rattle.mcal_base.specs.declared.moves.Move.TheVariants.{Read, Write, Load, Store, Mask, Unmask, Note, Report}
 use Rattle.mcal_base.specs.declared.register.Reg.{Reg}
 use Rattle.mcal_base.specs.declared.register.Reg.TheVariants.{EnableSet, EnableClear, TimerLow, CaptureCountLow, CaptureTimeLow, ConverterAbort, SerialData}
 use Rattle.chip_model.specs.Waiting.{Waiting}
-use Rattle.chip_model.specs.Chip.{Chip, after_read, after_write, chip_after, happened, levelled, incoming_at}
+use Rattle.chip_model.specs.Chip.{Chip, after_read, after_write, chip_after, happened, levelled, incoming_at, has_device}
 use Rattle.chip_model.specs.Histories.{Happening, chip_step, chip_after_all, given_by, taken_by, given_to, taken_from}
 use Rattle.chip_model.specs.Histories as histories
+use Rattle.chip_model.proofs.DeviceLaws.{length-waiting}
 use Rattle.chip_model.proofs.HistoryLaws.{level_leaves}
 
 abbrev waits : Chip → ℕ → List ℕ
@@ -41,6 +42,12 @@ begun_at c u k w true e lt made =
 begun_at c u k w false e lt made =
     append-nil (waits c u) ∙ sym (ap (λ (x : Waiting). x.waiting) (get_or-set_other c.incoming k u w none (other_number k u e)))
 
+-- a word begins on a unit, with a device or without one
+begun_by : (c : Chip) (u k : ℕ) (device : Bool) (w : Waiting) → u < length c.incoming → w.waiting ≡ drop 1 (waits c k)
+    → waits c u ++ [] ≡ cond (not device && k == u) (take 1 (waits c u)) [] ++ waits (record c { incoming = cond device c.incoming (slice_set c.incoming k w) }) u
+begun_by c u k true w lt made = still (waits c u) _ refl
+begun_by c u k false w lt made = begun_at c u k w (k == u) refl lt made
+
 given_at : (c : Chip) (u k : ℕ) (ws : List ℕ) (w : Waiting) (b : Bool) → (k == u) ≡ b → u < length c.incoming → w.waiting ≡ waits c k ++ ws
     → waits c u ++ cond b ws [] ≡ [] ++ waits (record c { incoming = slice_set c.incoming k w }) u
 given_at c u k ws w true e lt made =
@@ -62,7 +69,7 @@ Balanced u c x = waits c u ++ given_by u x ≡ taken_by u c x ++ waits (chip_ste
 in_write : (u : ℕ) (c : Chip) (r : Reg) (value received : ℕ) → u < length c.incoming → Balanced u c (histories.Made (Write r value) received)
 in_write u c EnableSet value received lt = still (waits c u) _ refl
 in_write u c EnableClear value received lt = still (waits c u) _ refl
-in_write u c (SerialData k) value received lt = begun_at c u k (record (incoming_at c k) { waiting = drop 1 (incoming_at c k).waiting }) (k == u) refl lt refl
+in_write u c (SerialData k) value received lt = begun_by c u k (has_device c k) (record (incoming_at c k) { waiting = drop 1 (incoming_at c k).waiting }) lt refl
 in_write u c _ value received lt = still (waits c u) _ refl
 
 in_move : (u : ℕ) (c : Chip) (made : Move) (received : ℕ) → u < length c.incoming → Balanced u c (histories.Made made received)
@@ -82,6 +89,7 @@ in_event u c (Analog i v) lt = still (waits c u) _ refl
 in_event u c (Trigger i) lt = still (waits c u) _ refl
 in_event u c (Miso k ws) lt = given_at c u k ws (record (incoming_at c k) { waiting = (incoming_at c k).waiting ++ ws; room = (incoming_at c k).room - length ws }) (k == u) refl lt refl
 in_event u c (SpiFault k) lt = still (waits c u) _ refl
+in_event u c Detach lt = still (waits c u) _ refl
 in_event u c (Fill channel ws) lt = still (waits c u) _ refl
 in_event u c _ lt = still (waits c u) _ refl
 
@@ -94,7 +102,7 @@ in_step u c (histories.WasReset reason) lt = still (waits c u) _ refl
 size_write : (c : Chip) (r : Reg) (value received : ℕ) → length (after_write c r value received).incoming ≡ length c.incoming
 size_write c EnableSet value received = refl
 size_write c EnableClear value received = refl
-size_write c (SerialData u) value received = length-set c.incoming u _
+size_write c (SerialData u) value received = length-waiting c u
 size_write c r value received = refl
 
 size_move : (c : Chip) (made : Move) (received : ℕ) → length (chip_after c made received).incoming ≡ length c.incoming
@@ -114,6 +122,7 @@ size_event c (Analog i v) = refl
 size_event c (Trigger i) = refl
 size_event c (Miso u ws) = length-set c.incoming u _
 size_event c (SpiFault u) = refl
+size_event c Detach = refl
 size_event c (Fill channel ws) = refl
 size_event c _ = refl
 

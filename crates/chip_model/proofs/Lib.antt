@@ -1,3 +1,4 @@
+pub mod DeviceLaws
 pub mod HistoryLaws
 pub mod IncomingLaws
 pub mod LineLaws

@@ -22,7 +22,7 @@ pub is_power_on : (config : Config) (room : ℕ)
     → k ≡ clock.fresh 0 PowerOn → t ≡ timers.timers_fresh 0 → p ≡ pulses.pulses_fresh 0 → x ≡ captures.captures_fresh (captures.pins_in config.icu.channels) 0
     → a ≡ converters.fresh 0 converters.silent → s ≡ serials.fresh 0 → d ≡ pins.fresh → r ≡ ram.blank → i ≡ control_fresh → words ≡ blank
     → first ≡ record { waiting = []; room = room } → second ≡ record { waiting = []; room = room } → w ≡ wiring_of config
-    → ◌≡◌ {A = Chip} (record { clock = k; timers = t; pulses = p; captures = x; converters = a; serials = s; pins = d; ram = r; control = i; words = words; outside = replicate 64 false; incoming = first ∷ second ∷ []; wiring = w }) (power_on config room)
+    → ◌≡◌ {A = Chip} (record { clock = k; timers = t; pulses = p; captures = x; converters = a; serials = s; pins = d; ram = r; control = i; words = words; outside = replicate 64 false; incoming = first ∷ second ∷ []; wiring = w; devices = 0 }) (power_on config room)
 is_power_on config room k t p x a s d r i words first second w e1 e2 e3 e4 e5 e6 e7 e8 e9 e10 e11 e12 e13 =
     rw (e1, e2, e3, e4, e5, e6, e7, e8, e9, e10, e11, e12, e13) refl
 

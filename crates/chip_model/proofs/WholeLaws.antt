@@ -7,7 +7,7 @@ use Rattle.mcal_base.specs.Bits.{has_bit}
 use Rattle.mcal_base.specs.Layout.{WithinLimits, place_of}
 use Rattle.mcal_base.specs.declared.config.whole.Config.{Config}
 use Rattle.mcal_base.specs.declared.directive.Order.{Order}
-use Rattle.mcal_base.specs.declared.directive.Order.TheVariants.{Tick, Level, Analog, Trigger, Miso, SpiFault, Fill}
+use Rattle.mcal_base.specs.declared.directive.Order.TheVariants.{Tick, Level, Analog, Trigger, Miso, SpiFault, Detach, Fill}
 use Rattle.mcal_base.specs.declared.layout.Array.TheVariants.{Source}
 use Rattle.mcal_base.specs.declared.moves.Move.{Move}
 use Rattle.mcal_base.specs.declared.moves.Move.TheVariants.{Read, Write, Load, Store, Mask, Unmask, Note, Report}
@@ -19,9 +19,10 @@ use Rattle.chip_captures.specs.Captures as captures
 use Rattle.chip_converter.specs.Converters as converters
 use Rattle.chip_units.specs.Serials as serials
 use Rattle.chip_units.specs.Ram as ram
-use Rattle.chip_model.specs.Chip.{Chip, power_on, after_read, after_write, chip_after, happened, overwritten, source_length, is_other, outside_at}
+use Rattle.chip_model.specs.Chip.{Chip, power_on, hung, after_read, after_write, chip_after, happened, overwritten, source_length, is_other, outside_at}
 use Rattle.chip_model.specs.Histories.{Happening, chip_step, chip_after_all, chip_of, HasAll, IsAtOneTime, FillsThere}
 use Rattle.chip_model.specs.Histories as histories
+use Rattle.chip_model.proofs.DeviceLaws.{length-waiting}
 use Rattle.chip_model.proofs.HistoryLaws.{edged, levels-write, levels-pulse}
 use Rattle.chip_model.proofs.WordLaws.{length-blank, index-replicate}
 use Rattle.chip_model.proofs.WiringLaws.{sources-within}
@@ -80,7 +81,7 @@ all_read c _ h = h
 all_write : (c : Chip) (r : Reg) (value received : ℕ) → HasAll c → HasAll (after_write c r value received)
 all_write c EnableSet value received h = kept c _ refl refl refl refl refl refl refl h
 all_write c EnableClear value received h = kept c _ refl refl refl refl refl refl refl h
-all_write c (SerialData u) value received h = kept c _ refl refl refl (length-set c.incoming u _) refl refl refl h
+all_write c (SerialData u) value received h = kept c _ refl refl refl (length-waiting c u) refl refl refl h
 all_write c r value received h = kept c _ refl (length-ram c.ram r value) refl refl (timer_laws.length-after_write c.timers r value) (ap (λ l. length l.values) (levels-write c.converters r value)) refl h
 
 all_move : (c : Chip) (made : Move) (received : ℕ) → HasAll c → HasAll (chip_after c made received)
@@ -106,6 +107,7 @@ all_event c (Analog i v) there h = kept c _ refl refl refl refl refl (length-set
 all_event c (Trigger i) there h = kept c _ refl refl refl refl refl (ap (λ l. length l.values) (levels-pulse c.converters i)) refl h
 all_event c (Miso u ws) there h = kept c _ refl refl refl (length-set c.incoming u _) refl refl refl h
 all_event c (SpiFault u) there h = kept c _ refl refl refl refl refl refl refl h
+all_event c Detach there h = kept c _ refl refl refl refl refl refl refl h
 all_event c (Fill channel ws) there h =
     kept c _ (length-overwritten c.words (take (source_length c channel) ws) (place_of (Source channel) 0) (room_of_fill c channel ws h there)) refl refl refl refl refl refl h
 all_event c _ there h = h
@@ -138,8 +140,8 @@ all-power_on config room w = record {
   sources = sources-within config w;
 }
 
-pub all-chip_of : (config : Config) (room : ℕ) (history : List Happening) → WithinLimits config → AllByRecursion FillsThere history → HasAll (chip_of config room history)
-all-chip_of config room history w there = all_steps (power_on config room) history there (all-power_on config room w)
+pub all-chip_of : (config : Config) (room devices : ℕ) (history : List Happening) → WithinLimits config → AllByRecursion FillsThere history → HasAll (chip_of config room devices history)
+all-chip_of config room devices history w there = all_steps (hung devices (power_on config room)) history there (kept (power_on config room) (hung devices (power_on config room)) refl refl refl refl refl refl refl (all-power_on config room w))
 
 -- ---- one time
 
@@ -218,6 +220,7 @@ time_event c (Analog i v) h = timed c _ refl refl refl refl refl h
 time_event c (Trigger i) h = timed c _ refl refl refl (pulse_time (nat_lt i 4 && has_bit c.converters.gates i) (record (c.converters) { pulses = bit_or c.converters.pulses (2 ^ i) }) c.converters c.converters.time refl refl) refl h
 time_event c (Miso u ws) h = timed c _ refl refl refl refl refl h
 time_event c (SpiFault u) h = timed c _ refl refl refl refl refl h
+time_event c Detach h = timed c _ refl refl refl refl refl h
 time_event c (Fill channel ws) h = timed c _ refl refl refl refl refl h
 time_event c _ h = h
 
@@ -230,5 +233,5 @@ time_steps : (c : Chip) (xs : List Happening) → IsAtOneTime c → IsAtOneTime 
 time_steps c [] h = h
 time_steps c (x ∷ xs) h = time_steps (chip_step c x) xs (time-step c x h)
 
-pub time-chip_of : (config : Config) (room : ℕ) (history : List Happening) → IsAtOneTime (chip_of config room history)
-time-chip_of config room history = time_steps (power_on config room) history (record { pulses = refl; captures = refl; converters = refl; serials = refl })
+pub time-chip_of : (config : Config) (room devices : ℕ) (history : List Happening) → IsAtOneTime (chip_of config room devices history)
+time-chip_of config room devices history = time_steps (hung devices (power_on config room)) history (record { pulses = refl; captures = refl; converters = refl; serials = refl })

@@ -1,10 +1,10 @@
 -- The chip: what each move, each hardware event and a reset leave, and what each move gives.
-use Rattle.std.specs.Prelude.{ℕ, ◌+◌, ◌*◌, ◌-◌, ◌<◌, ◌≤◌, ◌^◌, ◌++◌, nat_lt, Bool, true, false, not, ◌&&◌, if◌then◌else◌, List, [], ◌∷◌, length, take, drop, replicate, Option, Some, None, option_map, slice_index, slice_index_or, slice_set}
+use Rattle.std.specs.Prelude.{ℕ, ◌+◌, ◌*◌, ◌-◌, ◌<◌, ◌≤◌, ◌^◌, ◌++◌, nat_lt, nat_le, Bool, true, false, not, ◌&&◌, if◌then◌else◌, List, [], ◌∷◌, length, take, drop, replicate, Option, Some, None, option_map, slice_index, slice_index_or, slice_set}
 use Rattle.mcal_base.specs.Bits.{has_bit}
 use Rattle.mcal_base.specs.Layout.{place_of}
 use Rattle.mcal_base.specs.declared.config.whole.Config.{Config}
 use Rattle.mcal_base.specs.declared.directive.Order.{Order}
-use Rattle.mcal_base.specs.declared.directive.Order.TheVariants.{Tick, Level, Analog, Trigger, Miso, SpiFault, Fill}
+use Rattle.mcal_base.specs.declared.directive.Order.TheVariants.{Tick, Level, Analog, Trigger, Miso, SpiFault, Detach, Fill}
 use Rattle.mcal_base.specs.declared.directive.Reason.{Reason}
 use Rattle.mcal_base.specs.declared.directive.Reason.TheVariants.{PowerOn}
 use Rattle.mcal_base.specs.declared.layout.Array.TheVariants.{Source}
@@ -28,7 +28,8 @@ use Rattle.chip_model.specs.Words.{blank}
 use Rattle.chip_model.specs.Waiting.{Waiting}
 
 -- The blocks, the interrupt controller and the driver words; and what stands outside: the levels of the pins, the
--- words that wait to come in on each serial unit, and what the configuration wires.
+-- words that wait to come in on each serial unit, what the configuration wires, and how many devices hang on the serial
+-- units.
 pub record Chip : Type 0 where
   pub clock : clock.Clock
   pub timers : timers.Timers
@@ -43,12 +44,13 @@ pub record Chip : Type 0 where
   pub outside : List Bool
   pub incoming : List Waiting
   pub wiring : Wiring
+  pub devices : ℕ
 
 -- the peripheral time
 abbrev pub now_of : Chip → ℕ
 now_of c = c.timers.time
 
--- at power on, with room for so many incoming words on each unit
+-- at power on, with room for so many incoming words on each unit, and no device
 abbrev pub power_on : Config → (room : ℕ) → Chip
 power_on config room = record {
   clock = clock.fresh 0 PowerOn;
@@ -64,7 +66,12 @@ power_on config room = record {
   outside = replicate 64 false;
   incoming = (record { waiting = []; room = room }) ∷ (record { waiting = []; room = room }) ∷ [];
   wiring = wiring_of config;
+  devices = 0;
 }
+
+-- so many devices hang on the serial units
+abbrev pub hung : (devices : ℕ) → Chip → Chip
+hung devices c = record c { devices = devices }
 
 -- ---- moves
 
@@ -109,12 +116,24 @@ incoming_at c u = slice_index_or c.incoming u (record { waiting = []; room = 0 }
 abbrev pub next_word : Chip → ℕ → ℕ
 next_word c u = slice_index_or (incoming_at c u).waiting 0 65535
 
+-- a serial unit's select names one of so many devices, each by its place and 1
+abbrev pub names_device : (select devices : ℕ) → Bool
+names_device select devices = nat_lt 0 select && nat_le select devices
+
+-- a serial unit selects a device that is there
+abbrev pub has_device : Chip → ℕ → Bool
+has_device c u = names_device (serials.unit_at c.serials u).select c.devices
+
+-- the words that wait on the units after a word began on one: without a device the first one waits no longer
+abbrev pub waiting_after : Chip → (u : ℕ) → List Waiting
+waiting_after c u =
+    if has_device c u
+    then c.incoming
+    else slice_set c.incoming u (record (incoming_at c u) { waiting = drop 1 (incoming_at c u).waiting })
+
 -- a word begins on a serial unit, and this one comes in
 abbrev pub word_begun : Chip → (u received : ℕ) → Chip
-word_begun c u received = record c {
-  serials = serials.after_word c.serials u received;
-  incoming = slice_set c.incoming u (record (incoming_at c u) { waiting = drop 1 (incoming_at c u).waiting });
-}
+word_begun c u received = record c { serials = serials.after_word c.serials u received; incoming = waiting_after c u }
 
 -- what a write leaves, with the word that comes in: each block takes the writes to its registers
 abbrev pub after_write : Chip → Reg → (value received : ℕ) → Chip
@@ -141,11 +160,6 @@ abbrev pub value_of : Chip → Move → ℕ
 value_of c (Read r) = register_of c r
 value_of c (Load k) = word_of c k
 value_of c _ = 0
-
--- the word that comes in with a move: one does where a serial word begins
-abbrev pub received_of : Chip → Move → ℕ
-received_of c (Write (SerialData u) value) = next_word c u
-received_of c _ = 0
 
 -- what a move leaves, with the word that came in
 abbrev pub chip_after : Chip → Move → (received : ℕ) → Chip
@@ -210,6 +224,7 @@ happened c (Analog i v) = record c { converters = converters.after_analog c.conv
 happened c (Trigger i) = record c { converters = converters.after_pulse c.converters i }
 happened c (Miso u ws) = given c u ws
 happened c (SpiFault u) = record c { serials = serials.after_fault c.serials u }
+happened c Detach = hung (c.devices - 1) c
 happened c (Fill channel ws) = filled c channel ws
 happened c _ = c
 

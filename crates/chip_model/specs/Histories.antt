@@ -1,14 +1,14 @@
 -- What happens to a chip, and what of it leaves a part of the chip alone.
-use Rattle.std.specs.Prelude.{ℕ, ◌≡◌, ◌≢◌, ◌<◌, ◌≤◌, ◌++◌, ◌==◌, Bool, true, false, List, [], ◌∷◌, length, take, if◌then◌else◌}
+use Rattle.std.specs.Prelude.{ℕ, ◌≡◌, ◌≢◌, ◌<◌, ◌≤◌, ◌+◌, ◌++◌, ◌==◌, ◌&&◌, not, Bool, true, false, List, [], ◌∷◌, length, take, if◌then◌else◌}
 use Rattle.mcal_base.specs.declared.TheConstants.{WORDS}
 use Rattle.mcal_base.specs.declared.config.whole.Config.{Config}
 use Rattle.mcal_base.specs.declared.directive.Order.{Order}
-use Rattle.mcal_base.specs.declared.directive.Order.TheVariants.{Level, Miso, Fill}
+use Rattle.mcal_base.specs.declared.directive.Order.TheVariants.{Level, Miso, Detach, Fill}
 use Rattle.mcal_base.specs.declared.directive.Reason.{Reason}
 use Rattle.mcal_base.specs.declared.moves.Move.{Move}
 use Rattle.mcal_base.specs.declared.moves.Move.TheVariants.{Write, Store, Mask, Unmask}
 use Rattle.mcal_base.specs.declared.register.Reg.TheVariants.{ClockPll, ClockRate, SerialData, Ram}
-use Rattle.chip_model.specs.Chip.{Chip, power_on, chip_after, happened, reset_chip, source_length, incoming_at}
+use Rattle.chip_model.specs.Chip.{Chip, power_on, hung, chip_after, happened, reset_chip, source_length, incoming_at, has_device}
 
 -- ---- histories
 
@@ -29,9 +29,9 @@ abbrev pub chip_after_all : Chip → List Happening → Chip
 chip_after_all c [] = c
 chip_after_all c (x ∷ xs) = chip_after_all (chip_step c x) xs
 
--- the chip as a history leaves it, from power on
-abbrev pub chip_of : Config → (room : ℕ) → List Happening → Chip
-chip_of config room history = chip_after_all (power_on config room) history
+-- the chip as a history leaves it, from power on with so many devices
+abbrev pub chip_of : Config → (room devices : ℕ) → List Happening → Chip
+chip_of config room devices history = chip_after_all (hung devices (power_on config room)) history
 
 -- ---- what holds of every chip that a history leaves
 
@@ -98,9 +98,9 @@ abbrev pub given_by : ℕ → Happening → List ℕ
 given_by u (Hardware (Miso k ws)) = if k == u then ws else []
 given_by u _ = []
 
--- the word that waits on a unit and comes in by a happening
+-- the word that waits on a unit and comes in by a happening: none comes in where a device answers
 abbrev pub taken_by : ℕ → Chip → Happening → List ℕ
-taken_by u c (Made (Write (SerialData k) value) received) = if k == u then take 1 (incoming_at c u).waiting else []
+taken_by u c (Made (Write (SerialData k) value) received) = if not (has_device c k) && k == u then take 1 (incoming_at c u).waiting else []
 taken_by u c _ = []
 
 -- the words that a history gives to a unit, and those that come in, the first one first
@@ -111,3 +111,14 @@ given_to u (x ∷ xs) = given_by u x ++ given_to u xs
 abbrev pub taken_from : ℕ → Chip → List Happening → List ℕ
 taken_from u c [] = []
 taken_from u c (x ∷ xs) = taken_by u c x ++ taken_from u (chip_step c x) xs
+
+-- ---- devices that come off
+
+-- how many devices a happening asks to come off, and how many a history
+abbrev pub detaches_by : Happening → ℕ
+detaches_by (Hardware Detach) = 1
+detaches_by _ = 0
+
+abbrev pub detaches_in : List Happening → ℕ
+detaches_in [] = 0
+detaches_in (x ∷ xs) = detaches_by x + detaches_in xs

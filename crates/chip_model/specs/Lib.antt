@@ -1,4 +1,5 @@
 pub mod Chip
+pub mod Devices
 pub mod Histories
 pub mod Waiting
 pub mod Wiring

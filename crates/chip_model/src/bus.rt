@@ -1,8 +1,10 @@
-ghost use Rattle.std.specs.Prelude.{◌≡◌, ◌<◌, ◌≤◌, IfOk, length, slice_index};
+ghost use Rattle.std.specs.Prelude.{◌≡◌, ◌<◌, ◌≤◌, IfOk, length, map, slice_index, vec_len};
 ghost use Rattle.mcal_base.specs.Bits.{has_bit};
 ghost use Rattle.mcal_base.specs.declared.moves.Move.TheVariants.{Write};
-ghost use Rattle.chip_model.specs.Chip.{power_on, register_of, after_read, next_word, word_begun, after_write, word_of, value_of, received_of, chip_after, ticked, outside_at, levelled, filled, happened, CanHappen, reset_chip, flag_of, is_pending, is_masked, channel_from, output_at, pin_of};
+ghost use Rattle.mcal_base.specs.declared.register.Reg.TheVariants.{SerialData};
+ghost use Rattle.chip_model.specs.Chip.{power_on, register_of, after_read, has_device, word_begun, hung, after_write, word_of, value_of, chip_after, ticked, outside_at, levelled, filled, happened, CanHappen, reset_chip, flag_of, is_pending, is_masked, channel_from, output_at, pin_of};
 ghost use Rattle.mcal_base.specs.Reach.{CanApply};
+ghost use Rattle.chip_model.specs.Devices.{ComesIn, CallsRight};
 
 use crate::incoming::Incoming;
 use crate::wiring::Wiring;
@@ -14,6 +16,7 @@ use chip_timers::TimerBlock;
 use chip_units::{ClockBlock, PinBlock, RamBlock, SerialBlock};
 use irq_control::Irq;
 use mcal_base::{Config, Directive, Move, NoMemory, Order, Reason, Reg, SOURCES, WORDS};
+use serial_devices::{SerialDevice, call};
 use std::alloc::Global;
 use std::marker::Model;
 
@@ -45,6 +48,7 @@ pub struct Bus {
     outside: [bool; 64],
     incoming: [Incoming; 2],
     wiring: Wiring,
+    devices: usize,
 }
 
 impl Model for Bus {
@@ -54,7 +58,7 @@ impl Model for Bus {
 
     ghost Value = { Chip };
 
-    ghost view = { λ b. record { clock = b.clock; timers = b.timers; pulses = b.pulses; captures = b.captures; converters = b.converters; serials = b.serials; pins = b.pins; ram = b.ram; control = b.irq; words = b.words.items; outside = b.outside; incoming = b.incoming; wiring = b.wiring } };
+    ghost view = { λ b. record { clock = b.clock; timers = b.timers; pulses = b.pulses; captures = b.captures; converters = b.converters; serials = b.serials; pins = b.pins; ram = b.ram; control = b.irq; words = b.words.items; outside = b.outside; incoming = b.incoming; wiring = b.wiring; devices = b.devices } };
 
     ghost invariant = { λ b. (length b.words.items ≡ WORDS) × (length b.outside ≡ 64) × (length b.incoming ≡ 2) × (length b.wiring.outputs ≡ 8) × (length b.wiring.sources ≡ 16) × (b.pulses.time ≡ b.timers.time) × (b.captures.time ≡ b.timers.time) × (b.converters.time ≡ b.timers.time) × (b.serials.time ≡ b.timers.time) };
 }
@@ -85,15 +89,40 @@ impl Bus {
             outside: [false; 64],
             incoming: [first, second],
             wiring: Wiring::of(config),
+            devices: 0,
         })
     }
 
-    /// Makes a move.
-    pub fn apply(&mut self, made: &Move) -> Applied
-        requires { CanApply made.now }
+    /// So many devices hang on the serial units, until a move is made with another rack.
+    pub fn hang(&mut self, devices: usize)
+        ensures { self.new ≡ hung devices self.old }
+    {
+        self.devices = devices;
+    }
+
+    /// Makes a move; as many devices hang on the serial units now as are in the rack. A move that begins a word under a
+    /// device's select calls that device, and no other move calls one.
+    pub fn apply(&mut self, made: &Move, rack: &mut Vec<Box<dyn SerialDevice>>) -> Applied
+        requires there { CanApply made.now }
         ensures value { result.value ≡ value_of self.old made.now }
-        ensures received { result.received ≡ received_of self.old made.now }
+        ensures received { ComesIn (hung (vec_len rack.old) self.old) made.now result.received }
+        ensures state { self.new ≡ chip_after (hung (vec_len rack.old) self.old) made.now result.received }
+        ensures count { vec_len rack.new ≡ vec_len rack.old }
+        ensures calls { CallsRight (hung (vec_len rack.old) self.old) made.now result.received (map (λ d. line d) rack.old.items) (map (λ d. line d) rack.new.items) }
+    {
+        self.devices = rack.len();
+        self.make(made, rack)
+    }
+
+    /// Makes a move, where as many devices hang on the serial units as are in the rack.
+    fn make(&mut self, made: &Move, rack: &mut Vec<Box<dyn SerialDevice>>) -> Applied
+        requires there { CanApply made.now }
+        requires rack { vec_len rack.old ≡ self.old.devices }
+        ensures value { result.value ≡ value_of self.old made.now }
+        ensures received { ComesIn self.old made.now result.received }
         ensures state { self.new ≡ chip_after self.old made.now result.received }
+        ensures count { vec_len rack.new ≡ vec_len rack.old }
+        ensures calls { CallsRight self.old made.now result.received (map (λ d. line d) rack.old.items) (map (λ d. line d) rack.new.items) }
     {
         let mut applied = Applied {
             value: 0,
@@ -101,7 +130,7 @@ impl Bus {
         };
         match *made {
             Move::Read(reg) => applied.value = self.read(reg),
-            Move::Write(reg, value) => applied.received = self.write(reg, value),
+            Move::Write(reg, value) => applied.received = self.write(reg, value, rack),
             Move::Load(number) => applied.value = self.words[number as usize],
             Move::Store(number, value) => self.words[number as usize] = value,
             Move::Mask => self.irq.mask(),
@@ -138,25 +167,45 @@ impl Bus {
         }
     }
 
-    /// Begins a word on a serial unit, and answers the one that comes in.
-    fn begin_word(&mut self, unit: u32, sent: u32) -> u32
-        requires { unit < 2 }
-        ensures word { result ≡ next_word self.old unit }
-        ensures state { self.new ≡ word_begun self.old unit result }
+    /// Whether a serial unit selects a device that is there.
+    fn has_device(&self, unit: u32) -> bool
+        ensures { result ≡ has_device self.now unit }
     {
-        let received = self.incoming[unit as usize].take();
+        let select = self.serials.selected(unit);
+        0 < select && select as usize <= self.devices
+    }
+
+    /// Begins a word on a serial unit, and answers the one that comes in.
+    fn begin_word(&mut self, unit: u32, sent: u32, rack: &mut Vec<Box<dyn SerialDevice>>) -> u32
+        requires there { unit < 2 }
+        requires rack { vec_len rack.old ≡ self.old.devices }
+        ensures word { ComesIn self.old (Write (SerialData unit) sent) result }
+        ensures state { self.new ≡ word_begun self.old unit result }
+        ensures count { vec_len rack.new ≡ vec_len rack.old }
+        ensures calls { CallsRight self.old (Write (SerialData unit) sent) result (map (λ d. line d) rack.old.items) (map (λ d. line d) rack.new.items) }
+    {
+        let received = if self.has_device(unit) {
+            let place = self.serials.selected(unit) - 1;
+            let word = self.serials.outgoing(unit, sent);
+            call(rack, place as usize, word as u16)
+        } else {
+            self.incoming[unit as usize].take()
+        };
         self.serials.word(unit, sent, received);
         received
     }
 
     /// Writes a register, and answers the word that comes in where that begins a serial word, else 0.
-    fn write(&mut self, reg: Reg, value: u32) -> u32
-        requires { CanApply (Write reg value) }
-        ensures word { result ≡ received_of self.old (Write reg value) }
+    fn write(&mut self, reg: Reg, value: u32, rack: &mut Vec<Box<dyn SerialDevice>>) -> u32
+        requires there { CanApply (Write reg value) }
+        requires rack { vec_len rack.old ≡ self.old.devices }
+        ensures word { ComesIn self.old (Write reg value) result }
         ensures state { self.new ≡ after_write self.old reg value result }
+        ensures count { vec_len rack.new ≡ vec_len rack.old }
+        ensures calls { CallsRight self.old (Write reg value) result (map (λ d. line d) rack.old.items) (map (λ d. line d) rack.new.items) }
     {
         if let Reg::SerialData(unit) = reg {
-            return self.begin_word(unit, value);
+            return self.begin_word(unit, value, rack);
         }
         match reg {
             Reg::EnableSet => self.irq.set(value),
@@ -233,6 +282,7 @@ impl Bus {
             Order::Trigger(input) => self.converters.trigger(*input),
             Order::Miso(unit, words) => self.incoming[*unit as usize].give(words.as_slice()),
             Order::SpiFault(unit) => self.serials.fault(*unit),
+            Order::Detach => self.devices = self.devices.saturating_sub(1),
             Order::Fill(channel, words) => self.fill(*channel, words.as_slice()),
             _ => {}
         }

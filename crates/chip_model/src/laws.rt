@@ -21,20 +21,21 @@ ghost use Rattle.chip_converter.specs.Rounds as rounds;
 ghost use Rattle.chip_units.specs.Serials as serials;
 ghost use Rattle.chip_units.specs.Pins as pins;
 ghost use Rattle.chip_model.specs.Chip.{Chip, power_on, chip_after, happened, now_of, reset_chip, levelled, outside_at, word_of, is_masked, is_pending, incoming_at, source_length, channel_from, pin_of};
-ghost use Rattle.chip_model.specs.Histories.{Happening, chip_step, chip_after_all, chip_of, HasAll, IsAtOneTime, FillsThere, sets_rate, LeavesWord, LeavesRam, LeavesMask, LeavesLevel, given_to, taken_from};
+ghost use Rattle.chip_model.specs.Histories.{Happening, chip_step, chip_after_all, chip_of, HasAll, IsAtOneTime, FillsThere, sets_rate, LeavesWord, LeavesRam, LeavesMask, LeavesLevel, given_to, taken_from, detaches_in};
 
 /// The chip after a history and one happening more is what that happening leaves. So a bus whose value is the
-/// chip of a history has, after a call, the chip of that history with the call's happening added.
+/// chip of a history has, after a call, the chip of that history with the call's happening added; a rack has the
+/// devices that hang on its units.
 pub fn one_happening_more()
-    ensures { (config : Config) (room : ℕ) (history : List Happening) (x : Happening)
-        → chip_of config room (history ++ x ∷ []) ≡ chip_step (chip_of config room history) x }
+    ensures { (config : Config) (room devices : ℕ) (history : List Happening) (x : Happening)
+        → chip_of config room devices (history ++ x ∷ []) ≡ chip_step (chip_of config room devices history) x }
 {}
 
 /// A chip that a history leaves has all its words, pins and units, and all its blocks are at one time.
 pub fn chip_is_whole()
-    ensures all { (config : Config) (room : ℕ) (history : List Happening)
-        → WithinLimits config → AllByRecursion FillsThere history → HasAll (chip_of config room history) }
-    ensures time { (config : Config) (room : ℕ) (history : List Happening) → IsAtOneTime (chip_of config room history) }
+    ensures all { (config : Config) (room devices : ℕ) (history : List Happening)
+        → WithinLimits config → AllByRecursion FillsThere history → HasAll (chip_of config room devices history) }
+    ensures time { (config : Config) (room devices : ℕ) (history : List Happening) → IsAtOneTime (chip_of config room devices history) }
 {}
 
 /// A driver word reads what was stored there last, and 0 after a reset.
@@ -125,8 +126,14 @@ pub fn words_that_come_in()
 
 /// The source array of a serial channel has the places that the layout gives it, at most 64.
 pub fn source_arrays()
-    ensures places { (config : Config) (room channel : ℕ) (history : List Happening) → channel < 16
-        → source_length (chip_of config room history) channel ≡ length_of config (Source channel) }
-    ensures most { (config : Config) (room channel : ℕ) (history : List Happening) → WithinLimits config → channel < 16
-        → source_length (chip_of config room history) channel ≤ 64 }
+    ensures places { (config : Config) (room devices channel : ℕ) (history : List Happening) → channel < 16
+        → source_length (chip_of config room devices history) channel ≡ length_of config (Source channel) }
+    ensures most { (config : Config) (room devices channel : ℕ) (history : List Happening) → WithinLimits config → channel < 16
+        → source_length (chip_of config room devices history) channel ≤ 64 }
+{}
+
+/// A history leaves as many devices as there were, less one for each detach while there is one. So there is a device at
+/// each place below that number.
+pub fn devices_left()
+    ensures { (c : Chip) (history : List Happening) → (chip_after_all c history).devices ≡ c.devices - detaches_in history }
 {}

@@ -1,8 +1,5 @@
 -- A test of a list that was seen through a function.
-use Rattle.std.proofs.Common.{◌≡◌, ℕ, List, [], ◌∷◌, Bool, map, refl, ap, ◌∙◌, ◌+◌, add-one, length, ◌<◌, false, slice_index_or, inl, inr, sym}
-use Rattle.toml.specs.View.{items_view}
-use Rattle.toml.specs.declared.value.Value.{Value}
-use Rattle.config_rows.specs.Kinds.{count_of}
+use Rattle.std.proofs.Common.{◌≡◌, ℕ, List, [], ◌∷◌, Bool, map, refl, ap, ◌∙◌, length, ◌<◌, false, slice_index_or, inl, inr, sym}
 use Rattle.std.specs.Prelude.{◌||◌}
 use Rattle.std.proofs.lemmas.Bool.{cases_Bool, false≢true}
 use Rattle.std.proofs.lemmas.List.Folds.{list_any_at}
@@ -11,11 +8,6 @@ use Rattle.std.specs.List.{list_any}
 pub any_mapped : {A B : Type 0} (p : B → Bool) (f : A → B) (xs : List A) → list_any p (map f xs) ≡ list_any (λ x. p (f x)) xs
 any_mapped p f [] = refl
 any_mapped p f (x ∷ xs) = ap (λ b. p (f x) || b) (any_mapped p f xs)
-
--- the number of values, seen as data
-pub count_seen : (vs : List Value) → count_of (items_view vs) ≡ length vs
-count_seen [] = refl
-count_seen (v ∷ vs) = ap (λ n. n + 1) (count_seen vs) ∙ add-one (length vs)
 
 -- no element passes a test that none of the list passes
 pub any_none : {T : Type 0} (p : T → Bool) (xs : List T) → list_any p xs ≡ false → (k : ℕ) (d : T) → k < length xs → p (slice_index_or xs k d) ≡ false

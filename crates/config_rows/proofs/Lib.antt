@@ -1,5 +1,3 @@
 pub mod Ids
-pub mod Least
-pub mod Giving
 pub mod Sound
 pub mod Recorded

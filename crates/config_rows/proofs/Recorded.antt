@@ -5,16 +5,16 @@ use Rattle.std.specs.Option.{IsSome}
 use Rattle.std.proofs.lemmas.Bool.{false≢true}
 use Rattle.std.proofs.lemmas.Option.{none-some}
 use Rattle.toml.specs.Data.{Data, Items, no_items, item, Members, no_members, as_array, as_table}
-use Rattle.config_rows.specs.Checks.{Checks, passes, fails, ◌⨾◌, first, or_else}
-use Rattle.config_rows.specs.Kinds.{◌>>=◌, Seen, absent, another_kind, out_of_range, good, required, found, items_from, items_of, length_checks, list_kind, list_checks, list_value}
-use Rattle.config_rows.specs.Keys.{entry, of_element, of_key, needed, read, needed_list, allowed_list, read_list, read_list_or}
+use Rattle.config_keys.specs.Checks.{Checks, passes, fails, ◌⨾◌, first, or_else}
+use Rattle.config_keys.specs.Kinds.{◌>>=◌, Seen, absent, another_kind, out_of_range, good, required, found, items_from, items_of, length_checks, list_kind, list_checks, list_value}
+use Rattle.config_keys.specs.Keys.{entry, of_element, of_key, needed, read, needed_list, allowed_list, read_list, read_list_or}
 use Rattle.config_rows.specs.Rows.{Shape, table_checks, id_of, elements_from, element_value, values_of, array_kind, found_checks, found_value, array_checks, array_value}
 use Rattle.config_rows.specs.Modules as parts
 use Rattle.config_rows.specs.Modules.{Part, module_checks, module_value}
-use Rattle.config_rows.specs.declared.fault.Path.{Path}
-use Rattle.config_rows.specs.declared.key_name.KeyName.{KeyName}
-use Rattle.config_rows.specs.declared.fault.ConfigFault.{ConfigFault}
-use Rattle.config_rows.specs.declared.fault.ConfigFault.TheVariants.{Missing}
+use Rattle.config_keys.specs.declared.fault.Path.{Path}
+use Rattle.config_keys.specs.declared.key_name.KeyName.{KeyName}
+use Rattle.config_keys.specs.declared.fault.ConfigFault.{ConfigFault}
+use Rattle.config_keys.specs.declared.fault.ConfigFault.TheVariants.{Missing}
 
 pub record Recorded {A : Type 0} (c : Checks) (o : Option A) : Type 0 where
   pub holds : first c ≡ None → IsSome o

@@ -1,9 +1,3 @@
-pub mod Names
-pub mod Checks
-pub mod Places
-pub mod Kinds
-pub mod Keys
 pub mod Rows
 pub mod Rules
 pub mod Modules
-pub mod Printed

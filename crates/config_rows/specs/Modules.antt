@@ -3,10 +3,10 @@ use Rattle.std.specs.Prelude.{Option, Some, None}
 use Rattle.toml.specs.Data.{Data, Members, no_members, get_member, as_table}
 use Rattle.mcal_base.specs.Names.{module_text}
 use Rattle.mcal_base.specs.declared.module_name.ModuleName.{ModuleName}
-use Rattle.config_rows.specs.Checks.{Checks, passes, fails}
-use Rattle.config_rows.specs.Kinds.{◌>>=◌}
-use Rattle.config_rows.specs.Keys.{of_module}
-use Rattle.config_rows.specs.declared.fault.ConfigFault.TheVariants.{WrongKind}
+use Rattle.config_keys.specs.Checks.{Checks, passes, fails}
+use Rattle.config_keys.specs.Kinds.{◌>>=◌}
+use Rattle.config_keys.specs.Keys.{of_module}
+use Rattle.config_keys.specs.declared.fault.ConfigFault.TheVariants.{WrongKind}
 
 -- What a module's table is: the module, the checks of the table, and its value.
 pub record Part (T : Type 0) : Type 0 where

@@ -3,12 +3,12 @@ use Rattle.std.specs.Prelude.{◌≡◌, All, AllPairs, ℕ, ◌+◌, false, Lis
 use Rattle.std.specs.List.{list_any}
 use Rattle.toml.specs.Data.{Data, Items, no_items, item, Members, as_table, as_array}
 pub use Rattle.config_facts.specs.Ids.{same_id}
-use Rattle.config_rows.specs.Checks.{Checks, passes, fails, ◌⨾◌}
-use Rattle.config_rows.specs.Kinds.{◌>>=◌, length_checks}
-use Rattle.config_rows.specs.Keys.{entry, of_element}
-use Rattle.config_rows.specs.declared.fault.Path.{Path}
-use Rattle.config_rows.specs.declared.fault.ConfigFault.TheVariants.{WrongKind, Repeated}
-use Rattle.config_rows.specs.declared.key_name.KeyName.{KeyName}
+use Rattle.config_keys.specs.Checks.{Checks, passes, fails, ◌⨾◌}
+use Rattle.config_keys.specs.Kinds.{◌>>=◌, length_checks}
+use Rattle.config_keys.specs.Keys.{entry, of_element}
+use Rattle.config_keys.specs.declared.fault.Path.{Path}
+use Rattle.config_keys.specs.declared.fault.ConfigFault.TheVariants.{WrongKind, Repeated}
+use Rattle.config_keys.specs.declared.key_name.KeyName.{KeyName}
 
 -- What the elements of an array are: the array's place and key, the key of their ids, the checks of an element's keys, its id and its value.
 pub record Shape (T : Type 0) : Type 0 where

@@ -1,10 +1,11 @@
 -- References to ids, and rules on the elements of an array.
 use Rattle.std.specs.Prelude.{ℕ, ◌+◌, Bool, true, false, List, [], ◌∷◌, take, Option, Some, if◌then◌else◌}
 use Rattle.config_facts.specs.Ids.{has_id}
-use Rattle.config_rows.specs.Checks.{Checks, passes, fails, ◌⨾◌}
-use Rattle.config_rows.specs.Keys.{of_element}
-use Rattle.config_rows.specs.declared.fault.Path.{Path}
-use Rattle.config_rows.specs.declared.fault.ConfigFault.TheVariants.{Unknown, Combination}
+use Rattle.config_keys.specs.Checks.{Checks, passes, fails, ◌⨾◌}
+use Rattle.config_keys.specs.Keys.{of_element}
+use Rattle.config_keys.specs.Kinds.{of_item}
+use Rattle.config_keys.specs.declared.fault.Path.{Path}
+use Rattle.config_keys.specs.declared.fault.ConfigFault.TheVariants.{Unknown, Combination}
 
 -- an id that is to be that of an element
 abbrev pub reference : {T : Type 0} → (T → Option ℕ) → List T → Path → ℕ → Checks
@@ -12,7 +13,7 @@ reference id all at n = if has_id id all n then passes else fails (Unknown at n)
 
 abbrev pub references : {T : Type 0} → (T → Option ℕ) → List T → Path → ℕ → List ℕ → Checks
 references id all at j [] = passes
-references id all at j (n ∷ ns) = reference id all (record at { item = Some j }) n ⨾ references id all at (j + 1) ns
+references id all at j (n ∷ ns) = reference id all (of_item at j) n ⨾ references id all at (j + 1) ns
 
 -- the rule of this number, at an element that breaks it or does not
 abbrev pub kept_unless : Bool → ℕ → Path → Checks

@@ -3,14 +3,11 @@ ghost use Rattle.std.specs.List.{list_any};
 ghost use Rattle.toml.specs.Data.{as_table};
 ghost use Rattle.toml.specs.View.{view, table_view, items_view};
 ghost use Rattle.config_facts.specs.Ids.{IsTable};
-ghost use Rattle.config_rows.specs.Checks.{Gives};
+ghost use Rattle.config_keys.specs.Checks.{Gives};
 ghost use Rattle.config_rows.specs.Rows.{Shape, same_id, table_checks, element_value, id_of, elements_from, values_of, array_kind, found_checks, found_value, array_checks, array_value};
 
-use crate::fault::{ConfigFault, Path};
-use crate::key_name::KeyName;
-use crate::keys::value_at;
-use crate::lists::has_wrong_length;
 use config_facts::are_same;
+use config_keys::{ConfigFault, KeyName, Path, has_wrong_length, value_at};
 use mcal_base::Short;
 use toml::{Table, Value};
 

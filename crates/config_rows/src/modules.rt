@@ -1,10 +1,10 @@
 ghost use Rattle.std.specs.Prelude.{◌≡◌, IfOk, Option, Some, option_map};
 ghost use Rattle.toml.specs.View.{view, table_view};
-ghost use Rattle.config_rows.specs.Checks.{Gives};
+ghost use Rattle.config_keys.specs.Checks.{Gives};
 ghost use Rattle.config_rows.specs.Modules.{Part};
 ghost use Rattle.config_rows.specs.Modules as spec;
 
-use crate::fault::{ConfigFault, Path};
+use config_keys::{ConfigFault, Path};
 use mcal_base::ModuleName;
 use std::alloc::Global;
 use toml::{Table, Value};

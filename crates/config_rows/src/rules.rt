@@ -1,10 +1,10 @@
 ghost use Rattle.std.specs.Prelude.{◌≡◌, ℕ, Bool, Some, true, OnOk, List, ◌<◌, ◌^◌, length};
 ghost use Rattle.config_facts.specs.Ids.{has_id, Keeps, Refer};
-ghost use Rattle.config_rows.specs.Checks.{Gives};
+ghost use Rattle.config_keys.specs.Checks.{Gives};
 ghost use Rattle.config_rows.specs.Rules as spec;
 
 use crate::arrays::{Element, any_id};
-use crate::fault::{ConfigFault, Path};
+use config_keys::{ConfigFault, Path};
 
 /// A rule on the elements of an array, each seen after those before it.
 pub trait Rule<T> {
@@ -62,11 +62,7 @@ pub fn check_references<E: Element>(
     ensures refer { OnOk result (Refer E.id_of values.now ids.now) }
 {
     for (index, id) in ids.iter().enumerate() {
-        let at = Path {
-            item: Some(index as u32),
-            ..at
-        };
-        check_reference::<E>(values, at, *id)?;
+        check_reference::<E>(values, at.of_item(index as u32), *id)?;
     }
     Ok(())
 }

@@ -93,6 +93,8 @@ pub enum Order {
     Miso(u32, Words),
     /// The word in transfer on a serial unit will end as failed.
     SpiFault(u32),
+    /// Drops the last device of the rack.
+    Detach,
     /// The first places of a channel's source array.
     Fill(u32, Words),
     /// Resets the chip.

@@ -3,6 +3,8 @@
 
 use bench_top::bench;
 use mcal_base::{NoMemory, StdSink, StdSource};
+use serial_devices::{PlainDevice, SerialDevice};
+use std::alloc::AllocError;
 use std::env;
 use std::io::ErrorKind;
 use std::process::ExitCode;
@@ -21,12 +23,21 @@ fn words(rt: &HostRuntime) -> Result<Vec<String>, NoMemory> {
     }
 }
 
+/// Makes the two devices, of which the first answers each word's complement and the second the word that it was sent
+/// before, and has the bench do what the words ask for.
+fn status(rt: &HostRuntime, words: &[String]) -> Result<u8, AllocError> {
+    let alloc = rt.alloc();
+    let mut rack: Vec<Box<dyn SerialDevice>> = Vec::new(alloc);
+    rack.push(Box::new(alloc, PlainDevice::new(false))?)?;
+    rack.push(Box::new(alloc, PlainDevice::new(true))?)?;
+    let mut input = StdSource::new(rt.stdin());
+    let mut out = StdSink::new(rt.stdout());
+    Ok(bench(alloc, words, &mut input, &mut out, &mut rack).status)
+}
+
 fn main(rt: HostRuntime) -> ExitCode {
     let Ok(words) = words(&rt) else {
         return ExitCode::from(4);
     };
-    let mut input = StdSource::new(rt.stdin());
-    let mut out = StdSink::new(rt.stdout());
-    let outcome = bench(rt.alloc(), &words, &mut input, &mut out);
-    ExitCode::from(outcome.status)
+    ExitCode::from(status(&rt, &words).unwrap_or(4))
 }

@@ -3,15 +3,15 @@ use Rattle.std.proofs.Common.{◌≡◌, ℕ, List, None, Some, refl}
 use Rattle.std.specs.Prelude.{Option}
 use Rattle.std.specs.Option.{IsSome}
 use Rattle.toml.specs.Data.{Members, no_members, member}
-use Rattle.config_rows.specs.Checks.{passes}
-use Rattle.config_rows.specs.Kinds.{◌>>=◌, whole, name}
-use Rattle.config_rows.specs.Names.{buffer_named}
-use Rattle.config_rows.specs.declared.key_name.KeyName.TheVariants as keys
-use Rattle.config_rows.specs.declared.fault.Path.{Path}
+use Rattle.config_keys.specs.Checks.{passes}
+use Rattle.config_keys.specs.Kinds.{◌>>=◌, whole, name}
+use Rattle.config_keys.specs.Names.{buffer_named}
+use Rattle.config_keys.specs.declared.key_name.KeyName.TheVariants as keys
+use Rattle.config_keys.specs.declared.fault.Path.{Path}
 use Rattle.mcal_base.specs.declared.config.spi.SpiChannelType.{SpiChannelType}
-use Rattle.config_rows.specs.declared.fault.ConfigFault.TheVariants.{NotToml}
-use Rattle.config_rows.specs.declared.named.SpiBuffer.{SpiBuffer}
-use Rattle.config_rows.specs.declared.named.SpiBuffer.TheVariants as buffers
+use Rattle.config_keys.specs.declared.fault.ConfigFault.TheVariants.{NotToml}
+use Rattle.config_keys.specs.declared.named.SpiBuffer.{SpiBuffer}
+use Rattle.config_keys.specs.declared.named.SpiBuffer.TheVariants as buffers
 use Rattle.config_rows.proofs.Recorded.{Recorded, there, skip, failed, checked_after, at_last, need, need_last, need_list, allow_list, need_tables, need_tables_last, IsRead, IsReadPart, need_module, need_module_last}
 use Rattle.mcal_config.specs.Mcu as mcu
 use Rattle.mcal_config.specs.Port as port

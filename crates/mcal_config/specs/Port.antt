@@ -1,17 +1,17 @@
 -- The table of the module Port, in the order of the walk.
 use Rattle.std.specs.Prelude.{Bool, true, false, [], ◌∷◌, Option, Some}
 use Rattle.toml.specs.Data.{Members}
-use Rattle.config_rows.specs.Checks.{Checks, ◌⨾◌}
-use Rattle.config_rows.specs.Kinds.{◌>>=◌, whole, truth, name}
-use Rattle.config_rows.specs.Keys.{of_module, of_key, needed, allowed, allowed_list, read, read_or, read_list_or}
-use Rattle.config_rows.specs.Names.{direction_named, pin_mode_named, pin_level_named}
+use Rattle.config_keys.specs.Checks.{Checks, ◌⨾◌}
+use Rattle.config_keys.specs.Kinds.{◌>>=◌, whole, truth, name}
+use Rattle.config_keys.specs.Keys.{of_module, of_key, needed, allowed, allowed_list, read, read_or, read_list_or}
+use Rattle.config_keys.specs.Names.{direction_named, pin_mode_named, pin_level_named}
 use Rattle.config_rows.specs.Rows.{Shape, array_checks, array_value}
 use Rattle.config_rows.specs.Rules.{rule}
 use Rattle.config_rows.specs.Modules.{Part, given}
-use Rattle.config_rows.specs.declared.fault.Path.{Path}
-use Rattle.config_rows.specs.declared.key_name.KeyName.TheVariants as keys
-use Rattle.config_rows.specs.declared.named.PinLevel.{PinLevel}
-use Rattle.config_rows.specs.declared.named.PinLevel.TheVariants.{High, Low}
+use Rattle.config_keys.specs.declared.fault.Path.{Path}
+use Rattle.config_keys.specs.declared.key_name.KeyName.TheVariants as keys
+use Rattle.config_keys.specs.declared.named.PinLevel.{PinLevel}
+use Rattle.config_keys.specs.declared.named.PinLevel.TheVariants.{High, Low}
 use Rattle.mcal_base.specs.declared.module_name.ModuleName.TheVariants as modules
 use Rattle.mcal_base.specs.declared.config.port.PortPinMode.TheVariants.{Dio}
 use Rattle.mcal_base.specs.declared.config.port.PortPin.{PortPin}

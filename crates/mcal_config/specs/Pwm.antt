@@ -1,15 +1,15 @@
 -- The table of the module Pwm, in the order of the walk.
 use Rattle.std.specs.Prelude.{true, false, Option, Some}
 use Rattle.toml.specs.Data.{Members}
-use Rattle.config_rows.specs.Checks.{Checks, ◌⨾◌}
-use Rattle.config_rows.specs.Kinds.{◌>>=◌, whole, truth, name, text}
-use Rattle.config_rows.specs.Keys.{of_module, of_key, needed, allowed, read, read_or, read_any}
-use Rattle.config_rows.specs.Names.{class_named, output_state_named}
+use Rattle.config_keys.specs.Checks.{Checks, ◌⨾◌}
+use Rattle.config_keys.specs.Kinds.{◌>>=◌, whole, truth, name, text}
+use Rattle.config_keys.specs.Keys.{of_module, of_key, needed, allowed, read, read_or, read_any}
+use Rattle.config_keys.specs.Names.{class_named, output_state_named}
 use Rattle.config_rows.specs.Rows.{Shape, array_checks, array_value}
 use Rattle.config_rows.specs.Rules.{rule}
 use Rattle.config_rows.specs.Modules.{Part, given}
-use Rattle.config_rows.specs.declared.fault.Path.{Path}
-use Rattle.config_rows.specs.declared.key_name.KeyName.TheVariants as keys
+use Rattle.config_keys.specs.declared.fault.Path.{Path}
+use Rattle.config_keys.specs.declared.key_name.KeyName.TheVariants as keys
 use Rattle.mcal_base.specs.declared.module_name.ModuleName.TheVariants as modules
 use Rattle.mcal_base.specs.declared.config.pwm.PwmChannel.{PwmChannel}
 use Rattle.mcal_base.specs.declared.config.pwm.PwmConfig.{PwmConfig}

@@ -1,16 +1,16 @@
 -- The table of the module Spi, in the order of the walk.
 use Rattle.std.specs.Prelude.{true, false, [], ◌∷◌, Option, Some, None}
 use Rattle.toml.specs.Data.{Members}
-use Rattle.config_rows.specs.Checks.{Checks, passes, ◌⨾◌}
-use Rattle.config_rows.specs.Kinds.{◌>>=◌, whole, truth, name, text}
-use Rattle.config_rows.specs.Keys.{of_module, of_key, needed, allowed, needed_list, allowed_list, read, read_or, read_any, read_list, read_list_or}
-use Rattle.config_rows.specs.Names.{buffer_named}
+use Rattle.config_keys.specs.Checks.{Checks, passes, ◌⨾◌}
+use Rattle.config_keys.specs.Kinds.{◌>>=◌, whole, truth, name, text}
+use Rattle.config_keys.specs.Keys.{of_module, of_key, needed, allowed, needed_list, allowed_list, read, read_or, read_any, read_list, read_list_or}
+use Rattle.config_keys.specs.Names.{buffer_named}
 use Rattle.config_rows.specs.Rows.{Shape, array_checks, array_value}
 use Rattle.config_rows.specs.Modules.{Part, given}
-use Rattle.config_rows.specs.declared.fault.Path.{Path}
-use Rattle.config_rows.specs.declared.key_name.KeyName.TheVariants as keys
-use Rattle.config_rows.specs.declared.named.SpiBuffer.{SpiBuffer}
-use Rattle.config_rows.specs.declared.named.SpiBuffer.TheVariants as buffers
+use Rattle.config_keys.specs.declared.fault.Path.{Path}
+use Rattle.config_keys.specs.declared.key_name.KeyName.TheVariants as keys
+use Rattle.config_keys.specs.declared.named.SpiBuffer.{SpiBuffer}
+use Rattle.config_keys.specs.declared.named.SpiBuffer.TheVariants as buffers
 use Rattle.mcal_base.specs.declared.module_name.ModuleName.TheVariants as modules
 use Rattle.mcal_base.specs.declared.config.spi.SpiChannelType.{SpiChannelType}
 use Rattle.mcal_base.specs.declared.config.spi.SpiChannelType.TheVariants.{Internal, External}

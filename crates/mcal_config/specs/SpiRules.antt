@@ -1,10 +1,10 @@
 -- The references and rules of the module Spi.
 use Rattle.std.specs.Prelude.{ℕ, ◌+◌, List, [], ◌∷◌}
-use Rattle.config_rows.specs.Checks.{Checks, passes, ◌⨾◌}
-use Rattle.config_rows.specs.Keys.{of_module, of_key, of_element}
+use Rattle.config_keys.specs.Checks.{Checks, passes, ◌⨾◌}
+use Rattle.config_keys.specs.Keys.{of_module, of_key, of_element}
 use Rattle.config_rows.specs.Rules.{references, rule}
-use Rattle.config_rows.specs.declared.fault.Path.{Path}
-use Rattle.config_rows.specs.declared.key_name.KeyName.TheVariants as keys
+use Rattle.config_keys.specs.declared.fault.Path.{Path}
+use Rattle.config_keys.specs.declared.key_name.KeyName.TheVariants as keys
 use Rattle.mcal_base.specs.declared.module_name.ModuleName.TheVariants as modules
 use Rattle.mcal_base.specs.declared.config.spi.SpiChannel.{SpiChannel}
 use Rattle.mcal_base.specs.declared.config.spi.SpiJob.{SpiJob}

@@ -3,11 +3,11 @@ use Rattle.std.specs.Prelude.{ℕ, List, [], ◌∷◌, Bool, true, false, Optio
 use Rattle.std.specs.Str.{is_utf8}
 use Rattle.toml.specs.Data.{Members, no_members, member}
 use Rattle.toml.specs.Parse.{parse_document}
-use Rattle.config_rows.specs.Checks.{Checks, passes, fails, ◌⨾◌, first}
-use Rattle.config_rows.specs.Kinds.{◌>>=◌}
+use Rattle.config_keys.specs.Checks.{Checks, passes, fails, ◌⨾◌, first}
+use Rattle.config_keys.specs.Kinds.{◌>>=◌}
 use Rattle.config_rows.specs.Modules.{module_checks, module_value}
-use Rattle.config_rows.specs.declared.fault.ConfigFault.{ConfigFault}
-use Rattle.config_rows.specs.declared.fault.ConfigFault.TheVariants.{NotToml}
+use Rattle.config_keys.specs.declared.fault.ConfigFault.{ConfigFault}
+use Rattle.config_keys.specs.declared.fault.ConfigFault.TheVariants.{NotToml}
 use Rattle.mcal_base.specs.declared.config.gpt.GptChannelMode.TheVariants.{OneShot}
 use Rattle.mcal_base.specs.declared.config.adc.AdcPriorityImplementation.TheVariants as priorities
 use Rattle.mcal_base.specs.declared.config.mcu.McuConfig.{McuConfig}

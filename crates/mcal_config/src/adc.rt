@@ -1,15 +1,16 @@
 ghost use Rattle.std.specs.Prelude.{IfOk, OnOk, ◌≡◌, Some, ◌&&◌, true, false, not, nat_lt, length, ◌<◌, ◌^◌};
 ghost use Rattle.std.specs.List.{list_any};
 ghost use Rattle.toml.specs.View.{table_view};
-ghost use Rattle.config_rows.specs.Checks.{Gives};
+ghost use Rattle.config_keys.specs.Checks.{Gives};
 ghost use Rattle.config_facts.specs.Valid as valid;
 ghost use Rattle.mcal_config.specs.Adc as spec;
 
 use config_facts::are_same;
-use config_rows::{
-    ConfigFault, Element, KeyName, Module, Path, Rule, check_reference, check_rule, elements,
-    name_or, needed_name, needed_numbers, needed_whole, text, truth_or, whole_if, whole_or,
+use config_keys::{
+    ConfigFault, KeyName, Path, name_or, needed_name, needed_numbers, needed_whole, text, truth_or,
+    whole_if, whole_or,
 };
+use config_rows::{Element, Module, Rule, check_reference, check_rule, elements};
 use mcal_base::{
     AdcAccessMode, AdcConfig, AdcConversionMode, AdcGroup, AdcGroupReplacement, AdcHwUnit,
     AdcPriorityImplementation, AdcStreamBufferMode, AdcTriggerSource, ModuleName,

@@ -1,13 +1,13 @@
 ghost use Rattle.std.specs.Prelude.{IfOk, ◌≡◌, Some};
 ghost use Rattle.toml.specs.View.{table_view};
-ghost use Rattle.config_rows.specs.Checks.{Gives};
+ghost use Rattle.config_keys.specs.Checks.{Gives};
 ghost use Rattle.config_facts.specs.Valid as valid;
 ghost use Rattle.mcal_config.specs.Icu as spec;
 
-use config_rows::{
-    ConfigFault, Element, KeyName, Module, Path, elements, name_if, needed_name, needed_whole,
-    text, truth_or, whole_or,
+use config_keys::{
+    ConfigFault, KeyName, Path, name_if, needed_name, needed_whole, text, truth_or, whole_or,
 };
+use config_rows::{Element, Module, elements};
 use mcal_base::{IcuChannel, IcuConfig, IcuMeasurementMode, ModuleName};
 use toml::Table;
 

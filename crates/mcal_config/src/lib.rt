@@ -15,6 +15,6 @@ mod spi_tables;
 mod whole;
 
 pub use bare::default_board;
-pub use config_rows::{ConfigFault, KeyName, Path, Printed};
+pub use config_keys::{ConfigFault, KeyName, Path, Printed};
 pub use laws::faultless_has_record;
 pub use whole::read_config;

@@ -1,13 +1,12 @@
 ghost use Rattle.std.specs.Prelude.{IfOk, OnOk, ◌≡◌, ◌+◌, ◌&&◌, nat_lt, Some, None};
 ghost use Rattle.std.specs.List.{list_any};
 ghost use Rattle.toml.specs.View.{table_view};
-ghost use Rattle.config_rows.specs.Checks.{Gives};
+ghost use Rattle.config_keys.specs.Checks.{Gives};
 ghost use Rattle.config_facts.specs.Valid as valid;
 ghost use Rattle.mcal_config.specs.Mcu as spec;
 
-use config_rows::{
-    ConfigFault, Element, KeyName, Module, Path, Rule, check_rule, elements, needed_whole, truth_or,
-};
+use config_keys::{ConfigFault, KeyName, Path, needed_whole, truth_or};
+use config_rows::{Element, Module, Rule, check_rule, elements};
 use mcal_base::{McuClockSetting, McuConfig, McuModeSetting, McuRamSection, ModuleName};
 use toml::Table;
 

@@ -1,14 +1,14 @@
 ghost use Rattle.std.specs.Prelude.{IfOk, OnOk, ◌≡◌, Some, ◌∷◌, []};
 ghost use Rattle.std.specs.List.{list_any};
 ghost use Rattle.toml.specs.View.{table_view};
-ghost use Rattle.config_rows.specs.Checks.{Gives};
+ghost use Rattle.config_keys.specs.Checks.{Gives};
 ghost use Rattle.config_facts.specs.Valid as valid;
 ghost use Rattle.mcal_config.specs.Port as spec;
 
-use config_rows::{
-    ConfigFault, Element, KeyName, Module, Path, PinLevel, Rule, check_rule, elements, name_or,
-    names_or, needed_name, needed_whole, truth_or,
+use config_keys::{
+    ConfigFault, KeyName, Path, PinLevel, name_or, names_or, needed_name, needed_whole, truth_or,
 };
+use config_rows::{Element, Module, Rule, check_rule, elements};
 use mcal_base::{ModuleName, PortConfig, PortPin, PortPinMode, Short};
 use toml::Table;
 

@@ -1,14 +1,14 @@
 ghost use Rattle.std.specs.Prelude.{IfOk, OnOk, ◌≡◌, Some};
 ghost use Rattle.toml.specs.View.{table_view};
-ghost use Rattle.config_rows.specs.Checks.{Gives};
+ghost use Rattle.config_keys.specs.Checks.{Gives};
 ghost use Rattle.config_facts.specs.Valid as valid;
 ghost use Rattle.mcal_config.specs.Pwm as spec;
 
 use config_facts::are_same;
-use config_rows::{
-    ConfigFault, Element, KeyName, Module, Path, Rule, check_rule, elements, needed_name,
-    needed_whole, text, truth_or, whole, whole_or,
+use config_keys::{
+    ConfigFault, KeyName, Path, needed_name, needed_whole, text, truth_or, whole, whole_or,
 };
+use config_rows::{Element, Module, Rule, check_rule, elements};
 use mcal_base::{ModuleName, PwmChannel, PwmConfig};
 use toml::Table;
 

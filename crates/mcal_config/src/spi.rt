@@ -1,13 +1,14 @@
 ghost use Rattle.std.specs.Prelude.{IfOk, ◌≡◌, Some, ◌∷◌, []};
 ghost use Rattle.toml.specs.View.{table_view};
-ghost use Rattle.config_rows.specs.Checks.{Gives};
+ghost use Rattle.config_keys.specs.Checks.{Gives};
 ghost use Rattle.config_facts.specs.Ids.{IsList};
 ghost use Rattle.config_facts.specs.Valid as valid;
 ghost use Rattle.mcal_config.specs.Spi as spec;
 
 use crate::spi_rules::{references, rules};
 use crate::spi_tables::{Channels, HERE, Jobs, Sequences};
-use config_rows::{ConfigFault, KeyName, Module, elements, numbers_or, truth_or, whole_or};
+use config_keys::{ConfigFault, KeyName, numbers_or, truth_or, whole_or};
+use config_rows::{Module, elements};
 use mcal_base::{ModuleName, Short, SpiConfig};
 use toml::Table;
 

@@ -1,11 +1,12 @@
 ghost use Rattle.std.specs.Prelude.{OnOk, ◌≡◌, ◌==◌, ◌&&◌, not, Some, length, ◌<◌, ◌^◌};
 ghost use Rattle.std.specs.List.{list_any};
-ghost use Rattle.config_rows.specs.Checks.{Gives};
+ghost use Rattle.config_keys.specs.Checks.{Gives};
 ghost use Rattle.config_facts.specs.Valid as valid;
 ghost use Rattle.mcal_config.specs.SpiRules as spec;
 
 use crate::spi_tables::{Channels, Jobs, Sequences};
-use config_rows::{ConfigFault, Element, KeyName, Rule, check_references, check_rule};
+use config_keys::{ConfigFault, KeyName};
+use config_rows::{Element, Rule, check_references, check_rule};
 use mcal_base::{SpiChannel, SpiConfig, SpiJob, SpiSequence};
 
 /// The references of the jobs to their channels.

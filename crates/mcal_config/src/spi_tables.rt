@@ -1,14 +1,15 @@
 ghost use Rattle.std.specs.Prelude.{IfOk, ◌≡◌, Some};
 ghost use Rattle.toml.specs.View.{table_view};
-ghost use Rattle.config_rows.specs.Checks.{Gives};
+ghost use Rattle.config_keys.specs.Checks.{Gives};
 ghost use Rattle.config_facts.specs.Valid as valid;
 ghost use Rattle.mcal_config.specs.Spi as spec;
 ghost use Rattle.mcal_config.specs.SpiRules as rules_spec;
 
-use config_rows::{
-    ConfigFault, Element, KeyName, Path, SpiBuffer, needed_name, needed_numbers, needed_truth,
-    needed_whole, text, whole, whole_or,
+use config_keys::{
+    ConfigFault, KeyName, Path, SpiBuffer, needed_name, needed_numbers, needed_truth, needed_whole,
+    text, whole, whole_or,
 };
+use config_rows::Element;
 use mcal_base::{ModuleName, SpiChannel, SpiChannelType, SpiJob, SpiSequence};
 use toml::Table;
 

@@ -1,7 +1,7 @@
 ghost use Rattle.std.specs.Prelude.{◌≡◌, IfOk};
 ghost use Rattle.toml.specs.View.{table_view};
 ghost use Rattle.config_facts.specs.Valid.{IsValid};
-ghost use Rattle.config_rows.specs.Checks.{Gives};
+ghost use Rattle.config_keys.specs.Checks.{Gives};
 ghost use Rattle.mcal_config.specs.Whole as spec;
 
 use crate::adc::Adc;
@@ -12,7 +12,8 @@ use crate::mcu::Mcu;
 use crate::port::Port;
 use crate::pwm::Pwm;
 use crate::spi::Spi;
-use config_rows::{ConfigFault, read_module};
+use config_keys::ConfigFault;
+use config_rows::read_module;
 use mcal_base::Config;
 use std::alloc::Global;
 use toml::Table;

@@ -5,12 +5,13 @@ use Rattle.std.specs.Option.{IfSome}
 use Rattle.std.specs.Bool.{OnTrue, OnFalse}
 use Rattle.std.proofs.Math.Path.{fun_ext}
 use Rattle.chip_model.specs.Chip.{Chip, pin_of, word_of}
-use Rattle.config_facts.specs.Valid.{IsAdc, IsPwm, IsIcu, IsSpi, IsValid}
+use Rattle.config_facts.specs.Valid.{IsAdc, IsPwm, IsSpi, IsValid}
 use Rattle.mcal_base.specs.Layout.{length_of, place_of}
 use Rattle.mcal_base.specs.declared.config.whole.Config.{Config}
 use Rattle.mcal_base.specs.declared.directive.Directive.{Directive}
 use Rattle.mcal_base.specs.declared.layout.Array.{Array}
 use Rattle.mcal_base.specs.declared.layout.Array.TheVariants.{Stamps, Source}
+use Rattle.run_model.specs.Devices.{AllCalls}
 use Rattle.run_model.specs.Entry.{Entry}
 use Rattle.run_model.specs.Follows.{Gives, Follows}
 use Rattle.run_model.specs.Legal.{IsLegal}
@@ -18,8 +19,10 @@ use Rattle.run_model.specs.Moment.{Setting, Moment, Deed, start_moment, after_al
 use Rattle.run_model.specs.Script.{deeds_of}
 use Rattle.run_model.specs.Stops.{FollowsToStop}
 use Rattle.run_model.specs.World.{World}
+use Rattle.run_model.proofs.ToldLaws.{are_told}
 use Rattle.script_runner.specs.Runs as engine
 use Rattle.script_runner.specs.Scripts.{IsRun, IsStopped, chip_for, script_bound, words_given}
+use Rattle.serial_devices.specs.Lines.{Line}
 use Rattle.service_outline.specs.Services.{entering, services_driver}
 use Rattle.service_outline.specs.ShortServices as short
 use Rattle.step_runner.specs.Driver.{Driver}
@@ -52,12 +55,9 @@ use Rattle.adc_machine.specs.Bounds.{is_used as uses_line}
 use Rattle.adc_machine.specs.Machine.{chosen_buffer}
 use Rattle.adc_machine.specs.Table as converter_table
 use Rattle.adc_machine.specs.Turns.{AdcState}
-use Rattle.adc_machine.specs.Words.{buffer_number, place_count}
 use Rattle.adc_machine.specs.declared.call.ResultBuffer.{ResultBuffer}
 use Rattle.adc_machine.specs.declared.table.AdcTable.{AdcTable}
 use Rattle.spi_driver.specs.laws.Joined.{joined as serial_of}
-use Rattle.spi_driver.specs.laws.Lawful.{handled_by}
-use Rattle.spi_machine.specs.Bounds.{is_used}
 use Rattle.spi_driver.specs.laws.Fits as serial_fits
 use Rattle.spi_driver.specs.declared.driver.SpiDriver.{SpiDriver}
 use Rattle.spi_jobs.specs.declared.channel.Channel.{Channel}
@@ -65,16 +65,14 @@ use Rattle.spi_machine.specs.Fits.{FitsSpi}
 use Rattle.spi_machine.specs.State.{SpiState, internal_word}
 use Rattle.spi_machine.specs.Table as serial_table
 use Rattle.spi_machine.specs.Table.{channel_of, is_internal_channel, length_by}
-use Rattle.spi_machine.specs.declared.table.SpiTable.{SpiTable}
 use Rattle.spi_sequences.specs.Ground.{SpiAgrees}
-use Rattle.spi_sequences.specs.declared.asked.Asked as serial_asked
 use Rattle.mcal_system.specs.Drivers.{clock, pins, timers, pulses, captures, converters, serial, drivers_of, as_one}
 use Rattle.mcal_system.specs.Frames.{SystemFrame}
-use Rattle.mcal_system.specs.Runs.{SystemRun, most_steps, bound_of, run_start, moment_of, AddsItems}
+use Rattle.mcal_system.specs.Runs.{SystemRun, most_steps, bound_of, run_start, moment_of, AddsItems, CallsDevices}
 use Rattle.mcal_system.specs.Setting.{SystemState, SystemCall, clock_setting, pin_setting, timer_setting, pulse_setting, capture_setting, converter_setting, serial_setting, joined, system_setting, call_of}
-use Rattle.mcal_system.specs.Shows.{internal_at, level_at, ram_at, results_at, serial_channel, size_at, user_at}
+use Rattle.mcal_system.specs.Shows.{internal_at, level_at, ram_at, serial_channel, size_at, user_at}
 use Rattle.mcal_system.specs.declared.drivers.Drivers.{Drivers}
-use Rattle.mcal_system.proofs.SoundConverters.{buffer_places, sound_converters}
+use Rattle.mcal_system.proofs.SoundConverters.{sound_converters}
 use Rattle.mcal_system.proofs.SoundSerial.{array_length, sound_serial}
 use Rattle.mcal_system.proofs.Stamps.{size_few}
 use Rattle.mcal_system.proofs.Levels.{pin_level, ram_word, user_word}
@@ -85,7 +83,7 @@ Inner = engine.Run Drivers SystemFrame
 
 -- the run that is seen from outside
 abbrev pub seen : Inner → SystemRun
-seen e = record { config = e.config; script = e.script; obeyed = e.obeyed; too_long = e.too_long; journal = e.journal }
+seen e = record { config = e.config; script = e.script; devices = e.devices; obeyed = e.obeyed; too_long = e.too_long; journal = e.journal }
 
 -- ---- the setting
 
@@ -190,12 +188,12 @@ on_false_map true f h = tt
 on_false_map false f h = f h
 
 -- before the first directive
-pub starts : (c : Config) (script : List Directive) (u : Drivers) (e : Inner) → u ≡ drivers_of c → e ≡ engine.run_start u (as_one u).setting call_of c script 1000000 → seen e ≡ run_start c script
-starts c script u e made begins = carry (λ g. seen e ≡ seen (engine.run_start u g call_of c script 1000000)) c u made (ap seen begins)
+pub starts : (c : Config) (script : List Directive) (devices : ℕ) (u : Drivers) (e : Inner) → u ≡ drivers_of c → e ≡ engine.run_start u (as_one u).setting call_of c script 1000000 devices → seen e ≡ run_start c script devices
+starts c script devices u e made begins = carry (λ g. seen e ≡ seen (engine.run_start u g call_of c script 1000000 devices)) c u made (ap seen begins)
 
 -- what a run of the modules is: its moment, and the start of one
 abbrev Starts : Setting SystemState SystemCall → SystemRun → Moment SystemState SystemCall
-Starts g r = start_moment g (chip_for r.config r.script)
+Starts g r = start_moment g (chip_for r.devices r.config r.script)
 
 abbrev Comes : Setting SystemState SystemCall → SystemRun → Moment SystemState SystemCall
 Comes g r = after_all g (Starts g r) (deeds_of call_of r.script r.journal.entries)
@@ -214,11 +212,11 @@ module _ (e : Inner) (made : e.driver ≡ drivers_of e.config) (r : SystemRun) (
   pub legal : (xs : List Entry) → IsLegal (as_one e.driver).setting (Starts (as_one e.driver).setting (seen e)) (deeds_of call_of e.script xs) → IsLegal (system_setting r.config) (Starts (system_setting r.config) r) (deeds_of call_of r.script xs)
   legal xs h = there (λ g x. IsLegal g (Starts g x) (deeds_of call_of x.script xs)) h
 
-  pub whole : (xs : List Entry) → (e.too_long ≡ false → e.obeyed ≡ length e.script → IsRun (as_one e.driver).setting (chip_for e.config e.script) call_of e.script xs) → r.too_long ≡ false → r.obeyed ≡ length r.script → IsRun (system_setting r.config) (chip_for r.config r.script) call_of r.script xs
-  whole xs h = there (λ g x. x.too_long ≡ false → x.obeyed ≡ length x.script → IsRun g (chip_for x.config x.script) call_of x.script xs) h
+  pub whole : (xs : List Entry) → (e.too_long ≡ false → e.obeyed ≡ length e.script → IsRun (as_one e.driver).setting (chip_for e.devices e.config e.script) call_of e.script xs) → r.too_long ≡ false → r.obeyed ≡ length r.script → IsRun (system_setting r.config) (chip_for r.devices r.config r.script) call_of r.script xs
+  whole xs h = there (λ g x. x.too_long ≡ false → x.obeyed ≡ length x.script → IsRun g (chip_for x.devices x.config x.script) call_of x.script xs) h
 
-  pub stopped : (xs : List Entry) → e.limit ≡ most_steps → OnTrue e.too_long (IsStopped (as_one e.driver).setting (chip_for e.config e.script) call_of e.limit e.script xs) → OnTrue r.too_long (IsStopped (system_setting r.config) (chip_for r.config r.script) call_of most_steps r.script xs)
-  stopped xs limited h = subst (λ n. OnTrue r.too_long (IsStopped (system_setting r.config) (chip_for r.config r.script) call_of n r.script xs)) limited (there (λ g x. OnTrue x.too_long (IsStopped g (chip_for x.config x.script) call_of e.limit x.script xs)) h)
+  pub stopped : (xs : List Entry) → e.limit ≡ most_steps → OnTrue e.too_long (IsStopped (as_one e.driver).setting (chip_for e.devices e.config e.script) call_of e.limit e.script xs) → OnTrue r.too_long (IsStopped (system_setting r.config) (chip_for r.devices r.config r.script) call_of most_steps r.script xs)
+  stopped xs limited h = subst (λ n. OnTrue r.too_long (IsStopped (system_setting r.config) (chip_for r.devices r.config r.script) call_of n r.script xs)) limited (there (λ g x. OnTrue x.too_long (IsStopped g (chip_for x.devices x.config x.script) call_of e.limit x.script xs)) h)
 
   pub within : e.limit ≡ most_steps → OnTrue e.too_long (e.limit < script_bound (as_one e.driver).setting call_of e.script) → OnTrue r.too_long (most_steps < bound_of r.config r.script)
   within limited h = subst (λ n. OnTrue r.too_long (n < bound_of r.config r.script)) limited (there (λ g x. OnTrue x.too_long (e.limit < script_bound g call_of x.script)) h)
@@ -233,38 +231,52 @@ module _ (e : Inner) (made : e.driver ≡ drivers_of e.config) (r : SystemRun) (
     gives = carry (λ g. Gives g call_of (Comes g (seen e)) directive.line directive.order h.items) e.config e.driver made h.gives;
   })
 
+  pub calls : (e1 : Inner) (old new : List Line) → engine.CallsThere (as_one e.driver) call_of e e1 old new → CallsDevices r (seen e1) old new
+  calls e1 old new h =
+      let all = carry (λ g. AllCalls g (Comes g (seen e)) (deeds_of call_of e.script h.items) old new) e.config e.driver made h.calls in
+      subst (λ (x : SystemRun). CallsDevices x (seen e1) old new) is (record {
+        items = h.items;
+        is = h.is;
+        calls = all;
+        told = are_told (system_setting e.config) (Comes (system_setting e.config) (seen e)) (deeds_of call_of e.script h.items) old new all;
+      })
+
   module _ (stands : engine.StandsThere (as_one e.driver) call_of e) where
     abbrev Deeds : List (Deed SystemCall)
     Deeds = deeds_of call_of e.script e.journal.entries
 
-    pub some : (result : Bool) → OnFalse result (0 < length e.frames) → OnFalse result (0 < length (moment_of r).opens)
-    some result h = there (λ g x. OnFalse result (0 < length (Comes g x).opens)) (on_false_map result (λ k. opens-some (as_one e.driver) (chip_for e.config e.script) e.chip e.frames Deeds stands k) h)
+    -- the chip has as many devices as the world
+    pub devices_there : e.chip.devices ≡ (moment_of r).world.devices
+    devices_there = there (λ g x. e.chip.devices ≡ (Comes g x).world.devices) (ap (λ (c : Chip). c.devices) stands.matches.chip_is ∙ stands.matches.hung)
 
-    at_rest : (moment_of r).opens ≡ [] → Rests (system_setting r.config) (chip_for r.config r.script) e.chip (moment_of r)
-    at_rest = there (λ g x. (Comes g x).opens ≡ [] → Rests g (chip_for x.config x.script) e.chip (Comes g x)) (rests (as_one e.driver) (chip_for e.config e.script) e.chip e.frames Deeds stands)
+    pub some : (result : Bool) → OnFalse result (0 < length e.frames) → OnFalse result (0 < length (moment_of r).opens)
+    some result h = there (λ g x. OnFalse result (0 < length (Comes g x).opens)) (on_false_map result (λ k. opens-some (as_one e.driver) (chip_for e.devices e.config e.script) e.chip e.frames Deeds stands k) h)
+
+    at_rest : (moment_of r).opens ≡ [] → Rests (system_setting r.config) (chip_for r.devices r.config r.script) e.chip (moment_of r)
+    at_rest = there (λ g x. (Comes g x).opens ≡ [] → Rests g (chip_for x.devices x.config x.script) e.chip (Comes g x)) (rests (as_one e.driver) (chip_for e.devices e.config e.script) e.chip e.frames Deeds stands)
 
     pub pin_there : (p : ℕ) → p < 64 → (moment_of r).opens ≡ [] → IsPwm e.config.pwm → pin_of e.chip p ≡ level_at r.config (moment_of r).world (moment_of r).state p
-    pin_there p lt rest valid = pin_level r.config (words_given r.script) e.chip (moment_of r) (at_rest rest) p lt (subst (λ (x : SystemRun). IsPwm x.config.pwm) is valid)
+    pin_there p lt rest valid = pin_level r.config r.devices (words_given r.script) e.chip (moment_of r) (at_rest rest) p lt (subst (λ (x : SystemRun). IsPwm x.config.pwm) is valid)
 
     pub ram_there : (k : ℕ) → k < 512 → (moment_of r).opens ≡ [] → slice_index e.chip.ram k ≡ ram_at (moment_of r).state k
-    ram_there k lt rest = ram_word r.config (words_given r.script) e.chip (moment_of r) (at_rest rest) k lt
+    ram_there k lt rest = ram_word r.config r.devices (words_given r.script) e.chip (moment_of r) (at_rest rest) k lt
 
     pub user_there : (a : Array) (i : ℕ) → i < length_of r.config a → (moment_of r).opens ≡ [] → IsValid e.config → word_of e.chip (place_of a i) ≡ user_at (moment_of r).state a i
     user_there a i lt rest valid =
         let there = subst (λ (x : SystemRun). IsValid x.config) is valid in
-        user_word r.config (words_given r.script) e.chip (moment_of r) (at_rest rest) a i there.adc there.icu there.spi lt
+        user_word r.config r.devices (words_given r.script) e.chip (moment_of r) (at_rest rest) a i there.adc there.icu there.spi lt
 
     -- the capture driver's words and registers agree with its machine
     pub captures_there : (moment_of r).opens ≡ [] → IcuAgrees e.driver.captures settled e.chip (moment_of r).world (moment_of r).state.1.0.1
-    captures_there = there (λ g x. (Comes g x).opens ≡ [] → IcuAgrees e.driver.captures settled e.chip (Comes g x).world (Comes g x).state.1.0.1) (λ none. captures_related e.driver e.chip (Comes (as_one e.driver).setting (seen e)).world (Comes (as_one e.driver).setting (seen e)).state (related (as_one e.driver) (chip_for e.config e.script) e.chip e.frames Deeds stands none))
+    captures_there = there (λ g x. (Comes g x).opens ≡ [] → IcuAgrees e.driver.captures settled e.chip (Comes g x).world (Comes g x).state.1.0.1) (λ none. captures_related e.driver e.chip (Comes (as_one e.driver).setting (seen e)).world (Comes (as_one e.driver).setting (seen e)).state (related (as_one e.driver) (chip_for e.devices e.config e.script) e.chip e.frames Deeds stands none))
 
     -- and so do the converter driver's
     converters_there : (moment_of r).opens ≡ [] → AdcAgrees e.driver.converters.table [] None e.chip (moment_of r).world (moment_of r).state.1.1.0
-    converters_there = there (λ g x. (Comes g x).opens ≡ [] → AdcAgrees e.driver.converters.table [] None e.chip (Comes g x).world (Comes g x).state.1.1.0) (λ none. converters_related e.driver e.chip (Comes (as_one e.driver).setting (seen e)).world (Comes (as_one e.driver).setting (seen e)).state (related (as_one e.driver) (chip_for e.config e.script) e.chip e.frames Deeds stands none))
+    converters_there = there (λ g x. (Comes g x).opens ≡ [] → AdcAgrees e.driver.converters.table [] None e.chip (Comes g x).world (Comes g x).state.1.1.0) (λ none. converters_related e.driver e.chip (Comes (as_one e.driver).setting (seen e)).world (Comes (as_one e.driver).setting (seen e)).state (related (as_one e.driver) (chip_for e.devices e.config e.script) e.chip e.frames Deeds stands none))
 
     -- and so do the serial driver's
     pub serial_there : (moment_of r).opens ≡ [] → SpiAgrees e.driver.serial.table [] e.chip (moment_of r).world (moment_of r).state.1.1.1
-    serial_there = there (λ g x. (Comes g x).opens ≡ [] → SpiAgrees e.driver.serial.table [] e.chip (Comes g x).world (Comes g x).state.1.1.1) (λ none. serial_related e.driver e.chip (Comes (as_one e.driver).setting (seen e)).world (Comes (as_one e.driver).setting (seen e)).state (related (as_one e.driver) (chip_for e.config e.script) e.chip e.frames Deeds stands none))
+    serial_there = there (λ g x. (Comes g x).opens ≡ [] → SpiAgrees e.driver.serial.table [] e.chip (Comes g x).world (Comes g x).state.1.1.1) (λ none. serial_related e.driver e.chip (Comes (as_one e.driver).setting (seen e)).world (Comes (as_one e.driver).setting (seen e)).state (related (as_one e.driver) (chip_for e.devices e.config e.script) e.chip e.frames Deeds stands none))
 
     pub size_there : (c : ℕ) → c < 8 → (moment_of r).opens ≡ [] → IfSome (size_at (moment_of r).state c) (λ n. n ≤ length_of r.config (Stamps c))
     size_there c lt rest = subst (λ (x : SystemRun). IfSome (size_at (moment_of r).state c) (λ n. n ≤ length_of x.config (Stamps c))) is (size_few e.driver.captures e.chip (moment_of r).world (moment_of r).state.1.0.1 (captures_there rest) c lt e.config (ap (λ (u : Drivers). u.captures) made))

@@ -5,11 +5,10 @@ use Rattle.std.specs.Option.{IfSome}
 use Rattle.mcal_base.specs.declared.moves.Event.{Event}
 use Rattle.mcal_base.specs.declared.moves.Event.TheVariants as events
 use Rattle.mcal_base.specs.declared.moves.Move.{Move}
-use Rattle.run_model.specs.Frame.{Origin, Called, Entered, Open, Brought, brought_by, happening_of, happening_at, outcome_of, outcome_at, state_by, begun_by}
+use Rattle.run_model.specs.Frame.{Origin, Called, Entered, Open, Brought, brought_by, happening_at, outcome_of, outcome_at, state_by, begun_by}
 use Rattle.run_model.specs.Machine.{Happening, Acts, Serves, Starts, Aborts, Moves, Restarts, Outcome, Machine, outcome, outcome_with, tells_nothing}
 use Rattle.run_model.specs.World.{World}
 use Rattle.step_runner.specs.Union.{lift_out, in_both, in_first, union_machine}
-use Rattle.step_runner.specs.declared.either.Either.{Either}
 use Rattle.step_runner.specs.declared.either.Either.TheVariants.{Left, Right}
 use Rattle.spi_machine.proofs.Runs.{some_same}
 use Rattle.spi_machine.specs.Promised.{shown_on}

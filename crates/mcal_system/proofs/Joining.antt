@@ -1,7 +1,7 @@
 -- The drivers of all modules are what two drivers as one have to be.
 use Rattle.std.proofs.Common.{◌≡◌, ℕ, Bool, true, false, [], refl, sym, subst}
 use Rattle.std.specs.List.{list_all}
-use Rattle.chip_model.specs.Chip.{Chip, power_on}
+use Rattle.chip_model.specs.Chip.{Chip, power_on, hung}
 use Rattle.config_facts.specs.Valid.{IsValid}
 use Rattle.mcal_base.specs.declared.config.whole.Config.{Config}
 use Rattle.mcal_base.specs.declared.module_name.ModuleName.{ModuleName}
@@ -65,9 +65,12 @@ join p q chip_of d e apart still mute one other = record {
   keeps = keeps-both p q d e one.keeps other.keeps;
 }
 
-module _ (c : Config) (v : IsValid c) where
+module _ (c : Config) (v : IsValid c) (devices : ℕ) where
+  abbrev power : (room : ℕ) → Chip
+  power room = hung devices (power_on c room)
+
   abbrev Ready : {S C F : Type 0} → (ModuleName → Bool) → Driver S C F → Type 0
-  Ready mine d = IsReady mine (power_on c) d
+  Ready mine d = IsReady mine power d
 
   clock_ready : Ready (only Mcu) (clock c)
   clock_ready = record { fits = clock_fits.fits_of c.mcu (sound_clock c.mcu v.mcu); covers = covers_clock (clock_table.driver_of c.mcu); wired = λ room. tt; keeps = keeps_clock (clock_table.driver_of c.mcu) }
@@ -92,27 +95,27 @@ module _ (c : Config) (v : IsValid c) where
   serial_ready : Ready (only Spi) (serial c)
   serial_ready =
       let fits = serial_fits.fits_of c.spi (sound_serial c.spi v.spi) in
-      record { fits = fits; covers = covers_joined (serial_table.table_of c.spi); wired = wired_serial c v.spi; keeps = keeps_serial (serial_table.table_of c.spi) fits }
+      record { fits = fits; covers = covers_joined (serial_table.table_of c.spi); wired = λ room. wired_serial c v.spi room devices; keeps = keeps_serial (serial_table.table_of c.spi) fits }
 
   -- one module after another
   timed_ready : Ready (all_of (only Port) (only Gpt)) (union_of (pins c) (timers c))
-  timed_ready = join (only Port) (only Gpt) (power_on c) (pins c) (timers c) refl refl (λ w s call. refl) pins_ready timers_ready
+  timed_ready = join (only Port) (only Gpt) power (pins c) (timers c) refl refl (λ w s call. refl) pins_ready timers_ready
 
   firsts_ready : Ready (all_of (only Mcu) (all_of (only Port) (only Gpt))) (union_of (clock c) (union_of (pins c) (timers c)))
-  firsts_ready = join (only Mcu) (all_of (only Port) (only Gpt)) (power_on c) (clock c) (union_of (pins c) (timers c)) refl refl (λ w s call. refl) clock_ready timed_ready
+  firsts_ready = join (only Mcu) (all_of (only Port) (only Gpt)) power (clock c) (union_of (pins c) (timers c)) refl refl (λ w s call. refl) clock_ready timed_ready
 
   captured_ready : Ready (all_of (only Pwm) (only Icu)) (union_of (pulses c) (captures c))
-  captured_ready = join (only Pwm) (only Icu) (power_on c) (pulses c) (captures c) refl refl (λ w s call. refl) pulses_ready captures_ready
+  captured_ready = join (only Pwm) (only Icu) power (pulses c) (captures c) refl refl (λ w s call. refl) pulses_ready captures_ready
 
   mute_captured : IsMute (union_of (pulses c) (captures c))
   mute_captured w s (Left call) = refl
   mute_captured w s (Right call) = refl
 
   lasts_ready : Ready (all_of (only Adc) (only Spi)) (union_of (converters c) (serial c))
-  lasts_ready = join (only Adc) (only Spi) (power_on c) (converters c) (serial c) refl refl (λ w s call. refl) converters_ready serial_ready
+  lasts_ready = join (only Adc) (only Spi) power (converters c) (serial c) refl refl (λ w s call. refl) converters_ready serial_ready
 
   seconds_ready : Ready (all_of (all_of (only Pwm) (only Icu)) (all_of (only Adc) (only Spi))) (union_of (union_of (pulses c) (captures c)) (union_of (converters c) (serial c)))
-  seconds_ready = join (all_of (only Pwm) (only Icu)) (all_of (only Adc) (only Spi)) (power_on c) (union_of (pulses c) (captures c)) (union_of (converters c) (serial c)) refl refl mute_captured captured_ready lasts_ready
+  seconds_ready = join (all_of (only Pwm) (only Icu)) (all_of (only Adc) (only Spi)) power (union_of (pulses c) (captures c)) (union_of (converters c) (serial c)) refl refl mute_captured captured_ready lasts_ready
 
   mute_firsts : IsMute (union_of (clock c) (union_of (pins c) (timers c)))
   mute_firsts w s (Left call) = refl
@@ -121,4 +124,4 @@ module _ (c : Config) (v : IsValid c) where
 
   pub all_ready : Ready (all_of (all_of (only Mcu) (all_of (only Port) (only Gpt))) (all_of (all_of (only Pwm) (only Icu)) (all_of (only Adc) (only Spi)))) (system c)
   unfolding as_one
-  all_ready = join (all_of (only Mcu) (all_of (only Port) (only Gpt))) (all_of (all_of (only Pwm) (only Icu)) (all_of (only Adc) (only Spi))) (power_on c) (union_of (clock c) (union_of (pins c) (timers c))) (union_of (union_of (pulses c) (captures c)) (union_of (converters c) (serial c))) refl refl mute_firsts firsts_ready seconds_ready
+  all_ready = join (all_of (only Mcu) (all_of (only Port) (only Gpt))) (all_of (all_of (only Pwm) (only Icu)) (all_of (only Adc) (only Spi))) power (union_of (clock c) (union_of (pins c) (timers c))) (union_of (union_of (pulses c) (captures c)) (union_of (converters c) (serial c))) refl refl mute_firsts firsts_ready seconds_ready

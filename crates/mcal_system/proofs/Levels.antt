@@ -1,7 +1,7 @@
 -- At rest the pins' levels and the RAM words of the chip are the machine's.
-use Rattle.std.proofs.Common.{◌≡◌, ℕ, ◌<◌, Bool, true, Option, Some, None, refl, ◌∙◌, ap, subst}
+use Rattle.std.proofs.Common.{◌≡◌, ℕ, ◌<◌, Bool, Option, Some, None, refl, ◌∙◌, ap, subst}
 use Rattle.std.specs.Prelude.{slice_index, option_map}
-use Rattle.chip_model.specs.Chip.{Chip, word_of, power_on, channel_from, output_at, outside_at, pin_of}
+use Rattle.chip_model.specs.Chip.{Chip, word_of, power_on, hung, channel_from, output_at, outside_at, pin_of}
 use Rattle.chip_model.specs.declared.wiring.Wiring.{Wiring}
 use Rattle.chip_pulses.specs.Pulses as outputs
 use Rattle.config_facts.specs.Valid.{IsAdc, IsPwm, IsIcu, IsSpi}
@@ -24,7 +24,7 @@ use Rattle.mcal_system.proofs.Resting.{Rests}
 use Rattle.mcal_system.proofs.SoundConverters.{result_place}
 use Rattle.mcal_system.proofs.SoundSerial.{array_length}
 
-module _ (c : Config) (room : ℕ) (chip : Chip) (m : Moment SystemState SystemCall) (rests : Rests (system_setting c) (power_on c room) chip m) where
+module _ (c : Config) (devices room : ℕ) (chip : Chip) (m : Moment SystemState SystemCall) (rests : Rests (system_setting c) (hung devices (power_on c room)) chip m) where
   -- the outputs of all pulse units are the machine's
   outputs_agree : OutputsAgree (pulse_table.driver_of c.pwm) m.chip.pulses m.world m.state.1.0.0
   unfolding system_setting

@@ -1,5 +1,5 @@
 -- A configuration that was read is sound for the converter driver, and its arrays have the places of the groups' buffers.
-use Rattle.std.proofs.Common.{◌≡◌, ℕ, ◌+◌, ◌*◌, ◌<◌, ◌≤◌, zero, suc, ◌==◌, Bool, true, false, nat_lt, ◌&&◌, ◌||◌, List, [], ◌∷◌, length, Option, Some, None, refl, sym, ◌∙◌, ap, subst, arith}
+use Rattle.std.proofs.Common.{◌≡◌, ℕ, ◌*◌, ◌<◌, ◌≤◌, zero, suc, ◌==◌, Bool, true, false, nat_lt, ◌&&◌, ◌||◌, List, [], ◌∷◌, length, Option, Some, None, refl, sym, ◌∙◌, ap, subst, arith}
 use Rattle.std.specs.Prelude.{All, Contains, cond, if◌then◌else◌, is_some, slice_index_or, take}
 use Rattle.std.specs.List.{find, list_any}
 use Rattle.std.specs.Option.{IfSome, option_map, option_map_or}
@@ -19,14 +19,14 @@ use Rattle.mcal_base.specs.declared.layout.Array.TheVariants.{Round}
 use Rattle.adc_driver.specs.laws.Fits as converter_fits
 use Rattle.adc_machine.specs.Groups.{inputs_of, samples_of}
 use Rattle.adc_machine.specs.Machine.{chosen_buffer, place_value}
-use Rattle.adc_machine.specs.Table.{AreSmall, IsSmall, IsSmallInput, configured_input, found_in, group_in, group_of, input_by, level_in, start_in, table_of, taken}
+use Rattle.adc_machine.specs.Table.{AreSmall, IsSmall, IsSmallInput, configured_input, found_in, group_of, input_by, level_in, start_in, table_of, taken}
 use Rattle.adc_machine.specs.Turns.{AdcState}
 use Rattle.adc_machine.specs.Words.{HoldsResults, buffer_number, place_count}
 use Rattle.adc_machine.specs.declared.call.ResultBuffer.{ResultBuffer}
 use Rattle.adc_machine.specs.declared.call.ResultBuffer.TheVariants.{Zero, One}
 use Rattle.adc_machine.specs.declared.table.Group.{Group}
 use Rattle.spi_sequences.specs.laws.Filled.{any_in, not_both}
-use Rattle.spi_sequences.specs.laws.Said.{any_none, is_number, same_number}
+use Rattle.spi_sequences.specs.laws.Said.{is_number, same_number}
 use Rattle.mcal_system.specs.Setting.{SystemState}
 use Rattle.mcal_system.specs.Shows.{buffer_of, results_at}
 

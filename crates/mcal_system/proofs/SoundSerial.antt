@@ -1,24 +1,22 @@
 -- A configuration that was read is sound for the serial driver.
-use Rattle.std.proofs.Common.{◌≡◌, ◌≢◌, ℕ, ◌+◌, ◌%◌, ◌<◌, ◌≤◌, zero, suc, ◌==◌, Bool, true, false, nat_lt, not, ◌&&◌, ◌||◌, List, [], ◌∷◌, length, Option, Some, None, refl, sym, ◌∙◌, ap, subst, arith}
+use Rattle.std.proofs.Common.{◌≡◌, ◌≢◌, ℕ, ◌%◌, ◌<◌, ◌≤◌, zero, suc, ◌==◌, Bool, true, false, nat_lt, not, ◌&&◌, ◌||◌, List, [], ◌∷◌, length, Option, Some, None, refl, sym, ◌∙◌, ap, subst, arith}
 use Rattle.std.specs.Prelude.{All, Contains, cond, if◌then◌else◌, is_some, slice_get, slice_index_or, take}
 use Rattle.std.specs.List.{find, list_any}
 use Rattle.std.specs.Option.{IfSome, option_map_or}
 use Rattle.std.proofs.lemmas.Bool.Decides.{nat_tests}
 use Rattle.std.proofs.lemmas.List.FromFn.{get_or-map-range_with_len}
 use Rattle.std.proofs.lemmas.List.{get_or-take, get_or_default, length-take-le}
-use Rattle.std.proofs.lemmas.Option.{slice_get_within, get_or_from_slice_get}
-use Rattle.chip_model.specs.Chip.{power_on}
+use Rattle.chip_model.specs.Chip.{power_on, hung}
 use Rattle.chip_model.specs.Wiring.{source_in, wiring_of}
-use Rattle.config_facts.specs.Ids.{has_id, same_id}
+use Rattle.config_facts.specs.Ids.{has_id}
 use Rattle.config_facts.specs.Rules.{has_other_unit, is_among, repeats, share_channel, shares_channel}
-use Rattle.config_facts.specs.Valid.{IsChannel, IsChannelType, IsJob, IsSequence, IsSpi, channel_id, job_id}
+use Rattle.config_facts.specs.Valid.{IsChannel, IsChannelType, IsSpi, channel_id, job_id}
 use Rattle.mcal_base.specs.Layout.{of_id, words_of}
 use Rattle.mcal_base.specs.declared.config.spi.SpiChannel.{SpiChannel}
 use Rattle.mcal_base.specs.declared.config.spi.SpiChannelType.{SpiChannelType}
 use Rattle.mcal_base.specs.declared.config.spi.SpiChannelType.TheVariants.{Internal, External}
 use Rattle.mcal_base.specs.declared.config.spi.SpiConfig.{SpiConfig}
 use Rattle.mcal_base.specs.declared.config.spi.SpiJob.{SpiJob}
-use Rattle.mcal_base.specs.declared.config.spi.SpiSequence.{SpiSequence}
 use Rattle.mcal_base.specs.declared.config.whole.Config.{Config}
 use Rattle.spi_driver.specs.laws.Fits as serial_fits
 use Rattle.spi_machine.specs.Fits.{AreDifferent}
@@ -240,9 +238,9 @@ source_is (x ∷ xs) sound c = by (x.id == c) (source_is xs (λ i y lt. sound (s
     by false more = more
 
 -- each channel's source array has as many places as the channel has words
-pub wired_serial : (c : Config) → IsSpi c.spi → (room : ℕ) → WiredAs (table_of c.spi) (power_on c room)
+pub wired_serial : (c : Config) → IsSpi c.spi → (room devices : ℕ) → WiredAs (table_of c.spi) (hung devices (power_on c room))
 unfolding wiring_of
-wired_serial c h room = λ n lt.
+wired_serial c h room devices = λ n lt.
     get_or-map-range_with_len (source_in c.spi.channels) 0 16 n n 0 lt (omega arith)
     ∙ source_is c.spi.channels (sound_serial c.spi h).channels n
     ∙ ap length_by (sym (serial_fits.channel_is c.spi.channels n lt))

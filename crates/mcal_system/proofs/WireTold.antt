@@ -14,7 +14,6 @@ use Rattle.mcal_base.specs.declared.config.whole.Config.{Config}
 use Rattle.mcal_base.specs.declared.directive.Directive.{Directive}
 use Rattle.mcal_base.specs.declared.directive.Order.{Order}
 use Rattle.mcal_base.specs.declared.directive.Order.TheVariants as orders
-use Rattle.mcal_base.specs.declared.directive.Request.{Request}
 use Rattle.mcal_base.specs.declared.moves.Move.{Move}
 use Rattle.mcal_base.specs.declared.moves.Move.TheVariants.{Read, Write, Load, Store, Mask, Unmask, Note, Report}
 use Rattle.mcal_base.specs.declared.register.Reg.{Reg}
@@ -24,7 +23,7 @@ use Rattle.run_model.specs.declared.item.Item.{Item}
 use Rattle.run_model.specs.Entry.{Entry, Said, entries, said_at}
 use Rattle.run_model.specs.Entry as said
 use Rattle.run_model.specs.Frame.{Open, outcome_at, state_by, begun_by}
-use Rattle.run_model.specs.Legal.{IsBegun, SendsRight, LegalStep, IsLegalStep, IsLegalDeed, IsLegal}
+use Rattle.run_model.specs.Legal.{IsBegun, SendsRight, LegalStep, IsLegalDeed, IsLegal}
 use Rattle.run_model.specs.Machine.{Begun, Outcome, Moves, Restarts}
 use Rattle.run_model.specs.Moment.{Setting, Moment, Deed, Begins, Enters, Steps, Happens, Resets, start_moment, after_step, after, after_all}
 use Rattle.run_model.specs.Script.{beginnings_of, moved_by, deed_of, deeds_of}
@@ -38,7 +37,7 @@ use Rattle.mcal_system.specs.Setting.{SystemState, SystemCall, system_setting, c
 use Rattle.mcal_system.specs.Shows.{wire_at}
 use Rattle.mcal_system.specs.Wires.{Wire, untold, exchange, with_step, with_said, with_all, told_by, pairs}
 use Rattle.mcal_system.specs.declared.wires.Exchange.{Exchange}
-use Rattle.mcal_system.proofs.Growing.{Stays, Leaves, IsWired, step_grows}
+use Rattle.mcal_system.proofs.Growing.{step_grows}
 use Rattle.mcal_system.proofs.Wordless.{system_wired}
 
 -- ---- the width of a unit
@@ -288,8 +287,8 @@ module _ (c : Config) (u : ℕ) (lt : u < 2) where
   first_words = refl
 
   -- the words that a legal journal tells of are those of the wire
-  pub words_told : (script : List Directive) (es : List Entry) → IsLegal g (start_moment g (chip_for c script)) (deeds_of call_of script es) → pairs (told_by u es) ≡ wire_at (moment_after c script es).state u
-  words_told script es legal =
-      let start = start_moment g (chip_for c script) in
+  pub words_told : (devices : ℕ) (script : List Directive) (es : List Entry) → IsLegal g (start_moment g (chip_for devices c script)) (deeds_of call_of script es) → pairs (told_by u es) ≡ wire_at (moment_after devices c script es).state u
+  words_told devices script es legal =
+      let start = start_moment g (chip_for devices c script) in
       let all = deeds_hold untold start (deeds_of call_of script es) legal (record { width = fresh_width 0 u lt; words = first_words }) in
       ap (λ (t : Wire). pairs t.words) (sym (deeds_told u script es untold)) ∙ all.words

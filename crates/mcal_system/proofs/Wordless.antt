@@ -4,7 +4,7 @@ use Rattle.std.specs.Prelude.{if◌then◌else◌}
 use Rattle.std.proofs.lemmas.List.{append-nil}
 use Rattle.mcal_base.specs.declared.config.whole.Config.{Config}
 use Rattle.mcal_base.specs.declared.error_name.ErrorName.{ErrorName}
-use Rattle.run_model.specs.Machine.{Happening, Acts, Serves, Starts, Aborts, Moves, Restarts, Begun, Outcome, outcome, tells_nothing}
+use Rattle.run_model.specs.Machine.{Acts, Serves, Starts, Aborts, Moves, Restarts, Begun, Outcome, outcome, tells_nothing}
 use Rattle.run_model.specs.World.{World}
 use Rattle.mcu_driver.specs.Machine as clock
 use Rattle.mcu_driver.specs.Table as clock_table
@@ -54,11 +54,10 @@ use Rattle.spi_machine.specs.Machine.{spi_machine}
 use Rattle.spi_machine.specs.Promised.{shown_on}
 use Rattle.spi_machine.specs.Table as serial_table
 use Rattle.spi_machine.specs.State.{SpiState, first_state, wire_at}
-use Rattle.spi_machine.specs.declared.call.Call as serial_calls
 use Rattle.spi_machine.specs.declared.table.SpiTable.{SpiTable}
-use Rattle.mcal_system.specs.Setting.{SystemState, clock_setting, pin_setting, timer_setting, pulse_setting, capture_setting, converter_setting, serial_setting, joined, system_setting}
+use Rattle.mcal_system.specs.Setting.{clock_setting, pin_setting, timer_setting, pulse_setting, capture_setting, converter_setting, serial_setting, joined, system_setting}
 use Rattle.mcal_system.specs.Shows as shows
-use Rattle.mcal_system.proofs.Growing.{IsWordless, wordless_both, Stays, Leaves, IsWired, wired_second}
+use Rattle.mcal_system.proofs.Growing.{IsWordless, wordless_both, IsWired, wired_second}
 
 none_of : {S : Type 0} (x out : Outcome S) → x.begins ≡ None → Some x ≡ Some out → out.begins ≡ None
 none_of x out none e = ap (λ y. y.begins) (sym (some_same x out e)) ∙ none

@@ -2,10 +2,12 @@
 use Rattle.std.specs.Prelude.{◌≡◌, ℕ, ◌+◌, ◌*◌, min, Bool, false, List, [], ◌++◌, length}
 use Rattle.mcal_base.specs.declared.config.whole.Config.{Config}
 use Rattle.mcal_base.specs.declared.directive.Directive.{Directive}
+use Rattle.run_model.specs.Devices.{AllCalls, AreTold}
 use Rattle.run_model.specs.Entry.{Entry, Written}
 use Rattle.run_model.specs.Follows.{Gives}
 use Rattle.run_model.specs.Moment.{Moment, start_moment, after_all}
 use Rattle.run_model.specs.Script.{deeds_of}
+use Rattle.serial_devices.specs.Lines.{Line}
 use Rattle.script_runner.specs.Scripts.{chip_for, script_bound}
 use Rattle.mcal_system.specs.Setting.{SystemState, SystemCall, system_setting, call_of}
 
@@ -13,10 +15,11 @@ use Rattle.mcal_system.specs.Setting.{SystemState, SystemCall, system_setting, c
 abbrev pub most_steps : ℕ
 most_steps = 1000000
 
--- A run: its configuration and script, how many directives were obeyed, whether the next one stopped for want of a step, and what was done.
+-- A run: its configuration and script, how many serial devices there were at power on, how many directives were obeyed, whether the next one stopped for want of a step, and what was done.
 pub record SystemRun : Type 0 where
   pub config : Config
   pub script : List Directive
+  pub devices : ℕ
   pub obeyed : ℕ
   pub too_long : Bool
   pub journal : Written
@@ -26,30 +29,40 @@ abbrev pub bound_of : Config → List Directive → ℕ
 bound_of config script = script_bound (system_setting config) call_of script
 
 -- before the first directive, with room for all
-abbrev pub run_start : Config → List Directive → SystemRun
-run_start config script = record {
+abbrev pub run_start : Config → List Directive → (devices : ℕ) → SystemRun
+run_start config script devices = record {
   config = config;
   script = script;
+  devices = devices;
   obeyed = 0;
   too_long = false;
   journal = record { entries = []; room = min most_steps (bound_of config script) + 2 * length script; words = []; words_room = 64 * length script };
 }
 
 -- the moment to which the items of a journal lead, from power on
-abbrev pub moment_after : Config → List Directive → List Entry → Moment SystemState SystemCall
-moment_after config script entries = after_all (system_setting config) (start_moment (system_setting config) (chip_for config script)) (deeds_of call_of script entries)
+abbrev pub moment_after : (devices : ℕ) → Config → List Directive → List Entry → Moment SystemState SystemCall
+moment_after devices config script entries = after_all (system_setting config) (start_moment (system_setting config) (chip_for devices config script)) (deeds_of call_of script entries)
 
 -- the moment to which the run has come
 abbrev pub moment_of : SystemRun → Moment SystemState SystemCall
-moment_of r = moment_after r.config r.script r.journal.entries
+moment_of r = moment_after r.devices r.config r.script r.journal.entries
 
--- a directive leaves the configuration and the script
+-- a directive leaves the configuration, the script and the number of devices
 pub record IsSameRun (before after : SystemRun) : Type 0 where
   pub config : after.config ≡ before.config
   pub script : after.script ≡ before.script
+  pub devices : after.devices ≡ before.devices
 
 -- items were added to the journal: those that the directive gives
 pub record AddsItems (directive : Directive) (before after : SystemRun) : Type 0 where
   pub items : List Entry
   pub is : after.journal.entries ≡ before.journal.entries ++ items
   pub gives : Gives (system_setting before.config) call_of (moment_of before) directive.line directive.order items
+
+-- What the items that were added made of the devices: each was called by the steps that begin a word under its select, and one that was detached is gone.
+pub record CallsDevices (before after : SystemRun) (old new : List Line) : Type 0 where
+  pub items : List Entry
+  pub is : after.journal.entries ≡ before.journal.entries ++ items
+  pub calls : AllCalls (system_setting before.config) (moment_of before) (deeds_of call_of before.script items) old new
+  -- so the pairs and faults of each that is still there are those before, and the ones of those steps
+  pub told : AreTold (system_setting before.config) (moment_of before) (deeds_of call_of before.script items) old new

@@ -1,8 +1,8 @@
 ghost use Rattle.std.specs.Prelude.{◌≡◌, ℕ};
-ghost use Rattle.chip_model.specs.Chip.{power_on};
+ghost use Rattle.chip_model.specs.Chip.{power_on, hung};
 ghost use Rattle.config_facts.specs.Valid.{IsValid};
 ghost use Rattle.step_runner.specs.Driver.{Covers};
-ghost use Rattle.mcal_system.specs.Drivers.{drivers_of, system};
+ghost use Rattle.mcal_system.specs.Drivers.{as_one, drivers_of, system};
 
 use crate::frame::{Frame, ModuleFrame};
 use adc_driver::AdcDriver;
@@ -37,7 +37,7 @@ impl Drivers {
         ensures is { result ≡ drivers_of config.now }
         ensures fits { (system config.now).fits }
         ensures covers { Covers (system config.now) }
-        ensures wired { (room : ℕ) → (system config.now).wired (power_on config.now room) }
+        ensures wired { (room devices : ℕ) → (system config.now).wired (hung devices (power_on config.now room)) }
     {
         Drivers {
             clock: McuDriver::new(config),
@@ -99,6 +99,16 @@ type States = (
     ),
 );
 
+impl Drivers {
+    /// The frame of a call that begins, made where one of another module stands.
+    #[tactic(auto, unfolding(crate::specs::Drivers::as_one))]
+    fn frame_over(&self, call: &Call, place: &mut Frame)
+        ensures { place.new ≡ (as_one self.now).frame_of call.now }
+    {
+        *place = self.frame(call);
+    }
+}
+
 impl Module for Drivers {
     type Call = Call;
 
@@ -135,6 +145,34 @@ impl Module for Drivers {
             }
         };
         Frame { frame }
+    }
+
+    /// Where a frame of the same module stands, its driver makes the new one there.
+    #[tactic(auto, unfolding(crate::specs::Drivers::as_one))]
+    fn frame_into(&self, call: &Call, place: &mut Frame) {
+        match (call, &mut place.frame) {
+            (Either::Left(Either::Left(call)), ModuleFrame::Clock(frame)) => {
+                self.clock.frame_into(call, frame)
+            }
+            (Either::Left(Either::Right(Either::Left(call))), ModuleFrame::Pins(frame)) => {
+                self.pins.frame_into(call, frame)
+            }
+            (Either::Left(Either::Right(Either::Right(call))), ModuleFrame::Timers(frame)) => {
+                self.timers.frame_into(call, frame)
+            }
+            (Either::Right(Either::Left(Either::Left(call))), ModuleFrame::Pulses(frame)) => {
+                self.pulses.frame_into(call, frame)
+            }
+            (Either::Right(Either::Left(Either::Right(call))), ModuleFrame::Captures(frame)) => {
+                self.captures.frame_into(call, frame)
+            }
+            (Either::Right(Either::Right(Either::Left(call))), ModuleFrame::Converters(frame)) =>
+                self.converters.frame_into(call, frame),
+            (Either::Right(Either::Right(Either::Right(call))), ModuleFrame::Serial(frame)) => {
+                self.serial.frame_into(call, frame)
+            }
+            (call, _) => self.frame_over(call, place),
+        }
     }
 
     /// Clock and pins have no lines.

@@ -1,4 +1,7 @@
+pub mod CallsLaws
 pub mod Counts
 pub mod Following
 pub mod Lists
 pub mod OutsideLaws
+pub mod TellingLaws
+pub mod ToldLaws

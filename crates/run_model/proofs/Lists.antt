@@ -26,6 +26,7 @@ order_at-more words more (hardware.Analog i v) h = refl
 order_at-more words more (hardware.Trigger i) h = refl
 order_at-more words more (hardware.Miso u s) h = ap (λ ws. orders.Miso u ws) (words_at-more words more s h)
 order_at-more words more (hardware.SpiFault u) h = refl
+order_at-more words more hardware.Detach h = refl
 order_at-more words more (hardware.Fill c s) h = ap (λ ws. orders.Fill c ws) (words_at-more words more s h)
 order_at-more words more (hardware.Show s) h = refl
 
@@ -65,6 +66,7 @@ hardware_fits_more n m (hardware.Analog i v) le h = tt
 hardware_fits_more n m (hardware.Trigger i) le h = tt
 hardware_fits_more n m (hardware.Miso u s) le h = span_fits_more n m s le h
 hardware_fits_more n m (hardware.SpiFault u) le h = tt
+hardware_fits_more n m hardware.Detach le h = tt
 hardware_fits_more n m (hardware.Fill c s) le h = span_fits_more n m s le h
 hardware_fits_more n m (hardware.Show s) le h = tt
 

@@ -11,16 +11,16 @@ use Rattle.mcal_base.specs.declared.directive.Order.TheVariants.{Tick, Level, An
 use Rattle.mcal_base.specs.declared.directive.Reason.{Reason}
 use Rattle.mcal_base.specs.declared.moves.Move.{Move}
 use Rattle.chip_converter.specs.Converters.{level_at, with_level}
-use Rattle.chip_model.specs.Chip.{Chip, power_on, chip_after, happened, reset_chip, levelled, outside_at, now_of}
+use Rattle.chip_model.specs.Chip.{Chip, power_on, hung, chip_after, happened, reset_chip, levelled, outside_at, now_of}
 use Rattle.chip_model.specs.Histories.{HasAll, Made, Hardware, WasReset, FillsThere}
 use Rattle.chip_model.proofs.HistoryLaws.{level_leaves, level-since_event, outside-move, outside-step, levels-move, levels-pulse, osc-move, now-move}
 use Rattle.chip_model.proofs.WholeLaws.{all-step, all-power_on, time-step, silent-level}
 use Rattle.run_model.specs.Outside.{StandsIn}
 use Rattle.run_model.specs.World.{World, Sample, world_start, world_after, last_sample}
 
-pub stands-start : (config : Config) (room : ℕ) → WithinLimits config → StandsIn (power_on config room) (world_start 0)
-stands-start config room w = record {
-  all = all-power_on config room w;
+pub stands-start : (config : Config) (room devices : ℕ) → WithinLimits config → StandsIn (hung devices (power_on config room)) (world_start devices)
+stands-start config room devices w = record {
+  all = let a = all-power_on config room w in record { words = a.words; ram = a.ram; outside = a.outside; incoming = a.incoming; timers = a.timers; inputs = a.inputs; sources = a.sources };
   together = record { pulses = refl; captures = refl; converters = refl; serials = refl };
   osc = refl;
   now = refl;

@@ -52,6 +52,7 @@ order_at words (hardware.Analog i v) = orders.Analog i v
 order_at words (hardware.Trigger i) = orders.Trigger i
 order_at words (hardware.Miso u s) = orders.Miso u (words_at words s)
 order_at words (hardware.SpiFault u) = orders.SpiFault u
+order_at words hardware.Detach = orders.Detach
 order_at words (hardware.Fill c s) = orders.Fill c (words_at words s)
 order_at words (hardware.Show s) = orders.Show s
 
@@ -86,6 +87,7 @@ HardwareFits n (hardware.Analog i v) = Unit {0}
 HardwareFits n (hardware.Trigger i) = Unit {0}
 HardwareFits n (hardware.Miso u s) = SpanFits n s
 HardwareFits n (hardware.SpiFault u) = Unit {0}
+HardwareFits n hardware.Detach = Unit {0}
 HardwareFits n (hardware.Fill c s) = SpanFits n s
 HardwareFits n (hardware.Show s) = Unit {0}
 
@@ -127,6 +129,7 @@ is_happening (orders.Analog i v) = true
 is_happening (orders.Trigger i) = true
 is_happening (orders.Miso u ws) = true
 is_happening (orders.SpiFault u) = true
+is_happening orders.Detach = true
 is_happening (orders.Fill c ws) = true
 is_happening (orders.Show s) = true
 is_happening _ = false

@@ -151,6 +151,7 @@ Gives g call_of m line (orders.Analog i v) items = IsOne m line (entry.Happens (
 Gives g call_of m line (orders.Trigger i) items = IsOne m line (entry.Happens (orders.Trigger i)) items
 Gives g call_of m line (orders.Miso u ws) items = IsOne m line (entry.Happens (orders.Miso u ws)) items
 Gives g call_of m line (orders.SpiFault u) items = IsOne m line (entry.Happens (orders.SpiFault u)) items
+Gives g call_of m line orders.Detach items = HappensOnly m line orders.Detach (hardware_held g m orders.Detach) items
 Gives g call_of m line (orders.Fill c ws) items = HappensOnly m line (orders.Fill c ws) (hardware_held g m (orders.Fill c ws)) items
 -- a script asks for no software reset
 Gives g call_of m line (orders.Reset Software) items = ⊥

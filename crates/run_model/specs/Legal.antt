@@ -1,11 +1,12 @@
 -- When a run is legal: what each of its deeds has to be, in the moment before it.
-use Rattle.std.specs.Prelude.{◌≡◌, ℕ, ◌<◌, ◌≤◌, min, nat_lt, nat_le, Bool, true, false, ◌&&◌, ◌||◌, ◌==◌, cond, List, [], ◌∷◌, Option, Some, None, IsSome, MatchBool}
+use Rattle.std.specs.Prelude.{◌≡◌, ℕ, ◌<◌, ◌≤◌, min, Bool, true, false, ◌&&◌, ◌||◌, ◌==◌, cond, List, [], ◌∷◌, Option, Some, None, IsSome, MatchBool}
 use Rattle.std.specs.List.{Contains, list_any, list_all}
 use Rattle.chip_units.specs.Serials.{unit_at, outgoing}
 use Rattle.chip_units.specs.declared.serial.Serial.{Serial}
-use Rattle.chip_model.specs.Chip.{Chip, value_of, received_of, is_pending, is_masked}
+use Rattle.chip_model.specs.Chip.{Chip, value_of, names_device, next_word, is_pending, is_masked}
 use Rattle.mcal_base.specs.Reach.{CanApply}
 use Rattle.irq_control.specs.declared.held.Held.{Held}
+use Rattle.irq_control.specs.declared.held.Held.TheVariants.{Unknown}
 use Rattle.mcal_base.specs.declared.answer.Answer.{Answer}
 use Rattle.mcal_base.specs.declared.error_name.ErrorName.{ErrorName}
 use Rattle.mcal_base.specs.declared.moves.DevError.{DevError}
@@ -162,12 +163,12 @@ WindowRight beside inside since acts (Report e) = Unit {0}
 
 -- a serial unit selects a device that is there
 abbrev pub has_device : Serial → World → Bool
-has_device unit w = nat_lt 0 unit.select && nat_le unit.select w.devices
+has_device unit w = names_device unit.select w.devices
 
 -- the word that comes in where one begins: whatever the selected device answers, 65,536 where it fails, and without a
 -- device the unit's next waiting word; with any other move 0
 abbrev pub ReceivedRight : Chip → World → Move → (received : ℕ) → Type 0
-ReceivedRight chip w (Write (SerialData u) v) received = MatchBool (has_device (unit_at chip.serials u) w) (received ≤ 65536) (received ≡ received_of chip (Write (SerialData u) v))
+ReceivedRight chip w (Write (SerialData u) v) received = MatchBool (has_device (unit_at chip.serials u) w) (received ≤ 65536) (received ≡ next_word chip u)
 ReceivedRight chip w made received = received ≡ 0
 
 -- the word is the machine's, by unit and width, and the unit selects its device
@@ -273,9 +274,10 @@ LegalStep g m (o ∷ os) s = IsLegalStep g m o s
 
 -- ---- a run
 
--- why a hardware event is held: a fill may be
+-- why a hardware event is held: a fill may be, and no device is dropped where there is none
 abbrev pub order_held : {State Call : Type 0} → Setting State Call → (masked : Bool) → World → State → List (Origin Call) → Order → Option Held
 order_held g masked w s origins (orders.Fill c ws) = fill_cause masked (g.fills c) (is_busy g w s origins c)
+order_held g masked w s origins orders.Detach = cond (w.devices == 0) (Some Unknown) None
 order_held g masked w s origins _ = None
 
 abbrev pub hardware_held : {State Call : Type 0} → Setting State Call → Moment State Call → Order → Option Held

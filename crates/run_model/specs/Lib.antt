@@ -1,5 +1,7 @@
 pub mod Causes
+pub mod Devices
 pub mod Entry
+pub mod Exchanges
 pub mod Follows
 pub mod Frame
 pub mod Legal

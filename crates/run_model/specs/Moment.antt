@@ -82,9 +82,9 @@ call_tag g c level = record { level = level; owner = (g.class_of c).module; clas
 abbrev pub line_tag : {State Call : Type 0} → Setting State Call → ℕ → Tag
 line_tag g l = record { level = g.level_of l; owner = g.owner_of l; class = None }
 
--- at power on, with this chip
+-- at power on, with this chip and its devices
 abbrev pub start_moment : {State Call : Type 0} → Setting State Call → Chip → Moment State Call
-start_moment g chip = record { chip = chip; world = world_start 0; state = g.first; opens = []; steps = 0 }
+start_moment g chip = record { chip = chip; world = world_start chip.devices; state = g.first; opens = []; steps = 0 }
 
 -- after a step of the top frame
 abbrev pub after_step : {State Call : Type 0} → Setting State Call → Moment State Call → List (Open Call) → Stepped → Moment State Call

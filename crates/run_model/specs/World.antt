@@ -1,5 +1,5 @@
 -- The outside of the chip, as far as every machine is told of it. The words that wait to come in stand with the chip.
-use Rattle.std.specs.Prelude.{ℕ, ◌+◌, ◌*◌, ◌&&◌, ◌==◌, nat_lt, Bool, false, cond, List, [], ◌∷◌}
+use Rattle.std.specs.Prelude.{ℕ, ◌+◌, ◌-◌, ◌*◌, ◌&&◌, ◌==◌, nat_lt, Bool, false, cond, List, [], ◌∷◌}
 use Rattle.mcal_base.specs.declared.directive.Order.{Order}
 use Rattle.mcal_base.specs.declared.directive.Order.TheVariants as orders
 
@@ -33,6 +33,7 @@ abbrev pub world_after : World → (rate : ℕ) → Order → World
 world_after w rate (orders.Tick n) = record w { osc = w.osc + n; now = w.now + n * rate }
 world_after w rate (orders.Level p v) = record w { levels = with_at w.levels p v }
 world_after w rate (orders.Analog i v) = record w { samples = record { input = i; since = w.now; value = v } ∷ w.samples }
+world_after w rate orders.Detach = record w { devices = w.devices - 1 }
 world_after w rate _ = w
 
 -- what an analog input took last, and 0 where it took none

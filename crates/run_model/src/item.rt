@@ -81,6 +81,8 @@ pub enum Hardware {
     Miso(u32, Span),
     /// The word in transfer on a serial unit will end as failed.
     SpiFault(u32),
+    /// The last device was dropped.
+    Detach,
     /// The first places of a channel's source array.
     Fill(u32, Span),
     /// Something was shown.

@@ -214,6 +214,7 @@ impl Journal {
             Order::Trigger(input) => Hardware::Trigger(*input),
             Order::Miso(unit, words) => Hardware::Miso(*unit, self.keep(words.as_slice())),
             Order::SpiFault(unit) => Hardware::SpiFault(*unit),
+            Order::Detach => Hardware::Detach,
             Order::Fill(channel, words) => Hardware::Fill(*channel, self.keep(words.as_slice())),
             Order::Show(shown) => Hardware::Show(*shown),
             _ => unreachable!(),

@@ -1,5 +1,5 @@
 -- Directives that move the hardware, show something or reset the chip.
-use Rattle.std.proofs.Common.{◌≡◌, ◌≢◌, ℕ, ◌+◌, ◌*◌, ◌<◌, ◌≤◌, ◌^◌, Bool, true, false, List, [], ◌∷◌, ◌++◌, length, Option, Some, None, refl, sym, ◌∙◌, ap, subst, arith, append-nil}
+use Rattle.std.proofs.Common.{◌≡◌, ◌≢◌, ℕ, ◌+◌, ◌*◌, ◌<◌, ◌≤◌, ◌^◌, true, false, List, [], ◌∷◌, ◌++◌, length, Some, None, refl, sym, ◌∙◌, ap, subst, arith, append-nil}
 use Rattle.std.specs.Prelude.{nat_le, nat_lt}
 use Rattle.std.proofs.lemmas.Bool.Decides.{nat_tests}
 use Rattle.chip_model.specs.Chip.{Chip, now_of, happened, reset_chip, CanHappen}
@@ -25,7 +25,7 @@ use Rattle.step_runner.specs.Driver.{Driver}
 use Rattle.step_runner.specs.Kept.{Kept}
 use Rattle.step_runner.specs.Stands.{Stands, paired}
 use Rattle.step_runner.specs.declared.stack.Under.{Under}
-use Rattle.script_runner.specs.Standing.{moment_of, IsStanding, Obeyed, GivenFits, is_built, is_hardware, filled_by, words_by, room_on, work_of}
+use Rattle.script_runner.specs.Standing.{moment_of, IsStanding, Obeyed, GivenFits, is_built, is_hardware, may_be_held, filled_by, words_by, room_on, work_of}
 use Rattle.script_runner.proofs.Arms.{depth_is, deeds_more, moment_more}
 use Rattle.script_runner.proofs.Given.{room_event}
 use Rattle.script_runner.proofs.Orders.{item_filled, one_filled, no_opens, some_opens}
@@ -40,6 +40,7 @@ is_noted (orders.Trigger i) h = refl
 is_noted (orders.Miso u ws) h = refl
 is_noted (orders.SpiFault u) h = refl
 is_noted (orders.Fill c ws) h = refl
+is_noted orders.Detach h = refl
 is_noted _ h = cc
 
 -- the words of its list are those that it brings
@@ -56,11 +57,13 @@ moves_by (orders.Trigger i) h = refl
 moves_by (orders.Miso u ws) h = refl
 moves_by (orders.SpiFault u) h = refl
 moves_by (orders.Fill c ws) h = refl
+moves_by orders.Detach h = refl
 moves_by _ h = cc
 
--- a fill alone may be held
-pub none_held : {State Call : Type 0} (g : Setting State Call) (m : Moment State Call) (order : Order) → filled_by order ≡ None → hardware_held g m order ≡ None
+-- no other may be held
+pub none_held : {State Call : Type 0} (g : Setting State Call) (m : Moment State Call) (order : Order) → may_be_held order ≡ false → hardware_held g m order ≡ None
 none_held g m (orders.Fill c ws) h = cc
+none_held g m orders.Detach h = cc
 none_held g m _ h = refl
 
 few_ticks : (n : ℕ) → nat_le n 1000000 ≡ true → n ≤ 1000000
@@ -73,7 +76,7 @@ is_unit u h = grind (arith, nat_tests)
 product : (n rate : ℕ) → n ≤ 1000000 → rate ≤ 16 → n * rate ≤ 16000000
 product n rate few slow = grind arith
 
-pub may_happen : (c : Chip) (order : Order) → is_built order ≡ true → filled_by order ≡ None → c.clock.rate ≤ 16 → c.clock.osc + 1000000 < 2 ^ 64 → now_of c + 16000000 < 2 ^ 64 → GivenFits order c → CanHappen c order
+pub may_happen : (c : Chip) (order : Order) → is_built order ≡ true → may_be_held order ≡ false → c.clock.rate ≤ 16 → c.clock.osc + 1000000 < 2 ^ 64 → now_of c + 16000000 < 2 ^ 64 → GivenFits order c → CanHappen c order
 may_happen c (orders.Tick n) built other slow time late given =
     let few = few_ticks n built in
     let ticks = product n c.clock.rate few slow in
@@ -114,11 +117,13 @@ gives_one g call_of m line (orders.Trigger i) items h b none one = one
 gives_one g call_of m line (orders.Miso u ws) items h b none one = one
 gives_one g call_of m line (orders.SpiFault u) items h b none one = one
 gives_one g call_of m line (orders.Fill c ws) items h b none one = subst (λ x. HappensOnly m line (orders.Fill c ws) x items) (sym b) one
+gives_one g call_of m line orders.Detach items h b none one = subst (λ x. HappensOnly m line orders.Detach x items) (sym b) one
 gives_one g call_of m line _ items h b none one = cc
 
-gives_held : {State Call : Type 0} (g : Setting State Call) (call_of : Request → Call) (m : Moment State Call) (line : ℕ) (order : Order) (cause : Held) (items : List Entry) (c : ℕ) → filled_by order ≡ Some c → hardware_held g m order ≡ Some cause → IsOne m line (Stays cause) items → Gives g call_of m line order items
-gives_held g call_of m line (orders.Fill k ws) cause items c fill held one = subst (λ x. HappensOnly m line (orders.Fill k ws) x items) (sym held) one
-gives_held g call_of m line _ cause items c fill held one = cc
+gives_held : {State Call : Type 0} (g : Setting State Call) (call_of : Request → Call) (m : Moment State Call) (line : ℕ) (order : Order) (cause : Held) (items : List Entry) → may_be_held order ≡ true → hardware_held g m order ≡ Some cause → IsOne m line (Stays cause) items → Gives g call_of m line order items
+gives_held g call_of m line (orders.Fill k ws) cause items may held one = subst (λ x. HappensOnly m line (orders.Fill k ws) x items) (sym held) one
+gives_held g call_of m line orders.Detach cause items may held one = subst (λ x. HappensOnly m line orders.Detach x items) (sym held) one
+gives_held g call_of m line _ cause items may held one = cc
 
 -- an order that fills an array
 pub fill_is : (order : Order) (c : ℕ) → filled_by order ≡ Some c → (ws : List ℕ) × (order ≡ orders.Fill c ws)
@@ -159,9 +164,9 @@ module _ {State Call Frame : Type 0} (d : Driver State Call Frame) (first : Chip
         spent = omega arith;
       }
 
-  -- a fill was held
-  pub fills_not : (most line n c : ℕ) (order : Order) (cause : Held) (chip : Chip) (kept : Kept Frame) (before after : Written) → kept.steps ≤ most → filled_by order ≡ Some c → n ≡ length kept.frames → hardware_held d.setting (moment_of d first call_of script before.entries) order ≡ Some cause → after ≡ written before line n (Stays cause) [] → IsStanding d first call_of script chip kept.frames before.entries → Obeyed d first call_of script most line order chip kept before chip kept after
-  fills_not most line n c order cause chip kept before after few fill n_is held is stands =
+  -- it was held
+  pub moves_not : (most line n : ℕ) (order : Order) (cause : Held) (chip : Chip) (kept : Kept Frame) (before after : Written) → kept.steps ≤ most → may_be_held order ≡ true → n ≡ length kept.frames → hardware_held d.setting (moment_of d first call_of script before.entries) order ≡ Some cause → after ≡ written before line n (Stays cause) [] → IsStanding d first call_of script chip kept.frames before.entries → Obeyed d first call_of script most line order chip kept before chip kept after
+  moves_not most line n order cause chip kept before after few may n_is held is stands =
       let e : Entry = record { line = line; depth = n; said = Stays cause } in
       let m = moment_of d first call_of script before.entries in
       let depth = depth_is d first call_of script chip kept.frames before.entries stands in
@@ -169,7 +174,7 @@ module _ {State Call Frame : Type 0} (d : Driver State Call Frame) (first : Chip
         adds = record {
           items = e ∷ [];
           is = ap (λ w. w.entries) is;
-          right = gives_held d.setting call_of m line order cause (e ∷ []) c fill held (ap (λ x. let i : Entry = record { line = line; depth = x; said = Stays cause } in i ∷ []) (n_is ∙ depth));
+          right = gives_held d.setting call_of m line order cause (e ∷ []) may held (ap (λ x. let i : Entry = record { line = line; depth = x; said = Stays cause } in i ∷ []) (n_is ∙ depth));
           leads = sym (moment_more d first call_of script before.entries e [] refl) ∙ ap (λ w. moment_of d first call_of script w.entries) (sym is);
           stands = subst (λ w. IsStanding d first call_of script chip kept.frames w.entries) (sym is) (subst (λ h. Stands d first chip kept.frames h) (sym (deeds_more d first call_of script before.entries e [] refl ∙ append-nil (deeds_of call_of script before.entries))) stands);
         };

@@ -1,7 +1,7 @@
 -- The room for the words that come in, at each move and each hardware event.
-use Rattle.std.proofs.Common.{◌≡◌, ℕ, zero, suc, ◌+◌, ◌-◌, ◌≤◌, List, [], ◌∷◌, refl, ap, arith}
+use Rattle.std.proofs.Common.{◌≡◌, ℕ, Bool, true, false, cond, zero, suc, ◌+◌, ◌-◌, ◌≤◌, List, [], ◌∷◌, refl, ap, arith}
 use Rattle.std.specs.Prelude.{slice_index_or, slice_set, length, drop, ◌++◌}
-use Rattle.chip_model.specs.Chip.{Chip, chip_after, after_read, after_write, happened, incoming_at}
+use Rattle.chip_model.specs.Chip.{Chip, chip_after, after_read, after_write, happened, incoming_at, has_device}
 use Rattle.chip_model.specs.Waiting.{Waiting}
 use Rattle.chip_model.proofs.HistoryLaws.{level_leaves}
 use Rattle.mcal_base.specs.declared.directive.Order.{Order}
@@ -41,10 +41,15 @@ read_same c (CaptureTimeLow k) = refl
 read_same c (ConverterAbort u) = refl
 read_same c _ = refl
 
+-- a word that begins, with a device or without one
+begun_same : (device : Bool) (xs : List Waiting) (k u : ℕ) (w : Waiting) → w.room ≡ (slice_index_or xs k none).room → (slice_index_or (cond device xs (slice_set xs k w)) u none).room ≡ (slice_index_or xs u none).room
+begun_same true xs k u w e = refl
+begun_same false xs k u w e = set_same xs k u w e
+
 write_same : (c : Chip) (r : Reg) (value received u : ℕ) → room_on (after_write c r value received) u ≡ room_on c u
 write_same c EnableSet value received u = refl
 write_same c EnableClear value received u = refl
-write_same c (SerialData k) value received u = set_same c.incoming k u (record (incoming_at c k) { waiting = drop 1 (incoming_at c k).waiting }) refl
+write_same c (SerialData k) value received u = begun_same (has_device c k) c.incoming k u (record (incoming_at c k) { waiting = drop 1 (incoming_at c k).waiting }) refl
 write_same c _ value received u = refl
 
 -- no move takes room

@@ -1,4 +1,6 @@
 pub mod Arms
+pub mod Called
+pub mod Detached
 pub mod Events
 pub mod Given
 pub mod Orders

@@ -1,5 +1,5 @@
 -- A script's directives, one after another.
-use Rattle.std.proofs.Common.{◌≡◌, ℕ, zero, suc, ◌+◌, ◌-◌, ◌*◌, ◌<◌, ◌≤◌, Bool, true, false, cond, List, [], ◌∷◌, ◌++◌, length, take, drop, Some, sym, ◌∙◌, ap, subst, arith, add-one}
+use Rattle.std.proofs.Common.{◌≡◌, ℕ, zero, suc, ◌+◌, ◌*◌, ◌<◌, ◌≤◌, Bool, true, false, cond, List, [], ◌∷◌, ◌++◌, length, take, drop, Some, sym, ◌∙◌, ap, subst, arith, add-one}
 use Rattle.std.specs.Prelude.{slice_get, slice_index_or, ◌==◌}
 use Rattle.std.proofs.lemmas.Bool.Decides.{nat_tests}
 use Rattle.std.proofs.lemmas.List.Sums.{sum_by-append}
@@ -7,9 +7,9 @@ use Rattle.chip_model.specs.Chip.{Chip, now_of}
 use Rattle.mcal_base.specs.declared.directive.Directive.{Directive}
 use Rattle.mcal_base.specs.declared.directive.Request.{Request}
 use Rattle.mcal_base.specs.declared.service.Service.{Service}
-use Rattle.run_model.specs.Entry.{Entry, Written}
-use Rattle.run_model.specs.Moment.{Setting, start_moment}
-use Rattle.run_model.specs.Script.{deeds_of, order_at, beginnings_of}
+use Rattle.run_model.specs.Entry.{Written}
+use Rattle.run_model.specs.Moment.{start_moment}
+use Rattle.run_model.specs.Script.{order_at, beginnings_of}
 use Rattle.run_model.specs.Stops.{FollowsToStop, steps_in}
 use Rattle.run_model.proofs.Following.{FollowsTo, Nothing_followed, follows_more}
 use Rattle.step_runner.specs.Driver.{Driver}

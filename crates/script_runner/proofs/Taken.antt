@@ -1,7 +1,7 @@
 -- A step that was taken, and its item.
 use Rattle.std.proofs.Common.{◌≡◌, ℕ, ◌<◌, ◌≤◌, List, [], ◌∷◌, ◌++◌, length, Option, Some, None, Ok, refl, sym, ◌∙◌, ap, subst, arith}
 use Rattle.std.specs.Prelude.{Result}
-use Rattle.chip_model.specs.Chip.{Chip, value_of, received_of, chip_after}
+use Rattle.chip_model.specs.Chip.{Chip, value_of, chip_after}
 use Rattle.chip_model.proofs.HistoryLaws.{osc-move, now-move}
 use Rattle.mcal_base.specs.declared.answer.Answer.{Answer}
 use Rattle.mcal_base.specs.declared.directive.Directive.{Directive}
@@ -13,6 +13,7 @@ use Rattle.run_model.specs.Entry.{Entry, Steps, Written, written, words_of_answe
 use Rattle.run_model.specs.Frame.{top_after}
 use Rattle.run_model.specs.Moment as moment
 use Rattle.run_model.specs.Moment.{Deed, start_moment, after_all}
+use Rattle.step_runner.proofs.ChipFacts.{some-comes}
 use Rattle.step_runner.proofs.Runs.{goes-on}
 use Rattle.run_model.specs.Script.{deeds_of}
 use Rattle.run_model.specs.Stops.{steps_in}
@@ -42,8 +43,8 @@ module _ {State Call Frame : Type 0} (d : Driver State Call Frame) (first : Chip
   took most line chip [] taken before s chip1 k1 after t some few falls short stands is = absurd (omega arith)
   took most line chip (u ∷ us) taken before s chip1 k1 after t some few falls short stands is =
       let e : Entry = record { line = line; depth = length (u ∷ us); said = Steps s } in
-      let s_is : s ≡ stepped (move_of u.frame) (value_of chip (move_of u.frame)) (received_of chip (move_of u.frame)) (gave u.frame (value_of chip (move_of u.frame))) = ok_is _ _ t.result_is in
-      let time : SameTime chip chip1 = subst (λ x. SameTime chip x) (sym t.chip_is) (move_time chip (move_of u.frame) (received_of chip (move_of u.frame))) in
+      let s_is : s ≡ stepped (move_of u.frame) (value_of chip (move_of u.frame)) t.received (gave u.frame (value_of chip (move_of u.frame))) = ok_is _ _ t.result_is in
+      let time : SameTime chip chip1 = subst (λ x. SameTime chip x) (sym t.chip_is) (move_time chip (move_of u.frame) t.received) in
       record {
         written = is;
         stands = subst (λ w. IsStanding d first call_of script chip1 k1.frames w.entries) (sym is) (subst (λ h. Stands d first chip1 k1.frames h) (sym (deeds_more d first call_of script before.entries e (moment.Steps s ∷ []) refl)) stands);
@@ -62,4 +63,4 @@ module _ {State Call Frame : Type 0} (d : Driver State Call Frame) (first : Chip
   -- a frame that is there has a step left
   pub has_fuel : IsLawful d move_of left gave → (chip : Chip) (us : List (Under Frame)) (h : List (Deed Call)) → (after_all d.setting (start_moment d.setting first) h).steps < most_steps → Stands d first chip us h → 0 < length us → 0 < total_fuel d.fuel us
   has_fuel law chip [] h few st some = absurd (omega arith)
-  has_fuel law chip (u ∷ us) h few st some = let k = goes-on d move_of left gave law chip u us (after_all d.setting (start_moment d.setting first) h) few st.matches in omega (arith, k.fuel)
+  has_fuel law chip (u ∷ us) h few st some = let come = some-comes chip (move_of u.frame) in let k = goes-on d move_of left gave law chip u us (after_all d.setting (start_moment d.setting first) h) come.0 come.1 few st.matches in omega (arith, k.fuel)

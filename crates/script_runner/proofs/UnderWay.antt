@@ -1,5 +1,5 @@
 -- A run under way: from its beginning, over each directive, and what is known of it.
-use Rattle.std.proofs.Common.{◌≡◌, ℕ, zero, suc, ◌+◌, ◌*◌, ◌<◌, ◌≤◌, Bool, true, false, List, [], ◌∷◌, length, take, Some, refl, sym, ◌∙◌, ap, subst, arith}
+use Rattle.std.proofs.Common.{◌≡◌, ℕ, zero, suc, ◌+◌, ◌*◌, ◌<◌, ◌≤◌, Bool, true, false, List, [], ◌∷◌, length, take, Some, refl, sym, ◌∙◌, subst, arith}
 use Rattle.std.specs.Prelude.{slice_get, min, ◌==◌}
 use Rattle.std.specs.Bool.{OnTrue, OnFalse}
 use Rattle.std.proofs.Math.Nat.{min-le_left}
@@ -10,13 +10,13 @@ use Rattle.mcal_base.specs.declared.config.whole.Config.{Config}
 use Rattle.mcal_base.specs.declared.directive.Directive.{Directive}
 use Rattle.mcal_base.specs.declared.directive.Request.{Request}
 use Rattle.mcal_base.specs.declared.service.Service.{Service}
-use Rattle.run_model.specs.Entry.{Entry, Written}
+use Rattle.run_model.specs.Entry.{Written}
 use Rattle.run_model.specs.Follows.{Follows}
 use Rattle.run_model.specs.Legal.{IsLegal, IsQuiet, QuietAtRest}
 use Rattle.run_model.specs.Moment.{start_moment}
 use Rattle.run_model.specs.Script.{deeds_of, order_at}
 use Rattle.run_model.specs.Stops.{FollowsToStop, steps_in}
-use Rattle.run_model.proofs.Following.{FollowsTo, follows_from}
+use Rattle.run_model.proofs.Following.{follows_from}
 use Rattle.step_runner.proofs.Runs.{served-last}
 use Rattle.step_runner.specs.Driver.{Driver}
 use Rattle.step_runner.specs.Kept.{Kept, kept_empty}
@@ -24,7 +24,7 @@ use Rattle.step_runner.specs.Stands.{Stands}
 use Rattle.script_runner.specs.Runs.{Run, IsAtRest}
 use Rattle.script_runner.specs.Scripts.{IsScript, AllOffered, is_offered, IsRun, IsStopped, chip_for, script_bound, words_given}
 use Rattle.script_runner.specs.Standing.{moment_of, IsStanding, HasRoom, GivenFits, Obeyed, Stuck, is_built, room_on, work_of}
-use Rattle.script_runner.specs.laws.Going.{Going, Halted, IsUnderWay}
+use Rattle.script_runner.specs.laws.Going.{Going, IsUnderWay}
 use Rattle.script_runner.proofs.Arms.{depth_is}
 use Rattle.script_runner.proofs.Orders.{no_opens}
 use Rattle.script_runner.proofs.Scripts.{going_start, goes_on, stops_in, stops_counted, passes, at_line, built_at, offered_at, given_fits}
@@ -40,17 +40,17 @@ pub none_left : (n m : ℕ) → n ≡ m → (n == 0) ≡ true → m ≡ 0
 none_left n m e h = grind (arith, nat_tests)
 
 -- each of the two serial units has the room
-roomy : (config : Config) (script : List Directive) (u : ℕ) → u < 2 → room_on (chip_for config script) u ≡ words_given script
-roomy config script zero lt = refl
-roomy config script (suc zero) lt = refl
-roomy config script (suc (suc u)) lt = absurd (omega arith)
+roomy : (devices : ℕ) (config : Config) (script : List Directive) (u : ℕ) → u < 2 → room_on (chip_for devices config script) u ≡ words_given script
+roomy devices config script zero lt = refl
+roomy devices config script (suc zero) lt = refl
+roomy devices config script (suc (suc u)) lt = absurd (omega arith)
 
-module _ {State Call Frame : Type 0} (d : Driver State Call Frame) (call_of : Request → Call) (has : Service → Bool) (config : Config) (script : List Directive) (limit most : ℕ) where
+module _ {State Call Frame : Type 0} (d : Driver State Call Frame) (call_of : Request → Call) (has : Service → Bool) (config : Config) (script : List Directive) (devices limit most : ℕ) where
   abbrev first : Chip
-  first = chip_for config script
+  first = chip_for devices config script
 
   abbrev UnderWay : (at : ℕ) → Bool → Chip → Kept Frame → Written → Type 0
-  UnderWay at too_long chip k w = IsUnderWay d call_of has config script limit most at too_long chip k w
+  UnderWay at too_long chip k w = IsUnderWay d call_of has config script devices limit most at too_long chip k w
 
   pub begins : (chip : Chip) (k : Kept Frame) (w : Written) → d.fits → IsScript script → AllOffered has script → limit < 4294967295 → most ≡ min limit (script_bound d.setting call_of script) → chip ≡ first → k ≡ kept_empty → w ≡ record { entries = []; room = most + 2 * length script; words = []; words_room = 64 * length script } → Stands d first first k.frames [] → UnderWay 0 false chip k w
   begins chip k w fits is_script offered small least chip_is k_is w_is stands = record {
@@ -59,7 +59,7 @@ module _ {State Call Frame : Type 0} (d : Driver State Call Frame) (call_of : Re
     offered = offered;
     small = small;
     least = least;
-    going = going_start d first call_of script most chip k w chip_is refl refl (roomy config script) k_is w_is stands;
+    going = going_start d first call_of script most chip k w chip_is refl refl (roomy devices config script) k_is w_is stands;
     halted = tt;
   }
 
@@ -194,6 +194,6 @@ module _ {State Call Frame : Type 0} (d : Driver State Call Frame) (call_of : Re
       subst (λ os. QuietAtRest d.setting m os) (alone_of at too_long chip k w u none) (served-last d.setting (start_moment d.setting first) (deeds_of call_of script w.entries) st.legal).quiet
 
   -- and the chip is the machine's in all that may be seen
-  pub at_rest : {M : Type 0} (driver : M) (at : ℕ) (too_long : Bool) (chip : Chip) (k : Kept Frame) (w : Written) (none : Bool) → UnderWay at too_long chip k w → (none ≡ true → length k.frames ≡ 0) → OnTrue none (IsAtRest d call_of (let r : Run M Frame = record { driver = driver; config = config; script = script; limit = limit; obeyed = at; too_long = too_long; journal = w; chip = chip; frames = k.frames } in r))
+  pub at_rest : {M : Type 0} (driver : M) (at : ℕ) (too_long : Bool) (chip : Chip) (k : Kept Frame) (w : Written) (none : Bool) → UnderWay at too_long chip k w → (none ≡ true → length k.frames ≡ 0) → OnTrue none (IsAtRest d call_of (let r : Run M Frame = record { driver = driver; config = config; script = script; devices = devices; limit = limit; obeyed = at; too_long = too_long; journal = w; chip = chip; frames = k.frames } in r))
   at_rest driver at too_long chip k w false u e = tt
   at_rest driver at too_long chip k w true u e = record { alone = alone_of at too_long chip k w u (e refl); chip = (stands_of at too_long chip k w u).matches.chip_is; quiet = quiet_of at too_long chip k w u (e refl) }

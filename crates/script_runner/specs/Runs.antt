@@ -11,13 +11,16 @@ use Rattle.run_model.specs.Moment.{Moment, Setting}
 use Rattle.step_runner.specs.Driver.{Driver}
 use Rattle.step_runner.specs.declared.stack.Under.{Under}
 use Rattle.script_runner.specs.Scripts.{chip_for, script_bound}
-use Rattle.script_runner.specs.Standing.{moment_of, IsStanding}
+use Rattle.serial_devices.specs.Lines.{Line}
+use Rattle.script_runner.specs.Standing.{moment_of, IsStanding, Called}
 
 -- A run under way of a driver over a script.
 pub record Run (M Frame : Type 0) : Type 0 where
   pub driver : M
   pub config : Config
   pub script : List Directive
+  -- how many serial devices there are
+  pub devices : ℕ
   -- the most steps
   pub limit : ℕ
   -- how many directives were obeyed, and whether the next one stopped for want of a step
@@ -30,19 +33,20 @@ pub record Run (M Frame : Type 0) : Type 0 where
 
 -- the chip at power on
 abbrev pub first_of : {M Frame : Type 0} → Run M Frame → Chip
-first_of r = chip_for r.config r.script
+first_of r = chip_for r.devices r.config r.script
 
 -- a run before its first directive, with room for the steps that it may take, two other items of each directive, and 64 words of each
-abbrev pub run_start : {M State Call Frame : Type 0} → (driver : M) → Setting State Call → (Request → Call) → Config → List Directive → (limit : ℕ) → Run M Frame
-run_start driver setting calls config script limit = record {
+abbrev pub run_start : {M State Call Frame : Type 0} → (driver : M) → Setting State Call → (Request → Call) → Config → List Directive → (limit devices : ℕ) → Run M Frame
+run_start driver setting calls config script limit devices = record {
   driver = driver;
   config = config;
   script = script;
+  devices = devices;
   limit = limit;
   obeyed = 0;
   too_long = false;
   journal = record { entries = []; room = min limit (script_bound setting calls script) + 2 * length script; words = []; words_room = 64 * length script };
-  chip = chip_for config script;
+  chip = chip_for devices config script;
   frames = [];
 }
 
@@ -51,6 +55,7 @@ pub record IsSameRun {M Frame : Type 0} (before after : Run M Frame) : Type 0 wh
   pub driver : after.driver ≡ before.driver
   pub config : after.config ≡ before.config
   pub script : after.script ≡ before.script
+  pub devices : after.devices ≡ before.devices
   pub limit : after.limit ≡ before.limit
   pub room : after.journal.room ≡ before.journal.room
 
@@ -67,6 +72,10 @@ pub record AddsItems {M State Call Frame : Type 0} (d : Driver State Call Frame)
   pub items : List Entry
   pub is : after.journal.entries ≡ before.journal.entries ++ items
   pub gives : Gives d.setting calls (moment_in d calls before) directive.line directive.order items
+
+-- what the items that were added made of the devices
+abbrev pub CallsThere : {M State Call Frame : Type 0} → Driver State Call Frame → (Request → Call) → (before after : Run M Frame) → (old new : List Line) → Type 0
+CallsThere d calls before after old new = Called d (first_of before) calls before.script before.journal.entries after.journal.entries old new
 
 -- The run has come to rest: no frame is there, and the chip is the machine's in all that may be seen.
 pub record IsAtRest {M State Call Frame : Type 0} (d : Driver State Call Frame) (calls : Request → Call) (r : Run M Frame) : Type 0 where

@@ -1,6 +1,6 @@
 -- A script that may be run.
 use Rattle.std.specs.Prelude.{◌≡◌, ℕ, ◌+◌, ◌<◌, ◌≤◌, Bool, true, Some, List, [], ◌∷◌, length, sum_by}
-use Rattle.chip_model.specs.Chip.{Chip, power_on}
+use Rattle.chip_model.specs.Chip.{Chip, power_on, hung}
 use Rattle.mcal_base.specs.declared.config.whole.Config.{Config}
 use Rattle.mcal_base.specs.declared.directive.Directive.{Directive}
 use Rattle.mcal_base.specs.declared.directive.Order.{Order}
@@ -46,9 +46,9 @@ AllOffered offered (d ∷ ds) = (is_offered offered d.order ≡ true) × AllOffe
 abbrev pub words_given : List Directive → ℕ
 words_given script = sum_by (λ d. words_by d.order) script
 
--- the chip at power on for the run of a script, with room for those words on each serial unit
-abbrev pub chip_for : Config → List Directive → Chip
-chip_for config script = power_on config (words_given script)
+-- the chip at power on for the run of a script, with room for those words on each serial unit, and so many devices
+abbrev pub chip_for : (devices : ℕ) → Config → List Directive → Chip
+chip_for devices config script = hung devices (power_on config (words_given script))
 
 -- the most steps of all frames that a script's directives begin
 abbrev pub script_bound : {State Call : Type 0} → Setting State Call → (Request → Call) → List Directive → ℕ

@@ -13,10 +13,12 @@ use Rattle.run_model.specs.declared.reach.Reach.TheVariants.{Count, Until, Whole
 use Rattle.run_model.specs.Entry.{Entry, Begins, Stays, Steps, Written, written, words_of_answer}
 use Rattle.run_model.specs.Follows.{GoesOn, Gives, deeds_in}
 use Rattle.run_model.specs.Stops.{GivesToStop, steps_in}
+use Rattle.run_model.specs.Devices.{AllCalls}
 use Rattle.run_model.specs.Moment as moment
 use Rattle.run_model.specs.Moment.{Setting, Moment, Deed, start_moment, after_all}
 use Rattle.run_model.specs.Frame as frame
 use Rattle.run_model.specs.Script.{deeds_of, beginnings_of}
+use Rattle.serial_devices.specs.Lines.{Line}
 use Rattle.step_runner.specs.Driver.{Driver}
 use Rattle.step_runner.specs.Kept.{Kept, total_fuel}
 use Rattle.step_runner.specs.Stands.{Stands}
@@ -82,6 +84,12 @@ pub record Adds {State Call Frame : Type 0} (d : Driver State Call Frame) (first
   pub right : Right (moment_of d first call_of script before.entries) items
   pub leads : after_all d.setting (moment_of d first call_of script before.entries) (deeds_in call_of order items) ≡ moment_of d first call_of script after.entries
   pub stands : IsStanding d first call_of script chip1 us1 after.entries
+
+-- What items that were added to a journal made of the devices.
+pub record Called {State Call Frame : Type 0} (d : Driver State Call Frame) (first : Chip) (call_of : Request → Call) (script : List Directive) (before after : List Entry) (old new : List Line) : Type 0 where
+  pub items : List Entry
+  pub is : after ≡ before ++ items
+  pub calls : AllCalls d.setting (moment_of d first call_of script before) (deeds_of call_of script items) old new
 
 -- What a step adds: its item.
 pub record TookStep {State Call Frame : Type 0} (d : Driver State Call Frame) (first : Chip) (call_of : Request → Call) (script : List Directive) (most : ℕ) (line : ℕ) (chip : Chip) (k : Kept Frame) (before : Written) (s : Stepped) (chip1 : Chip) (k1 : Kept Frame) (after : Written) : Type 0 where
@@ -165,6 +173,12 @@ abbrev pub filled_by : Order → Option ℕ
 filled_by (orders.Fill c ws) = Some c
 filled_by order = None
 
+-- a directive that moves the hardware unless something holds it: a fill of an array, or the drop of a device
+abbrev pub may_be_held : Order → Bool
+may_be_held (orders.Fill c ws) = true
+may_be_held orders.Detach = true
+may_be_held order = false
+
 -- a directive that moves the hardware
 abbrev pub is_hardware : Order → Bool
 is_hardware (orders.Tick n) = true
@@ -173,6 +187,7 @@ is_hardware (orders.Analog i v) = true
 is_hardware (orders.Trigger i) = true
 is_hardware (orders.Miso u ws) = true
 is_hardware (orders.SpiFault u) = true
+is_hardware orders.Detach = true
 is_hardware (orders.Fill c ws) = true
 is_hardware _ = false
 

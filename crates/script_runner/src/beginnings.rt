@@ -1,6 +1,6 @@
 //! Directives that begin a frame.
 
-ghost use Rattle.std.specs.Prelude.{◌≡◌, ◌<◌, ◌∷◌, [], length, OnOk, OnErr, Some, true};
+ghost use Rattle.std.specs.Prelude.{◌≡◌, ◌<◌, ◌∷◌, [], length, OnOk, OnErr, Some, true, map, vec_len};
 ghost use Rattle.std.specs.Bool.{OnTrue, OnFalse};
 ghost use Rattle.mcal_base.specs.declared.directive.Order.{Order};
 ghost use Rattle.run_model.specs.Follows.{call_held, line_held, BeginsOnly, BeginsWhole};
@@ -8,13 +8,14 @@ ghost use Rattle.run_model.specs.Moment.{Begins, Enters};
 ghost use Rattle.run_model.specs.Script.{order_at, beginnings_of};
 ghost use Rattle.run_model.specs.Stops.{BeginsToStop};
 ghost use Rattle.script_runner.specs.Scripts.{chip_for};
-ghost use Rattle.script_runner.specs.Standing.{moment_of, IsStanding, HasRoom, Began, StayedOff, ObeyedBy, IsStuck, bounds_of};
+ghost use Rattle.script_runner.specs.Standing.{moment_of, Called, IsStanding, HasRoom, Began, StayedOff, ObeyedBy, IsStuck, bounds_of};
 
 use crate::caller::Caller;
 use crate::parts::{Course, Parts};
 use crate::steps::{TooLong, run_steps};
 use mcal_base::Request;
 use run_model::Reach;
+use serial_devices::SerialDevice;
 use step_runner::{begin, enter};
 
 /// Begins a call, or notes why it is held; tells whether it began.
@@ -31,18 +32,18 @@ fn obey_call<M: Caller>(
         beginnings_of calls (order_at course.now.script.now line) ≡ Begins (calls request.now) level ∷ [] }
     requires room { length parts.old.journal.entries < parts.old.journal.room }
     requires stands { let d = M.spec course.now.driver in let calls = M.call_of course.now.driver in
-        let first = chip_for course.now.config course.now.script.now in
+        let first = chip_for course.now.devices course.now.config course.now.script.now in
         IsStanding d first calls course.now.script.now parts.old.bus parts.old.stack.frames parts.old.journal.entries }
     ensures bus { parts.new.bus ≡ parts.old.bus }
     ensures began { let d = M.spec course.now.driver in let calls = M.call_of course.now.driver in
-        let first = chip_for course.now.config course.now.script.now in
+        let first = chip_for course.now.devices course.now.config course.now.script.now in
         let m = moment_of d first calls course.now.script.now parts.old.journal.entries in
         let held = call_held d.setting m (calls request.now) level in
         let deed = Begins (calls request.now) level in
         OnTrue result (Began d first calls course.now.script.now line deed held parts.new.bus
         parts.old.stack parts.old.journal parts.new.stack parts.new.journal) }
     ensures held { let d = M.spec course.now.driver in let calls = M.call_of course.now.driver in
-        let first = chip_for course.now.config course.now.script.now in
+        let first = chip_for course.now.devices course.now.config course.now.script.now in
         let m = moment_of d first calls course.now.script.now parts.old.journal.entries in
         let held = call_held d.setting m (calls request.now) level in
         OnFalse result (StayedOff d first calls course.now.script.now line held parts.new.bus
@@ -68,16 +69,16 @@ fn obey_enter<M: Caller>(course: &Course<M>, line: u32, irq: u32, parts: &mut Pa
     requires at { beginnings_of (M.call_of course.now.driver) (order_at course.now.script.now line) ≡ Enters irq ∷ [] }
     requires room { length parts.old.journal.entries < parts.old.journal.room }
     requires stands { let d = M.spec course.now.driver in let calls = M.call_of course.now.driver in
-        let first = chip_for course.now.config course.now.script.now in
+        let first = chip_for course.now.devices course.now.config course.now.script.now in
         IsStanding d first calls course.now.script.now parts.old.bus parts.old.stack.frames parts.old.journal.entries }
     ensures bus { parts.new.bus ≡ parts.old.bus }
     ensures began { let d = M.spec course.now.driver in let calls = M.call_of course.now.driver in
-        let first = chip_for course.now.config course.now.script.now in
+        let first = chip_for course.now.devices course.now.config course.now.script.now in
         let held = line_held d.setting (moment_of d first calls course.now.script.now parts.old.journal.entries) irq in
         OnTrue result (Began d first calls course.now.script.now line (Enters irq) held parts.new.bus
         parts.old.stack parts.old.journal parts.new.stack parts.new.journal) }
     ensures held { let d = M.spec course.now.driver in let calls = M.call_of course.now.driver in
-        let first = chip_for course.now.config course.now.script.now in
+        let first = chip_for course.now.devices course.now.config course.now.script.now in
         let held = line_held d.setting (moment_of d first calls course.now.script.now parts.old.journal.entries) irq in
         OnFalse result (StayedOff d first calls course.now.script.now line held parts.new.bus
         parts.old.stack parts.old.journal parts.new.stack parts.new.journal) }
@@ -109,10 +110,10 @@ pub(crate) fn obey_call_alone<M: Caller>(
         beginnings_of calls (order_at course.now.script.now line) ≡ Begins (calls request.now) level ∷ [] }
     requires room { HasRoom course.now.most parts.old.stack.steps 2 parts.old.journal }
     requires stands { let d = M.spec course.now.driver in let calls = M.call_of course.now.driver in
-        let first = chip_for course.now.config course.now.script.now in
+        let first = chip_for course.now.devices course.now.config course.now.script.now in
         IsStanding d first calls course.now.script.now parts.old.bus parts.old.stack.frames parts.old.journal.entries }
     ensures { let d = M.spec course.now.driver in let calls = M.call_of course.now.driver in
-        let first = chip_for course.now.config course.now.script.now in
+        let first = chip_for course.now.devices course.now.config course.now.script.now in
         (order : Order) → beginnings_of calls (Some order) ≡ Begins (calls request.now) level ∷ [] →
         ObeyedBy d first calls course.now.script.now course.now.most order
         parts.old.bus parts.old.stack parts.old.journal parts.new.bus parts.new.stack parts.new.journal
@@ -124,36 +125,43 @@ pub(crate) fn obey_call_alone<M: Caller>(
 /// A directive that begins a call and runs it to its end.
 pub(crate) fn obey_call_whole<M: Caller>(
     course: &Course<M>,
-    line: u32,
+    script_line: u32,
     level: u32,
     request: &Request,
     parts: &mut Parts<M>,
+    rack: &mut Vec<Box<dyn SerialDevice>>,
 ) -> Result<(), TooLong>
     requires fits { (M.spec course.now.driver).fits }
+    requires hung { vec_len rack.old ≡ parts.old.bus.devices }
     requires has { M.has_service course.now.driver request.now.service ≡ true }
     requires limit { course.now.most < 4294967295 }
     requires at { let calls = M.call_of course.now.driver in
-        beginnings_of calls (order_at course.now.script.now line) ≡ Begins (calls request.now) level ∷ [] }
+        beginnings_of calls (order_at course.now.script.now script_line) ≡ Begins (calls request.now) level ∷ [] }
     requires room { HasRoom course.now.most parts.old.stack.steps 2 parts.old.journal }
     requires stands { let d = M.spec course.now.driver in let calls = M.call_of course.now.driver in
-        let first = chip_for course.now.config course.now.script.now in
+        let first = chip_for course.now.devices course.now.config course.now.script.now in
         IsStanding d first calls course.now.script.now parts.old.bus parts.old.stack.frames parts.old.journal.entries }
     ensures obeyed { let d = M.spec course.now.driver in let calls = M.call_of course.now.driver in
-        let first = chip_for course.now.config course.now.script.now in
+        let first = chip_for course.now.devices course.now.config course.now.script.now in
         let deed = Begins (calls request.now) level in
         OnOk result ((order : Order) → beginnings_of calls (Some order) ≡ deed ∷ [] →
         ObeyedBy d first calls course.now.script.now course.now.most order
         parts.old.bus parts.old.stack parts.old.journal parts.new.bus parts.new.stack parts.new.journal
-        (λ m items. BeginsWhole d.setting m line deed (call_held d.setting m (calls request.now) level) items)) }
+        (λ m items. BeginsWhole d.setting m script_line deed (call_held d.setting m (calls request.now) level) items)) }
     ensures too_long { let d = M.spec course.now.driver in let calls = M.call_of course.now.driver in
-        let first = chip_for course.now.config course.now.script.now in
+        let first = chip_for course.now.devices course.now.config course.now.script.now in
         let deed = Begins (calls request.now) level in
         OnErr result (IsStuck d first calls course.now.script.now course.now.most (bounds_of d.setting (deed ∷ []))
         parts.old.stack parts.old.journal parts.new.bus parts.new.stack parts.new.journal
-        (λ m items. BeginsToStop d.setting line m deed (call_held d.setting m (calls request.now) level) items)) }
+        (λ m items. BeginsToStop d.setting script_line m deed (call_held d.setting m (calls request.now) level) items)) }
+    ensures hung { vec_len rack.new ≡ parts.new.bus.devices }
+    ensures calls { let d = M.spec course.now.driver in let calls = M.call_of course.now.driver in
+        let first = chip_for course.now.devices course.now.config course.now.script.now in
+        Called d first calls course.now.script.now parts.old.journal.entries parts.new.journal.entries
+        (map (λ d. line d) rack.old.items) (map (λ d. line d) rack.new.items) }
 {
-    if obey_call(course, line, level, request, parts) {
-        run_steps(course, line, Reach::Whole, parts)
+    if obey_call(course, script_line, level, request, parts) {
+        run_steps(course, script_line, Reach::Whole, parts, rack)
     } else {
         Ok(())
     }
@@ -170,10 +178,10 @@ pub(crate) fn obey_enter_alone<M: Caller>(
     requires at { beginnings_of (M.call_of course.now.driver) (order_at course.now.script.now line) ≡ Enters irq ∷ [] }
     requires room { HasRoom course.now.most parts.old.stack.steps 2 parts.old.journal }
     requires stands { let d = M.spec course.now.driver in let calls = M.call_of course.now.driver in
-        let first = chip_for course.now.config course.now.script.now in
+        let first = chip_for course.now.devices course.now.config course.now.script.now in
         IsStanding d first calls course.now.script.now parts.old.bus parts.old.stack.frames parts.old.journal.entries }
     ensures { let d = M.spec course.now.driver in let calls = M.call_of course.now.driver in
-        let first = chip_for course.now.config course.now.script.now in
+        let first = chip_for course.now.devices course.now.config course.now.script.now in
         (order : Order) → beginnings_of calls (Some order) ≡ Enters irq ∷ [] →
         ObeyedBy d first calls course.now.script.now course.now.most order
         parts.old.bus parts.old.stack parts.old.journal parts.new.bus parts.new.stack parts.new.journal
@@ -185,32 +193,39 @@ pub(crate) fn obey_enter_alone<M: Caller>(
 /// A directive that begins the handler of a line and runs it to its end.
 pub(crate) fn obey_enter_whole<M: Caller>(
     course: &Course<M>,
-    line: u32,
+    script_line: u32,
     irq: u32,
     parts: &mut Parts<M>,
+    rack: &mut Vec<Box<dyn SerialDevice>>,
 ) -> Result<(), TooLong>
     requires fits { (M.spec course.now.driver).fits }
+    requires hung { vec_len rack.old ≡ parts.old.bus.devices }
     requires limit { course.now.most < 4294967295 }
-    requires at { beginnings_of (M.call_of course.now.driver) (order_at course.now.script.now line) ≡ Enters irq ∷ [] }
+    requires at { beginnings_of (M.call_of course.now.driver) (order_at course.now.script.now script_line) ≡ Enters irq ∷ [] }
     requires room { HasRoom course.now.most parts.old.stack.steps 2 parts.old.journal }
     requires stands { let d = M.spec course.now.driver in let calls = M.call_of course.now.driver in
-        let first = chip_for course.now.config course.now.script.now in
+        let first = chip_for course.now.devices course.now.config course.now.script.now in
         IsStanding d first calls course.now.script.now parts.old.bus parts.old.stack.frames parts.old.journal.entries }
     ensures obeyed { let d = M.spec course.now.driver in let calls = M.call_of course.now.driver in
-        let first = chip_for course.now.config course.now.script.now in
+        let first = chip_for course.now.devices course.now.config course.now.script.now in
         OnOk result ((order : Order) → beginnings_of calls (Some order) ≡ Enters irq ∷ [] →
         ObeyedBy d first calls course.now.script.now course.now.most order
         parts.old.bus parts.old.stack parts.old.journal parts.new.bus parts.new.stack parts.new.journal
-        (λ m items. BeginsWhole d.setting m line (Enters irq) (line_held d.setting m irq) items)) }
+        (λ m items. BeginsWhole d.setting m script_line (Enters irq) (line_held d.setting m irq) items)) }
     ensures too_long { let d = M.spec course.now.driver in let calls = M.call_of course.now.driver in
-        let first = chip_for course.now.config course.now.script.now in
+        let first = chip_for course.now.devices course.now.config course.now.script.now in
         OnErr result (IsStuck d first calls course.now.script.now course.now.most
         (bounds_of d.setting (Enters irq ∷ []))
         parts.old.stack parts.old.journal parts.new.bus parts.new.stack parts.new.journal
-        (λ m items. BeginsToStop d.setting line m (Enters irq) (line_held d.setting m irq) items)) }
+        (λ m items. BeginsToStop d.setting script_line m (Enters irq) (line_held d.setting m irq) items)) }
+    ensures hung { vec_len rack.new ≡ parts.new.bus.devices }
+    ensures calls { let d = M.spec course.now.driver in let calls = M.call_of course.now.driver in
+        let first = chip_for course.now.devices course.now.config course.now.script.now in
+        Called d first calls course.now.script.now parts.old.journal.entries parts.new.journal.entries
+        (map (λ d. line d) rack.old.items) (map (λ d. line d) rack.new.items) }
 {
-    if obey_enter(course, line, irq, parts) {
-        run_steps(course, line, Reach::Whole, parts)
+    if obey_enter(course, script_line, irq, parts) {
+        run_steps(course, script_line, Reach::Whole, parts, rack)
     } else {
         Ok(())
     }

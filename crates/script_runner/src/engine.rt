@@ -1,4 +1,4 @@
-ghost use Rattle.std.specs.Prelude.{◌≡◌, ◌<◌, ◌≤◌, ◌+◌, ◌*◌, [], length, take, true, false, IfOk, OnOk, OnErr, Some, slice_get};
+ghost use Rattle.std.specs.Prelude.{◌≡◌, ◌<◌, ◌≤◌, ◌+◌, ◌*◌, [], length, map, vec_len, take, true, false, IfOk, OnOk, OnErr, Some, slice_get};
 ghost use Rattle.std.specs.Bool.{OnFalse, OnTrue};
 ghost use Rattle.mcal_base.specs.Layout.{WithinLimits};
 ghost use Rattle.run_model.specs.Follows.{Follows};
@@ -6,7 +6,7 @@ ghost use Rattle.run_model.specs.Legal.{IsLegal};
 ghost use Rattle.run_model.specs.Moment.{start_moment};
 ghost use Rattle.run_model.specs.Script.{deeds_of};
 ghost use Rattle.run_model.specs.Stops.{FollowsToStop, steps_in};
-ghost use Rattle.script_runner.specs.Runs.{run_start, first_of, IsSameRun, StandsThere, AddsItems, IsAtRest};
+ghost use Rattle.script_runner.specs.Runs.{run_start, first_of, IsSameRun, StandsThere, AddsItems, CallsThere, IsAtRest};
 ghost use Rattle.script_runner.specs.Scripts.{IsScript, IsRun, IsStopped, AllOffered, chip_for, script_bound};
 ghost use Rattle.step_runner.specs.Driver.{Covers};
 
@@ -18,6 +18,7 @@ use crate::steps::TooLong;
 use chip_model::Bus;
 use mcal_base::{Config, Directive, NoMemory};
 use run_model::Journal;
+use serial_devices::SerialDevice;
 use std::alloc::Global;
 use std::marker::Model;
 use step_runner::Stack;
@@ -39,9 +40,9 @@ impl<'s, M: Caller> Model for Engine<'s, M> {
 
     ghost Value = { Run M M.Frame };
 
-    ghost view = { λ e. record { driver = e.course.driver; config = e.course.config; script = e.course.script.now; limit = e.limit; obeyed = e.obeyed; too_long = e.too_long; journal = e.parts.journal; chip = e.parts.bus; frames = e.parts.stack.frames } };
+    ghost view = { λ e. record { driver = e.course.driver; config = e.course.config; script = e.course.script.now; devices = e.course.devices; limit = e.limit; obeyed = e.obeyed; too_long = e.too_long; journal = e.parts.journal; chip = e.parts.bus; frames = e.parts.stack.frames } };
 
-    ghost invariant = { λ e. IsUnderWay (M.spec e.course.driver) (M.call_of e.course.driver) (M.has_service e.course.driver) e.course.config e.course.script.now e.limit e.course.most e.obeyed e.too_long e.parts.bus e.parts.stack e.parts.journal };
+    ghost invariant = { λ e. IsUnderWay (M.spec e.course.driver) (M.call_of e.course.driver) (M.has_service e.course.driver) e.course.config e.course.script.now e.course.devices e.limit e.course.most e.obeyed e.too_long e.parts.bus e.parts.stack e.parts.journal };
 }
 
 impl<'s, M: Caller> Engine<'s, M> {
@@ -52,28 +53,31 @@ impl<'s, M: Caller> Engine<'s, M> {
         config: Config,
         script: &'s [Directive],
         limit: u32,
+        devices: usize,
     ) -> Result<Engine<'s, M>, NoMemory>
         requires fits { (M.spec driver).fits }
         requires covers { Covers (M.spec driver) }
         requires config { WithinLimits config }
-        requires wired { (M.spec driver).wired (chip_for config script.now) }
+        requires wired { (M.spec driver).wired (chip_for devices config script.now) }
         requires script { IsScript script.now }
         requires offered { AllOffered (M.has_service driver) script.now }
         requires limit { limit < 4294967295 }
         ensures begins { let setting = (M.spec driver).setting in
-            IfOk result (λ run. run ≡ run_start driver setting (M.call_of driver) config script.now limit) }
+            IfOk result (λ run. run ≡ run_start driver setting (M.call_of driver) config script.now limit devices) }
         // No frame has more than 10,176 steps.
         ensures small { IfOk result (λ run. run.journal.room ≤ 10178 * length script.now) }
     {
         let most = u64::from(limit).min(steps_of(&driver, script)) as u32;
         let journal = journal_for(alloc, most, script.len())?;
         let stack = Stack::new(alloc)?;
-        let bus = Bus::new(alloc, &config, words_given(script))?;
+        let mut bus = Bus::new(alloc, &config, words_given(script))?;
+        bus.hang(devices);
         Ok(Engine {
             course: Course {
                 driver,
                 config,
                 script,
+                devices,
                 most,
             },
             limit,
@@ -89,16 +93,27 @@ impl<'s, M: Caller> Engine<'s, M> {
 
     /// Obeys the next directive of the script, unless one more step than the most would be taken: then the run is over.
     /// It takes no memory.
-    pub fn obey(&mut self, directive: &Directive) -> Result<(), TooLong>
+    pub fn obey(
+        &mut self,
+        directive: &Directive,
+        rack: &mut Vec<Box<dyn SerialDevice>>,
+    ) -> Result<(), TooLong>
         requires goes { self.old.too_long ≡ false }
         requires next { slice_get self.old.script self.old.obeyed ≡ Some directive.now }
+        requires hung { vec_len rack.old ≡ self.old.chip.devices }
         ensures same { IsSameRun self.old self.new }
         ensures obeyed { OnOk result ((self.new.too_long ≡ false) × (self.new.obeyed ≡ self.old.obeyed + 1)) }
         ensures stopped { OnErr result ((self.new.too_long ≡ true) × (self.new.obeyed ≡ self.old.obeyed)) }
         ensures adds { let calls = M.call_of self.old.driver in
             OnOk result (AddsItems (M.spec self.old.driver) calls directive.now self.old self.new) }
+        ensures hung { vec_len rack.new ≡ self.new.chip.devices }
+        // Each device is called by the steps that begin a word under its select, once by each, and by nothing else; a
+        // `detach` that isn't held drops the last one.
+        ensures calls { let calls = M.call_of self.old.driver in
+            CallsThere (M.spec self.old.driver) calls self.old self.new
+            (map (λ d. line d) rack.old.items) (map (λ d. line d) rack.new.items) }
     {
-        match obey_one(&self.course, directive, &mut self.parts) {
+        match obey_one(&self.course, directive, &mut self.parts, rack) {
             Ok(()) => {
                 self.obeyed += 1;
                 Ok(())

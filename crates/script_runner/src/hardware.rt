@@ -1,18 +1,19 @@
 //! Directives that move the hardware, show something or reset the chip.
 
-ghost use Rattle.std.specs.Prelude.{◌≡◌, ◌<◌, ◌≤◌, ◌+◌, ◌^◌, ◌≢◌, ℕ, length, true, Some, None};
+ghost use Rattle.std.specs.Prelude.{◌≡◌, ◌<◌, ◌≤◌, ◌+◌, ◌^◌, ◌≢◌, ℕ, length, map, vec_len, true, false, Some, None};
 ghost use Rattle.chip_model.specs.Chip.{now_of, CanHappen};
 ghost use Rattle.mcal_base.specs.declared.directive.Order.{Order};
 ghost use Rattle.mcal_base.specs.declared.directive.Reason.TheVariants.{Software};
 ghost use Rattle.run_model.specs.Legal.{hardware_held};
 ghost use Rattle.script_runner.specs.Scripts.{chip_for};
-ghost use Rattle.script_runner.specs.Standing.{moment_of, IsStanding, HasRoom, Obeyed, is_built, is_hardware, filled_by, GivenFits};
+ghost use Rattle.script_runner.specs.Standing.{moment_of, Called, IsStanding, HasRoom, Obeyed, is_built, is_hardware, may_be_held, filled_by, GivenFits};
 
 use crate::caller::Caller;
 use crate::parts::{Course, Parts};
 use crate::sizes::words_by;
 use irq_control::Held;
 use mcal_base::{Directive, Reason, Shown};
+use serial_devices::{SerialDevice, drop_last};
 use step_runner::{fill_held, hardware, reset};
 
 /// Moves the hardware, where nothing holds it.
@@ -22,15 +23,15 @@ fn move_hardware<M: Caller>(course: &Course<M>, directive: &Directive, parts: &m
     requires built { is_built directive.now.order ≡ true }
     requires can { CanHappen parts.old.bus directive.now.order }
     requires free { let d = M.spec course.now.driver in let calls = M.call_of course.now.driver in
-        let first = chip_for course.now.config course.now.script.now in
+        let first = chip_for course.now.devices course.now.config course.now.script.now in
         hardware_held d.setting (moment_of d first calls course.now.script.now parts.old.journal.entries)
         directive.now.order ≡ None }
     requires room { HasRoom course.now.most parts.old.stack.steps 2 parts.old.journal }
     requires stands { let d = M.spec course.now.driver in let calls = M.call_of course.now.driver in
-        let first = chip_for course.now.config course.now.script.now in
+        let first = chip_for course.now.devices course.now.config course.now.script.now in
         IsStanding d first calls course.now.script.now parts.old.bus parts.old.stack.frames parts.old.journal.entries }
     ensures { let d = M.spec course.now.driver in let calls = M.call_of course.now.driver in
-        let first = chip_for course.now.config course.now.script.now in
+        let first = chip_for course.now.devices course.now.config course.now.script.now in
         Obeyed d first calls course.now.script.now course.now.most directive.now.line directive.now.order
         parts.old.bus parts.old.stack parts.old.journal parts.new.bus parts.new.stack parts.new.journal }
 {
@@ -42,7 +43,7 @@ fn move_hardware<M: Caller>(course: &Course<M>, directive: &Directive, parts: &m
         .happened(directive.line, depth, &directive.order);
 }
 
-/// Moves the hardware, but for a fill, which alone may be held.
+/// Moves the hardware by a directive that nothing holds.
 pub(crate) fn obey_hardware<M: Caller>(
     course: &Course<M>,
     directive: &Directive,
@@ -51,16 +52,16 @@ pub(crate) fn obey_hardware<M: Caller>(
     requires fits { (M.spec course.now.driver).fits }
     requires hardware { is_hardware directive.now.order ≡ true }
     requires built { is_built directive.now.order ≡ true }
-    requires other { filled_by directive.now.order ≡ None }
+    requires free { may_be_held directive.now.order ≡ false }
     requires time { parts.old.bus.clock.osc + 1000000 < 2 ^ 64 }
     requires late { now_of parts.old.bus + 16000000 < 2 ^ 64 }
     requires given { GivenFits directive.now.order parts.old.bus }
     requires room { HasRoom course.now.most parts.old.stack.steps 2 parts.old.journal }
     requires stands { let d = M.spec course.now.driver in let calls = M.call_of course.now.driver in
-        let first = chip_for course.now.config course.now.script.now in
+        let first = chip_for course.now.devices course.now.config course.now.script.now in
         IsStanding d first calls course.now.script.now parts.old.bus parts.old.stack.frames parts.old.journal.entries }
     ensures { let d = M.spec course.now.driver in let calls = M.call_of course.now.driver in
-        let first = chip_for course.now.config course.now.script.now in
+        let first = chip_for course.now.devices course.now.config course.now.script.now in
         Obeyed d first calls course.now.script.now course.now.most directive.now.line directive.now.order
         parts.old.bus parts.old.stack parts.old.journal parts.new.bus parts.new.stack parts.new.journal }
 {
@@ -78,10 +79,10 @@ pub(crate) fn obey_fill<M: Caller>(
     requires fill { filled_by directive.now.order ≡ Some channel }
     requires room { HasRoom course.now.most parts.old.stack.steps 2 parts.old.journal }
     requires stands { let d = M.spec course.now.driver in let calls = M.call_of course.now.driver in
-        let first = chip_for course.now.config course.now.script.now in
+        let first = chip_for course.now.devices course.now.config course.now.script.now in
         IsStanding d first calls course.now.script.now parts.old.bus parts.old.stack.frames parts.old.journal.entries }
     ensures { let d = M.spec course.now.driver in let calls = M.call_of course.now.driver in
-        let first = chip_for course.now.config course.now.script.now in
+        let first = chip_for course.now.devices course.now.config course.now.script.now in
         Obeyed d first calls course.now.script.now course.now.most directive.now.line directive.now.order
         parts.old.bus parts.old.stack parts.old.journal parts.new.bus parts.new.stack parts.new.journal }
 {
@@ -91,6 +92,39 @@ pub(crate) fn obey_fill<M: Caller>(
             let depth = parts.stack.depth();
             parts.journal.held(directive.line, depth, cause);
         }
+    }
+}
+
+/// Drops the last device of the rack, or notes that there is none.
+pub(crate) fn obey_detach<M: Caller>(
+    course: &Course<M>,
+    directive: &Directive,
+    parts: &mut Parts<M>,
+    rack: &mut Vec<Box<dyn SerialDevice>>,
+)
+    requires fits { (M.spec course.now.driver).fits }
+    requires detach { directive.now.order ≡ Order.Detach }
+    requires hung { vec_len rack.old ≡ parts.old.bus.devices }
+    requires room { HasRoom course.now.most parts.old.stack.steps 2 parts.old.journal }
+    requires stands { let d = M.spec course.now.driver in let calls = M.call_of course.now.driver in
+        let first = chip_for course.now.devices course.now.config course.now.script.now in
+        IsStanding d first calls course.now.script.now parts.old.bus parts.old.stack.frames parts.old.journal.entries }
+    ensures obeyed { let d = M.spec course.now.driver in let calls = M.call_of course.now.driver in
+        let first = chip_for course.now.devices course.now.config course.now.script.now in
+        Obeyed d first calls course.now.script.now course.now.most directive.now.line directive.now.order
+        parts.old.bus parts.old.stack parts.old.journal parts.new.bus parts.new.stack parts.new.journal }
+    ensures hung { vec_len rack.new ≡ parts.new.bus.devices }
+    ensures calls { let d = M.spec course.now.driver in let calls = M.call_of course.now.driver in
+        let first = chip_for course.now.devices course.now.config course.now.script.now in
+        Called d first calls course.now.script.now parts.old.journal.entries parts.new.journal.entries
+        (map (λ d. line d) rack.old.items) (map (λ d. line d) rack.new.items) }
+{
+    if rack.is_empty() {
+        let depth = parts.stack.depth();
+        parts.journal.held(directive.line, depth, Held::Unknown);
+    } else {
+        drop_last(rack);
+        move_hardware(course, directive, parts);
     }
 }
 
@@ -105,10 +139,10 @@ pub(crate) fn obey_show<M: Caller>(
     requires show { directive.now.order ≡ Order.Show shown }
     requires room { HasRoom course.now.most parts.old.stack.steps 2 parts.old.journal }
     requires stands { let d = M.spec course.now.driver in let calls = M.call_of course.now.driver in
-        let first = chip_for course.now.config course.now.script.now in
+        let first = chip_for course.now.devices course.now.config course.now.script.now in
         IsStanding d first calls course.now.script.now parts.old.bus parts.old.stack.frames parts.old.journal.entries }
     ensures { let d = M.spec course.now.driver in let calls = M.call_of course.now.driver in
-        let first = chip_for course.now.config course.now.script.now in
+        let first = chip_for course.now.devices course.now.config course.now.script.now in
         Obeyed d first calls course.now.script.now course.now.most directive.now.line directive.now.order
         parts.old.bus parts.old.stack parts.old.journal parts.new.bus parts.new.stack parts.new.journal }
 {
@@ -135,10 +169,10 @@ pub(crate) fn obey_reset<M: Caller>(
     requires asked { reason ≢ Software }
     requires room { HasRoom course.now.most parts.old.stack.steps 2 parts.old.journal }
     requires stands { let d = M.spec course.now.driver in let calls = M.call_of course.now.driver in
-        let first = chip_for course.now.config course.now.script.now in
+        let first = chip_for course.now.devices course.now.config course.now.script.now in
         IsStanding d first calls course.now.script.now parts.old.bus parts.old.stack.frames parts.old.journal.entries }
     ensures { let d = M.spec course.now.driver in let calls = M.call_of course.now.driver in
-        let first = chip_for course.now.config course.now.script.now in
+        let first = chip_for course.now.devices course.now.config course.now.script.now in
         Obeyed d first calls course.now.script.now course.now.most directive.now.line directive.now.order
         parts.old.bus parts.old.stack parts.old.journal parts.new.bus parts.new.stack parts.new.journal }
 {

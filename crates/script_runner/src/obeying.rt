@@ -1,22 +1,27 @@
 //! Obeys one directive.
 
-ghost use Rattle.std.specs.Prelude.{◌≡◌, ◌<◌, ◌+◌, ◌^◌, length, OnOk, OnErr, Some, true};
+ghost use Rattle.std.specs.Prelude.{◌≡◌, ◌<◌, ◌+◌, ◌^◌, length, OnOk, OnErr, Some, true, map, vec_len};
 ghost use Rattle.chip_model.specs.Chip.{now_of};
 ghost use Rattle.mcal_base.specs.declared.directive.Order.{Order};
 ghost use Rattle.run_model.specs.Follows.{Goes};
 ghost use Rattle.run_model.specs.Script.{order_at};
 ghost use Rattle.run_model.specs.Stops.{StopsWithin};
 ghost use Rattle.script_runner.specs.Scripts.{chip_for, is_offered};
-ghost use Rattle.script_runner.specs.Standing.{IsStanding, HasRoom, ObeyedBy, Obeyed, IsStuck, Stuck, is_built, makes_no_step, GivenFits};
+ghost use Rattle.script_runner.specs.Standing.{Called, IsStanding, HasRoom, ObeyedBy, Obeyed, IsStuck, Stuck, is_built, makes_no_step, GivenFits};
 
 use crate::beginnings::{obey_call_alone, obey_call_whole, obey_enter_alone, obey_enter_whole};
 use crate::caller::Caller;
-use crate::hardware::{obey_fill, obey_hardware, obey_reset, obey_show};
+use crate::hardware::{obey_detach, obey_fill, obey_hardware, obey_reset, obey_show};
 use crate::parts::{Course, Parts};
 use crate::steps::{TooLong, run_steps};
 use irq_control::Held;
-use mcal_base::{Directive, Order};
+use mcal_base::Directive;
+use mcal_base::Order::{
+    Analog, Call, Detach, Do, Enter, Fill, Finish, Level, Miso, Reset, Run, Serve, Show, SpiFault,
+    Tick, Trigger, Upto,
+};
 use run_model::Reach;
+use serial_devices::SerialDevice;
 
 /// Whether a directive runs no steps at all.
 fn is_no_step(reach: Reach) -> bool
@@ -28,36 +33,43 @@ fn is_no_step(reach: Reach) -> bool
 /// Steps the top frame as far as a directive reaches, or notes that there is none.
 fn obey_steps<M: Caller>(
     course: &Course<M>,
-    line: u32,
+    script_line: u32,
     reach: Reach,
     parts: &mut Parts<M>,
+    rack: &mut Vec<Box<dyn SerialDevice>>,
 ) -> Result<(), TooLong>
     requires fits { (M.spec course.now.driver).fits }
+    requires hung { vec_len rack.old ≡ parts.old.bus.devices }
     requires limit { course.now.most < 4294967295 }
     requires room { HasRoom course.now.most parts.old.stack.steps 2 parts.old.journal }
     requires stands { let d = M.spec course.now.driver in let calls = M.call_of course.now.driver in
-        let first = chip_for course.now.config course.now.script.now in
+        let first = chip_for course.now.devices course.now.config course.now.script.now in
         IsStanding d first calls course.now.script.now parts.old.bus parts.old.stack.frames parts.old.journal.entries }
     ensures obeyed { let d = M.spec course.now.driver in let calls = M.call_of course.now.driver in
-        let first = chip_for course.now.config course.now.script.now in
+        let first = chip_for course.now.devices course.now.config course.now.script.now in
         OnOk result ((order : Order) →
         ObeyedBy d first calls course.now.script.now course.now.most order
         parts.old.bus parts.old.stack parts.old.journal parts.new.bus parts.new.stack parts.new.journal
-        (λ m items. Goes d.setting line reach m m.opens items)) }
+        (λ m items. Goes d.setting script_line reach m m.opens items)) }
     ensures too_long { let d = M.spec course.now.driver in let calls = M.call_of course.now.driver in
-        let first = chip_for course.now.config course.now.script.now in
+        let first = chip_for course.now.devices course.now.config course.now.script.now in
         OnErr result (IsStuck d first calls course.now.script.now course.now.most 0 parts.old.stack parts.old.journal
         parts.new.bus parts.new.stack parts.new.journal
-        (λ m items. StopsWithin d.setting line reach m m.opens items)) }
+        (λ m items. StopsWithin d.setting script_line reach m m.opens items)) }
+    ensures hung { vec_len rack.new ≡ parts.new.bus.devices }
+    ensures calls { let d = M.spec course.now.driver in let calls = M.call_of course.now.driver in
+        let first = chip_for course.now.devices course.now.config course.now.script.now in
+        Called d first calls course.now.script.now parts.old.journal.entries parts.new.journal.entries
+        (map (λ d. line d) rack.old.items) (map (λ d. line d) rack.new.items) }
 {
     if parts.stack.depth() == 0 {
-        parts.journal.held(line, 0, Held::Empty);
+        parts.journal.held(script_line, 0, Held::Empty);
         return Ok(());
     }
     if is_no_step(reach) {
         return Ok(());
     }
-    run_steps(course, line, reach, parts)
+    run_steps(course, script_line, reach, parts, rack)
 }
 
 /// Obeys a directive.
@@ -65,8 +77,10 @@ pub(crate) fn obey_one<M: Caller>(
     course: &Course<M>,
     directive: &Directive,
     parts: &mut Parts<M>,
+    rack: &mut Vec<Box<dyn SerialDevice>>,
 ) -> Result<(), TooLong>
     requires fits { (M.spec course.now.driver).fits }
+    requires hung { vec_len rack.old ≡ parts.old.bus.devices }
     requires limit { course.now.most < 4294967295 }
     requires at { order_at course.now.script.now directive.now.line ≡ Some directive.now.order }
     requires built { is_built directive.now.order ≡ true }
@@ -76,52 +90,56 @@ pub(crate) fn obey_one<M: Caller>(
     requires late { now_of parts.old.bus + 16000000 < 2 ^ 64 }
     requires room { HasRoom course.now.most parts.old.stack.steps 2 parts.old.journal }
     requires stands { let d = M.spec course.now.driver in let calls = M.call_of course.now.driver in
-        let first = chip_for course.now.config course.now.script.now in
+        let first = chip_for course.now.devices course.now.config course.now.script.now in
         IsStanding d first calls course.now.script.now parts.old.bus parts.old.stack.frames parts.old.journal.entries }
     ensures obeyed { let d = M.spec course.now.driver in let calls = M.call_of course.now.driver in
-        let first = chip_for course.now.config course.now.script.now in
+        let first = chip_for course.now.devices course.now.config course.now.script.now in
         OnOk result (Obeyed d first calls course.now.script.now course.now.most directive.now.line directive.now.order
         parts.old.bus
         parts.old.stack parts.old.journal parts.new.bus parts.new.stack parts.new.journal) }
     ensures too_long { let d = M.spec course.now.driver in let calls = M.call_of course.now.driver in
-        let first = chip_for course.now.config course.now.script.now in
+        let first = chip_for course.now.devices course.now.config course.now.script.now in
         OnErr result (Stuck d first calls course.now.script.now course.now.most directive.now.line directive.now.order
         parts.old.stack parts.old.journal parts.new.bus parts.new.stack parts.new.journal) }
+    ensures hung { vec_len rack.new ≡ parts.new.bus.devices }
+    ensures calls { let d = M.spec course.now.driver in let calls = M.call_of course.now.driver in
+        let first = chip_for course.now.devices course.now.config course.now.script.now in
+        Called d first calls course.now.script.now parts.old.journal.entries parts.new.journal.entries
+        (map (λ d. line d) rack.old.items) (map (λ d. line d) rack.new.items) }
 {
     let line = directive.line;
     match &directive.order {
-        Order::Call(level, request) => {
+        Call(level, request) => {
             obey_call_alone(course, line, *level, request, parts);
             Ok(())
         }
-        Order::Do(level, request) => { obey_call_whole(course, line, *level, request, parts) }
-        Order::Enter(irq) => {
+        Do(level, request) => { obey_call_whole(course, line, *level, request, parts, rack) }
+        Enter(irq) => {
             obey_enter_alone(course, line, *irq, parts);
             Ok(())
         }
-        Order::Serve(irq) => obey_enter_whole(course, line, *irq, parts),
-        Order::Run(count) => { obey_steps(course, line, Reach::Count(*count), parts) }
-        Order::Upto(stop) => { obey_steps(course, line, Reach::Until(*stop), parts) }
-        Order::Finish => obey_steps(course, line, Reach::Whole, parts),
-        Order::Tick(_)
-        | Order::Level(..)
-        | Order::Analog(..)
-        | Order::Trigger(_)
-        | Order::Miso(..)
-        | Order::SpiFault(_) => {
+        Serve(irq) => obey_enter_whole(course, line, *irq, parts, rack),
+        Run(count) => { obey_steps(course, line, Reach::Count(*count), parts, rack) }
+        Upto(stop) => { obey_steps(course, line, Reach::Until(*stop), parts, rack) }
+        Finish => obey_steps(course, line, Reach::Whole, parts, rack),
+        Tick(_) | Level(..) | Analog(..) | Trigger(_) | Miso(..) | SpiFault(_) => {
             obey_hardware(course, directive, parts);
             Ok(())
         }
-        Order::Reset(reason) => {
+        Reset(reason) => {
             obey_reset(course, directive, *reason, parts);
             Ok(())
         }
-        Order::Show(shown) => {
+        Show(shown) => {
             obey_show(course, directive, *shown, parts);
             Ok(())
         }
-        Order::Fill(channel, _) => {
+        Fill(channel, _) => {
             obey_fill(course, directive, *channel, parts);
+            Ok(())
+        }
+        Detach => {
+            obey_detach(course, directive, parts, rack);
             Ok(())
         }
     }

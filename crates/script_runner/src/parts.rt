@@ -13,6 +13,8 @@ pub(crate) struct Course<'s, M: Caller> {
     pub(crate) config: Config,
     /// The script.
     pub(crate) script: &'s [Directive],
+    /// How many devices hung on the serial units at power on.
+    pub(crate) devices: usize,
     /// The most steps: the limit, or the most of the script's frames where that is less.
     pub(crate) most: u32,
 }

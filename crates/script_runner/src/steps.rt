@@ -1,4 +1,4 @@
-ghost use Rattle.std.specs.Prelude.{ℕ, ◌≡◌, ◌<◌, ◌≤◌, ◌+◌, ◌∷◌, length, OnOk, OnErr, None, ◌||◌, is_some};
+ghost use Rattle.std.specs.Prelude.{ℕ, ◌≡◌, ◌<◌, ◌≤◌, ◌+◌, ◌∷◌, length, OnOk, OnErr, None, ◌||◌, is_some, map, vec_len};
 ghost use Rattle.script_runner.specs.Scripts.{chip_for};
 ghost use Rattle.mcal_base.specs.declared.directive.Order.{Order};
 ghost use Rattle.run_model.specs.Entry as entry;
@@ -6,12 +6,13 @@ ghost use Rattle.run_model.specs.Follows as follows;
 ghost use Rattle.run_model.specs.Follows.{GoesOn, is_reached};
 ghost use Rattle.run_model.specs.Frame.{resets_chip};
 ghost use Rattle.run_model.specs.Stops.{GoesToStop};
-ghost use Rattle.script_runner.specs.Standing.{IsStanding, HasRoom, TookStep, WentFar, IsStuck};
+ghost use Rattle.script_runner.specs.Standing.{Called, IsStanding, HasRoom, TookStep, WentFar, IsStuck};
 
 use crate::caller::Caller;
 use crate::parts::{Course, Parts};
 use mcal_base::{Event, Move, Reason, Reg, Stop};
 use run_model::{Reach, Stepped};
+use serial_devices::SerialDevice;
 use step_runner::{reset, step_into};
 
 /// A step past the most of a run would be taken.
@@ -69,34 +70,41 @@ fn answer_is_short(stepped: &Stepped) -> usize
 /// no answer.
 pub(crate) fn take_step<M: Caller>(
     course: &Course<M>,
-    line: u32,
+    script_line: u32,
     parts: &mut Parts<M>,
+    rack: &mut Vec<Box<dyn SerialDevice>>,
     stepped: &mut Stepped,
 ) -> Result<(), TooLong>
     requires fits { (M.spec course.now.driver).fits }
+    requires hung { vec_len rack.old ≡ parts.old.bus.devices }
     requires limit { course.now.most < 4294967295 }
     requires frame { 0 < length parts.old.stack.frames }
     requires room { HasRoom course.now.most parts.old.stack.steps 1 parts.old.journal }
     requires stands { let d = M.spec course.now.driver in let calls = M.call_of course.now.driver in
-        let first = chip_for course.now.config course.now.script.now in
+        let first = chip_for course.now.devices course.now.config course.now.script.now in
         IsStanding d first calls course.now.script.now parts.old.bus parts.old.stack.frames parts.old.journal.entries }
     requires free { stepped.old.ended ≡ None }
     ensures took { let d = M.spec course.now.driver in let calls = M.call_of course.now.driver in
-        let first = chip_for course.now.config course.now.script.now in
-        OnOk result (TookStep d first calls course.now.script.now course.now.most line
+        let first = chip_for course.now.devices course.now.config course.now.script.now in
+        OnOk result (TookStep d first calls course.now.script.now course.now.most script_line
         parts.old.bus parts.old.stack parts.old.journal stepped.new parts.new.bus
         parts.new.stack parts.new.journal) }
     ensures too_long { OnErr result ((parts.new.stack ≡ parts.old.stack) × (parts.new.bus ≡ parts.old.bus) ×
         (parts.new.journal ≡ parts.old.journal) × (parts.old.stack.steps ≡ course.now.most)) }
+    ensures hung { vec_len rack.new ≡ parts.new.bus.devices }
+    ensures calls { let d = M.spec course.now.driver in let calls = M.call_of course.now.driver in
+        let first = chip_for course.now.devices course.now.config course.now.script.now in
+        Called d first calls course.now.script.now parts.old.journal.entries parts.new.journal.entries
+        (map (λ d. line d) rack.old.items) (map (λ d. line d) rack.new.items) }
 {
     if parts.stack.steps() == course.most {
         return Err(TooLong);
     }
     let depth = parts.stack.depth();
-    match step_into(&mut parts.stack, &mut parts.bus, stepped) {
+    match step_into(&mut parts.stack, &mut parts.bus, rack, stepped) {
         Ok(()) => {
             let _words = answer_is_short(stepped);
-            parts.journal.stepped(line, depth, stepped);
+            parts.journal.stepped(script_line, depth, stepped);
             Ok(())
         }
         Err(_) => unreachable!(),
@@ -106,31 +114,38 @@ pub(crate) fn take_step<M: Caller>(
 /// Steps the top frame as far as a directive reaches, which is at least one step.
 pub(crate) fn run_steps<M: Caller>(
     course: &Course<M>,
-    line: u32,
+    script_line: u32,
     reach: Reach,
     parts: &mut Parts<M>,
+    rack: &mut Vec<Box<dyn SerialDevice>>,
 ) -> Result<(), TooLong>
     requires fits { (M.spec course.now.driver).fits }
+    requires hung { vec_len rack.old ≡ parts.old.bus.devices }
     requires limit { course.now.most < 4294967295 }
     requires frame { 0 < length parts.old.stack.frames }
     requires room { HasRoom course.now.most parts.old.stack.steps 1 parts.old.journal }
     requires stands { let d = M.spec course.now.driver in let calls = M.call_of course.now.driver in
-        let first = chip_for course.now.config course.now.script.now in
+        let first = chip_for course.now.devices course.now.config course.now.script.now in
         IsStanding d first calls course.now.script.now parts.old.bus parts.old.stack.frames parts.old.journal.entries }
     ensures went { let d = M.spec course.now.driver in let calls = M.call_of course.now.driver in
-        let first = chip_for course.now.config course.now.script.now in
-        OnOk result (WentFar d first calls course.now.script.now course.now.most line reach parts.old.bus
+        let first = chip_for course.now.devices course.now.config course.now.script.now in
+        OnOk result (WentFar d first calls course.now.script.now course.now.most script_line reach parts.old.bus
         parts.old.stack parts.old.journal parts.new.bus parts.new.stack parts.new.journal) }
     ensures too_long { let d = M.spec course.now.driver in let calls = M.call_of course.now.driver in
-        let first = chip_for course.now.config course.now.script.now in
+        let first = chip_for course.now.devices course.now.config course.now.script.now in
         OnErr result (IsStuck d first calls course.now.script.now course.now.most 0 parts.old.stack parts.old.journal
         parts.new.bus parts.new.stack parts.new.journal
-        (λ m items. GoesToStop d.setting line reach 0 m items)) }
+        (λ m items. GoesToStop d.setting script_line reach 0 m items)) }
+    ensures hung { vec_len rack.new ≡ parts.new.bus.devices }
+    ensures calls { let d = M.spec course.now.driver in let calls = M.call_of course.now.driver in
+        let first = chip_for course.now.devices course.now.config course.now.script.now in
+        Called d first calls course.now.script.now parts.old.journal.entries parts.new.journal.entries
+        (map (λ d. line d) rack.old.items) (map (λ d. line d) rack.new.items) }
 {
     let mut made = 0u32;
     let mut stepped = Stepped::blank();
     loop {
-        match take_step(course, line, parts, &mut stepped) {
+        match take_step(course, script_line, parts, rack, &mut stepped) {
             Ok(()) => {}
             Err(TooLong) => return Err(TooLong),
         }
@@ -138,7 +153,9 @@ pub(crate) fn run_steps<M: Caller>(
         if is_reset(&stepped.made) {
             let depth = parts.stack.depth();
             let dropped = reset(&mut parts.stack, &mut parts.bus, Reason::Software);
-            parts.journal.reset(line, depth, Reason::Software, dropped);
+            parts
+                .journal
+                .reset(script_line, depth, Reason::Software, dropped);
             return Ok(());
         }
         if stops_after(reach, made, &stepped) {

@@ -1,4 +1,4 @@
-ghost use Rattle.std.specs.Prelude.{◌≡◌, ◌<◌, ◌≤◌, ◌+◌, ◌*◌, min, length, IfOk, Some, slice_get, false};
+ghost use Rattle.std.specs.Prelude.{◌≡◌, ◌<◌, ◌≤◌, ◌+◌, ◌*◌, min, length, IfOk, Some, slice_get, false, vec_len};
 ghost use Rattle.std.specs.Bool.{OnFalse, OnTrue};
 ghost use Rattle.mcal_base.specs.Layout.{WithinLimits};
 ghost use Rattle.run_model.specs.Stops.{steps_in};
@@ -10,6 +10,7 @@ use crate::caller::Caller;
 use crate::engine::Engine;
 use mcal_base::{Config, Directive, NoMemory};
 use run_model::Journal;
+use serial_devices::SerialDevice;
 use std::alloc::Global;
 
 /// How a run ended.
@@ -30,22 +31,27 @@ fn directive_at(script: &[Directive], at: usize) -> &Directive
 }
 
 /// Obeys all directives, and tells whether one more step than the most would have been taken.
-fn obey_all<M: Caller>(engine: &mut Engine<M>, script: &[Directive]) -> bool
+fn obey_all<M: Caller>(
+    engine: &mut Engine<M>,
+    script: &[Directive],
+    rack: &mut Vec<Box<dyn SerialDevice>>,
+) -> bool
     requires begun { (engine.old.obeyed ≡ 0) × (engine.old.too_long ≡ false) }
     requires script { script.now ≡ engine.old.script }
+    requires hung { vec_len rack.old ≡ engine.old.chip.devices }
     ensures same { IsSameRun engine.old engine.new }
     ensures stopped { engine.new.too_long ≡ result }
     ensures all { OnFalse result (engine.new.obeyed ≡ length engine.new.script) }
 {
     for at in 0..script.len() {
-        if engine.obey(directive_at(script, at)).is_err() {
+        if engine.obey(directive_at(script, at), rack).is_err() {
             return true;
         }
     }
     false
 }
 
-/// Runs a script over a driver, from power on, in at most so many steps. All memory is taken before the first
+/// Runs a script over a driver without serial devices, from power on, in at most so many steps. All memory is taken before the first
 /// directive, for no more steps than the limit, and for no more than the script's frames can take.
 pub fn run_within<M: Caller>(
     alloc: Global,
@@ -57,16 +63,16 @@ pub fn run_within<M: Caller>(
     requires fits { (M.spec driver).fits }
     requires covers { Covers (M.spec driver) }
     requires config { WithinLimits config }
-    requires wired { (M.spec driver).wired (chip_for config script.now) }
+    requires wired { (M.spec driver).wired (chip_for 0 config script.now) }
     requires script { IsScript script.now }
     requires offered { AllOffered (M.has_service driver) script.now }
     requires limit { limit < 4294967295 }
     ensures whole { let setting = (M.spec driver).setting in
-        let first = chip_for config script.now in
+        let first = chip_for 0 config script.now in
         IfOk result (λ ran. OnFalse ran.too_long (IsRun setting first (M.call_of driver) script.now ran.journal.entries)) }
     ensures few { IfOk result (λ ran. steps_in ran.journal.entries ≤ limit) }
     ensures stopped { let setting = (M.spec driver).setting in
-        let first = chip_for config script.now in let calls = M.call_of driver in
+        let first = chip_for 0 config script.now in let calls = M.call_of driver in
         IfOk result (λ ran. OnTrue ran.too_long (IsStopped setting first calls limit script.now ran.journal.entries)) }
     // The room is for no more steps than the limit, and than those frames may take, which are at most 10,176 each.
     ensures room { let bound = script_bound (M.spec driver).setting (M.call_of driver) script.now in
@@ -76,8 +82,9 @@ pub fn run_within<M: Caller>(
     ensures within { let bound = script_bound (M.spec driver).setting (M.call_of driver) script.now in
         IfOk result (λ ran. OnTrue ran.too_long (limit < bound)) }
 {
-    let mut engine = Engine::new(alloc, driver, config, script, limit)?;
-    let too_long = obey_all(&mut engine, script);
+    let mut engine = Engine::new(alloc, driver, config, script, limit, 0)?;
+    let mut none = Vec::new(alloc);
+    let too_long = obey_all(&mut engine, script, &mut none);
     Ok(Ran {
         journal: engine.into_journal(),
         too_long,

@@ -134,7 +134,7 @@ module _ {State Call Frame : Type 0} (d : Driver State Call Frame) where
         levels = (above, k.levels);
         rate = k.rate;
         outside = k.outside;
-        alone = k.alone;
+        hung = k.hung;
         enabled = k.enabled;
       }
 
@@ -204,7 +204,7 @@ module _ {State Call Frame : Type 0} (d : Driver State Call Frame) (move_of : Fr
         levels = mm.levels;
         rate = rate-event m.chip order ∙ (mm.rate ∙ (sym (law.rate_moves m.world m.state order t.0 t.1) ∙ ap (λ o. d.setting.machine.rate (state_by m.state o)) (sym t.1)));
         outside = subst (λ n. StandsIn (happened m.chip order) (world_after m.world n order)) mm.rate (stands-event m.chip m.world order (fills-there m.chip order can_here) mm.outside);
-        alone = devices-after m.world (d.setting.machine.rate m.state) order ∙ mm.alone;
+        hung = devices-after m.chip m.world (d.setting.machine.rate m.state) order mm.hung;
         enabled = λ line apart. ap (λ n. has_bit n line) (enabled-happened m.chip order) ∙ mm.enabled line apart;
       })
 
@@ -224,7 +224,7 @@ module _ {State Call Frame : Type 0} (d : Driver State Call Frame) (move_of : Fr
         levels = tt;
         rate = law.rate_resets m.chip m.world m.state reason t.0 t.1 ∙ ap (λ o. d.setting.machine.rate (state_by m.state o)) (sym t.1);
         outside = stands-reset m.chip m.world reason mm.outside;
-        alone = mm.alone;
+        hung = mm.hung;
         enabled = λ line apart. has_bit-zero line;
       })
 

@@ -1,22 +1,22 @@
--- What the runner needs of the chip: when the mask is closed, which lines are enabled, and the word that comes in where no device is.
-use Rattle.std.proofs.Common.{◌≡◌, ℕ, ◌≤◌, nat_lt, nat_le, Bool, true, false, ◌&&◌, ◌||◌, ◌-◌, ◌^◌, refl, sym, ◌∙◌, ap, subst, arith}
+-- What the runner needs of the chip: when the mask is closed, which lines are enabled, and the word that comes in.
+use Rattle.std.proofs.Common.{◌≡◌, ℕ, ◌≤◌, Bool, true, false, ◌&&◌, ◌||◌, ◌-◌, ◌^◌, refl, ◌∙◌, ap, subst, arith}
 use Rattle.std.specs.Prelude.{MatchBool, bit_or}
-use Rattle.std.proofs.lemmas.Bool.Decides.{nat_tests}
 use Rattle.chip_units.specs.Serials.{unit_at}
-use Rattle.chip_model.specs.Chip.{Chip, received_of, after_read, after_write, chip_after, happened, CanHappen, flag_of, is_masked, is_pending}
+use Rattle.chip_model.specs.Chip.{Chip, names_device, has_device, next_word, after_read, after_write, chip_after, happened, CanHappen, flag_of, is_masked, is_pending}
 use Rattle.chip_model.specs.Histories.{Made, Hardware, FillsThere}
 use Rattle.chip_model.proofs.HistoryLaws.{mask-left, level_leaves}
 use Rattle.irq_control.specs.Control.{Control}
 use Rattle.mcal_base.specs.Bits.{has_bit, without}
 use Rattle.mcal_base.proofs.BitLaws.{has_bit-or, has_bit-and}
 use Rattle.mcal_base.specs.declared.directive.Order.{Order}
-use Rattle.mcal_base.specs.declared.directive.Order.TheVariants.{Tick, Level, Analog, Fill}
+use Rattle.mcal_base.specs.declared.directive.Order.TheVariants.{Tick, Level, Analog, Detach, Fill}
 use Rattle.mcal_base.specs.declared.moves.Move.{Move}
 use Rattle.mcal_base.specs.declared.moves.Move.TheVariants.{Read, Write, Load, Store, Mask, Unmask, Note, Report}
 use Rattle.mcal_base.specs.declared.register.Reg.{Reg}
 use Rattle.mcal_base.specs.declared.register.Reg.TheVariants.{EnableSet, EnableClear, TimerLow, CaptureCountLow, CaptureTimeLow, ConverterAbort, SerialData}
 use Rattle.run_model.specs.World.{World, world_after}
 use Rattle.run_model.specs.Frame.{inside_after}
+use Rattle.chip_model.specs.Devices.{ComesIn}
 use Rattle.run_model.specs.Legal.{ReceivedRight}
 
 -- ---- the mask
@@ -83,26 +83,35 @@ enabled-happened c _ = refl
 
 -- ---- what is outside
 
-no-device : (select devices : ℕ) → devices ≡ 0 → nat_lt 0 select && nat_le select devices ≡ false
-no-device select devices e = grind (arith, nat_tests)
+comes-write : (c : Chip) (w : World) (r : Reg) (v received : ℕ) → c.devices ≡ w.devices → ComesIn c (Write r v) received → ReceivedRight c w (Write r v) received
+comes-write c w (SerialData u) v received e k = subst (λ n. MatchBool (names_device (unit_at c.serials u).select n) (received ≤ 65536) (received ≡ next_word c u)) e k
+comes-write c w _ v received e k = k
 
-waiting-comes : (c : Chip) (w : World) (r : Reg) (v : ℕ) → w.devices ≡ 0 → ReceivedRight c w (Write r v) (received_of c (Write r v))
-waiting-comes c w (SerialData u) v e =
-    let received = received_of c (Write (SerialData u) v) in
-    subst (λ b. MatchBool b (received ≤ 65536) (received ≡ received)) (sym (no-device (unit_at c.serials u).select w.devices e)) refl
-waiting-comes c w _ v e = refl
+-- what comes in is right where the devices are the world's
+pub received-right : (c : Chip) (w : World) (made : Move) (received : ℕ) → c.devices ≡ w.devices → ComesIn c made received → ReceivedRight c w made received
+received-right c w (Write r v) received e k = comes-write c w r v received e k
+received-right c w _ received e k = k
 
--- without a device the word that comes in is the next one that waits
-pub received-alone : (c : Chip) (w : World) (made : Move) → w.devices ≡ 0 → ReceivedRight c w made (received_of c made)
-received-alone c w (Write r v) e = waiting-comes c w r v e
-received-alone c w _ e = refl
+some-word : (device : Bool) (n : ℕ) → (received : ℕ) × MatchBool device (received ≤ 65536) (received ≡ n)
+some-word true n = (0, omega arith)
+some-word false n = (n, refl)
 
--- no device comes by a hardware event
-pub devices-after : (w : World) (rate : ℕ) (order : Order) → (world_after w rate order).devices ≡ w.devices
-devices-after w rate (Tick n) = refl
-devices-after w rate (Level p v) = refl
-devices-after w rate (Analog i v) = refl
-devices-after w rate _ = refl
+some-written : (c : Chip) (r : Reg) (v : ℕ) → (received : ℕ) × ComesIn c (Write r v) received
+some-written c (SerialData u) v = some-word (has_device c u) (next_word c u)
+some-written c _ v = (0, refl)
+
+-- some word may come in with a move
+pub some-comes : (c : Chip) (made : Move) → (received : ℕ) × ComesIn c made received
+some-comes c (Write r v) = some-written c r v
+some-comes c _ = (0, refl)
+
+-- after a hardware event the devices of the chip are still the world's
+pub devices-after : (c : Chip) (w : World) (rate : ℕ) (order : Order) → c.devices ≡ w.devices → (happened c order).devices ≡ (world_after w rate order).devices
+devices-after c w rate (Tick n) e = e
+devices-after c w rate (Level p v) e = level_leaves (λ d. d.devices) c p v refl ∙ e
+devices-after c w rate (Analog i v) e = e
+devices-after c w rate Detach e = ap (λ n. n - 1) e
+devices-after c w rate _ e = e
 
 -- a fill that may come is to a channel that there is
 pub fills-there : (c : Chip) (order : Order) → CanHappen c order → FillsThere (Hardware order)

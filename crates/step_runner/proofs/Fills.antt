@@ -3,7 +3,6 @@ use Rattle.std.proofs.Common.{◌≡◌, ℕ, ◌<◌, ◌≤◌, Bool, true, fa
 use Rattle.std.specs.Prelude.{IfSome}
 use Rattle.std.specs.List.{list_any}
 use Rattle.chip_model.specs.Chip.{Chip, CanHappen, source_length, is_masked}
-use Rattle.irq_control.specs.declared.held.Held.{Held}
 use Rattle.irq_control.specs.declared.held.Held.TheVariants.{Busy, Unknown}
 use Rattle.mcal_base.specs.declared.directive.Order.TheVariants.{Fill}
 use Rattle.run_model.specs.World.{World}

@@ -1,48 +1,65 @@
--- The last item of a vector is the first one of the stack that it is.
-use Rattle.std.proofs.Common.{◌≡◌, ℕ, zero, suc, ◌+◌, false, List, [], ◌∷◌, ◌++◌, Option, Some, None, length, refl, sym, ◌∙◌, ap, subst, arith}
-use Rattle.std.specs.Prelude.{reverse, take, drop, slice_set, slice_index_or, Ok, is_some}
-use Rattle.std.proofs.lemmas.List.{set_split, set-get_or, reverse-append}
-use Rattle.chip_model.specs.Chip.{Chip, value_of, received_of, chip_after}
+-- The last item of the places that are taken is the first one of the stack that they are.
+use Rattle.std.proofs.Common.{◌≡◌, ℕ, ◌+◌, true, false, List, [], ◌∷◌, Option, Some, None, length, ◌<◌, refl, sym, ◌∙◌, ap, subst}
+use Rattle.std.specs.Prelude.{reverse, take, slice_set, slice_index_or, Result, Ok, is_some}
+use Rattle.std.proofs.lemmas.List.{set-get_or, take_more_set, take-set, reverse-append}
+use Rattle.chip_model.specs.Chip.{Chip, hung, value_of, chip_after}
+use Rattle.chip_model.proofs.DeviceLaws.{value-hung}
+use Rattle.chip_model.specs.Devices.{ComesIn}
+use Rattle.irq_control.specs.declared.held.Held.{Held}
 use Rattle.mcal_base.specs.declared.answer.Answer.{Answer}
 use Rattle.mcal_base.specs.declared.moves.Move.{Move}
 use Rattle.mcal_base.specs.declared.routine.Taken.{Taken}
 use Rattle.run_model.specs.declared.item.Stepped.{Stepped}
 use Rattle.run_model.specs.Frame.{top_after}
 use Rattle.step_runner.specs.Driver.{stepped}
-use Rattle.step_runner.specs.Kept.{moved, TakesStep}
+use Rattle.step_runner.specs.Kept.{moved, TakesStep, hung_for}
 use Rattle.step_runner.specs.declared.stack.Under.{Under}
 
-pub drop-all : {X : Type 0} (xs : List X) (n : ℕ) → length xs ≡ n → drop n xs ≡ []
-drop-all [] zero e = refl
-drop-all [] (suc n) e = refl
-drop-all (x ∷ xs) zero e = absurd (omega (e, arith))
-drop-all (x ∷ xs) (suc n) e = drop-all xs n (omega (e, arith))
+-- of the first places, with another last item
+reverse-set : {X : Type 0} (xs : List X) (n : ℕ) (x : X) → n < length xs → reverse (take (n + 1) (slice_set xs n x)) ≡ x ∷ reverse (take n xs)
+reverse-set xs n x lt = ap (λ ys. reverse ys) (take_more_set xs n x lt) ∙ reverse-append (take n xs) (x ∷ [])
 
--- with another last item
-pub reverse-set : {X : Type 0} (xs : List X) (n : ℕ) (x : X) → length xs ≡ n + 1 → reverse (slice_set xs n x) ≡ x ∷ reverse (take n xs)
-reverse-set xs n x e = ap (λ ys. reverse ys) (set_split xs n x (omega (e, arith)) ∙ ap (λ zs. take n xs ++ x ∷ zs) (drop-all xs (suc n) (omega (e, arith)))) ∙ reverse-append (take n xs) (x ∷ [])
+reverse-last : {X : Type 0} (xs : List X) (n : ℕ) (d : X) → n < length xs → reverse (take (n + 1) xs) ≡ slice_index_or xs n d ∷ reverse (take n xs)
+reverse-last xs n d lt = sym (ap (λ ys. reverse (take (n + 1) ys)) (set-get_or xs n d)) ∙ reverse-set xs n (slice_index_or xs n d) lt
 
-pub reverse-last : {X : Type 0} (xs : List X) (n : ℕ) (d : X) → length xs ≡ n + 1 → reverse xs ≡ slice_index_or xs n d ∷ reverse (take n xs)
-reverse-last xs n d e = sym (ap (λ ys. reverse ys) (set-get_or xs n d)) ∙ reverse-set xs n (slice_index_or xs n d) e
-
-pub none-of : {X : Type 0} (o : Option X) → is_some o ≡ false → o ≡ None
-none-of None e = refl
-none-of (Some x) e = absurd (cc)
-
-goes-on : {X : Type 0} (u : X) (us : List X) (ended : Option Answer) → ended ≡ None → u ∷ us ≡ top_after u ended us
+goes-on : {X : Type 0} (u : X) (us : List X) (ended : Option Answer) → is_some ended ≡ false → u ∷ us ≡ top_after u ended us
 goes-on u us None e = refl
 goes-on u us (Some a) e = absurd (cc)
 
--- The last frame made its move where it stands, and goes on.
-pub takes-last : {Frame : Type 0} (move_of : Frame → Move) (left : Frame → ℕ → Frame) (gave : Frame → ℕ → Taken) (xs : List (Under Frame)) (n : ℕ) (u top : Under Frame) (steps : ℕ) (chip chip1 : Chip) (s : Stepped) → length xs ≡ n + 1 → u ≡ slice_index_or xs n u → top ≡ moved u (left u.frame (value_of chip (move_of u.frame))) (move_of u.frame) → chip1 ≡ chip_after chip (move_of u.frame) (received_of chip (move_of u.frame)) → s ≡ stepped (move_of u.frame) (value_of chip (move_of u.frame)) (received_of chip (move_of u.frame)) (gave u.frame (value_of chip (move_of u.frame))) → is_some s.ended ≡ false → TakesStep move_of left gave (reverse xs) steps chip (record { frames = reverse (slice_set xs n top); steps = steps + 1 }) chip1 (Ok s)
-takes-last move_of left gave xs n u top steps chip chip1 s count is top-is chip-is s-is none =
-    let us = reverse (take n xs) in
-    let value = value_of chip (move_of u.frame) in
-    let on : (gave u.frame value).ended ≡ None = sym (ap (λ t. t.ended) s-is) ∙ none-of s.ended none in
-    subst (λ ys. TakesStep move_of left gave ys steps chip (record { frames = reverse (slice_set xs n top); steps = steps + 1 }) chip1 (Ok s)) (sym (reverse-last xs n u count ∙ ap (λ x. x ∷ us) (sym is)))
-    (record {
-      frames = reverse-set xs n top count ∙ ap (λ x. x ∷ us) top-is ∙ goes-on (moved u (left u.frame value) (move_of u.frame)) us (gave u.frame value).ended on;
-      steps_are = refl;
-      chip_is = chip-is;
-      result_is = ap (λ t. Ok t) s-is;
-    })
+comes-off : {X : Type 0} (u : X) (us : List X) (ended : Option Answer) → is_some ended ≡ true → us ≡ top_after u ended us
+comes-off u us None e = absurd (cc)
+comes-off u us (Some a) e = refl
+
+-- The last frame made its move where it stands: it goes on, or it ended and is counted no more.
+module _ {Frame : Type 0} (move_of : Frame → Move) (left : Frame → ℕ → Frame) (gave : Frame → ℕ → Taken) (xs : List (Under Frame)) (n : ℕ) (u top : Under Frame) (steps devices : ℕ) (chip chip1 : Chip) (s : Stepped) (lt : n < length xs) (is : u ≡ slice_index_or xs n u)
+    (top-is : top ≡ moved u (left u.frame (value_of chip (move_of u.frame))) (move_of u.frame)) (comes : ComesIn (hung devices chip) (move_of u.frame) s.received) (chip-is : chip1 ≡ chip_after (hung devices chip) (move_of u.frame) s.received)
+    (s-is : s ≡ stepped (move_of u.frame) (value_of chip (move_of u.frame)) s.received (gave u.frame (value_of chip (move_of u.frame)))) where
+  abbrev under : List (Under Frame)
+  under = reverse (take n xs)
+
+  abbrev value : ℕ
+  value = value_of chip (move_of u.frame)
+
+  same : value ≡ value_of (hung devices chip) (move_of u.frame)
+  same = sym (value-hung devices chip (move_of u.frame))
+
+  ended-is : s.ended ≡ (gave u.frame value).ended
+  ended-is = ap (λ t. t.ended) s-is
+
+  -- it leaves these frames
+  leaves : (after : List (Under Frame)) → after ≡ top_after (moved u (left u.frame value) (move_of u.frame)) (gave u.frame value).ended under → TakesStep move_of left gave (reverse (take (n + 1) xs)) steps (hung_for (reverse (take (n + 1) xs)) devices chip) (record { frames = after; steps = steps + 1 }) chip1 (Ok s)
+  leaves after e = subst (λ ys. TakesStep move_of left gave ys steps (hung_for ys devices chip) (record { frames = after; steps = steps + 1 }) chip1 (Ok s)) (sym (reverse-last xs n u lt ∙ ap (λ x. x ∷ under) (sym is)))
+      (record {
+        received = s.received;
+        comes = comes;
+        frames = subst (λ v. after ≡ top_after (moved u (left u.frame v) (move_of u.frame)) (gave u.frame v).ended under) same e;
+        steps_are = refl;
+        chip_is = chip-is;
+        result_is = subst (λ v. ◌≡◌ {A = Result Stepped Held} (Ok s) (Ok (stepped (move_of u.frame) v s.received (gave u.frame v)))) same (ap (λ t. Ok t) s-is);
+      })
+
+  pub takes-on : is_some s.ended ≡ false → TakesStep move_of left gave (reverse (take (n + 1) xs)) steps (hung_for (reverse (take (n + 1) xs)) devices chip) (record { frames = reverse (take (n + 1) (slice_set xs n top)); steps = steps + 1 }) chip1 (Ok s)
+  takes-on none = leaves (reverse (take (n + 1) (slice_set xs n top))) (reverse-set xs n top lt ∙ ap (λ x. x ∷ under) top-is ∙ goes-on (moved u (left u.frame value) (move_of u.frame)) under (gave u.frame value).ended (subst (λ o. is_some o ≡ false) ended-is none))
+
+  pub takes-off : is_some s.ended ≡ true → TakesStep move_of left gave (reverse (take (n + 1) xs)) steps (hung_for (reverse (take (n + 1) xs)) devices chip) (record { frames = reverse (take n (slice_set xs n top)); steps = steps + 1 }) chip1 (Ok s)
+  takes-off some = leaves (reverse (take n (slice_set xs n top))) (ap (λ ys. reverse ys) (take-set xs n top) ∙ comes-off (moved u (left u.frame value) (move_of u.frame)) under (gave u.frame value).ended (subst (λ o. is_some o ≡ true) ended-is some))

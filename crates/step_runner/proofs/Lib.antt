@@ -3,8 +3,9 @@ pub mod Beginnings
 pub mod Bounds
 pub mod ChipFacts
 pub mod Fills
+pub mod Hung
 pub mod KeptLemmas
-pub mod Runs
 pub mod LastFrame
 pub mod PowerOn
+pub mod Runs
 pub mod Whose

@@ -2,7 +2,9 @@
 use Rattle.std.proofs.Common.{◌≡◌, ℕ, ◌+◌, ◌<◌, ◌≤◌, Bool, true, false, ◌||◌, List, [], ◌∷◌, ◌++◌, Option, Some, None, refl, sym, ◌∙◌, ap, subst, arith}
 use Rattle.std.specs.Prelude.{Result, Ok}
 use Rattle.std.proofs.lemmas.List.{append-nil}
-use Rattle.chip_model.specs.Chip.{Chip, value_of, received_of, chip_after, is_masked, is_pending}
+use Rattle.chip_model.specs.Chip.{Chip, value_of, chip_after, is_masked, is_pending}
+use Rattle.chip_model.specs.Devices.{ComesIn}
+use Rattle.chip_model.proofs.DeviceLaws.{devices-move}
 use Rattle.irq_control.specs.declared.held.Held.{Held}
 use Rattle.mcal_base.specs.Bits.{has_bit}
 use Rattle.mcal_base.proofs.BitLaws.{has_bit-zero}
@@ -23,7 +25,7 @@ use Rattle.step_runner.specs.Kept.{Kept, moved, TakesStep, CanStep, total_fuel}
 use Rattle.step_runner.specs.Stands.{paired, IsFrameOf, AreFramesOf, NoneInside, IsGuarded, LevelsRise, Matches, IsFirst, Stands, step_done, FuelFalls}
 use Rattle.step_runner.specs.declared.stack.Under.{Under}
 use Rattle.step_runner.proofs.Bounds.{steps_bound, window_bound, room_bound}
-use Rattle.step_runner.proofs.ChipFacts.{mask-after, disabled-pending, disabled-after, received-alone}
+use Rattle.step_runner.proofs.ChipFacts.{mask-after, disabled-pending, disabled-after, received-right}
 use Rattle.run_model.proofs.OutsideLaws.{stands-move}
 
 -- ---- lists of deeds
@@ -127,13 +129,13 @@ module _ {State Call Frame : Type 0} (d : Driver State Call Frame) (move_of : Fr
       let k : Matches d first [] m = record {
         chip_is = refl;
         frames = tt;
-        relates = subst (λ c. d.relates c (world_start 0) [] d.setting.first) is.is_reset (law.starts first (world_start 0) wired is.outside);
+        relates = subst (λ c. d.relates c (world_start first.devices) [] d.setting.first) is.is_reset (law.starts first (world_start first.devices) wired is.outside);
         guarded = sym (ap is_masked is.is_reset);
         counted = let e = law.count_first in omega (arith, e);
         levels = tt;
         rate = sym (ap (λ c. c.clock.rate) is.is_reset) ∙ sym law.rate_starts;
         outside = is.outside;
-        alone = refl;
+        hung = refl;
         enabled = λ line apart. sym (ap (λ c. has_bit c.control.enabled line) is.is_reset) ∙ has_bit-zero line;
       } in
       record { covers = cover; legal = served-of first [] m k; matches = k }
@@ -165,9 +167,9 @@ module _ {State Call Frame : Type 0} (d : Driver State Call Frame) (move_of : Fr
   total-after before u1 us (Some a) f = omega arith
 
   -- what a step of the top frame has to show
-  pub record GoesOn (chip : Chip) (u : Under Frame) (us : List (Under Frame)) (m : Moment State Call) : Type 0 where
-    pub legal : IsLegalDeed d.setting m (Steps (stepped (move_of u.frame) (value_of chip (move_of u.frame)) (received_of chip (move_of u.frame)) (gave u.frame (value_of chip (move_of u.frame)))))
-    pub matches : Matches d (chip_after chip (move_of u.frame) (received_of chip (move_of u.frame))) (top_after (moved u (left u.frame (value_of chip (move_of u.frame))) (move_of u.frame)) (gave u.frame (value_of chip (move_of u.frame))).ended us) (after d.setting m (Steps (stepped (move_of u.frame) (value_of chip (move_of u.frame)) (received_of chip (move_of u.frame)) (gave u.frame (value_of chip (move_of u.frame))))))
+  pub record GoesOn (chip : Chip) (u : Under Frame) (us : List (Under Frame)) (m : Moment State Call) (received : ℕ) : Type 0 where
+    pub legal : IsLegalDeed d.setting m (Steps (stepped (move_of u.frame) (value_of chip (move_of u.frame)) received (gave u.frame (value_of chip (move_of u.frame)))))
+    pub matches : Matches d (chip_after chip (move_of u.frame) received) (top_after (moved u (left u.frame (value_of chip (move_of u.frame))) (move_of u.frame)) (gave u.frame (value_of chip (move_of u.frame))).ended us) (after d.setting m (Steps (stepped (move_of u.frame) (value_of chip (move_of u.frame)) received (gave u.frame (value_of chip (move_of u.frame))))))
     pub fuel : total_fuel d.fuel (top_after (moved u (left u.frame (value_of chip (move_of u.frame))) (move_of u.frame)) (gave u.frame (value_of chip (move_of u.frame))).ended us) < d.fuel u.frame + total_fuel d.fuel us
 
   -- a frame enables no line that isn't the driver's
@@ -185,11 +187,10 @@ module _ {State Call Frame : Type 0} (d : Driver State Call Frame) (move_of : Fr
   count-after w s n None c = omega (arith, c)
   count-after w s n (Some h) c = let k = count-by w s h (d.setting.machine.happens w s h) refl in omega (arith, k, c)
 
-  goes-step : (chip : Chip) (w : World) (s : State) (u : Under Frame) (us : List (Under Frame)) (o : Open Call) (os : List (Open Call)) (n : ℕ) → let m : Moment State Call = record { chip = chip; world = w; state = s; opens = o ∷ os; steps = n } in n < most_steps → Matches d chip (u ∷ us) m → GoesOn chip u us m
-  goes-step chip w s u us o os n few k =
+  goes-step : (chip : Chip) (w : World) (s : State) (u : Under Frame) (us : List (Under Frame)) (o : Open Call) (os : List (Open Call)) (n received : ℕ) → let m : Moment State Call = record { chip = chip; world = w; state = s; opens = o ∷ os; steps = n } in ComesIn chip (move_of u.frame) received → n < most_steps → Matches d chip (u ∷ us) m → GoesOn chip u us m received
+  goes-step chip w s u us o os n received comes few k =
       let made = move_of u.frame in
       let value = value_of chip made in
-      let received = received_of chip made in
       let taken = gave u.frame value in
       let out = outcome_at d.setting.machine w s o made received taken.event in
       let o1 = open_after d.setting.machine w s o made received taken.event in
@@ -197,7 +198,7 @@ module _ {State Call Frame : Type 0} (d : Driver State Call Frame) (move_of : Fr
       let bound = d.setting.steps_of o.origin in
       let wide = d.setting.window_of o.origin in
       let here = k.frames.0 in
-      let come = received-alone chip w made k.alone in
+      let come = received-right chip w made received k.hung comes in
       let fits : d.count s < most_steps = let c = k.counted in omega (arith, c, few) in
       let counted = count-after w s n (happening_at o.origin (brought_by w o.committed made received) taken.event) k.counted in
       let x = law.steps chip w u.frame o (paired us os) s received come fits k.guarded.0 (outside-paired us os k.guarded.1) k.relates in
@@ -236,18 +237,18 @@ module _ {State Call Frame : Type 0} (d : Driver State Call Frame) (move_of : Fr
           levels = levels-after o o1 os taken.ended refl k.levels;
           rate = law.rate chip w u.frame o (paired us os) s received come fits k.guarded.0 (outside-paired us os k.guarded.1) k.relates k.rate;
           outside = stands-move chip w made received k.outside;
-          alone = k.alone;
+          hung = devices-move chip made received ∙ k.hung;
           enabled = none-enabled chip o made received x.own k.enabled;
         };
         fuel = total-after (d.fuel u.frame) u1 us taken.ended x.fuel;
       }
 
-  goes-at : (chip : Chip) (w : World) (s : State) (u : Under Frame) (us : List (Under Frame)) (os : List (Open Call)) (n : ℕ) → let m : Moment State Call = record { chip = chip; world = w; state = s; opens = os; steps = n } in n < most_steps → Matches d chip (u ∷ us) m → GoesOn chip u us m
-  goes-at chip w s u us [] n few k = absurd k.frames
-  goes-at chip w s u us (o ∷ os) n few k = goes-step chip w s u us o os n few k
+  goes-at : (chip : Chip) (w : World) (s : State) (u : Under Frame) (us : List (Under Frame)) (os : List (Open Call)) (n received : ℕ) → let m : Moment State Call = record { chip = chip; world = w; state = s; opens = os; steps = n } in ComesIn chip (move_of u.frame) received → n < most_steps → Matches d chip (u ∷ us) m → GoesOn chip u us m received
+  goes-at chip w s u us [] n received comes few k = absurd k.frames
+  goes-at chip w s u us (o ∷ os) n received comes few k = goes-step chip w s u us o os n received comes few k
 
-  pub goes-on : (chip : Chip) (u : Under Frame) (us : List (Under Frame)) (m : Moment State Call) → m.steps < most_steps → Matches d chip (u ∷ us) m → GoesOn chip u us m
-  goes-on chip u us m few k = subst (λ c. GoesOn c u us m) (sym k.chip_is) (goes-at m.chip m.world m.state u us m.opens m.steps few (subst (λ c. Matches d c (u ∷ us) m) k.chip_is k))
+  pub goes-on : (chip : Chip) (u : Under Frame) (us : List (Under Frame)) (m : Moment State Call) (received : ℕ) → ComesIn chip (move_of u.frame) received → m.steps < most_steps → Matches d chip (u ∷ us) m → GoesOn chip u us m received
+  goes-on chip u us m received comes few k = subst (λ c. GoesOn c u us m received) (sym k.chip_is) (goes-at m.chip m.world m.state u us m.opens m.steps received (subst (λ c. ComesIn c (move_of u.frame) received) k.chip_is comes) few (subst (λ c. Matches d c (u ∷ us) m) k.chip_is k))
 
   -- what a step leaves stands for the deeds with the step
   pub stands-step : (first : Chip) (h : List (Deed Call)) (chip chip1 : Chip) (us : List (Under Frame)) (steps : ℕ) (k1 : Kept Frame) (r : Result Stepped Held) → TakesStep move_of left gave us steps chip k1 chip1 r → (after_all d.setting (start_moment d.setting first) h).steps < most_steps → Stands d first chip us h → Stands d first chip1 k1.frames (h ++ step_done r)
@@ -257,17 +258,17 @@ module _ {State Call Frame : Type 0} (d : Driver State Call Frame) (move_of : Fr
       (subst (λ x. Stands d first x k1.frames h) (sym t.chip_is)
       (subst (λ x. Stands d first chip x h) (sym t.frames) st)))
   stands-step first h chip chip1 (u ∷ us) steps k1 r t few st =
-      let k = goes-on chip u us (after_all d.setting (start_moment d.setting first) h) few st.matches in
+      let k = goes-on chip u us (after_all d.setting (start_moment d.setting first) h) t.received t.comes few st.matches in
       subst (λ x. Stands d first chip1 k1.frames (h ++ step_done x)) (sym t.result_is)
-      (subst (λ x. Stands d first x k1.frames (h ++ step_done (Ok (stepped (move_of u.frame) (value_of chip (move_of u.frame)) (received_of chip (move_of u.frame)) (gave u.frame (value_of chip (move_of u.frame))))))) (sym t.chip_is)
-      (subst (λ x. Stands d first (chip_after chip (move_of u.frame) (received_of chip (move_of u.frame))) x (h ++ step_done (Ok (stepped (move_of u.frame) (value_of chip (move_of u.frame)) (received_of chip (move_of u.frame)) (gave u.frame (value_of chip (move_of u.frame))))))) (sym t.frames)
-      (stands-on first chip (chip_after chip (move_of u.frame) (received_of chip (move_of u.frame))) (u ∷ us) (top_after (moved u (left u.frame (value_of chip (move_of u.frame))) (move_of u.frame)) (gave u.frame (value_of chip (move_of u.frame))).ended us) h (Steps (stepped (move_of u.frame) (value_of chip (move_of u.frame)) (received_of chip (move_of u.frame)) (gave u.frame (value_of chip (move_of u.frame))))) st k.legal k.matches)))
+      (subst (λ x. Stands d first x k1.frames (h ++ step_done (Ok (stepped (move_of u.frame) (value_of chip (move_of u.frame)) t.received (gave u.frame (value_of chip (move_of u.frame))))))) (sym t.chip_is)
+      (subst (λ x. Stands d first (chip_after chip (move_of u.frame) t.received) x (h ++ step_done (Ok (stepped (move_of u.frame) (value_of chip (move_of u.frame)) t.received (gave u.frame (value_of chip (move_of u.frame))))))) (sym t.frames)
+      (stands-on first chip (chip_after chip (move_of u.frame) t.received) (u ∷ us) (top_after (moved u (left u.frame (value_of chip (move_of u.frame))) (move_of u.frame)) (gave u.frame (value_of chip (move_of u.frame))).ended us) h (Steps (stepped (move_of u.frame) (value_of chip (move_of u.frame)) t.received (gave u.frame (value_of chip (move_of u.frame))))) st k.legal k.matches)))
 
   -- and the frames have fewer steps left
   pub fuel-step : (first : Chip) (h : List (Deed Call)) (chip chip1 : Chip) (us : List (Under Frame)) (steps : ℕ) (k1 : Kept Frame) (r : Result Stepped Held) → TakesStep move_of left gave us steps chip k1 chip1 r → (after_all d.setting (start_moment d.setting first) h).steps < most_steps → Stands d first chip us h → FuelFalls d.fuel us k1.frames r
   fuel-step first h chip chip1 [] steps k1 r t few st = subst (λ x. FuelFalls d.fuel [] k1.frames x) (sym t.result_is) tt
   fuel-step first h chip chip1 (u ∷ us) steps k1 r t few st =
-      let k = goes-on chip u us (after_all d.setting (start_moment d.setting first) h) few st.matches in
+      let k = goes-on chip u us (after_all d.setting (start_moment d.setting first) h) t.received t.comes few st.matches in
       subst (λ x. FuelFalls d.fuel (u ∷ us) k1.frames x) (sym t.result_is)
       (subst (λ x. total_fuel d.fuel x < total_fuel d.fuel (u ∷ us)) (sym t.frames) k.fuel)
 

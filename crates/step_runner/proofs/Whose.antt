@@ -1,8 +1,7 @@
 -- Drivers of different modules are apart, and as one they are a driver of the modules of both.
-use Rattle.std.proofs.Common.{◌≡◌, ℕ, Bool, true, false, not, ◌&&◌, ◌||◌, List, [], ◌∷◌, Option, Some, None, is_some, refl, sym, ◌∙◌, ap, arith}
+use Rattle.std.proofs.Common.{◌≡◌, ℕ, Bool, true, false, not, ◌&&◌, ◌||◌, Option, Some, None, is_some, refl, arith}
 use Rattle.std.specs.Prelude.{IsSome}
 use Rattle.std.specs.List.{list_all}
-use Rattle.chip_model.specs.Chip.{Chip, chip_after}
 use Rattle.chip_model.specs.Histories.{sets_rate}
 use Rattle.chip_model.proofs.HistoryLaws.{rate-left}
 use Rattle.mcal_base.specs.Bits.{has_bit}
@@ -14,11 +13,9 @@ use Rattle.mcal_base.specs.declared.register.Reg.{Reg}
 use Rattle.mcal_base.specs.declared.register.Reg.TheVariants.{EnableSet, EnableClear, ClockPll, ClockRate}
 use Rattle.run_model.specs.World.{World}
 use Rattle.run_model.specs.Machine.{Starts, Aborts}
-use Rattle.run_model.specs.Frame.{Origin}
 use Rattle.step_runner.specs.Driver.{Driver}
-use Rattle.step_runner.specs.Lifts.{and-left, and-right}
 use Rattle.step_runner.specs.Union.{either_handler, others, has_handler, AreApart, union_of}
-use Rattle.step_runner.specs.Whose.{module_of_register, module_of_line, module_of_word, module_of_unit, all_of, are_disjoint, is_of, is_line_of, EnablesWithin, WritesWithin, NamesWithin, EnablesOthers, WritesOthers, NamesOthers, KeepsTo}
+use Rattle.step_runner.specs.Whose.{module_of_register, module_of_line, module_of_word, module_of_unit, all_of, are_disjoint, is_of, is_line_of, EnablesWithin, WritesWithin, NamesWithin, WritesOthers, NamesOthers, KeepsTo}
 use Rattle.step_runner.proofs.Apart.{owns-neither, may-either, some-either, all-into}
 use Rattle.step_runner.specs.declared.either.Either.{Either}
 use Rattle.step_runner.specs.declared.either.Either.TheVariants.{Left, Right}

@@ -1,12 +1,14 @@
 -- What a stack keeps of each frame, and what a beginning and a step leave of it.
 use Rattle.std.specs.Prelude.{◌≡◌, ℕ, ◌+◌, ◌<◌, Bool, false, ◌||◌, cond, List, [], ◌∷◌, length, Option, Some, None, Result, Ok, Err}
-use Rattle.chip_model.specs.Chip.{Chip, value_of, received_of, chip_after}
+use Rattle.chip_model.specs.Chip.{Chip, hung, value_of, chip_after}
+use Rattle.chip_model.specs.Devices.{ComesIn, CallsRight}
 use Rattle.irq_control.specs.declared.held.Held.{Held}
 use Rattle.irq_control.specs.declared.held.Held.TheVariants.{Empty, Busy, Unknown}
 use Rattle.mcal_base.specs.declared.moves.Move.{Move}
 use Rattle.mcal_base.specs.declared.routine.Taken.{Taken}
 use Rattle.run_model.specs.declared.class.Tag.{Tag}
 use Rattle.run_model.specs.declared.item.Stepped.{Stepped}
+use Rattle.serial_devices.specs.Lines.{Line}
 use Rattle.std.specs.List.{list_any}
 use Rattle.run_model.specs.Causes.{reads_source}
 use Rattle.run_model.specs.Frame.{is_note, top_after}
@@ -76,12 +78,14 @@ TakesTop (u ∷ us) steps k1 r = (k1 ≡ record { frames = us; steps = steps + 1
 abbrev pub moved : {Frame : Type 0} → Under Frame → Frame → Move → Under Frame
 moved u frame made = record { frame = frame; tag = u.tag; noted = is_note made }
 
--- The top frame makes its move and takes the value, and leaves the stack where it ended.
+-- The top frame makes its move and takes the value, and leaves the stack where it ended; a word comes in that may come.
 pub record StepsTop {Frame : Type 0} (move_of : Frame → Move) (left : Frame → ℕ → Frame) (gave : Frame → ℕ → Taken) (u : Under Frame) (us : List (Under Frame)) (steps : ℕ) (chip : Chip) (k1 : Kept Frame) (chip1 : Chip) (r : Result Stepped Held) : Type 0 where
+  pub received : ℕ
+  pub comes : ComesIn chip (move_of u.frame) received
   pub frames : k1.frames ≡ top_after (moved u (left u.frame (value_of chip (move_of u.frame))) (move_of u.frame)) (gave u.frame (value_of chip (move_of u.frame))).ended us
   pub steps_are : k1.steps ≡ steps + 1
-  pub chip_is : chip1 ≡ chip_after chip (move_of u.frame) (received_of chip (move_of u.frame))
-  pub result_is : r ≡ Ok (stepped (move_of u.frame) (value_of chip (move_of u.frame)) (received_of chip (move_of u.frame)) (gave u.frame (value_of chip (move_of u.frame))))
+  pub chip_is : chip1 ≡ chip_after chip (move_of u.frame) received
+  pub result_is : r ≡ Ok (stepped (move_of u.frame) (value_of chip (move_of u.frame)) received (gave u.frame (value_of chip (move_of u.frame))))
 
 -- With no frame nothing happens.
 pub record StepsNothing {Frame : Type 0} (steps : ℕ) (chip : Chip) (k1 : Kept Frame) (chip1 : Chip) (r : Result Stepped Held) : Type 0 where
@@ -94,6 +98,16 @@ pub record StepsNothing {Frame : Type 0} (steps : ℕ) (chip : Chip) (k1 : Kept 
 abbrev pub TakesStep : {Frame : Type 0} → (Frame → Move) → (Frame → ℕ → Frame) → (Frame → ℕ → Taken) → List (Under Frame) → ℕ → Chip → Kept Frame → Chip → Result Stepped Held → Type 0
 TakesStep move_of left gave [] steps chip k1 chip1 r = StepsNothing steps chip k1 chip1 r
 TakesStep move_of left gave (u ∷ us) steps chip k1 chip1 r = StepsTop move_of left gave u us steps chip k1 chip1 r
+
+-- the chip whose move a step makes: as many devices hang on it as there are, and with no frame nothing happens to it
+abbrev pub hung_for : {Frame : Type 0} → List (Under Frame) → (devices : ℕ) → Chip → Chip
+hung_for [] devices chip = chip
+hung_for (u ∷ us) devices chip = hung devices chip
+
+-- what becomes of the devices by a step
+abbrev pub StepCalls : Chip → Result Stepped Held → (old new : List Line) → Type 0
+StepCalls chip (Ok s) old new = CallsRight chip s.made s.received old new
+StepCalls chip (Err cause) old new = new ≡ old
 
 -- the step that was written to a place, unless it was held
 abbrev pub written_by : {A : Type 0} → Result A Held → Stepped → Result Stepped Held

@@ -70,15 +70,15 @@ pub record Matches {State Call Frame : Type 0} (d : Driver State Call Frame) (ch
   pub counted : d.count m.state ≤ m.steps
   pub levels : LevelsRise (tags_of m.opens)
   pub rate : m.chip.clock.rate ≡ d.setting.machine.rate m.state
-  -- it stands in the world, which has no serial device
+  -- it stands in the world, and its serial devices are the world's
   pub outside : StandsIn m.chip m.world
-  pub alone : m.world.devices ≡ 0
+  pub hung : m.chip.devices ≡ m.world.devices
   -- no line is enabled that isn't one of the driver's
   pub enabled : (line : ℕ) → d.lines line ≡ false → has_bit m.chip.control.enabled line ≡ false
 
--- A chip as at power on: no time went by outside, no serial device is there, no word waits to come in, and it is as that reset leaves it.
+-- A chip as at power on: no time went by outside, no word waits to come in, and it is as that reset leaves it.
 pub record IsFirst (chip : Chip) : Type 0 where
-  pub outside : StandsIn chip (world_start 0)
+  pub outside : StandsIn chip (world_start chip.devices)
   pub waits : (u : ℕ) → (incoming_at chip u).waiting ≡ []
   pub is_reset : reset_chip chip PowerOn ≡ chip
 

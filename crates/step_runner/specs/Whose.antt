@@ -16,7 +16,7 @@ use Rattle.mcal_base.specs.declared.register.Reg.TheVariants.{EnableSet, EnableC
 use Rattle.run_model.specs.World.{World}
 use Rattle.run_model.specs.Machine.{Starts, Aborts}
 use Rattle.run_model.specs.Frame.{Origin}
-use Rattle.step_runner.specs.Driver.{Driver, Covers}
+use Rattle.step_runner.specs.Driver.{Driver}
 use Rattle.step_runner.specs.Union.{has_handler}
 
 -- ---- whose each is

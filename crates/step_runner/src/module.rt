@@ -25,6 +25,13 @@ pub trait Module {
     fn frame(&self, call: &Self::Call) -> Self::Frame
         ensures { result ≡ (spec self.now).frame_of call.now };
 
+    /// The frame of a call that begins, made where another frame stands.
+    fn frame_into(&self, call: &Self::Call, place: &mut Self::Frame)
+        ensures { place.new ≡ (spec self.now).frame_of call.now }
+    {
+        *place = self.frame(call);
+    }
+
     /// The frame of a line's handler, if a configured object of the module uses the line.
     fn handler(&self, line: u32) -> Option<Self::Frame>
         ensures { result ≡ (spec self.now).handler_of line };

@@ -1,17 +1,18 @@
-ghost use Rattle.std.specs.Prelude.{◌≡◌, ◌<◌, ◌&&◌, ℕ, List, [], ◌∷◌, ◌++◌, length, None, is_some};
-ghost use Rattle.chip_model.specs.Chip.{Chip, is_masked, is_pending, happened, CanHappen, reset_chip};
+ghost use Rattle.std.specs.Prelude.{◌≡◌, ◌<◌, ◌&&◌, ℕ, List, [], ◌∷◌, ◌++◌, length, map, vec_len, OnOk, None, is_some};
+ghost use Rattle.chip_model.specs.Chip.{Chip, hung, is_masked, is_pending, happened, CanHappen, reset_chip};
 ghost use Rattle.run_model.specs.Causes.{call_cause, line_cause};
 ghost use Rattle.mcal_base.specs.declared.directive.Order.TheVariants.{Fill};
 ghost use Rattle.run_model.specs.Legal.{hardware_held};
 ghost use Rattle.run_model.specs.Moment.{Deed, Begins, Enters, Happens, Resets, call_tag, line_tag, start_moment, after_all};
 ghost use Rattle.step_runner.specs.Stands.{Stands, done, step_done, FuelFalls};
-ghost use Rattle.step_runner.specs.Kept.{tags_under, top_is_noted, cause_of, beginning, put_by, enter_by, fill_by, written_by, CanStep, TakesStep};
+ghost use Rattle.step_runner.specs.Kept.{tags_under, top_is_noted, cause_of, beginning, put_by, enter_by, fill_by, written_by, CanStep, TakesStep, hung_for, StepCalls};
 
 use crate::{Module, Stack};
 use chip_model::Bus;
 use irq_control::Held;
 use mcal_base::{Directive, Reason};
 use run_model::{Stepped, Tag};
+use serial_devices::SerialDevice;
 
 /// Begins a call at a level, unless a cause holds it; a held one changes nothing.
 pub fn begin<M: Module>(
@@ -37,7 +38,7 @@ pub fn begin<M: Module>(
         owner: class.module,
         class: Some(class),
     };
-    stack.put(driver.frame(&call), tag);
+    stack.put_call(driver, &call, tag);
     Ok(())
 }
 
@@ -70,24 +71,33 @@ pub fn enter<M: Module>(stack: &mut Stack<M>, driver: &M, bus: &Bus, line: u32) 
 
 /// Makes the move of the top frame, hands its value to the frame, and takes the frame off where it ended.
 /// It is held as empty exactly where no frame is there.
-pub fn step<M: Module>(stack: &mut Stack<M>, bus: &mut Bus) -> Result<Stepped, Held>
+pub fn step<M: Module>(
+    stack: &mut Stack<M>,
+    bus: &mut Bus,
+    rack: &mut Vec<Box<dyn SerialDevice>>,
+) -> Result<Stepped, Held>
     requires few { stack.old.steps < 4294967295 }
     requires there { CanStep M.Frame.move_of stack.old.frames }
     ensures step { TakesStep M.Frame.move_of M.Frame.left M.Frame.gave
-        stack.old.frames stack.old.steps bus.old stack.new bus.new result }
-    ensures stands { (driver : M) (first : Chip) (h : List (Deed M.Call)) → (M.spec driver).fits →
+        stack.old.frames stack.old.steps (hung_for stack.old.frames (vec_len rack.old) bus.old) stack.new bus.new result }
+    // The units have this rack's devices in a step. One that begins a word under a device's select calls it, and no other
+    // step calls one.
+    ensures count { vec_len rack.new ≡ vec_len rack.old }
+    ensures hung { OnOk result (bus.new.devices ≡ vec_len rack.new) }
+    ensures calls { StepCalls (hung (vec_len rack.old) bus.old) result (map (λ d. line d) rack.old.items) (map (λ d. line d) rack.new.items) }
+    ensures stands { (driver : M) (first : Chip) (h : List (Deed M.Call)) → vec_len rack.old ≡ bus.old.devices → (M.spec driver).fits →
         let setting = (M.spec driver).setting in
         (after_all setting (start_moment setting first) h).steps < 4294967295 →
         Stands (M.spec driver) first bus.old stack.old.frames h →
         Stands (M.spec driver) first bus.new stack.new.frames (h ++ step_done result) }
-    ensures shortens { (driver : M) (first : Chip) (h : List (Deed M.Call)) → (M.spec driver).fits →
+    ensures shortens { (driver : M) (first : Chip) (h : List (Deed M.Call)) → vec_len rack.old ≡ bus.old.devices → (M.spec driver).fits →
         let setting = (M.spec driver).setting in
         (after_all setting (start_moment setting first) h).steps < 4294967295 →
         Stands (M.spec driver) first bus.old stack.old.frames h →
         FuelFalls (M.spec driver).fuel stack.old.frames stack.new.frames result }
 {
     let mut stepped = Stepped::blank();
-    step_into(stack, bus, &mut stepped)?;
+    step_into(stack, bus, rack, &mut stepped)?;
     Ok(stepped)
 }
 
@@ -95,25 +105,29 @@ pub fn step<M: Module>(stack: &mut Stack<M>, bus: &mut Bus) -> Result<Stepped, H
 pub fn step_into<M: Module>(
     stack: &mut Stack<M>,
     bus: &mut Bus,
+    rack: &mut Vec<Box<dyn SerialDevice>>,
     stepped: &mut Stepped,
 ) -> Result<(), Held>
     requires few { stack.old.steps < 4294967295 }
     requires there { CanStep M.Frame.move_of stack.old.frames }
     requires free { stepped.old.ended ≡ None }
     ensures step { TakesStep M.Frame.move_of M.Frame.left M.Frame.gave
-        stack.old.frames stack.old.steps bus.old stack.new bus.new (written_by result stepped.new) }
-    ensures stands { (driver : M) (first : Chip) (h : List (Deed M.Call)) → (M.spec driver).fits →
+        stack.old.frames stack.old.steps (hung_for stack.old.frames (vec_len rack.old) bus.old) stack.new bus.new (written_by result stepped.new) }
+    ensures count { vec_len rack.new ≡ vec_len rack.old }
+    ensures hung { OnOk result (bus.new.devices ≡ vec_len rack.new) }
+    ensures calls { StepCalls (hung (vec_len rack.old) bus.old) (written_by result stepped.new) (map (λ d. line d) rack.old.items) (map (λ d. line d) rack.new.items) }
+    ensures stands { (driver : M) (first : Chip) (h : List (Deed M.Call)) → vec_len rack.old ≡ bus.old.devices → (M.spec driver).fits →
         let setting = (M.spec driver).setting in
         (after_all setting (start_moment setting first) h).steps < 4294967295 →
         Stands (M.spec driver) first bus.old stack.old.frames h →
         Stands (M.spec driver) first bus.new stack.new.frames (h ++ step_done (written_by result stepped.new)) }
-    ensures shortens { (driver : M) (first : Chip) (h : List (Deed M.Call)) → (M.spec driver).fits →
+    ensures shortens { (driver : M) (first : Chip) (h : List (Deed M.Call)) → vec_len rack.old ≡ bus.old.devices → (M.spec driver).fits →
         let setting = (M.spec driver).setting in
         (after_all setting (start_moment setting first) h).steps < 4294967295 →
         Stands (M.spec driver) first bus.old stack.old.frames h →
         FuelFalls (M.spec driver).fuel stack.old.frames stack.new.frames (written_by result stepped.new) }
 {
-    stack.step_top(bus, stepped)
+    stack.step_top(bus, rack, stepped)
 }
 
 /// Why a fill is held: there is no such array, or the mask is closed, or the array is used or read.

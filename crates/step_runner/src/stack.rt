@@ -1,19 +1,21 @@
-ghost use Rattle.std.specs.Prelude.{◌≡◌, ◌<◌, [], ◌∷◌, not, length, IfOk, OnOk, None};
+ghost use Rattle.std.specs.Prelude.{◌≡◌, ◌<◌, [], ◌∷◌, not, length, map, vec_len, IfOk, OnOk, None, reverse};
 ghost use Rattle.std.specs.List.{list_all, list_any};
 ghost use Rattle.std.specs.Bool.{OnFalse};
 ghost use Rattle.mcal_base.specs.Names.{module_number};
 ghost use Rattle.run_model.specs.Causes.{kind_number, same_key, reads_source, kind_blocks, class_blocks, blocks, may_reenter, call_level_allows, line_level_allows, call_cause, line_cause, is_full};
-ghost use Rattle.chip_model.specs.Chip.{Chip, value_of, received_of, chip_after};
+ghost use Rattle.chip_model.specs.Chip.{Chip, hung, value_of, chip_after};
+ghost use Rattle.chip_model.specs.Devices.{ComesIn, CallsRight};
 ghost use Rattle.mcal_base.specs.Reach.{CanApply};
 ghost use Rattle.step_runner.specs.Driver.{stepped as step_of, Covers};
 ghost use Rattle.step_runner.specs.Stands.{IsFirst, Stands};
-ghost use Rattle.step_runner.specs.Kept.{kept_empty, is_read, tags_under, top_is_noted, cause_of, beginning, moved, written_by, CanStep, TakesStep};
+ghost use Rattle.step_runner.specs.Kept.{kept_empty, is_read, tags_under, top_is_noted, cause_of, beginning, moved, written_by, CanStep, TakesStep, hung_for, StepCalls};
 
 use crate::Module;
 use chip_model::Bus;
 use irq_control::Held;
 use mcal_base::{Move, NoMemory, Routine};
 use run_model::{Class, Key, KeyKind, Kind, Stepped, Tag};
+use serial_devices::SerialDevice;
 use std::alloc::Global;
 use std::marker::Model;
 
@@ -31,22 +33,24 @@ pub struct Under<F: Drop> {
     pub noted: bool,
 }
 
-/// The frames under way, at most eight, and the number of steps that were made.
+/// The frames under way, at most eight, and the number of steps that were made. A frame that ended leaves its place, where
+/// the next one is made.
 #[derive(Drop)]
 pub struct Stack<M: Module> {
-    frames: Vec<Under<M::Frame>>,
+    places: Vec<Under<M::Frame>>,
+    count: usize,
     steps: u32,
 }
 
 impl<M: Module> Model for Stack<M> {
-    ghost use Rattle.std.specs.Prelude.{◌≤◌, reverse, vec_len, vec_capacity};
+    ghost use Rattle.std.specs.Prelude.{◌≤◌, reverse, take, vec_len, vec_capacity};
     ghost use Rattle.step_runner.specs.Kept.{Kept};
 
     ghost Value = { Kept M.Frame };
 
-    ghost view = { λ s. record { frames = reverse s.frames.items; steps = s.steps } };
+    ghost view = { λ s. record { frames = reverse (take s.count s.places.items); steps = s.steps } };
 
-    ghost invariant = { λ s. (vec_len s.frames ≤ 8) × (8 ≤ vec_capacity s.frames) };
+    ghost invariant = { λ s. (s.count ≤ vec_len s.places) × (vec_len s.places ≤ 8) × (8 ≤ vec_capacity s.places) };
 }
 
 fn kind_number_of(kind: KeyKind) -> u32
@@ -131,23 +135,39 @@ fn none_blocks<F: Drop>(class: &Class, frames: &[Under<F>]) -> bool
 }
 
 /// A frame makes its move and takes what that gave, and the step is written to a place that holds no answer.
-fn move_frame<F: Routine + Drop>(top: &mut Under<F>, bus: &mut Bus, stepped: &mut Stepped)
+fn move_frame<F: Routine + Drop>(
+    top: &mut Under<F>,
+    bus: &mut Bus,
+    rack: &mut Vec<Box<dyn SerialDevice>>,
+    stepped: &mut Stepped,
+)
     requires there { CanApply (F.move_of top.old.frame) }
     requires free { stepped.old.ended ≡ None }
     ensures top { let made = F.move_of top.old.frame in
         top.new ≡ moved top.old (F.left top.old.frame (value_of bus.old made)) made }
-    ensures chip { let made = F.move_of top.old.frame in
-        bus.new ≡ chip_after bus.old made (received_of bus.old made) }
+    ensures comes { ComesIn (hung (vec_len rack.old) bus.old) (F.move_of top.old.frame) stepped.new.received }
+    ensures chip { bus.new ≡ chip_after (hung (vec_len rack.old) bus.old) (F.move_of top.old.frame) stepped.new.received }
     ensures step { let made = F.move_of top.old.frame in
         let value = value_of bus.old made in
-        stepped.new ≡ step_of made value (received_of bus.old made) (F.gave top.old.frame value) }
+        stepped.new ≡ step_of made value stepped.new.received (F.gave top.old.frame value) }
+    ensures count { vec_len rack.new ≡ vec_len rack.old }
+    ensures calls { CallsRight (hung (vec_len rack.old) bus.old) stepped.new.made stepped.new.received (map (λ d. line d) rack.old.items) (map (λ d. line d) rack.new.items) }
 {
     stepped.made = top.frame.next();
-    let applied = bus.apply(&stepped.made);
+    let applied = bus.apply(&stepped.made, rack);
     stepped.value = applied.value;
     stepped.received = applied.received;
     top.noted = matches!(stepped.made, Move::Note(_));
     stepped.event = top.frame.took_into(stepped.value, &mut stepped.ended);
+}
+
+/// Begins a call where an earlier frame stood.
+fn write_call<M: Module>(driver: &M, call: &M::Call, tag: Tag, place: &mut Under<M::Frame>)
+    ensures { place.new ≡ beginning ((M.spec driver.now).frame_of call.now) tag }
+{
+    driver.frame_into(call, &mut place.frame);
+    place.tag = tag;
+    place.noted = false;
 }
 
 impl<M: Module> Stack<M> {
@@ -158,15 +178,19 @@ impl<M: Module> Stack<M> {
             IsFirst first → (M.spec driver).wired first →
             IfOk result (λ s. Stands (M.spec driver) first first s.frames []) }
     {
-        let frames = Vec::with_capacity(alloc, MOST_FRAMES as usize).map_err(|_| NoMemory)?;
-        Ok(Stack { frames, steps: 0 })
+        let places = Vec::with_capacity(alloc, MOST_FRAMES as usize).map_err(|_| NoMemory)?;
+        Ok(Stack {
+            places,
+            count: 0,
+            steps: 0,
+        })
     }
 
     /// The number of frames.
     pub fn depth(&self) -> u32
         ensures { result ≡ length self.now.frames }
     {
-        self.frames.len() as u32
+        self.count as u32
     }
 
     /// The number of steps that were made.
@@ -182,22 +206,29 @@ impl<M: Module> Stack<M> {
         ensures left { self.new ≡ record self.old { frames = [] } }
     {
         let dropped = self.depth();
-        self.frames.clear();
+        self.count = 0;
         dropped
+    }
+
+    /// The frames as they lie, the oldest first.
+    fn lying(&self) -> &[Under<M::Frame>]
+        ensures { reverse result.now ≡ self.now.frames }
+    {
+        &self.places[..self.count]
     }
 
     /// Whether reentry allows a call.
     fn may_reenter(&self, class: &Class) -> bool
         ensures { result ≡ may_reenter class.now (tags_under self.now.frames) }
     {
-        none_blocks(class, &self.frames)
+        none_blocks(class, self.lying())
     }
 
     /// Whether a call of this level may begin over the top frame.
     fn call_level_allows(&self, level: u32) -> bool
         ensures { result ≡ call_level_allows (tags_under self.now.frames) (top_is_noted self.now.frames) level }
     {
-        match self.frames.last() {
+        match self.lying().last() {
             None => true,
             Some(top) => top.tag.level < level || top.noted && level == top.tag.level,
         }
@@ -207,7 +238,7 @@ impl<M: Module> Stack<M> {
     fn line_level_allows(&self, level: u32) -> bool
         ensures { result ≡ line_level_allows (tags_under self.now.frames) level }
     {
-        match self.frames.last() {
+        match self.lying().last() {
             None => true,
             Some(top) => top.tag.level < level,
         }
@@ -270,7 +301,7 @@ impl<M: Module> Stack<M> {
     pub(crate) fn is_read(&self, channel: u32) -> bool
         ensures { result ≡ is_read channel self.now.frames }
     {
-        one_reads(channel, &self.frames)
+        one_reads(channel, self.lying())
     }
 
     /// Puts a frame on.
@@ -278,29 +309,65 @@ impl<M: Module> Stack<M> {
         requires { length self.old.frames < 8 }
         ensures { self.new ≡ record self.old { frames = beginning frame tag ∷ self.old.frames } }
     {
-        self.frames.push_reserved(Under {
+        let under = Under {
             frame,
             tag,
             noted: false,
-        });
+        };
+        if self.count < self.places.len() {
+            self.places[self.count] = under;
+        } else {
+            self.places.push_reserved(under);
+        }
+        self.count += 1;
+    }
+
+    /// Puts the frame of a call on. It is made where an earlier frame stood, if one did.
+    pub(crate) fn put_call(&mut self, driver: &M, call: &M::Call, tag: Tag)
+        requires { length self.old.frames < 8 }
+        ensures { let frame = (M.spec driver.now).frame_of call.now in
+            self.new ≡ record self.old { frames = beginning frame tag ∷ self.old.frames } }
+    {
+        if self.count < self.places.len() {
+            write_call(driver, call, tag, &mut self.places[self.count]);
+            self.count += 1;
+        } else {
+            self.put_first(driver, call, tag);
+        }
+    }
+
+    /// Puts the frame of a call on where none stood yet.
+    fn put_first(&mut self, driver: &M, call: &M::Call, tag: Tag)
+        requires { length self.old.frames < 8 }
+        ensures { let frame = (M.spec driver.now).frame_of call.now in
+            self.new ≡ record self.old { frames = beginning frame tag ∷ self.old.frames } }
+    {
+        self.put(driver.frame(call), tag);
     }
 
     /// Lets the top frame make its move and take the value, where it stands. It is taken off where it ended.
-    pub(crate) fn step_top(&mut self, bus: &mut Bus, stepped: &mut Stepped) -> Result<(), Held>
+    pub(crate) fn step_top(
+        &mut self,
+        bus: &mut Bus,
+        rack: &mut Vec<Box<dyn SerialDevice>>,
+        stepped: &mut Stepped,
+    ) -> Result<(), Held>
         requires few { self.old.steps < 4294967295 }
         requires there { CanStep M.Frame.move_of self.old.frames }
         requires free { stepped.old.ended ≡ None }
-        ensures { TakesStep M.Frame.move_of M.Frame.left M.Frame.gave
-            self.old.frames self.old.steps bus.old self.new bus.new (written_by result stepped.new) }
+        ensures step { TakesStep M.Frame.move_of M.Frame.left M.Frame.gave
+            self.old.frames self.old.steps (hung_for self.old.frames (vec_len rack.old) bus.old) self.new bus.new (written_by result stepped.new) }
+        ensures count { vec_len rack.new ≡ vec_len rack.old }
+        ensures calls { StepCalls (hung (vec_len rack.old) bus.old) (written_by result stepped.new) (map (λ d. line d) rack.old.items) (map (λ d. line d) rack.new.items) }
     {
-        let count = self.frames.len();
+        let count = self.count;
         if count == 0 {
             return Err(Held::Empty);
         }
-        move_frame(&mut self.frames[count - 1], bus, stepped);
+        move_frame(&mut self.places[count - 1], bus, rack, stepped);
         self.steps += 1;
         if stepped.ended.is_some() {
-            let _ended = self.frames.pop();
+            self.count = count - 1;
         }
         Ok(())
     }

@@ -7,7 +7,7 @@ use Rattle.std.proofs.lemmas.Bool.Decides.{nat_tests}
 use Rattle.std.proofs.lemmas.List.{length-replicate}
 use Rattle.mcal_base.specs.Causes.{Rose}
 use Rattle.mcal_base.specs.declared.directive.Directive.{Directive}
-use Rattle.config_rows.specs.declared.fault.ConfigFault.{ConfigFault}
+use Rattle.config_keys.specs.declared.fault.ConfigFault.{ConfigFault}
 use Rattle.mcal_config.specs.Whole.{fault_of}
 use Rattle.bench_script.specs.Lines.{file}
 use Rattle.bench_script.specs.Script.{script}

@@ -3,8 +3,8 @@ use Rattle.std.specs.Prelude.{ℕ, ◌-◌, ◌==◌, nat_lt, Bool, List, [], �
 use Rattle.std.specs.List.{slice_split, join_with_byte}
 use Rattle.std.specs.Str.Lines.{strip_carriage_return}
 use Rattle.mcal_base.specs.declared.directive.Directive.{Directive}
-use Rattle.config_rows.specs.Printed.{fault_text}
-use Rattle.config_rows.specs.declared.fault.ConfigFault.{ConfigFault}
+use Rattle.config_keys.specs.Printed.{fault_text}
+use Rattle.config_keys.specs.declared.fault.ConfigFault.{ConfigFault}
 use Rattle.mcal_config.specs.Whole.{fault_of}
 use Rattle.bench_script.specs.Faults.{line_of, kind_text}
 use Rattle.bench_script.specs.Lines.{file}

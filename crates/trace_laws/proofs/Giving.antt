@@ -89,10 +89,17 @@ module _ {State Call : Type 0} (g : Setting State Call) (call_of : Request → C
       Follow g call_of n order frames shows items m d left
   resets_follow n reason order frames shows items m d left is h = same_follows g call_of n order frames shows items _ m d left is (reset_told n d reason (length m.opens) frames (length m.opens) left (less frames items m d left h) refl)
 
-  fill_follow : (n c : ℕ) (ws : List ℕ) (held : Option Held) (order : Order) (frames : List Purpose) (shows : List (List Row)) (items : List Entry) (m : Moment State Call) (d : Drawing) (left : ℕ) → HappensOnly m n (orders.Fill c ws) held items → Ready frames items m d left →
+  -- what may be held
+  happens_follow : (n : ℕ) (happens : Order) → IsSilent happens → (held : Option Held) (order : Order) (frames : List Purpose) (shows : List (List Row)) (items : List Entry) (m : Moment State Call) (d : Drawing) (left : ℕ) → HappensOnly m n happens held items → Ready frames items m d left →
       Follow g call_of n order frames shows items m d left
-  fill_follow n c ws (Some cause) order frames shows items m d left is h = stays n order frames shows cause items m d left is h
-  fill_follow n c ws None order frames shows items m d left is h = same_follows g call_of n order frames shows items _ m d left is (less frames items m d left h)
+  happens_follow n happens silent (Some cause) order frames shows items m d left is h = stays n order frames shows cause items m d left is h
+  happens_follow n happens silent None order frames shows items m d left is h = silent n order frames shows items m d left is h
+
+  fill_one : (c : ℕ) (ws : List ℕ) → IsSilent (orders.Fill c ws)
+  fill_one c ws n order frames shows items m d left is h = same_follows g call_of n order frames shows items _ m d left is (less frames items m d left h)
+
+  detach_one : IsSilent orders.Detach
+  detach_one n order frames shows items m d left is h = same_follows g call_of n order frames shows items _ m d left is (less frames items m d left h)
 
   shows_follow : (n : ℕ) (what : Shown) (os : List (Open Call)) (order : Order) (frames : List Purpose) (shows : List (List Row)) (items : List Entry) (m : Moment State Call) (d : Drawing) (left : ℕ) → Shows m n (orders.Show what) os items → Ready frames items m d left →
       Follow g call_of n order frames shows items m d left
@@ -203,7 +210,8 @@ module _ {State Call : Type 0} (g : Setting State Call) (call_of : Request → C
   gives_chapter lines n (orders.Trigger i) frames shows items m d left more h legal chip ready = quiet n (orders.Trigger i) frames shows items m d left refl ready (λ e r. same_follows g call_of n (orders.Trigger i) frames shows items _ m e left h (less frames items m e left r))
   gives_chapter lines n (orders.Miso u ws) frames shows items m d left more h legal chip ready = quiet n (orders.Miso u ws) frames shows items m d left refl ready (λ e r. same_follows g call_of n (orders.Miso u ws) frames shows items _ m e left h (less frames items m e left r))
   gives_chapter lines n (orders.SpiFault u) frames shows items m d left more h legal chip ready = quiet n (orders.SpiFault u) frames shows items m d left refl ready (λ e r. same_follows g call_of n (orders.SpiFault u) frames shows items _ m e left h (less frames items m e left r))
-  gives_chapter lines n (orders.Fill c ws) frames shows items m d left more h legal chip ready = quiet n (orders.Fill c ws) frames shows items m d left refl ready (λ e r. fill_follow n c ws _ (orders.Fill c ws) frames shows items m e left h r)
+  gives_chapter lines n orders.Detach frames shows items m d left more h legal chip ready = quiet n orders.Detach frames shows items m d left refl ready (λ e r. happens_follow n orders.Detach detach_one _ orders.Detach frames shows items m e left h r)
+  gives_chapter lines n (orders.Fill c ws) frames shows items m d left more h legal chip ready = quiet n (orders.Fill c ws) frames shows items m d left refl ready (λ e r. happens_follow n (orders.Fill c ws) (fill_one c ws) _ (orders.Fill c ws) frames shows items m e left h r)
   gives_chapter lines n (orders.Reset PowerOn) frames shows items m d left more h legal chip ready = quiet n (orders.Reset PowerOn) frames shows items m d left refl ready (λ e r. resets_follow n PowerOn (orders.Reset PowerOn) frames shows items m e left h r)
   gives_chapter lines n (orders.Reset Watchdog) frames shows items m d left more h legal chip ready = quiet n (orders.Reset Watchdog) frames shows items m d left refl ready (λ e r. resets_follow n Watchdog (orders.Reset Watchdog) frames shows items m e left h r)
   gives_chapter lines n (orders.Reset Software) frames shows items m d left more h legal chip ready = absurd h

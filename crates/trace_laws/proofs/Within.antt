@@ -94,6 +94,7 @@ purposes_fit (orders.Analog i v) h = tt
 purposes_fit (orders.Trigger i) h = tt
 purposes_fit (orders.Miso u ws) h = tt
 purposes_fit (orders.SpiFault u) h = tt
+purposes_fit orders.Detach h = tt
 purposes_fit (orders.Fill c ws) h = tt
 purposes_fit (orders.Reset reason) h = tt
 purposes_fit (orders.Show what) h = tt

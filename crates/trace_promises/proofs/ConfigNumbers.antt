@@ -5,16 +5,16 @@ use Rattle.std.specs.Prelude.{ℤ, pos, negsuc, nat_le, nat_lt, ◌&&◌, ◌||�
 use Rattle.std.proofs.lemmas.Bool.Decides.{nat_tests}
 use Rattle.toml.specs.Data.{Data, Items, no_items, item, Members, no_members, as_table, as_array, as_integer}
 use Rattle.config_rows.proofs.Recorded.{front_passes, rest_passes}
-use Rattle.config_rows.specs.Checks.{Checks, passes, fails, ◌⨾◌, first}
-use Rattle.config_rows.specs.Kinds.{◌>>=◌, Seen, absent, another_kind, out_of_range, good, found, found_or, whole, whole_number, name, truth, count_of, length_checks}
+use Rattle.config_keys.specs.Checks.{Checks, passes, fails, ◌⨾◌, first}
+use Rattle.config_keys.specs.Kinds.{◌>>=◌, Seen, absent, another_kind, out_of_range, good, found, found_or, whole, whole_number, name, truth, count_of, length_checks}
 use Rattle.config_rows.specs.Modules as parts
-use Rattle.config_rows.specs.Names.{buffer_named}
+use Rattle.config_keys.specs.Names.{buffer_named}
 use Rattle.config_rows.specs.Rows.{Shape, values_of, element_value, array_kind, found_checks, found_value, array_checks, array_value, elements_from}
-use Rattle.config_rows.specs.Keys.{entry, read, read_list_or, allowed}
-use Rattle.config_rows.specs.declared.key_name.KeyName.TheVariants as keys
-use Rattle.config_rows.specs.declared.fault.ConfigFault.{ConfigFault}
-use Rattle.config_rows.specs.declared.fault.ConfigFault.TheVariants.{OutOfRange}
-use Rattle.config_rows.specs.declared.named.SpiBuffer.{SpiBuffer}
+use Rattle.config_keys.specs.Keys.{entry, read, read_list_or, allowed}
+use Rattle.config_keys.specs.declared.key_name.KeyName.TheVariants as keys
+use Rattle.config_keys.specs.declared.fault.ConfigFault.{ConfigFault}
+use Rattle.config_keys.specs.declared.fault.ConfigFault.TheVariants.{OutOfRange}
+use Rattle.config_keys.specs.declared.named.SpiBuffer.{SpiBuffer}
 use Rattle.mcal_base.specs.declared.config.adc.AdcConfig.{AdcConfig}
 use Rattle.mcal_base.specs.declared.config.gpt.GptConfig.{GptConfig}
 use Rattle.mcal_base.specs.declared.config.icu.IcuConfig.{IcuConfig}

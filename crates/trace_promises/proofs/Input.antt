@@ -8,7 +8,7 @@ use Rattle.std.proofs.lemmas.List.Splits.{join_with_byte-slice_split}
 use Rattle.std.proofs.lemmas.Slice.Eq.{bytes_eq-Decides}
 use Rattle.mcal_base.specs.declared.directive.Directive.{Directive}
 use Rattle.mcal_base.specs.declared.directive.Order.{Order}
-use Rattle.mcal_base.specs.declared.directive.Order.TheVariants.{Call, Do, Enter, Serve, Run, Upto, Finish, Tick, Level, Analog, Trigger, Miso, SpiFault, Fill, Reset, Show}
+use Rattle.mcal_base.specs.declared.directive.Order.TheVariants.{Call, Do, Enter, Serve, Run, Upto, Finish, Tick, Level, Analog, Trigger, Miso, SpiFault, Detach, Fill, Reset, Show}
 use Rattle.bench_script.proofs.Parts.{some_part}
 use Rattle.bench_script.proofs.Whole.{script_is}
 use Rattle.bench_script.specs.Lines.{file, file_of_parts, is_separator, before_comment, words_of}
@@ -136,6 +136,7 @@ no_order_so (Analog input value) after = refl
 no_order_so (Trigger n) after = refl
 no_order_so (Miso unit ns) after = refl
 no_order_so (SpiFault n) after = refl
+no_order_so Detach after = refl
 no_order_so (Fill channel ns) after = refl
 no_order_so (Reset reason) after = refl
 no_order_so (Show shown) after = refl

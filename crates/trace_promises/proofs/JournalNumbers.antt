@@ -25,6 +25,7 @@ module _ (words : List ℕ) (fit : Each IsNumber words) where
   order_brings (hardware.Trigger i) b = tt
   order_brings (hardware.Miso u s) b = stretch_fits s
   order_brings (hardware.SpiFault u) b = tt
+  order_brings hardware.Detach b = tt
   order_brings (hardware.Fill c s) b = stretch_fits s
   order_brings (hardware.Show s) b = tt
 

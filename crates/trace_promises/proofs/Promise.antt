@@ -15,7 +15,7 @@ use Rattle.bench_top.proofs.Scripts.{may_run}
 use Rattle.bench_top.specs.Runs.{IsWholeRun, report_of, shows_of}
 use Rattle.bench_top.specs.Statuses.{IsRunnable, IsRunDone, Done}
 use Rattle.bench_top.specs.Tail.{is_traced}
-use Rattle.bench_top.specs.declared.words.Form.TheVariants.{Run}
+use Rattle.bench_top.specs.declared.words.Task.TheVariants.{Run}
 use Rattle.bench_top.specs.declared.words.Printing.{Printing}
 use Rattle.bench_top.specs.declared.words.Printing.TheVariants.{Traced}
 use Rattle.trace_drawing.specs.Drawing.{Drawing}
@@ -47,27 +47,27 @@ file_viewed form bytes front back report ds d ends f none s few most e =
     ∙ input_drawn form ends.0 front back report (printed form d) ds (ap file (sym ends.1) ∙ f) none s (subst (λ (t : List ℕ). length t ≤ 1048576) ends.1 few)
     (subst (λ (t : List ℕ). length t ≤ 268435456) same most) (text_of form ds report d e)
 
-whole_viewed : (bytes : List ℕ) (config : Config) (ds : List Directive) (entries : List Entry) → IsRunnable (Run Traced) bytes Traced config ds → IsWholeRun config ds entries → length (report_of true config ds entries) ≤ most_bytes → Each EntryFits entries → Each BringsNumbers entries → steps_in entries < 18446744073709551615 → IsViewed bytes entries
-whole_viewed bytes config ds entries r whole short fit brings few =
+whole_viewed : (devices : ℕ) (bytes : List ℕ) (config : Config) (ds : List Directive) (entries : List Entry) → IsRunnable (Run Traced) bytes Traced config ds → IsWholeRun devices config ds entries → length (report_of devices true config ds entries) ≤ most_bytes → Each EntryFits entries → Each BringsNumbers entries → steps_in entries < 18446744073709551615 → IsViewed devices bytes entries
+whole_viewed devices bytes config ds entries r whole short fit brings few =
     let c = r.read.configured in
-    let shows = shows_of config ds entries in
+    let shows = shows_of devices config ds entries in
     let within = script_within bytes c.front r.read.back c.parts.parts in
     let size = c.parts.few in
-    let lawful = may_run ds (record { text = r.read.back; is = r.read.read }) r.lines in
+    let lawful = may_run ds (record { text = r.read.back; is = r.read.read }) in
     let numbers = script_fits r.read.back ds (omega (arith, within, size)) r.read.read in
-    let rows = shows_fit config ds entries (read_fits c.front config c.faultless c.recorded) brings in
-    let drawn = is_drawn (system_setting config) call_of (chip_for config ds) ds entries shows (system_lines config) lawful whole.run numbers fit few rows short in
+    let rows = shows_fit devices config ds entries (read_fits c.front config c.faultless c.recorded) brings in
+    let drawn = is_drawn (system_setting config) call_of (chip_for devices config ds) ds entries shows (system_lines config) lawful whole.run numbers fit few rows short in
     record {
       config = config;
       script = ds;
       read = r.read;
       drawn = drawn;
-      viewed = λ form ends most. file_viewed form bytes c.front r.read.back (report_of true config ds entries) ds drawn.drawing ends c.parts.parts c.faultless r.read.read size most drawn.drawn;
+      viewed = λ form ends most. file_viewed form bytes c.front r.read.back (report_of devices true config ds entries) ds drawn.drawing ends c.parts.parts c.faultless r.read.read size most drawn.drawn;
     }
 
-done_viewed : (bytes : List ℕ) (config : Config) (ds : List Directive) (entries : List Entry) (printing : Printing) → Traced ≡ printing → IsRunnable (Run Traced) bytes printing config ds → IsWholeRun config ds entries → length (report_of (is_traced printing) config ds entries) ≤ most_bytes → Each EntryFits entries → Each BringsNumbers entries → steps_in entries < 18446744073709551615 → IsViewed bytes entries
-done_viewed bytes config ds entries printing e r whole short fit brings few =
-    whole_viewed bytes config ds entries (subst (λ (p : Printing). IsRunnable (Run Traced) bytes p config ds) (sym e) r) whole (subst (λ (p : Printing). length (report_of (is_traced p) config ds entries) ≤ most_bytes) (sym e) short) fit brings few
+done_viewed : (devices : ℕ) (bytes : List ℕ) (config : Config) (ds : List Directive) (entries : List Entry) (printing : Printing) → Traced ≡ printing → IsRunnable (Run Traced) bytes printing config ds → IsWholeRun devices config ds entries → length (report_of devices (is_traced printing) config ds entries) ≤ most_bytes → Each EntryFits entries → Each BringsNumbers entries → steps_in entries < 18446744073709551615 → IsViewed devices bytes entries
+done_viewed devices bytes config ds entries printing e r whole short fit brings few =
+    whole_viewed devices bytes config ds entries (subst (λ (p : Printing). IsRunnable (Run Traced) bytes p config ds) (sym e) r) whole (subst (λ (p : Printing). length (report_of devices (is_traced p) config ds entries) ≤ most_bytes) (sym e) short) fit brings few
 
-pub run_viewed : (bytes : List ℕ) (entries : List Entry) → IsRunDone (Run Traced) bytes entries → Each EntryFits entries → Each BringsNumbers entries → steps_in entries < 18446744073709551615 → IsViewed bytes entries
-run_viewed bytes entries (Done printing config ds r whole short) fit brings few = done_viewed bytes config ds entries printing (printing_is printing r.asked) r whole short fit brings few
+pub run_viewed : (devices : ℕ) (bytes : List ℕ) (entries : List Entry) → IsRunDone devices (Run Traced) bytes entries → Each EntryFits entries → Each BringsNumbers entries → steps_in entries < 18446744073709551615 → IsViewed devices bytes entries
+run_viewed devices bytes entries (Done printing config ds r whole short) fit brings few = done_viewed devices bytes config ds entries printing (printing_is printing r.asked) r whole short fit brings few

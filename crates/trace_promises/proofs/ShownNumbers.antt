@@ -137,8 +137,8 @@ state_keeps c v =
     }
 
 -- what is shown of a run has numbers of 32 bits
-pub shows_fit : (c : Config) (script : List Directive) (es : List Entry) → ConfigFits c → Each BringsNumbers es → Each RowsFit (shows_of c script es)
-shows_fit c script es v brings =
+pub shows_fit : (devices : ℕ) (c : Config) (script : List Directive) (es : List Entry) → ConfigFits c → Each BringsNumbers es → Each RowsFit (shows_of devices c script es)
+shows_fit devices c script es v brings =
     let keeps = state_keeps c v in
     let g = system_setting c in
-    shows_right g StateFits keeps call_of (show_rows c) script RowsFit (rows_fit c v) (start_moment g (chip_for c script)) es brings (tt, keeps.first)
+    shows_right g StateFits keeps call_of (show_rows c) script RowsFit (rows_fit c v) (start_moment g (chip_for devices c script)) es brings (tt, keeps.first)

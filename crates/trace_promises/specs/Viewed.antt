@@ -21,10 +21,10 @@ input file report = file ++ (codes "===\n" ++ report)
 -- The bench file is this configuration and this script. The trace of its run is read as what its lines tell, and drawn, and
 -- its drawing shows each line and each directive (`IsDrawn`); and behind the file and the mark `view` writes that drawing with
 -- status 0, in each form, where the file ends with a line feed and the input is no longer than it may be.
-pub record IsViewed (file : List ℕ) (entries : List Entry) : Type 0 where
+pub record IsViewed (devices : ℕ) (file : List ℕ) (entries : List Entry) : Type 0 where
   pub config : Config
   pub script : List Directive
   pub read : HasScript file config script
-  pub drawn : IsDrawn script entries (shows_of config script entries)
-  pub viewed : (form : Form) → EndsLine file → length (input file (report_of true config script entries)) ≤ 268435456 →
-      judged (Some form) (input file (report_of true config script entries)) ≡ record { status = 0; text = printed form drawn.drawing }
+  pub drawn : IsDrawn script entries (shows_of devices config script entries)
+  pub viewed : (form : Form) → EndsLine file → length (input file (report_of devices true config script entries)) ≤ 268435456 →
+      judged (Some form) (input file (report_of devices true config script entries)) ≡ record { status = 0; text = printed form drawn.drawing }

@@ -6,7 +6,7 @@ ghost use Rattle.mcal_config.specs.Whole.{fault_of, record_of};
 ghost use Rattle.mcal_system.specs.Setting.{system_setting};
 ghost use Rattle.bench_top.specs.Runs.{shows_of};
 ghost use Rattle.bench_top.specs.Statuses.{IsRunDone};
-ghost use Rattle.bench_top.specs.declared.words.Form.TheVariants.{Run};
+ghost use Rattle.bench_top.specs.declared.words.Task.TheVariants.{Run};
 ghost use Rattle.bench_top.specs.declared.words.Printing.TheVariants.{Traced};
 ghost use Rattle.trace_reader.specs.Trace.{Each, IsNumber};
 ghost use Rattle.trace_laws.specs.Lines.{HasLines};
@@ -22,7 +22,7 @@ use trace_laws::{few_steps, journal_fits};
 /// numbers.
 pub fn fits_traces()
     ensures lines { (config : Config) → HasLines (system_setting config) }
-    ensures rows { (config : Config) (script : List Directive) (entries : List Entry) → ConfigFits config → Each BringsNumbers entries → Each RowsFit (shows_of config script entries) }
+    ensures rows { (devices : ℕ) (config : Config) (script : List Directive) (entries : List Entry) → ConfigFits config → Each BringsNumbers entries → Each RowsFit (shows_of devices config script entries) }
     ensures configuration { (text : List ℕ) (config : Config) → fault_of text ≡ None → record_of text ≡ Some config → ConfigFits config }
 {}
 
@@ -67,7 +67,7 @@ pub fn brings_numbers(journal: &Journal)
 /// and its drawing shows each of its lines and each directive of the script; `view` writes that drawing, where the bench
 /// file ends with a line feed and both, with the mark between them, are no longer than an input may be.
 pub fn draws_printed_runs(journal: &Journal)
-    ensures { (file : List ℕ) → IsRunDone (Run Traced) file journal.now.entries → IsViewed file journal.now.entries }
+    ensures { (devices : ℕ) (file : List ℕ) → IsRunDone devices (Run Traced) file journal.now.entries → IsViewed devices file journal.now.entries }
 {
     journal_fits(journal);
     brings_numbers(journal);

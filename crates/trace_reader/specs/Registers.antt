@@ -1,5 +1,5 @@
 -- The register that a word may be: its letters before a number, the letters after it, and the numbers.
-use Rattle.std.specs.Prelude.{ℕ, ◌&&◌, List, [], ◌∷◌, Option, min, option_map, codes, bytes_eq}
+use Rattle.std.specs.Prelude.{ℕ, ◌&&◌, List, [], ◌∷◌, ◌++◌, Option, min, option_map, codes, bytes_eq}
 use Rattle.std.specs.List.{find}
 use Rattle.mcal_base.specs.declared.register.Reg.{Reg}
 use Rattle.mcal_base.specs.declared.register.Reg.TheVariants as regs
@@ -17,9 +17,9 @@ row letter name reg = record { letter = letter; name = name; reg = reg }
 abbrev pub row_of : code.Row → Row
 row_of r = row r.letter.now r.name.now r.reg
 
--- the registers with a number, and with a second one behind the name
-abbrev pub rows : ℕ → ℕ → List Row
-rows n k =
+-- the registers of enable bits and timers, with a number
+abbrev pub timers : ℕ → List Row
+timers n =
     row (codes "IE.SET") (codes "") regs.EnableSet ∷
     row (codes "IE.CLR") (codes "") regs.EnableClear ∷
     row (codes "T") (codes ".TARGET") (regs.TimerTarget n) ∷
@@ -32,6 +32,11 @@ rows n k =
     row (codes "T.ZERO") (codes "") regs.TimerZero ∷
     row (codes "T") (codes ".LOW") (regs.TimerLow n) ∷
     row (codes "T") (codes ".HIGH") (regs.TimerHigh n) ∷
+    []
+
+-- of pulse outputs
+abbrev pub pulses : ℕ → List Row
+pulses n =
     row (codes "P") (codes ".PERIOD") (regs.PulsePeriod n) ∷
     row (codes "P") (codes ".DUTY") (regs.PulseDuty n) ∷
     row (codes "P") (codes ".POL") (regs.PulsePolarity n) ∷
@@ -40,6 +45,11 @@ rows n k =
     row (codes "P") (codes ".OUT") (regs.PulseOut n) ∷
     row (codes "P.EDGES") (codes "") regs.PulseEdges ∷
     row (codes "P.FLAGS") (codes "") regs.PulseFlags ∷
+    []
+
+-- of capture channels
+abbrev pub captures : ℕ → List Row
+captures n =
     row (codes "C") (codes ".COND") (regs.CaptureCondition n) ∷
     row (codes "C") (codes ".MODE") (regs.CaptureMode n) ∷
     row (codes "C.GATESET") (codes "") regs.CaptureGateSet ∷
@@ -52,6 +62,11 @@ rows n k =
     row (codes "C") (codes ".INFO") (regs.CaptureInfo n) ∷
     row (codes "C") (codes ".POP") (regs.CapturePop n) ∷
     row (codes "C") (codes ".FLUSH") (regs.CaptureFlush n) ∷
+    []
+
+-- of converters and triggers, with a second number behind the name
+abbrev pub converters : ℕ → ℕ → List Row
+converters n k =
     row (codes "A") (codes ".LIST") (regs.ConverterList (min n 255) (min k 255)) ∷
     row (codes "A") (codes ".GO") (regs.ConverterGo n) ∷
     row (codes "A") (codes ".STATE") (regs.ConverterState n) ∷
@@ -62,17 +77,32 @@ rows n k =
     row (codes "A.TRIGSET") (codes "") regs.TriggerSet ∷
     row (codes "A.TRIGCLR") (codes "") regs.TriggerClear ∷
     row (codes "A.TRIGFLAGS") (codes "") regs.TriggerFlags ∷
+    []
+
+-- of serial units
+abbrev pub serials : ℕ → List Row
+serials n =
     row (codes "S") (codes ".SELECT") (regs.SerialSelect n) ∷
     row (codes "S") (codes ".WIDTH") (regs.SerialWidth n) ∷
     row (codes "S") (codes ".DATA") (regs.SerialData n) ∷
     row (codes "S") (codes ".RX") (regs.SerialReceived n) ∷
     row (codes "S") (codes ".STATE") (regs.SerialState n) ∷
     row (codes "S") (codes ".ACK") (regs.SerialAck n) ∷
+    []
+
+-- of pins
+abbrev pub pins : ℕ → List Row
+pins n =
     row (codes "D.DIRSET") (codes "") (regs.PinDirectionSet n) ∷
     row (codes "D.DIRCLR") (codes "") (regs.PinDirectionClear n) ∷
     row (codes "D.OUTSET") (codes "") (regs.PinOutSet n) ∷
     row (codes "D.OUTCLR") (codes "") (regs.PinOutClear n) ∷
     row (codes "D") (codes ".MODE") (regs.PinMode n) ∷
+    []
+
+-- of the clock, of resets and of RAM
+abbrev pub clocks : ℕ → List Row
+clocks n =
     row (codes "M.PLL") (codes "") regs.ClockPll ∷
     row (codes "M.LOCK") (codes "") regs.ClockLock ∷
     row (codes "M.RATE") (codes "") regs.ClockRate ∷
@@ -80,6 +110,10 @@ rows n k =
     row (codes "M.RESET") (codes "") regs.ResetRequest ∷
     row (codes "R") (codes "") (regs.Ram n) ∷
     []
+
+-- all registers
+abbrev pub rows : ℕ → ℕ → List Row
+rows n k = (((((timers n ++ pulses n) ++ captures n) ++ converters n k) ++ serials n) ++ pins n) ++ clocks n
 
 -- the first of some registers with these letters
 abbrev pub chosen : List Row → List ℕ → List ℕ → Option Reg

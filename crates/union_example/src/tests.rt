@@ -8,6 +8,7 @@ use mcal_base::{
     Taken,
 };
 use run_model::{Class, Kind};
+use serial_devices::SerialDevice;
 use step_runner::{Either, Module, Stack, Union, begin, enter, reset, step};
 
 const NOTICE: Notice = Notice {
@@ -160,11 +161,15 @@ fn serve(stack: &mut Stack<Bells>, bus: &Bus, line: u32) -> Result<(), Held>
 }
 
 /// Makes a step, and tells its move.
-fn go(stack: &mut Stack<Bells>, bus: &mut Bus) -> Result<Move, Held>
+fn go(
+    stack: &mut Stack<Bells>,
+    bus: &mut Bus,
+    rack: &mut Vec<Box<dyn SerialDevice>>,
+) -> Result<Move, Held>
     requires { stack.old.steps < 1000 }
     ensures { stack.new.steps ≤ stack.old.steps + 1 }
 {
-    match step(stack, bus) {
+    match step(stack, bus, rack) {
         Ok(stepped) => Ok(stepped.made),
         Err(cause) => Err(cause),
     }
@@ -179,25 +184,26 @@ fn beginnings_and_steps(rt: HostRuntime) {
         panic!(rt; "no memory");
     };
     let bus = &mut bus;
+    let rack = &mut Vec::new(rt.alloc());
     let stack = &mut stack;
-    assert_eq!(rt; go(stack, bus), Err(Held::Empty));
+    assert_eq!(rt; go(stack, bus, rack), Err(Held::Empty));
     assert_eq!(rt; serve(stack, bus, 3), Err(Held::Idle));
     assert_eq!(rt; call(stack, bus, 2), Ok(()));
     assert_eq!(rt; stack.depth(), 1);
     assert_eq!(rt; call(stack, bus, 2), Err(Held::Level));
     assert_eq!(rt; call(stack, bus, 3), Err(Held::Reentry));
     assert_eq!(rt; serve(stack, bus, 3), Err(Held::Level));
-    assert_eq!(rt; go(stack, bus), Ok(Move::Mask));
+    assert_eq!(rt; go(stack, bus, rack), Ok(Move::Mask));
     assert_eq!(rt; call(stack, bus, 3), Err(Held::Masked));
-    assert_eq!(rt; go(stack, bus), Ok(Move::Unmask));
-    assert_eq!(rt; go(stack, bus), Ok(Move::Note(NOTICE)));
+    assert_eq!(rt; go(stack, bus, rack), Ok(Move::Unmask));
+    assert_eq!(rt; go(stack, bus, rack), Ok(Move::Note(NOTICE)));
     assert_eq!(rt; call(stack, bus, 2), Err(Held::Reentry));
     assert_eq!(rt; call(stack, bus, 1), Err(Held::Level));
-    assert_eq!(rt; go(stack, bus), Ok(Move::Note(NOTICE)));
+    assert_eq!(rt; go(stack, bus, rack), Ok(Move::Note(NOTICE)));
     assert_eq!(rt; stack.depth(), 0);
     assert_eq!(rt; call(stack, bus, 0), Ok(()));
     assert_eq!(rt; reset(stack, bus, Reason::Software), 1);
-    assert_eq!(rt; go(stack, bus), Err(Held::Empty));
+    assert_eq!(rt; go(stack, bus, rack), Err(Held::Empty));
 }
 
 #[test]
@@ -229,13 +235,14 @@ fn two_modules_as_one(rt: HostRuntime) {
 fn answer(
     stack: &mut Stack<Three>,
     bus: &mut Bus,
+    rack: &mut Vec<Box<dyn SerialDevice>>,
     call: Either<CellCall, Either<CellCall, CellCall>>,
 ) -> Option<Answer>
     requires { stack.old.steps < 1000 }
     ensures { stack.new.steps ≤ stack.old.steps + 1 }
 {
     match begin(stack, &three(), bus, call, 0) {
-        Ok(()) => match step(stack, bus) {
+        Ok(()) => match step(stack, bus, rack) {
             Ok(stepped) => stepped.ended,
             Err(_) => None,
         },
@@ -251,12 +258,13 @@ fn each_cell_has_its_word(rt: HostRuntime) {
     ) else {
         panic!(rt; "no memory");
     };
+    let mut rack = Vec::new(rt.alloc());
     let put = Either::Right(Either::Left(CellCall::Put(7)));
     let get = Either::Right(Either::Left(CellCall::Get));
-    assert_eq!(rt; words(&answer(&mut stack, &mut bus, put)), 0);
-    assert_eq!(rt; words(&answer(&mut stack, &mut bus, get)), 8);
+    assert_eq!(rt; words(&answer(&mut stack, &mut bus, &mut rack, put)), 0);
+    assert_eq!(rt; words(&answer(&mut stack, &mut bus, &mut rack, get)), 8);
     assert_eq!(rt;
-        words(&answer(&mut stack, &mut bus, Either::Left(CellCall::Get))),
+        words(&answer(&mut stack, &mut bus, &mut rack, Either::Left(CellCall::Get))),
         1
     );
 }

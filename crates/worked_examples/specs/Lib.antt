@@ -1,2 +1,3 @@
+pub mod Exchanged
 pub mod Printed
 pub mod Runs

@@ -36,11 +36,11 @@ pub record Halted {State Call Frame : Type 0} (d : Driver State Call Frame) (fir
   pub few : most < script_bound d.setting call_of script
 
 -- What is so of a run under way.
-pub record IsUnderWay {State Call Frame : Type 0} (d : Driver State Call Frame) (call_of : Request → Call) (has : Service → Bool) (config : Config) (script : List Directive) (limit most at : ℕ) (too_long : Bool) (chip : Chip) (k : Kept Frame) (w : Written) : Type 0 where
+pub record IsUnderWay {State Call Frame : Type 0} (d : Driver State Call Frame) (call_of : Request → Call) (has : Service → Bool) (config : Config) (script : List Directive) (devices limit most at : ℕ) (too_long : Bool) (chip : Chip) (k : Kept Frame) (w : Written) : Type 0 where
   pub fits : d.fits
   pub is_script : IsScript script
   pub offered : AllOffered has script
   pub small : limit < 4294967295
   pub least : most ≡ min limit (script_bound d.setting call_of script)
-  pub going : OnFalse too_long (Going d (chip_for config script) call_of script most at chip k w)
-  pub halted : OnTrue too_long (Halted d (chip_for config script) call_of script most chip k w)
+  pub going : OnFalse too_long (Going d (chip_for devices config script) call_of script most at chip k w)
+  pub halted : OnTrue too_long (Halted d (chip_for devices config script) call_of script most chip k w)

@@ -5,7 +5,7 @@ use Rattle.std.specs.Prelude.{if◌then◌else◌, slice_index}
 use Rattle.chip_model.specs.Chip.{Chip, value_of, chip_after, happened, reset_chip, levelled, is_other, outside_at}
 use Rattle.chip_model.proofs.HistoryLaws.{edged, level_leaves}
 use Rattle.mcal_base.specs.declared.directive.Order.{Order}
-use Rattle.mcal_base.specs.declared.directive.Order.TheVariants.{Tick, Level, Analog, Trigger, Miso, SpiFault, Fill}
+use Rattle.mcal_base.specs.declared.directive.Order.TheVariants.{Tick, Level, Analog, Trigger, Miso, SpiFault, Detach, Fill}
 use Rattle.mcal_base.specs.declared.directive.Reason.{Reason}
 use Rattle.mcal_base.specs.declared.moves.Move.{Move}
 use Rattle.mcal_base.specs.declared.moves.Move.TheVariants.{Read, Write, Load, Store, Mask, Unmask, Note, Report}
@@ -67,6 +67,7 @@ words_happened chip (Analog i v) e = refl
 words_happened chip (Trigger i) e = refl
 words_happened chip (Miso u ws) e = refl
 words_happened chip (SpiFault u) e = refl
+words_happened chip Detach e = refl
 words_happened chip (Fill c ws) e = absurd (cc)
 words_happened chip _ e = refl
 
@@ -91,6 +92,7 @@ simple_commutes chip (Analog i x) made e none = simple_by (λ m. happened (chip_
 simple_commutes chip (Trigger i) made e none = simple_by (λ m. happened (chip_after chip m 0) (Trigger i) ≡ chip_after (happened chip (Trigger i)) m 0) (λ k. refl) (λ k v. refl) (λ v. refl) (λ v. refl) made e
 simple_commutes chip (Miso u ws) made e none = simple_by (λ m. happened (chip_after chip m 0) (Miso u ws) ≡ chip_after (happened chip (Miso u ws)) m 0) (λ k. refl) (λ k v. refl) (λ v. refl) (λ v. refl) made e
 simple_commutes chip (SpiFault u) made e none = simple_by (λ m. happened (chip_after chip m 0) (SpiFault u) ≡ chip_after (happened chip (SpiFault u)) m 0) (λ k. refl) (λ k v. refl) (λ v. refl) (λ v. refl) made e
+simple_commutes chip Detach made e none = simple_by (λ m. happened (chip_after chip m 0) Detach ≡ chip_after (happened chip Detach) m 0) (λ k. refl) (λ k v. refl) (λ v. refl) (λ v. refl) made e
 simple_commutes chip (Fill c ws) made e none = absurd (cc)
 simple_commutes chip _ made e none = refl
 

@@ -8,5 +8,5 @@ use Rattle.bench_top.proofs.file.read_file.Goals as goal
 pub returns-in_err-script-clause-refused : goal.returns-in_err-script-clause-refused
 returns-in_err-script-clause-refused c =
     let p = err_from_is_err_and c.from_residual-in_err-script.result c.from_residual-in_err-script.ensures.1 in
-    λ refusal e form. ap (judged_file form) (sym (rw c.in-Some.is at c.split_file.ensures.parts))
-    ∙ (c.in_ok-config.ensures.read _ form ∙ c.in_err-script.ensures.refused refusal (same_end _ p.0 (Refused refusal) _ p.1 e (ap (λ x. Err x) (sym p.2))) form _)
+    λ refusal e task. ap (judged_file task) (sym (rw c.in-Some.is at c.split_file.ensures.parts))
+    ∙ (c.in_ok-config.ensures.read _ task ∙ c.in_err-script.ensures.refused refusal (same_end _ p.0 (Refused refusal) _ p.1 e (ap (λ x. Err x) (sym p.2))) task _)

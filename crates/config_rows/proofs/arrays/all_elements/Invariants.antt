@@ -1,7 +1,7 @@
 use Rattle.std.proofs.Common.{◌≡◌, length, map, drop, []}
 use Rattle.toml.specs.View.{items_view}
-use Rattle.config_rows.specs.Checks.{first}
-use Rattle.config_rows.specs.Kinds.{prepended}
+use Rattle.config_keys.specs.Checks.{first}
+use Rattle.config_keys.specs.Kinds.{prepended}
 use Rattle.config_rows.specs.Rows.{AreSound, elements_from, values_of}
 use Rattle.config_rows.proofs.arrays.all_elements.Given as goal
 

@@ -1,6 +1,6 @@
 use Rattle.std.proofs.Common.{◌≡◌, drop, take}
 use Rattle.config_facts.specs.Ids.{Refer}
-use Rattle.config_rows.specs.Checks.{first}
+use Rattle.config_keys.specs.Checks.{first}
 use Rattle.config_rows.specs.Rules as spec
 use Rattle.config_rows.proofs.rules.check_references.Given as goal
 

@@ -1,5 +1,5 @@
 use Rattle.std.proofs.Common.{◌≡◌, ℕ, drop, take, ◌<◌, false, slice_index_or}
-use Rattle.config_rows.specs.Checks.{first}
+use Rattle.config_keys.specs.Checks.{first}
 use Rattle.config_rows.specs.Rules as spec
 use Rattle.config_rows.proofs.rules.check_rule.Given as goal
 

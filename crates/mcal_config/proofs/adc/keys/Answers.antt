@@ -1,5 +1,5 @@
 use Rattle.std.proofs.Common.{rules}
-use Rattle.config_rows.proofs.Giving.{gives_first, gives_next, gives_last}
+use Rattle.config_keys.proofs.Giving.{gives_first, gives_next, gives_last}
 use Rattle.mcal_config.specs.Adc as spec
 use Rattle.mcal_config.proofs.adc.keys.Goals as goal
 

@@ -1,5 +1,5 @@
 use Rattle.std.proofs.Common.{rules}
-use Rattle.config_rows.proofs.Giving.{gives_first}
+use Rattle.config_keys.proofs.Giving.{gives_first}
 use Rattle.mcal_config.specs.Icu as spec
 use Rattle.mcal_config.proofs.icu.keys.Goals as goal
 

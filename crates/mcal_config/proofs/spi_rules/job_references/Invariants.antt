@@ -1,6 +1,6 @@
 use Rattle.std.proofs.Common.{◌≡◌, drop, take}
 use Rattle.config_facts.specs.Valid.{ReferToJobs}
-use Rattle.config_rows.specs.Checks.{first}
+use Rattle.config_keys.specs.Checks.{first}
 use Rattle.mcal_config.specs.SpiRules as spec
 use Rattle.mcal_config.proofs.spi_rules.job_references.Given as goal
 

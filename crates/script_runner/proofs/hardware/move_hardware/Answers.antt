@@ -12,9 +12,9 @@ happened-requires-clause-words g c = omega (arith, words_are c.args.directive.no
 
 pub returns : goal.returns
 returns g c =
-    moves (g.M.Module.spec c.args.course.now.driver) (chip_for c.args.course.now.config c.args.course.now.script.now) (g.M.Caller.call_of c.args.course.now.driver) c.args.course.now.script.now c.args.course.now.most c.args.directive.now.line c.depth-depth.result c.args.directive.now.order c.args.parts.now.bus c.args.parts.now.stack c.args.parts.now.journal c.hardware.new.bus c.happened.new.self
+    moves (g.M.Module.spec c.args.course.now.driver) (chip_for c.args.course.now.devices c.args.course.now.config c.args.course.now.script.now) (g.M.Caller.call_of c.args.course.now.driver) c.args.course.now.script.now c.args.course.now.most c.args.directive.now.line c.depth-depth.result c.args.directive.now.order c.args.parts.now.bus c.args.parts.now.stack c.args.parts.now.journal c.hardware.new.bus c.happened.new.self
     c.requires.room.steps c.requires.hardware c.requires.built c.requires.free (omega (arith, c.words_by-words.ensures.given, c.words_by-words.ensures.few))
-    (slow_chip (g.M.Module.spec c.args.course.now.driver) (chip_for c.args.course.now.config c.args.course.now.script.now) (g.M.Caller.call_of c.args.course.now.driver) c.args.course.now.script.now c.args.parts.now.bus c.args.parts.now.stack.frames c.args.parts.now.journal.entries (λ chip w ps s r. g.met.M.Caller.slow c.args.course.now.driver chip w ps s c.requires.fits r) c.requires.stands)
+    (slow_chip (g.M.Module.spec c.args.course.now.driver) (chip_for c.args.course.now.devices c.args.course.now.config c.args.course.now.script.now) (g.M.Caller.call_of c.args.course.now.driver) c.args.course.now.script.now c.args.parts.now.bus c.args.parts.now.stack.frames c.args.parts.now.journal.entries (λ chip w ps s r. g.met.M.Caller.slow c.args.course.now.driver chip w ps s c.requires.fits r) c.requires.stands)
     c.depth-depth.ensures c.hardware.ensures.chip c.happened.ensures
-    (c.hardware.ensures.stands c.args.course.now.driver (chip_for c.args.course.now.config c.args.course.now.script.now) (deeds_of (g.M.Caller.call_of c.args.course.now.driver) c.args.course.now.script.now c.args.parts.now.journal.entries) c.requires.fits c.requires.free c.requires.stands)
+    (c.hardware.ensures.stands c.args.course.now.driver (chip_for c.args.course.now.devices c.args.course.now.config c.args.course.now.script.now) (deeds_of (g.M.Caller.call_of c.args.course.now.driver) c.args.course.now.script.now c.args.parts.now.journal.entries) c.requires.fits c.requires.free c.requires.stands)
     c.requires.stands

@@ -5,35 +5,50 @@ use Rattle.run_model.specs.Script.{deeds_of}
 use Rattle.script_runner.specs.Standing.{SameTime, work_of}
 use Rattle.script_runner.proofs.Walks.{walk_start, walk_more, walk_end, walk_reset, not_ended, stuck}
 use Rattle.script_runner.specs.Scripts.{chip_for}
+use Rattle.script_runner.proofs.Called.{called_none, called_then, called_written}
 use Rattle.script_runner.proofs.steps.run_steps.Goals as goal
 
 pub loop-made-init : goal.loop-made-init
-loop-made-init g c = (walk_start (g.M.Module.spec c.args.course.now.driver) (chip_for c.args.course.now.config c.args.course.now.script.now) (g.M.Caller.call_of c.args.course.now.driver) c.args.course.now.script.now c.args.course.now.most c.args.line c.args.reach c.args.parts.now.bus c.args.parts.now.stack c.args.parts.now.journal c.requires.stands c.requires.room.steps c.requires.frame, c.blank-stepped.ensures)
+loop-made-init g c = (walk_start (g.M.Module.spec c.args.course.now.driver) (chip_for c.args.course.now.devices c.args.course.now.config c.args.course.now.script.now) (g.M.Caller.call_of c.args.course.now.driver) c.args.course.now.script.now c.args.course.now.most c.args.script_line c.args.reach c.args.parts.now.bus c.args.parts.now.stack c.args.parts.now.journal c.requires.stands c.requires.room.steps c.requires.frame, c.blank-stepped.ensures, c.requires.hung, called_none (g.M.Module.spec c.args.course.now.driver) (chip_for c.args.course.now.devices c.args.course.now.config c.args.course.now.script.now) (g.M.Caller.call_of c.args.course.now.driver) c.args.course.now.script.now c.args.parts.now.journal.entries _)
 
 pub returns-then-is_reset-clause-went : goal.returns-then-is_reset-clause-went
 returns-then-is_reset-clause-went g c =
-    walk_reset (g.M.Module.spec c.args.course.now.driver) (chip_for c.args.course.now.config c.args.course.now.script.now) (g.M.Caller.call_of c.args.course.now.driver) c.args.course.now.script.now c.args.course.now.most c.args.line c.args.reach c.args.parts.now.bus c.args.parts.now.stack c.args.parts.now.journal c.loop-made.made c.loop-made.parts.bus c.loop-made.parts.stack c.loop-made.parts.journal c.take_step.new.stepped c.take_step.new.parts.bus c.take_step.new.parts.stack c.take_step.new.parts.journal c.reset-dropped.new.bus c.reset-dropped.new.stack c.reset.new.self
+    walk_reset (g.M.Module.spec c.args.course.now.driver) (chip_for c.args.course.now.devices c.args.course.now.config c.args.course.now.script.now) (g.M.Caller.call_of c.args.course.now.driver) c.args.course.now.script.now c.args.course.now.most c.args.script_line c.args.reach c.args.parts.now.bus c.args.parts.now.stack c.args.parts.now.journal c.loop-made.made c.loop-made.parts.bus c.loop-made.parts.stack c.loop-made.parts.journal c.take_step.new.stepped c.take_step.new.parts.bus c.take_step.new.parts.stack c.take_step.new.parts.journal c.reset-dropped.new.bus c.reset-dropped.new.stack c.reset.new.self
     c.loop-made.invariant.0 c.in-Ok.ensures.took (sym c.is_reset.ensures ∙ c.if-is_reset.true)
     (subst (λ x. SameTime c.take_step.new.parts.bus x) (sym c.reset-dropped.ensures.chip) (record { osc = refl; now = refl; room = λ u. refl }))
     (ap (λ k. k.steps) c.reset-dropped.ensures.stack)
     (subst (λ k. work_of (g.M.Module.spec c.args.course.now.driver) k ≤ work_of (g.M.Module.spec c.args.course.now.driver) c.take_step.new.parts.stack) (sym c.reset-dropped.ensures.stack) (omega arith))
-    (subst (λ n. c.reset.new.self ≡ written c.take_step.new.parts.journal c.args.line n (Resets Software n) []) c.depth-depth.ensures (subst (λ n. c.reset.new.self ≡ written c.take_step.new.parts.journal c.args.line c.depth-depth.result (Resets Software n) []) (c.reset-dropped.ensures.dropped ∙ sym c.depth-depth.ensures) c.reset.ensures))
-    (c.reset-dropped.ensures.stands c.args.course.now.driver (chip_for c.args.course.now.config c.args.course.now.script.now) (deeds_of (g.M.Caller.call_of c.args.course.now.driver) c.args.course.now.script.now c.take_step.new.parts.journal.entries) c.requires.fits c.in-Ok.ensures.took.stands)
+    (subst (λ n. c.reset.new.self ≡ written c.take_step.new.parts.journal c.args.script_line n (Resets Software n) []) c.depth-depth.ensures (subst (λ n. c.reset.new.self ≡ written c.take_step.new.parts.journal c.args.script_line c.depth-depth.result (Resets Software n) []) (c.reset-dropped.ensures.dropped ∙ sym c.depth-depth.ensures) c.reset.ensures))
+    (c.reset-dropped.ensures.stands c.args.course.now.driver (chip_for c.args.course.now.devices c.args.course.now.config c.args.course.now.script.now) (deeds_of (g.M.Caller.call_of c.args.course.now.driver) c.args.course.now.script.now c.take_step.new.parts.journal.entries) c.requires.fits c.in-Ok.ensures.took.stands)
 
 pub returns-then-stops_after-clause-went : goal.returns-then-stops_after-clause-went
 returns-then-stops_after-clause-went g c =
-    walk_end (g.M.Module.spec c.args.course.now.driver) (chip_for c.args.course.now.config c.args.course.now.script.now) (g.M.Caller.call_of c.args.course.now.driver) c.args.course.now.script.now c.args.course.now.most c.args.line c.args.reach c.args.parts.now.bus c.args.parts.now.stack c.args.parts.now.journal c.loop-made.made c.loop-made.parts.bus c.loop-made.parts.stack c.loop-made.parts.journal c.take_step.new.stepped c.take_step.new.parts.bus c.take_step.new.parts.stack c.take_step.new.parts.journal
+    walk_end (g.M.Module.spec c.args.course.now.driver) (chip_for c.args.course.now.devices c.args.course.now.config c.args.course.now.script.now) (g.M.Caller.call_of c.args.course.now.driver) c.args.course.now.script.now c.args.course.now.most c.args.script_line c.args.reach c.args.parts.now.bus c.args.parts.now.stack c.args.parts.now.journal c.loop-made.made c.loop-made.parts.bus c.loop-made.parts.stack c.loop-made.parts.journal c.take_step.new.stepped c.take_step.new.parts.bus c.take_step.new.parts.stack c.take_step.new.parts.journal
     c.loop-made.invariant.0 c.in-Ok.ensures.took (sym c.is_reset.ensures ∙ c.if-is_reset.false) (sym c.stops_after.ensures ∙ c.if-stops_after.true)
 
 pub loop-made-preserved : goal.loop-made-preserved
 loop-made-preserved g c =
     let go = sym c.stops_after.ensures ∙ c.if-stops_after.false in (
-      walk_more (g.M.Module.spec c.args.course.now.driver) (chip_for c.args.course.now.config c.args.course.now.script.now) (g.M.Caller.call_of c.args.course.now.driver) c.args.course.now.script.now c.args.course.now.most c.args.line c.args.reach c.args.parts.now.bus c.args.parts.now.stack c.args.parts.now.journal c.loop-made.made c.loop-made.parts.bus c.loop-made.parts.stack c.loop-made.parts.journal c.take_step.new.stepped c.take_step.new.parts.bus c.take_step.new.parts.stack c.take_step.new.parts.journal
+      walk_more (g.M.Module.spec c.args.course.now.driver) (chip_for c.args.course.now.devices c.args.course.now.config c.args.course.now.script.now) (g.M.Caller.call_of c.args.course.now.driver) c.args.course.now.script.now c.args.course.now.most c.args.script_line c.args.reach c.args.parts.now.bus c.args.parts.now.stack c.args.parts.now.journal c.loop-made.made c.loop-made.parts.bus c.loop-made.parts.stack c.loop-made.parts.journal c.take_step.new.stepped c.take_step.new.parts.bus c.take_step.new.parts.stack c.take_step.new.parts.journal
           c.loop-made.invariant.0 c.in-Ok.ensures.took (sym c.is_reset.ensures ∙ c.if-is_reset.false) (not_ended _ _ go) go,
       not_ended _ _ go,
+      c.take_step.ensures.hung,
+      called_then (g.M.Module.spec c.args.course.now.driver) (chip_for c.args.course.now.devices c.args.course.now.config c.args.course.now.script.now) (g.M.Caller.call_of c.args.course.now.driver) c.args.course.now.script.now c.args.parts.now.journal.entries c.loop-made.parts.journal.entries c.take_step.new.parts.journal.entries _ _ _ c.loop-made.invariant.3 c.take_step.ensures.calls,
     )
 
 pub returns-in-Err-clause-too_long : goal.returns-in-Err-clause-too_long
 returns-in-Err-clause-too_long g c =
-    stuck (g.M.Module.spec c.args.course.now.driver) (chip_for c.args.course.now.config c.args.course.now.script.now) (g.M.Caller.call_of c.args.course.now.driver) c.args.course.now.script.now c.args.course.now.most c.args.line c.args.reach _ _ _ (g.met.M.Module.laws c.args.course.now.driver c.requires.fits) c.requires.limit c.args.parts.now.bus c.args.parts.now.stack c.args.parts.now.journal c.loop-made.made c.loop-made.parts.bus c.loop-made.parts.stack c.loop-made.parts.journal c.take_step.new.parts.bus c.take_step.new.parts.stack c.take_step.new.parts.journal
+    stuck (g.M.Module.spec c.args.course.now.driver) (chip_for c.args.course.now.devices c.args.course.now.config c.args.course.now.script.now) (g.M.Caller.call_of c.args.course.now.driver) c.args.course.now.script.now c.args.course.now.most c.args.script_line c.args.reach _ _ _ (g.met.M.Module.laws c.args.course.now.driver c.requires.fits) c.requires.limit c.args.parts.now.bus c.args.parts.now.stack c.args.parts.now.journal c.loop-made.made c.loop-made.parts.bus c.loop-made.parts.stack c.loop-made.parts.journal c.take_step.new.parts.bus c.take_step.new.parts.stack c.take_step.new.parts.journal
     c.requires.room.counted c.loop-made.invariant.0 c.in-Err.ensures.too_long
+
+pub returns-then-is_reset-clause-calls : goal.returns-then-is_reset-clause-calls
+returns-then-is_reset-clause-calls g c =
+    called_then (g.M.Module.spec c.args.course.now.driver) (chip_for c.args.course.now.devices c.args.course.now.config c.args.course.now.script.now) (g.M.Caller.call_of c.args.course.now.driver) c.args.course.now.script.now c.args.parts.now.journal.entries c.take_step.new.parts.journal.entries c.reset.new.self.entries _ _ _
+    (called_then (g.M.Module.spec c.args.course.now.driver) (chip_for c.args.course.now.devices c.args.course.now.config c.args.course.now.script.now) (g.M.Caller.call_of c.args.course.now.driver) c.args.course.now.script.now c.args.parts.now.journal.entries c.loop-made.parts.journal.entries c.take_step.new.parts.journal.entries _ _ _ c.loop-made.invariant.3 c.take_step.ensures.calls)
+    (called_written (g.M.Module.spec c.args.course.now.driver) (chip_for c.args.course.now.devices c.args.course.now.config c.args.course.now.script.now) (g.M.Caller.call_of c.args.course.now.driver) c.args.course.now.script.now c.take_step.new.parts.journal c.reset.new.self c.args.script_line _ (Resets Software _) [] _ c.reset.ensures tt)
+
+pub returns-then-stops_after-clause-calls : goal.returns-then-stops_after-clause-calls
+returns-then-stops_after-clause-calls g c = called_then (g.M.Module.spec c.args.course.now.driver) (chip_for c.args.course.now.devices c.args.course.now.config c.args.course.now.script.now) (g.M.Caller.call_of c.args.course.now.driver) c.args.course.now.script.now c.args.parts.now.journal.entries c.loop-made.parts.journal.entries c.take_step.new.parts.journal.entries _ _ _ c.loop-made.invariant.3 c.take_step.ensures.calls
+
+pub returns-in-Err-clause-calls : goal.returns-in-Err-clause-calls
+returns-in-Err-clause-calls g c = called_then (g.M.Module.spec c.args.course.now.driver) (chip_for c.args.course.now.devices c.args.course.now.config c.args.course.now.script.now) (g.M.Caller.call_of c.args.course.now.driver) c.args.course.now.script.now c.args.parts.now.journal.entries c.loop-made.parts.journal.entries c.take_step.new.parts.journal.entries _ _ _ c.loop-made.invariant.3 c.take_step.ensures.calls

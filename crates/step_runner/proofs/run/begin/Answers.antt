@@ -4,4 +4,4 @@ use Rattle.step_runner.proofs.Beginnings.{after-begin}
 use Rattle.step_runner.proofs.run.begin.Goals as goal
 
 pub returns-clause-stands : goal.returns-clause-stands
-returns-clause-stands g c first h fits can st = after-begin (g.M.Module.spec c.args.driver.now) g.M.Frame.Routine.move_of g.M.Frame.Routine.left g.M.Frame.Routine.gave (g.met.M.Module.laws c.args.driver.now fits) first h c.args.bus.now c.args.stack.now c.put.new.self (Ok (tt {0})) c.args.call c.args.level (search rules) (search rules) can st
+returns-clause-stands g c first h fits can st = after-begin (g.M.Module.spec c.args.driver.now) g.M.Frame.Routine.move_of g.M.Frame.Routine.left g.M.Frame.Routine.gave (g.met.M.Module.laws c.args.driver.now fits) first h c.args.bus.now c.args.stack.now c.put_call.new.self (Ok (tt {0})) c.args.call c.args.level (search rules) (search rules) can st

@@ -2,4 +2,4 @@ use Rattle.trace_promises.proofs.Promise.{run_viewed}
 use Rattle.trace_promises.proofs.laws.draws_printed_runs.Goals as goal
 
 pub returns : goal.returns
-returns c = λ file done. run_viewed file c.args.journal.now.entries done c.journal_fits.ensures c.brings_numbers.ensures c.few_steps.ensures
+returns c = λ devices file done. run_viewed devices file c.args.journal.now.entries done c.journal_fits.ensures c.brings_numbers.ensures c.few_steps.ensures

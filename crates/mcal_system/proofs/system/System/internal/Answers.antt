@@ -1,4 +1,4 @@
-use Rattle.std.proofs.Common.{◌∙◌, sym, ap, subst}
+use Rattle.std.proofs.Common.{◌∙◌, ap, subst}
 use Rattle.chip_model.specs.Chip.{Chip}
 use Rattle.config_facts.specs.Valid.{IsSpi}
 use Rattle.mcal_system.specs.Runs.{SystemRun}

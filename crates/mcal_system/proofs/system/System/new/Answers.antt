@@ -1,7 +1,7 @@
 use Rattle.std.proofs.Common.{sym, subst}
 use Rattle.step_runner.specs.Driver.{Covers}
 use Rattle.script_runner.specs.Scripts.{words_given}
-use Rattle.chip_model.specs.Chip.{power_on}
+use Rattle.chip_model.specs.Chip.{power_on, hung}
 use Rattle.mcal_system.specs.Drivers.{as_one}
 use Rattle.mcal_system.specs.declared.drivers.Drivers.{Drivers}
 use Rattle.mcal_system.proofs.Carried.{starts}
@@ -18,7 +18,7 @@ pub new-requires-clause-covers : goal.new-requires-clause-covers
 new-requires-clause-covers c = subst (λ (u : Drivers). Covers (as_one u)) (sym c.new-drivers.ensures.is) c.new-drivers.ensures.covers
 
 pub new-requires-clause-wired : goal.new-requires-clause-wired
-new-requires-clause-wired c = subst (λ (u : Drivers). (as_one u).wired (power_on c.args.config (words_given c.args.script.now))) (sym c.new-drivers.ensures.is) (c.new-drivers.ensures.wired (words_given c.args.script.now))
+new-requires-clause-wired c = subst (λ (u : Drivers). (as_one u).wired (hung c.args.devices (power_on c.args.config (words_given c.args.script.now)))) (sym c.new-drivers.ensures.is) (c.new-drivers.ensures.wired (words_given c.args.script.now) c.args.devices)
 
 pub returns : goal.returns
-returns c = starts c.args.config c.args.script.now c.new-drivers.result c.in_ok-engine.engine c.new-drivers.ensures.is c.in_ok-engine.ensures.begins
+returns c = starts c.args.config c.args.script.now c.args.devices c.new-drivers.result c.in_ok-engine.engine c.new-drivers.ensures.is c.in_ok-engine.ensures.begins

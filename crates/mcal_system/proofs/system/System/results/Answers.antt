@@ -1,4 +1,4 @@
-use Rattle.std.proofs.Common.{ℕ, ◌≤◌, Option, ◌∙◌, sym, ap, subst}
+use Rattle.std.proofs.Common.{ℕ, ◌≤◌, ◌∙◌, sym, ap, subst}
 use Rattle.std.specs.Option.{IfSome, option_map}
 use Rattle.chip_model.specs.Chip.{Chip}
 use Rattle.config_facts.specs.Valid.{IsAdc}

@@ -1,9 +1,0 @@
-use Rattle.std.proofs.Common.{◌∙◌, sym, arith}
-use Rattle.bench_top.proofs.Numerals.{lines_read, none_read}
-use Rattle.bench_top.proofs.words.lines_of.Goals as goal
-
-pub returns-in-Ok : goal.returns-in-Ok
-returns-in-Ok c = lines_read c.args.word.now c.in-Ok.lines (sym (c.starts_with.ensures.byte (omega arith) (omega arith) (λ w o h. h)) ∙ c.if-starts_with.false) c.in-Ok.ensures.value.0.0.0 c.in-Ok.ensures.value.0.1 c.if-lines-ge1.true c.if-lines-le-MOST_LINES.true
-
-pub returns-in_default-3 : goal.returns-in_default-3
-returns-in_default-3 c = none_read _ c.args.word.now c.in_default.field-0 (sym (c.starts_with.ensures.byte (omega arith) (omega arith) (λ w o h. h)) ∙ c.if-starts_with.false) c.in_default.ensures.value.0

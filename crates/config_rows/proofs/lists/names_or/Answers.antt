@@ -1,4 +1,0 @@
-use Rattle.config_rows.proofs.lists.names_or.Goals as goal
-
-pub returns-clause-gives : goal.returns-clause-gives
-returns-clause-gives g c = rw (← c.value_at.ensures, ← c.of_key.ensures) c.names_of.ensures.gives

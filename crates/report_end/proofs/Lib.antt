@@ -1,0 +1,3 @@
+pub mod Told
+pub mod Rooms
+pub mod Next
