@@ -35,7 +35,6 @@ pub mod Owes
 pub mod Owns
 pub mod Renewing
 pub mod Seeking
-pub mod Seen
 pub mod Shortens
 pub mod Sizes
 pub mod Steps

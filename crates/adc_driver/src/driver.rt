@@ -5,7 +5,7 @@ use adc_machine::AdcTable;
 use mcal_base::Config;
 
 /// The converter driver.
-#[derive(Debug, Drop)]
+#[derive(Drop)]
 pub struct AdcDriver {
     /// What it keeps of a configuration.
     pub table: AdcTable,

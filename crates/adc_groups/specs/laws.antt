@@ -4,6 +4,7 @@ pub mod Apartness
 pub mod Asking
 pub mod Basis
 pub mod Body
+pub mod Beside
 pub mod Changed
 pub mod Choosing
 pub mod Counts
@@ -14,6 +15,7 @@ pub mod Enabling
 pub mod First
 pub mod Firsts
 pub mod Fresh
+pub mod Gone
 pub mod Halting
 pub mod Hardware
 pub mod Listening

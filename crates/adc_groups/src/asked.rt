@@ -19,7 +19,7 @@ use service_outline::{
 pub type AnyBody = Or<Sweep<Setup, InitBody>, AdcBody>;
 
 /// A call with the driver that it is made of.
-#[derive(Debug, Drop)]
+#[derive(Drop)]
 pub struct Asked {
     /// The call.
     pub call: Call,

@@ -17,7 +17,7 @@ use word_shapes::{Front, Put, Take, TakePart};
 pub type Seen = Short<u32, 6>;
 
 /// A place in a frame of the driver, from the load of the state word on.
-#[derive(Debug, Drop)]
+#[derive(Drop)]
 pub enum Place {
     /// It reads a register that tells whether the line is ready.
     Flag(Window),
@@ -54,7 +54,7 @@ pub enum Decided {
 }
 
 /// A frame of the driver, from the load of the state word on.
-#[derive(Debug, Drop)]
+#[derive(Drop)]
 pub struct AdcBody {
     /// The driver.
     pub table: AdcTable,

@@ -10,7 +10,7 @@ use service_outline::{BodyTaken, Done};
 use word_shapes::{Add, Again, Dropped, Next, Put, Take};
 
 /// A move that a window makes of what it has seen.
-#[derive(Clone, Copy, Debug, Default, PartialEq, Eq)]
+#[derive(Clone, Copy, Default)]
 pub enum Deed {
     /// It stores a value in a word.
     Set(Word, u32),
@@ -41,7 +41,7 @@ impl Deed {
 pub type Deeds = Short<Deed, 11>;
 
 /// A change of a unit's order of requests, or of a group's banks, under way.
-#[derive(Clone, Copy, Debug, PartialEq, Eq)]
+#[derive(Clone, Copy)]
 pub enum Shape {
     /// A request is put in the last place.
     Add(Add),
@@ -89,7 +89,7 @@ impl Shape {
 }
 
 /// What comes after the moves of a window.
-#[derive(Clone, Copy, Debug)]
+#[derive(Clone, Copy)]
 pub enum Then {
     /// The frame is done.
     Ends(Done),
@@ -98,7 +98,7 @@ pub enum Then {
 }
 
 /// The moves of a window that are left, after all that it looks at.
-#[derive(Debug, Drop)]
+#[derive(Drop)]
 pub struct Making {
     /// The moves that name what they change.
     pub deeds: Deeds,

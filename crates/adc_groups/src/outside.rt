@@ -11,7 +11,7 @@ use adc_stream::{Bank, Copying, limited};
 use mcal_base::{Move, Notice, NoticeKind, Reg};
 
 /// A round that is taken from a unit.
-#[derive(Clone, Copy, Debug, PartialEq, Eq)]
+#[derive(Clone, Copy)]
 pub struct Taken {
     /// The unit.
     pub unit: u8,
@@ -22,7 +22,7 @@ pub struct Taken {
 }
 
 /// An aborted round that is suspended.
-#[derive(Clone, Copy, Debug, PartialEq, Eq)]
+#[derive(Clone, Copy)]
 pub struct Suspended {
     /// The unit.
     pub unit: u8,
@@ -33,7 +33,7 @@ pub struct Suspended {
 }
 
 /// What comes after values were copied.
-#[derive(Clone, Copy, Debug, PartialEq, Eq)]
+#[derive(Clone, Copy)]
 pub enum Copied {
     /// They are in their bank: the round is served.
     Serves(Taken),
@@ -44,7 +44,7 @@ pub enum Copied {
 }
 
 /// What a frame does while the mask is open.
-#[derive(Clone, Copy, Debug, PartialEq, Eq)]
+#[derive(Clone, Copy)]
 pub enum Outside {
     /// It copies values.
     Copies(Copying, Copied),

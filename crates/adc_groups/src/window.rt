@@ -7,7 +7,7 @@ use crate::words::Word;
 use adc_machine::ResultBuffer;
 
 /// What a window is for.
-#[derive(Clone, Copy, Debug, PartialEq, Eq)]
+#[derive(Clone, Copy)]
 pub enum Window {
     /// `Adc_DeInit`
     Close,

@@ -13,7 +13,7 @@ pub const STATE: u32 = FIRST;
 pub const LINES: u32 = 0xF300_0000;
 
 /// A word of the driver, about the module, a unit or a group.
-#[derive(Clone, Copy, Debug, PartialEq, Eq)]
+#[derive(Clone, Copy)]
 pub enum Word {
     /// Whether the module is initialised.
     State,
@@ -39,7 +39,7 @@ pub enum Word {
 }
 
 /// The phases of a group.
-#[derive(Clone, Copy, Debug, PartialEq, Eq)]
+#[derive(Clone, Copy)]
 pub enum Phase {
     /// It is idle.
     Idle,

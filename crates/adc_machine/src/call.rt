@@ -6,7 +6,7 @@ use mcal_base::{ModuleName, Service};
 use run_model::{Class, Key, KeyKind, Kind};
 
 /// One of the two result buffers of a group.
-#[derive(Clone, Copy, Debug, PartialEq, Eq)]
+#[derive(Clone, Copy)]
 pub enum ResultBuffer {
     /// Buffer 0.
     Zero,
@@ -15,7 +15,7 @@ pub enum ResultBuffer {
 }
 
 /// What is asked of a group.
-#[derive(Clone, Copy, Debug, PartialEq, Eq)]
+#[derive(Clone, Copy)]
 pub enum GroupCall {
     /// `Adc_SetupResultBuffer` with a buffer; `None` is a null pointer.
     SetupResultBuffer(Option<ResultBuffer>),
@@ -38,7 +38,7 @@ pub enum GroupCall {
 }
 
 /// A call of the converter driver, with its arguments. Groups are any numbers.
-#[derive(Clone, Copy, Debug, PartialEq, Eq)]
+#[derive(Clone, Copy)]
 pub enum Call {
     /// `Adc_Init`
     Init,

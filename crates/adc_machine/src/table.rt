@@ -7,7 +7,7 @@ ghost use Rattle.adc_machine.specs.Triggers as triggers;
 use mcal_base::{ModuleName, Short};
 
 /// A configured group.
-#[derive(Debug, Drop)]
+#[derive(Drop)]
 pub struct Group {
     /// `Unit`: the number of its unit.
     pub unit: u8,
@@ -34,7 +34,7 @@ pub struct Group {
 }
 
 /// What the converter driver keeps of a configuration.
-#[derive(Debug, Drop)]
+#[derive(Drop)]
 pub struct AdcTable {
     /// `AdcDevErrorDetect`
     pub detect: bool,

@@ -13,6 +13,7 @@ pub mod Noting
 pub mod Numbers
 pub mod Outs
 pub mod Pinning
+pub mod Plain
 pub mod Reads
 pub mod Served
 pub mod Serves

@@ -4,7 +4,7 @@ ghost use Rattle.adc_stream.specs.Rounds as spec;
 use mcal_base::USERS;
 
 /// The places of a round in a user's buffer: one for each input, as far from one another as the stream has rounds.
-#[derive(Clone, Copy, Debug, PartialEq, Eq)]
+#[derive(Clone, Copy)]
 pub struct Column {
     /// The group.
     pub group: u8,

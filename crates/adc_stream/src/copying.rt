@@ -7,7 +7,7 @@ use crate::rounds::{Bank, Rounds};
 use mcal_base::{Move, Reg};
 
 /// What is copied, and where to.
-#[derive(Clone, Copy, Debug, PartialEq, Eq)]
+#[derive(Clone, Copy)]
 pub enum Copied {
     /// A unit's round to a bank of the group: first so many values that were kept of it, and then its results.
     Round(Rounds, u8, u8, Bank),
@@ -66,7 +66,7 @@ fn sum(kept: u8, at: u8) -> u8
 }
 
 /// Values that are copied one by one, each by two moves, with the mask open.
-#[derive(Clone, Copy, Debug, PartialEq, Eq)]
+#[derive(Clone, Copy)]
 pub struct Copying {
     /// What is copied.
     pub what: Copied,

@@ -5,7 +5,7 @@ use crate::rounds::{Bank, Rounds};
 use mcal_base::{Move, Short};
 
 /// A bank that is read one value after the other, with the mask open.
-#[derive(Debug, Drop)]
+#[derive(Drop)]
 pub struct Reading {
     /// Where the group's rounds stand.
     pub rounds: Rounds,

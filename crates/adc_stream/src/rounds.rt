@@ -8,7 +8,7 @@ use word_shapes::Trio;
 pub const FIRST: u32 = 40_960;
 
 /// One of the three banks of a group.
-#[derive(Clone, Copy, Debug, PartialEq, Eq)]
+#[derive(Clone, Copy)]
 pub enum Bank {
     /// Bank 0.
     Zero,
@@ -47,7 +47,7 @@ impl Bank {
 
 /// Where the rounds of a group stand among its words: three banks of a word an input, of which one is the newest round, and
 /// after them the values that are kept of a round that was suspended.
-#[derive(Clone, Copy, Debug, PartialEq, Eq)]
+#[derive(Clone, Copy)]
 pub struct Rounds {
     /// The first word of the group, counted from the module's first one.
     pub start: u16,

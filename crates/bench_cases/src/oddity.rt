@@ -1,7 +1,7 @@
 use std::alloc::{AllocError, Global};
 
 /// What may be out of the ordinary in a call.
-#[derive(Debug, Drop)]
+#[derive(Drop)]
 pub enum Oddity {
     /// `reads MOST F..`: the source gives at most MOST bytes a read, and the reads of these numbers, from 1, fail.
     Reads(usize, Vec<u64>),

@@ -3,7 +3,7 @@ use crate::oddity::Oddity;
 use std::alloc::{AllocError, Global};
 
 /// What is out of the ordinary in turn, in a call that is made again and again.
-#[derive(Clone, Copy, Debug, PartialEq, Eq)]
+#[derive(Clone, Copy)]
 pub enum Turn {
     /// `each read N`: each of the first N reads fails, one in each call.
     Read(usize),

@@ -1,5 +1,5 @@
 -- The report of a run whose shows are kept, or that there is none.
-use Rattle.std.proofs.Common.{◌≡◌, ℕ, ◌<◌, ◌≤◌, Bool, List, [], ap, sym, ◌∙◌, arith, Option, Some, None, length}
+use Rattle.std.proofs.Common.{◌≡◌, ℕ, ◌<◌, Bool, List, [], ap, sym, ◌∙◌, arith, Option, Some, None, length}
 use Rattle.mcal_base.specs.declared.directive.Directive.{Directive}
 use Rattle.run_model.specs.Entry.{Entry}
 use Rattle.bench_report.specs.Limit.{most_bytes}

@@ -1,22 +1,18 @@
 -- What the items of a directive are like: they have its line, and none shows anything where the directive doesn't.
-use Rattle.std.proofs.Common.{◌≡◌, ℕ, zero, suc, ◌+◌, ◌-◌, ◌<◌, ◌≤◌, Bool, true, false, List, [], ◌∷◌, ◌++◌, refl, ap, sym, subst, ◌∙◌, cond, arith, Option, Some, None, length}
-use Rattle.std.specs.Prelude.{◌==◌, ◌||◌, nat_lt, is_some, MatchBool}
-use Rattle.std.proofs.lemmas.Bool.{eq-eqb, eqb-true}
-use Rattle.std.proofs.lemmas.Bool.Decides.{nat_tests}
+use Rattle.std.proofs.Common.{◌≡◌, ℕ, zero, suc, ◌+◌, ◌-◌, Bool, true, false, List, [], ◌∷◌, refl, sym, subst, Option, Some, None, length}
+use Rattle.std.specs.Prelude.{◌||◌, nat_lt, is_some, MatchBool}
 use Rattle.irq_control.specs.declared.held.Held.{Held}
 use Rattle.irq_control.specs.declared.held.Held.TheVariants.{Empty}
-use Rattle.mcal_base.specs.declared.directive.Directive.{Directive}
 use Rattle.mcal_base.specs.declared.directive.Order.{Order}
 use Rattle.mcal_base.specs.declared.directive.Order.TheVariants as orders
 use Rattle.mcal_base.specs.declared.directive.Reason.TheVariants.{PowerOn, Watchdog, Software}
 use Rattle.mcal_base.specs.declared.directive.Request.{Request}
-use Rattle.run_model.specs.declared.item.Stepped.{Stepped}
 use Rattle.run_model.specs.declared.reach.Reach.{Reach}
 use Rattle.run_model.specs.declared.reach.Reach.TheVariants.{Count, Until, Whole}
 use Rattle.run_model.specs.Entry as entry
 use Rattle.run_model.specs.Entry.{Entry, Said}
 use Rattle.run_model.specs.Frame.{Open, resets_chip}
-use Rattle.run_model.specs.Follows.{IsOne, Ticks, ticks_left, ticks_through, ThenComes, IsStep, GoesOn, Goes, BeginsOnly, BeginsAndGoes, BeginsWhole, HappensOnly, Shows, Gives, FirstThen, Follows, is_reached}
+use Rattle.run_model.specs.Follows.{IsOne, Ticks, ticks_left, IsStep, GoesOn, Goes, BeginsOnly, BeginsWhole, HappensOnly, Shows, Gives, is_reached}
 use Rattle.run_model.specs.Moment.{Setting, Moment, Deed, Steps, after}
 
 -- the order shows something

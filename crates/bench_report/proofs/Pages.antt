@@ -1,6 +1,6 @@
 -- What is written line by line is the report, as far as it may be long.
-use Rattle.std.proofs.Common.{◌≡◌, ℕ, ◌+◌, ◌<◌, ◌≤◌, Bool, true, false, List, [], ◌∷◌, ◌++◌, refl, ap, sym, subst, ◌∙◌, append_assoc, cond, arith, Option, Some, None, map, length}
-use Rattle.std.specs.Prelude.{◌&&◌, ◌==◌, nat_lt, flat_map, count_by, decimal, codes}
+use Rattle.std.proofs.Common.{◌≡◌, ℕ, Bool, true, false, List, [], ◌∷◌, ◌++◌, refl, ap, sym, subst, ◌∙◌, append_assoc, cond, arith, Option, Some, None, map, length}
+use Rattle.std.specs.Prelude.{◌&&◌, ◌==◌, flat_map, count_by, decimal, codes}
 use Rattle.std.specs.List.{list_all}
 use Rattle.std.proofs.lemmas.Bool.Decides.{nat_tests}
 use Rattle.std.proofs.lemmas.Bool.{eqb-true}
@@ -12,7 +12,7 @@ use Rattle.mcal_base.specs.declared.directive.Order.TheVariants as orders
 use Rattle.run_model.specs.Entry.{Entry, Said, Happens, Begins, Stays, Steps, Resets}
 use Rattle.run_model.specs.declared.item.Stepped.{Stepped}
 use Rattle.bench_report.specs.declared.frames.Purpose.{Purpose}
-use Rattle.bench_report.specs.Limit.{most_bytes, is_too_long}
+use Rattle.bench_report.specs.Limit.{is_too_long}
 use Rattle.bench_report.specs.Lines.{Line, Holds, Restarts, Shows, Done, numbered, line_text, end_text}
 use Rattle.bench_report.specs.Rows.{Row}
 use Rattle.bench_report.specs.Shown.{rows_text, next_rows, order_texts, said_texts, shows_after, texts_of}

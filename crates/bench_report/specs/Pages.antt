@@ -10,7 +10,7 @@ use Rattle.bench_report.specs.declared.frames.Purpose.{Purpose}
 use Rattle.bench_report.specs.declared.tally.Tally.{Tally}
 use Rattle.bench_report.specs.Limit.{is_too_long}
 use Rattle.bench_report.specs.Lines.{Line, Holds, Makes, Notes, Errs, Returns, Leaves, Restarts, Shows, Done, numbered, end_text}
-use Rattle.bench_report.specs.Report.{Numbered, frames_after, frames_after_end, said_lines, step_lines, move_lines, end_lines, is_step, own_entries, later_entries}
+use Rattle.bench_report.specs.Report.{Numbered, frames_after, frames_after_end, step_lines, move_lines, end_lines, is_step, own_entries, later_entries}
 
 -- one more line is counted
 abbrev pub counted : Tally → Line → Tally

@@ -2,10 +2,18 @@
 use Rattle.std.specs.Prelude.{ℕ, List, ◌++◌, codes, decimal}
 use Rattle.mcal_base.specs.declared.register.Reg.{Reg}
 use Rattle.mcal_base.specs.declared.register.Reg.TheVariants as regs
+use Rattle.bench_report.specs.declared.registers.Parts.{Parts}
+use Rattle.bench_report.specs.declared.registers.Parts.TheVariants as parts
 
 -- a register of a channel, a unit or a pin: a letter, the number, and the name after the point
 abbrev pub numbered_register : List ℕ → ℕ → List ℕ → List ℕ
 numbered_register letter n name = letter ++ (decimal n ++ name)
+
+-- the parts of a name, as the code has them
+abbrev pub parts_text : Parts → List ℕ
+parts_text (parts.Plain name) = name.now
+parts_text (parts.Numbered letters n name) = numbered_register letters.now n name.now
+parts_text (parts.Placed letters n name k) = numbered_register letters.now n (numbered_register name.now k (codes ""))
 
 -- a register, as the chip names it
 abbrev pub register_text : Reg → List ℕ

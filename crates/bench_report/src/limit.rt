@@ -2,7 +2,7 @@
 pub const MOST_BYTES: usize = 268_435_456;
 
 /// Why there is no report.
-#[derive(Clone, Copy, Debug, PartialEq, Eq)]
+#[derive(Clone, Copy)]
 pub enum ReportEnd {
     /// It would be longer than a report may be.
     TooLong,

@@ -1,77 +1,101 @@
-ghost use Rattle.std.specs.Prelude.{Some};
+ghost use Rattle.std.specs.Prelude.{◌≡◌, Some};
 ghost use Rattle.bench_report.specs.Registers as spec;
 
 use mcal_base::Reg;
 use std::fmt;
 
+/// What a register's name is put together from.
+#[derive(Clone, Copy)]
+enum Parts {
+    /// A name without a number.
+    Plain(&'static str),
+    /// Letters, a number and letters.
+    Numbered(&'static str, u32, &'static str),
+    /// Letters and a number, twice.
+    Placed(&'static str, u8, &'static str, u8),
+}
+
+/// The parts of a register's name.
+fn parts_of(reg: Reg) -> Parts
+    ensures { spec.parts_text result ≡ spec.register_text reg }
+{
+    match reg {
+        Reg::EnableSet => Parts::Plain("IE.SET"),
+        Reg::EnableClear => Parts::Plain("IE.CLR"),
+        Reg::TimerTarget(channel) => Parts::Numbered("T", channel, ".TARGET"),
+        Reg::TimerPrescaler(channel) => Parts::Numbered("T", channel, ".PRE"),
+        Reg::TimerOneShot => Parts::Plain("T.ONESHOT"),
+        Reg::TimerGateSet => Parts::Plain("T.GATESET"),
+        Reg::TimerGateClear => Parts::Plain("T.GATECLR"),
+        Reg::TimerRun => Parts::Plain("T.RUN"),
+        Reg::TimerFlags => Parts::Plain("T.FLAGS"),
+        Reg::TimerZero => Parts::Plain("T.ZERO"),
+        Reg::TimerLow(channel) => Parts::Numbered("T", channel, ".LOW"),
+        Reg::TimerHigh(channel) => Parts::Numbered("T", channel, ".HIGH"),
+        Reg::PulsePeriod(channel) => Parts::Numbered("P", channel, ".PERIOD"),
+        Reg::PulseDuty(channel) => Parts::Numbered("P", channel, ".DUTY"),
+        Reg::PulsePolarity(channel) => Parts::Numbered("P", channel, ".POL"),
+        Reg::PulseCommit(channel) => Parts::Numbered("P", channel, ".COMMIT"),
+        Reg::PulseIdle(channel) => Parts::Numbered("P", channel, ".IDLE"),
+        Reg::PulseOut(channel) => Parts::Numbered("P", channel, ".OUT"),
+        Reg::PulseEdges => Parts::Plain("P.EDGES"),
+        Reg::PulseFlags => Parts::Plain("P.FLAGS"),
+        Reg::CaptureCondition(channel) => Parts::Numbered("C", channel, ".COND"),
+        Reg::CaptureMode(channel) => Parts::Numbered("C", channel, ".MODE"),
+        Reg::CaptureGateSet => Parts::Plain("C.GATESET"),
+        Reg::CaptureGateClear => Parts::Plain("C.GATECLR"),
+        Reg::CaptureCountLow(channel) => Parts::Numbered("C", channel, ".COUNTLOW"),
+        Reg::CaptureCountHigh(channel) => Parts::Numbered("C", channel, ".COUNTHIGH"),
+        Reg::CaptureZero(channel) => Parts::Numbered("C", channel, ".ZERO"),
+        Reg::CaptureTimeLow(channel) => Parts::Numbered("C", channel, ".TIMELOW"),
+        Reg::CaptureTimeHigh(channel) => Parts::Numbered("C", channel, ".TIMEHIGH"),
+        Reg::CaptureInfo(channel) => Parts::Numbered("C", channel, ".INFO"),
+        Reg::CapturePop(channel) => Parts::Numbered("C", channel, ".POP"),
+        Reg::CaptureFlush(channel) => Parts::Numbered("C", channel, ".FLUSH"),
+        Reg::ConverterList(unit, place) => Parts::Placed("A", unit, ".LIST", place),
+        Reg::ConverterGo(unit) => Parts::Numbered("A", unit, ".GO"),
+        Reg::ConverterState(unit) => Parts::Numbered("A", unit, ".STATE"),
+        Reg::ConverterResult(unit, place) => Parts::Placed("A", unit, ".RESULT", place),
+        Reg::ConverterDone(unit) => Parts::Numbered("A", unit, ".DONE"),
+        Reg::ConverterAbort(unit) => Parts::Numbered("A", unit, ".ABORT"),
+        Reg::ConverterAck(unit) => Parts::Numbered("A", unit, ".ACK"),
+        Reg::TriggerSet => Parts::Plain("A.TRIGSET"),
+        Reg::TriggerClear => Parts::Plain("A.TRIGCLR"),
+        Reg::TriggerFlags => Parts::Plain("A.TRIGFLAGS"),
+        Reg::SerialSelect(unit) => Parts::Numbered("S", unit, ".SELECT"),
+        Reg::SerialWidth(unit) => Parts::Numbered("S", unit, ".WIDTH"),
+        Reg::SerialData(unit) => Parts::Numbered("S", unit, ".DATA"),
+        Reg::SerialReceived(unit) => Parts::Numbered("S", unit, ".RX"),
+        Reg::SerialState(unit) => Parts::Numbered("S", unit, ".STATE"),
+        Reg::SerialAck(unit) => Parts::Numbered("S", unit, ".ACK"),
+        Reg::PinDirectionSet(half) => Parts::Numbered("D.DIRSET", half, ""),
+        Reg::PinDirectionClear(half) => Parts::Numbered("D.DIRCLR", half, ""),
+        Reg::PinOutSet(half) => Parts::Numbered("D.OUTSET", half, ""),
+        Reg::PinOutClear(half) => Parts::Numbered("D.OUTCLR", half, ""),
+        Reg::PinMode(pin) => Parts::Numbered("D", pin, ".MODE"),
+        Reg::ClockPll => Parts::Plain("M.PLL"),
+        Reg::ClockLock => Parts::Plain("M.LOCK"),
+        Reg::ClockRate => Parts::Plain("M.RATE"),
+        Reg::ResetReason => Parts::Plain("M.REASON"),
+        Reg::ResetRequest => Parts::Plain("M.RESET"),
+        Reg::Ram(word) => Parts::Numbered("R", word, ""),
+    }
+}
+
 /// A register by the name that the chip gives it.
-#[derive(Clone, Copy, Debug)]
+#[derive(Clone, Copy)]
 pub struct RegisterName(pub Reg);
 
 impl fmt::Display for RegisterName {
     ghost output = { λ r. Some (spec.register_text r.0) };
 
     fn fmt<W: fmt::Write>(&self, f: &mut fmt::Formatter<W>) -> fmt::Result {
-        match self.0 {
-            Reg::EnableSet => f.write_str("IE.SET"),
-            Reg::EnableClear => f.write_str("IE.CLR"),
-            Reg::TimerTarget(channel) => write!(f, "T{channel}.TARGET"),
-            Reg::TimerPrescaler(channel) => write!(f, "T{channel}.PRE"),
-            Reg::TimerOneShot => f.write_str("T.ONESHOT"),
-            Reg::TimerGateSet => f.write_str("T.GATESET"),
-            Reg::TimerGateClear => f.write_str("T.GATECLR"),
-            Reg::TimerRun => f.write_str("T.RUN"),
-            Reg::TimerFlags => f.write_str("T.FLAGS"),
-            Reg::TimerZero => f.write_str("T.ZERO"),
-            Reg::TimerLow(channel) => write!(f, "T{channel}.LOW"),
-            Reg::TimerHigh(channel) => write!(f, "T{channel}.HIGH"),
-            Reg::PulsePeriod(channel) => write!(f, "P{channel}.PERIOD"),
-            Reg::PulseDuty(channel) => write!(f, "P{channel}.DUTY"),
-            Reg::PulsePolarity(channel) => write!(f, "P{channel}.POL"),
-            Reg::PulseCommit(channel) => write!(f, "P{channel}.COMMIT"),
-            Reg::PulseIdle(channel) => write!(f, "P{channel}.IDLE"),
-            Reg::PulseOut(channel) => write!(f, "P{channel}.OUT"),
-            Reg::PulseEdges => f.write_str("P.EDGES"),
-            Reg::PulseFlags => f.write_str("P.FLAGS"),
-            Reg::CaptureCondition(channel) => write!(f, "C{channel}.COND"),
-            Reg::CaptureMode(channel) => write!(f, "C{channel}.MODE"),
-            Reg::CaptureGateSet => f.write_str("C.GATESET"),
-            Reg::CaptureGateClear => f.write_str("C.GATECLR"),
-            Reg::CaptureCountLow(channel) => write!(f, "C{channel}.COUNTLOW"),
-            Reg::CaptureCountHigh(channel) => write!(f, "C{channel}.COUNTHIGH"),
-            Reg::CaptureZero(channel) => write!(f, "C{channel}.ZERO"),
-            Reg::CaptureTimeLow(channel) => write!(f, "C{channel}.TIMELOW"),
-            Reg::CaptureTimeHigh(channel) => write!(f, "C{channel}.TIMEHIGH"),
-            Reg::CaptureInfo(channel) => write!(f, "C{channel}.INFO"),
-            Reg::CapturePop(channel) => write!(f, "C{channel}.POP"),
-            Reg::CaptureFlush(channel) => write!(f, "C{channel}.FLUSH"),
-            Reg::ConverterList(unit, place) => write!(f, "A{unit}.LIST{place}"),
-            Reg::ConverterGo(unit) => write!(f, "A{unit}.GO"),
-            Reg::ConverterState(unit) => write!(f, "A{unit}.STATE"),
-            Reg::ConverterResult(unit, place) => write!(f, "A{unit}.RESULT{place}"),
-            Reg::ConverterDone(unit) => write!(f, "A{unit}.DONE"),
-            Reg::ConverterAbort(unit) => write!(f, "A{unit}.ABORT"),
-            Reg::ConverterAck(unit) => write!(f, "A{unit}.ACK"),
-            Reg::TriggerSet => f.write_str("A.TRIGSET"),
-            Reg::TriggerClear => f.write_str("A.TRIGCLR"),
-            Reg::TriggerFlags => f.write_str("A.TRIGFLAGS"),
-            Reg::SerialSelect(unit) => write!(f, "S{unit}.SELECT"),
-            Reg::SerialWidth(unit) => write!(f, "S{unit}.WIDTH"),
-            Reg::SerialData(unit) => write!(f, "S{unit}.DATA"),
-            Reg::SerialReceived(unit) => write!(f, "S{unit}.RX"),
-            Reg::SerialState(unit) => write!(f, "S{unit}.STATE"),
-            Reg::SerialAck(unit) => write!(f, "S{unit}.ACK"),
-            Reg::PinDirectionSet(half) => write!(f, "D.DIRSET{half}"),
-            Reg::PinDirectionClear(half) => write!(f, "D.DIRCLR{half}"),
-            Reg::PinOutSet(half) => write!(f, "D.OUTSET{half}"),
-            Reg::PinOutClear(half) => write!(f, "D.OUTCLR{half}"),
-            Reg::PinMode(pin) => write!(f, "D{pin}.MODE"),
-            Reg::ClockPll => f.write_str("M.PLL"),
-            Reg::ClockLock => f.write_str("M.LOCK"),
-            Reg::ClockRate => f.write_str("M.RATE"),
-            Reg::ResetReason => f.write_str("M.REASON"),
-            Reg::ResetRequest => f.write_str("M.RESET"),
-            Reg::Ram(word) => write!(f, "R{word}"),
+        match parts_of(self.0) {
+            Parts::Plain(name) => f.write_str(name),
+            Parts::Numbered(letters, number, name) => write!(f, "{letters}{number}{name}"),
+            Parts::Placed(letters, unit, name, place) => {
+                write!(f, "{letters}{unit}{name}{place}")
+            }
         }
     }
 }

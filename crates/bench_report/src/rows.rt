@@ -6,7 +6,7 @@ use std::alloc::AllocError;
 use std::fmt;
 
 /// What a row of `show` is of.
-#[derive(Clone, Copy, Debug, PartialEq, Eq)]
+#[derive(Clone, Copy)]
 pub enum RowName {
     /// The level of a pin.
     Pin(u32),
@@ -47,7 +47,7 @@ impl fmt::Display for RowName {
 }
 
 /// What stands in a row.
-#[derive(Clone, Copy, Debug, PartialEq, Eq)]
+#[derive(Clone, Copy)]
 pub enum Value {
     /// A value.
     One(u32),

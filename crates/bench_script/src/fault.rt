@@ -6,7 +6,7 @@ use std::alloc::{AllocError, AllocFailed};
 use thiserror::Error;
 
 /// Why a line of a script is refused.
-#[derive(Clone, Copy, Debug, PartialEq, Eq)]
+#[derive(Clone, Copy)]
 pub(crate) enum LineFault {
     /// A byte before a comment is no text.
     NotText,
@@ -33,7 +33,7 @@ impl LineFault {
 }
 
 /// Why a text is refused as a script. Each fault of the text has its line, from 1.
-#[derive(Clone, Copy, Debug, PartialEq, Eq, Error)]
+#[derive(Clone, Copy, Debug, Error)]
 pub enum ScriptFault {
     /// A byte before a comment is neither a tab nor from 0x20 to 0x7E.
     #[error("line {0}: a byte that is no text")]

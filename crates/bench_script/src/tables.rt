@@ -4,7 +4,7 @@ ghost use Rattle.bench_script.specs.Tables as spec;
 use mcal_base::{ArgumentName, Service};
 
 /// What may stand for an argument of a service.
-#[derive(Clone, Copy, Debug, PartialEq, Eq)]
+#[derive(Clone, Copy)]
 pub(crate) enum Kind {
     /// A number of at most so much.
     Number(u32),
@@ -15,7 +15,7 @@ pub(crate) enum Kind {
 }
 
 /// The sets of names that arguments are out of.
-#[derive(Clone, Copy, Debug, PartialEq, Eq)]
+#[derive(Clone, Copy)]
 pub(crate) enum NameSet {
     /// A direction of a pin.
     Direction,

@@ -6,7 +6,7 @@ use crate::fault::LineFault;
 use mcal_base::{Reason, Shown, Stop};
 
 /// The first words of directives.
-#[derive(Clone, Copy, Debug, PartialEq, Eq)]
+#[derive(Clone, Copy)]
 pub(crate) enum Keyword {
     /// `call`
     Call,

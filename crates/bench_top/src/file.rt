@@ -23,7 +23,7 @@ pub struct BenchFile {
 }
 
 /// Why no bench file was read.
-#[derive(Clone, Copy, Debug, PartialEq, Eq)]
+#[derive(Clone, Copy)]
 pub enum FileEnd {
     /// It is refused.
     Refused(Refusal),

@@ -10,7 +10,7 @@ use std::alloc::Global;
 pub const LIMIT: usize = 1_048_576;
 
 /// Why no input came.
-#[derive(Clone, Copy, Debug, PartialEq, Eq)]
+#[derive(Clone, Copy)]
 pub enum ReadEnd {
     /// The source met a fault.
     Fault,

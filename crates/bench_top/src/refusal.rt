@@ -6,7 +6,7 @@ use mcal_config::{ConfigFault, Printed};
 use std::alloc::{AllocError, Global};
 
 /// Why a bench file is refused.
-#[derive(Clone, Copy, Debug, PartialEq, Eq)]
+#[derive(Clone, Copy)]
 pub enum Refusal {
     /// No line is the separator.
     NoSeparator,

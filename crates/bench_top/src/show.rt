@@ -3,6 +3,8 @@ ghost use Rattle.config_facts.specs.Valid.{IsValid};
 ghost use Rattle.mcal_base.specs.Layout.{length_of};
 ghost use Rattle.mcal_base.specs.declared.layout.Array.TheVariants.{Round, Source, Stamps};
 ghost use Rattle.bench_report.specs.Shown.{rows_text};
+ghost use Rattle.bench_report.specs.declared.rows.RowName.TheVariants as names;
+ghost use Rattle.bench_report.specs.declared.rows.Value.TheVariants as values;
 ghost use Rattle.mcal_system.specs.Runs.{moment_of};
 ghost use Rattle.mcal_system.specs.Shows.{results_at, serial_channel, size_at};
 ghost use Rattle.bench_top.specs.Shows as spec;
@@ -44,20 +46,12 @@ fn level_value(high: bool) -> u32
     if high { 1 } else { 0 }
 }
 
-/// Writes the row of a configured pin.
+/// Writes the row of a pin that has this level.
 #[tactic(auto, using(crate::proofs::Rows::row_alone))]
-fn write_level(
-    text: &mut String,
-    system: &System<'_>,
-    line: u32,
-    pin: u32,
-) -> Result<(), AllocError>
-    requires rest { (moment_of system.now).opens ≡ [] }
-    requires there { pin < 64 }
-    ensures { let m = moment_of system.now in
-        OnOk result (string_bytes text.new ≡ string_bytes text.old ++ rows_text line (spec.level_row system.now.config m.world m.state pin ∷ [])) }
+fn write_level(text: &mut String, line: u32, pin: u32, high: bool) -> Result<(), AllocError>
+    ensures { OnOk result (string_bytes text.new ≡ string_bytes text.old ++ rows_text line (record { name = names.Pin pin; values = values.One (spec.level_value high) ∷ [] } ∷ [])) }
 {
-    let level = level_value(system.pin(pin));
+    let level = level_value(high);
     write_row(text, line, RowName::Pin(pin), &[Value::One(level)])
 }
 
@@ -70,7 +64,7 @@ fn write_pin(text: &mut String, system: &System<'_>, line: u32, pin: u32) -> Res
         OnOk result (string_bytes text.new ≡ string_bytes text.old ++ rows_text line (spec.pin_row system.now.config m.world m.state pin)) }
 {
     if has_pin(system.config(), pin) {
-        write_level(text, system, line, pin)
+        write_level(text, line, pin, system.pin(pin))
     } else {
         Ok(())
     }
@@ -173,26 +167,8 @@ fn stamps_of(
     Ok(values)
 }
 
-/// Writes the row of so many places of a capture channel's stamps.
-#[tactic(auto, using(crate::proofs::Rows::row_alone))]
-fn write_stamps(
-    alloc: Global,
-    text: &mut String,
-    system: &System<'_>,
-    line: u32,
-    channel: u32,
-    size: u32,
-) -> Result<(), AllocError>
-    requires rest { (moment_of system.now).opens ≡ [] }
-    requires inside { size ≤ length_of system.now.config (Stamps channel) }
-    ensures { OnOk result (string_bytes text.new ≡ string_bytes text.old ++ rows_text line (spec.stamps_row (moment_of system.now).state channel (Some size))) }
-{
-    let values = stamps_of(alloc, system, channel, size)?;
-    write_row(text, line, RowName::Stamps(channel), &values)
-}
-
 /// Writes the row of a capture channel's stamps, where it was started since the last reset.
-#[tactic(auto, using(crate::proofs::Rows::no_rows))]
+#[tactic(auto, using(crate::proofs::Rows::no_rows, crate::proofs::Rows::row_alone))]
 fn write_capture(
     alloc: Global,
     text: &mut String,
@@ -206,7 +182,10 @@ fn write_capture(
         OnOk result (string_bytes text.new ≡ string_bytes text.old ++ rows_text line (spec.stamps_row s channel (size_at s channel))) }
 {
     match system.stamps(channel) {
-        Some(size) => write_stamps(alloc, text, system, line, channel, size),
+        Some(size) => {
+            let values = stamps_of(alloc, system, channel, size)?;
+            write_row(text, line, RowName::Stamps(channel), &values)
+        }
         None => Ok(()),
     }
 }
@@ -242,27 +221,8 @@ fn results_of(
     Ok(values)
 }
 
-/// Writes the row of so many places of a buffer of a converter group.
-#[tactic(auto, using(crate::proofs::Rows::row_alone))]
-fn write_results(
-    alloc: Global,
-    text: &mut String,
-    system: &System<'_>,
-    line: u32,
-    group: u32,
-    found: (u32, u32),
-) -> Result<(), AllocError>
-    requires rest { (moment_of system.now).opens ≡ [] }
-    requires inside { found.1 ≤ length_of system.now.config (Round group found.0) }
-    ensures { OnOk result (string_bytes text.new ≡ string_bytes text.old ++ rows_text line (spec.results_row (moment_of system.now).state group (Some found))) }
-{
-    let (buffer, size) = found;
-    let values = results_of(alloc, system, group, buffer, size)?;
-    write_row(text, line, RowName::Results(group, buffer), &values)
-}
-
 /// Writes the row of the buffer that was last chosen for a converter group, where there is one.
-#[tactic(auto, using(crate::proofs::Rows::no_rows))]
+#[tactic(auto, using(crate::proofs::Rows::no_rows, crate::proofs::Rows::row_alone))]
 fn write_group(
     alloc: Global,
     text: &mut String,
@@ -275,7 +235,10 @@ fn write_group(
         OnOk result (string_bytes text.new ≡ string_bytes text.old ++ rows_text line (spec.results_row s group (results_at system.now.config s group))) }
 {
     match system.results(group) {
-        Some(found) => write_results(alloc, text, system, line, group, found),
+        Some((buffer, size)) => {
+            let values = results_of(alloc, system, group, buffer, size)?;
+            write_row(text, line, RowName::Results(group, buffer), &values)
+        }
         None => Ok(()),
     }
 }
@@ -293,7 +256,7 @@ fn results_text(alloc: Global, system: &System<'_>, line: u32) -> Result<String,
 }
 
 /// What a serial channel keeps.
-#[derive(Clone, Copy, Debug, PartialEq, Eq)]
+#[derive(Clone, Copy)]
 enum Kept {
     /// The user's source array.
     Source,

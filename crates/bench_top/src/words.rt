@@ -3,7 +3,7 @@ ghost use Rattle.bench_top.specs.Words as spec;
 ghost use Rattle.bench_top.specs.Tail.{is_traced};
 
 /// What the words ask for.
-#[derive(Clone, Copy, Debug, PartialEq, Eq)]
+#[derive(Clone, Copy)]
 pub enum Form {
     /// To do something with a bench file.
     File(Task),
@@ -12,7 +12,7 @@ pub enum Form {
 }
 
 /// What is to be done with a bench file.
-#[derive(Clone, Copy, Debug, PartialEq, Eq)]
+#[derive(Clone, Copy)]
 pub enum Task {
     /// To say that it is one.
     Check,
@@ -21,7 +21,7 @@ pub enum Task {
 }
 
 /// How a report is printed.
-#[derive(Clone, Copy, Debug, PartialEq, Eq)]
+#[derive(Clone, Copy)]
 pub enum Printing {
     /// As it is.
     Plain,

@@ -1,5 +1,5 @@
 /// What can be stored of a bench file.
-#[derive(Debug, Clone, Copy)]
+#[derive(Clone, Copy)]
 pub enum Form {
     /// What `run` prints.
     Report,

@@ -11,7 +11,7 @@ const CHANNELS: u32 = 8;
 
 /// The capture block: the registers `C<c>.COND` to `C<c>.FLUSH` of eight channels, as they stand at the
 /// peripheral time that it keeps.
-#[derive(Debug, Drop)]
+#[derive(Drop)]
 pub struct CaptureBlock {
     pins: [Option<u32>; 8],
     time: u64,

@@ -4,7 +4,7 @@ ghost use Rattle.chip_captures.specs.Captures as spec;
 use crate::queue::Queue;
 
 /// An edge that was caught.
-#[derive(Clone, Copy, Debug, Default)]
+#[derive(Clone, Copy, Default)]
 pub struct Edge {
     /// When it came: the low 32 bits of the peripheral time.
     pub time: u32,
@@ -15,7 +15,7 @@ pub struct Edge {
 }
 
 /// `C<c>.COND`: which edges are chosen.
-#[derive(Clone, Copy, Debug)]
+#[derive(Clone, Copy)]
 pub enum Condition {
     /// None.
     Neither,
@@ -28,7 +28,7 @@ pub enum Condition {
 }
 
 /// `C<c>.MODE`: what a chosen edge does.
-#[derive(Clone, Copy, Debug)]
+#[derive(Clone, Copy)]
 pub enum Mode {
     /// It is kept in the queue.
     Keeps,
@@ -37,7 +37,7 @@ pub enum Mode {
 }
 
 /// What a one at a channel's bit does to the channel.
-#[derive(Clone, Copy, Debug)]
+#[derive(Clone, Copy)]
 pub enum Act {
     /// `C.GATESET`
     Open,
@@ -48,7 +48,7 @@ pub enum Act {
 }
 
 /// A channel.
-#[derive(Debug, Drop)]
+#[derive(Drop)]
 pub struct Capture {
     /// Whether edges are caught.
     pub gate: bool,

@@ -6,7 +6,7 @@ use arrayvec::ArrayVec;
 use std::marker::Model;
 
 /// At most four edges, the oldest first, which contracts see as a list.
-#[derive(Debug, Drop)]
+#[derive(Drop)]
 pub struct Queue {
     edges: ArrayVec<Edge, 4>,
 }

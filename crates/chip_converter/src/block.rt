@@ -13,7 +13,7 @@ const TRIGGERS: u32 = 4;
 
 /// The converter block: the registers `A<u>.LIST0` to `A<u>.ACK` of two units and `A.TRIGSET` to
 /// `A.TRIGFLAGS`, as they stand at the peripheral time that it keeps, with the levels of the analog inputs.
-#[derive(Debug, Drop)]
+#[derive(Drop)]
 pub struct ConverterBlock {
     time: u64,
     units: [Converter; 2],

@@ -12,7 +12,7 @@ const LISTS: u32 = 8;
 const PLACES: u32 = 32;
 
 /// A unit.
-#[derive(Clone, Copy, Debug)]
+#[derive(Clone, Copy)]
 pub struct Converter {
     /// `A<u>.LIST0` to `A<u>.LIST7`
     pub list: [u32; 8],
@@ -23,7 +23,7 @@ pub struct Converter {
 }
 
 /// The levels of the analog inputs, and the time at which one of them was set last.
-#[derive(Debug, Drop)]
+#[derive(Drop)]
 pub struct Levels {
     /// The levels by input.
     pub values: [u32; 32],

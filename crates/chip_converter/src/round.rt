@@ -8,7 +8,7 @@ const CONVERSION: u64 = 4;
 
 /// A round of at most 32 inputs, which are converted one after the other: when it began, how many inputs it
 /// has, the list registers as they stood there, and when it was aborted, or acknowledged once it was finished.
-#[derive(Clone, Copy, Debug)]
+#[derive(Clone, Copy)]
 pub struct Round {
     start: u64,
     count: u32,

@@ -24,7 +24,7 @@ use std::marker::Model;
 const PINS: u32 = 64;
 
 /// What a move gave.
-#[derive(Clone, Copy, Debug, PartialEq, Eq)]
+#[derive(Clone, Copy)]
 pub struct Applied {
     /// What a read or a load gave, and 0 for other moves.
     pub value: u32,
@@ -33,7 +33,7 @@ pub struct Applied {
 }
 
 /// The chip: its blocks, the interrupt controller and the driver words, with what stands outside.
-#[derive(Debug, Drop)]
+#[derive(Drop)]
 pub struct Bus {
     clock: ClockBlock,
     timers: TimerBlock,

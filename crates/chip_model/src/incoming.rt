@@ -7,7 +7,7 @@ use std::marker::Model;
 const ALL_ONES: u32 = 65_535;
 
 /// The words that wait to come in on a serial unit, with room that was taken beforehand.
-#[derive(Debug, Drop)]
+#[derive(Drop)]
 pub struct Incoming {
     words: Vec<u32>,
     next: usize,

@@ -5,7 +5,7 @@ ghost use Rattle.chip_model.specs.Wiring.{wiring_of, output_in, source_in};
 use mcal_base::{Config, PwmChannel, SpiChannel, SpiChannelType};
 
 /// What a configuration wires to the chip.
-#[derive(Clone, Copy, Debug)]
+#[derive(Clone, Copy)]
 pub struct Wiring {
     /// The pin of each pulse channel's output, where it has one.
     pub outputs: [Option<u32>; 8],

@@ -11,7 +11,7 @@ const CHANNELS: u32 = 8;
 
 /// The pulse block: the registers `P<c>.PERIOD` to `P.FLAGS` of eight channels, as they stand at the
 /// peripheral time that it keeps.
-#[derive(Debug, Drop)]
+#[derive(Drop)]
 pub struct PulseBlock {
     time: u64,
     pulses: [Pulse; 8],

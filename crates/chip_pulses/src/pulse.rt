@@ -4,7 +4,7 @@ ghost use Rattle.chip_pulses.specs.Pulses as spec;
 use crate::regime::{Commit, Regime, Wave, turns_to};
 
 /// What the output does.
-#[derive(Clone, Copy, Debug)]
+#[derive(Clone, Copy)]
 pub enum Output {
     /// It is idle at a level.
     Idle(bool),
@@ -15,7 +15,7 @@ pub enum Output {
 }
 
 /// What is known of the changes to one level.
-#[derive(Clone, Copy, Debug)]
+#[derive(Clone, Copy)]
 pub struct Mark {
     /// Whether a flag of earlier output stands.
     pub kept: bool,
@@ -24,7 +24,7 @@ pub struct Mark {
 }
 
 /// A channel.
-#[derive(Clone, Copy, Debug)]
+#[derive(Clone, Copy)]
 pub struct Pulse {
     /// `P<c>.PERIOD`, `P<c>.DUTY` and `P<c>.POL`.
     pub wave: Wave,

@@ -2,7 +2,7 @@ ghost use Rattle.std.specs.Prelude.{◌≡◌, ◌<◌, ◌≤◌, ◌^◌, not,
 ghost use Rattle.chip_pulses.specs.Regime as spec;
 
 /// A period, a duty and a polarity.
-#[derive(Clone, Copy, Debug)]
+#[derive(Clone, Copy)]
 pub struct Wave {
     /// The period, in peripheral ticks.
     pub period: u32,
@@ -13,7 +13,7 @@ pub struct Wave {
 }
 
 /// A wave from a time on.
-#[derive(Clone, Copy, Debug)]
+#[derive(Clone, Copy)]
 pub struct Regime {
     /// When its first period begins.
     pub start: u64,
@@ -22,7 +22,7 @@ pub struct Regime {
 }
 
 /// A wave that was committed while another regime stood, and takes effect at the end of its period.
-#[derive(Clone, Copy, Debug)]
+#[derive(Clone, Copy)]
 pub struct Commit {
     /// When that period began.
     pub begun: u64,

@@ -11,7 +11,7 @@ const CHANNELS: u32 = 8;
 
 /// The timer block: the registers `T<c>.TARGET` to `T<c>.HIGH` of eight channels, as they stand at the
 /// peripheral time that it keeps.
-#[derive(Debug, Drop)]
+#[derive(Drop)]
 pub struct TimerBlock {
     time: u64,
     timers: [Timer; 8],

@@ -5,7 +5,7 @@ use std::marker::Model;
 
 /// A counter under way: when it was started, with the target, the prescaler and the one-shot bit that stood
 /// there. Neither the target nor the prescaler is 0.
-#[derive(Clone, Copy, Debug)]
+#[derive(Clone, Copy)]
 pub struct Run {
     start: u64,
     target: u32,

@@ -4,7 +4,7 @@ ghost use Rattle.chip_timers.specs.Timers.{acting, counter as counter_of, is_run
 use crate::run::Run;
 
 /// A counter.
-#[derive(Clone, Copy, Debug)]
+#[derive(Clone, Copy)]
 pub enum Count {
     /// It stands still at a value.
     Still(u32),
@@ -13,7 +13,7 @@ pub enum Count {
 }
 
 /// What ones written to a register of the block do to a channel.
-#[derive(Clone, Copy, Debug)]
+#[derive(Clone, Copy)]
 pub enum Act {
     /// `T.GATESET`
     Start,
@@ -26,7 +26,7 @@ pub enum Act {
 }
 
 /// A channel.
-#[derive(Clone, Copy, Debug)]
+#[derive(Clone, Copy)]
 pub struct Timer {
     /// `T<c>.TARGET`
     pub target: u32,

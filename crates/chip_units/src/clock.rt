@@ -9,7 +9,7 @@ use std::marker::Model;
 const LOCKING: u64 = 100;
 
 /// A PLL that was started.
-#[derive(Clone, Copy, Debug)]
+#[derive(Clone, Copy)]
 pub struct Pll {
     /// `M.PLL`
     pub multiplier: u32,
@@ -19,7 +19,7 @@ pub struct Pll {
 
 /// The clock block: the registers `M.PLL` to `M.REASON` as they stand at the time of the oscillator, which it
 /// keeps.
-#[derive(Debug, Drop)]
+#[derive(Drop)]
 pub struct ClockBlock {
     osc: u64,
     pll: Option<Pll>,

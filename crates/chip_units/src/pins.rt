@@ -11,7 +11,7 @@ const HALVES: u32 = 2;
 const PINS: u32 = 64;
 
 /// The pin block: the registers `D.DIRSET0` to `D63.MODE`.
-#[derive(Debug, Drop)]
+#[derive(Drop)]
 pub struct PinBlock {
     out: [u32; 2],
     latches: [u32; 2],

@@ -8,7 +8,7 @@ use std::marker::Model;
 const WORDS: u32 = 512;
 
 /// The RAM words `R0` to `R511`.
-#[derive(Debug, Drop)]
+#[derive(Drop)]
 pub struct RamBlock {
     words: [u32; 512],
 }

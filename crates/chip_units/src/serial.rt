@@ -8,7 +8,7 @@ const WORD: u64 = 8;
 const REFUSED: u32 = 65_536;
 
 /// A word that was begun and not acknowledged.
-#[derive(Clone, Copy, Debug)]
+#[derive(Clone, Copy)]
 pub struct Word {
     /// When it began.
     pub start: u64,
@@ -19,7 +19,7 @@ pub struct Word {
 }
 
 /// A unit.
-#[derive(Clone, Copy, Debug)]
+#[derive(Clone, Copy)]
 pub struct Serial {
     /// `S<u>.SELECT`
     pub select: u32,

@@ -10,7 +10,7 @@ const UNITS: u32 = 2;
 
 /// The serial block: the registers `S<u>.SELECT` to `S<u>.ACK` of two units, as they stand at the peripheral
 /// time that it keeps.
-#[derive(Debug, Drop)]
+#[derive(Drop)]
 pub struct SerialBlock {
     time: u64,
     units: [Serial; 2],

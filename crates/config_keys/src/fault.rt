@@ -9,7 +9,7 @@ use thiserror::Error;
 
 /// A place in a configuration: a module, one of its keys, an element of that key's array, a key of the element, and
 /// an item of that key's array. A plain array of a module has its items after the key.
-#[derive(Clone, Copy, Debug, PartialEq, Eq)]
+#[derive(Clone, Copy, Debug)]
 pub struct Path {
     /// The module.
     pub module: ModuleName,
@@ -75,7 +75,7 @@ impl Path {
 }
 
 /// Why a text is no configuration. Each fault but the first and the last names its place.
-#[derive(Clone, Copy, Debug, PartialEq, Eq, Error)]
+#[derive(Clone, Copy, Debug, Error)]
 pub enum ConfigFault {
     /// The text is not TOML.
     #[error("the text is not TOML")]

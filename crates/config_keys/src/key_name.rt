@@ -1,9 +1,11 @@
 ghost use Rattle.std.specs.Prelude.{◌≡◌};
 ghost use Rattle.config_keys.specs.Names as spec;
 
+use std::fmt;
+
 /// The keys of the modules' tables, in the order in which a configuration is walked. A key that stands in more than
 /// one table is named once.
-#[derive(Clone, Copy, Debug, PartialEq, Eq)]
+#[derive(Clone, Copy)]
 pub enum KeyName {
     /// `McuDevErrorDetect`
     McuDevErrorDetect,
@@ -272,5 +274,11 @@ impl KeyName {
             KeyName::SpiJobAssignment => "SpiJobAssignment",
             KeyName::SpiSeqEndNotification => "SpiSeqEndNotification",
         }
+    }
+}
+
+impl fmt::Debug for KeyName {
+    fn fmt<W: fmt::Write>(&self, f: &mut fmt::Formatter<W>) -> fmt::Result {
+        f.write_str(self.text())
     }
 }

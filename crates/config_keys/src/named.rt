@@ -19,7 +19,7 @@ pub trait Named: Copy {
 }
 
 /// `PortPinLevelValue`.
-#[derive(Clone, Copy, Debug, Default, PartialEq, Eq)]
+#[derive(Clone, Copy, Default)]
 pub enum PinLevel {
     /// `PORT_PIN_LEVEL_HIGH`
     High,
@@ -29,7 +29,7 @@ pub enum PinLevel {
 }
 
 /// `SpiChannelType`, without the number of words.
-#[derive(Clone, Copy, Debug, PartialEq, Eq)]
+#[derive(Clone, Copy)]
 pub enum SpiBuffer {
     /// `IB`
     Internal,

@@ -54,7 +54,7 @@ impl fmt::Display for Path {
 
 /// A fault as it is printed: its number, then its path, then its id or its rule, where it has one, with a space
 /// between them, as `5 Gpt.GptChannelConfiguration.1.GptChannelId 0`.
-#[derive(Clone, Copy, Debug, PartialEq, Eq)]
+#[derive(Clone, Copy)]
 pub struct Printed(pub ConfigFault);
 
 impl fmt::Display for Printed {

@@ -11,6 +11,3 @@ pub use laws::{what_is_named, what_stands_behind};
 pub use reports::reported;
 pub use rows::{Facts, first_error};
 pub use spelling::text;
-
-#[cfg(test)]
-mod tests;

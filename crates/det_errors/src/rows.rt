@@ -4,7 +4,7 @@ ghost use Rattle.det_errors.specs.Rows as spec;
 use mcal_base::{ErrorName, Service};
 
 /// What holds of the errors of a service: place i is the condition of the error at place i of the service's row.
-#[derive(Clone, Copy, Debug, PartialEq, Eq, Default)]
+#[derive(Clone, Copy, Default)]
 pub struct Facts {
     /// The conditions, in the order of the row. Those past its end are of no effect.
     pub holds: [bool; 6],

@@ -33,10 +33,13 @@ fn compare_scripts(rt: &HostRuntime, read: &[Directive]) -> io::Result<()> {
     let Ok(made) = script(rt.alloc(), SEED, COUNT) else {
         return println!(rt; "no memory");
     };
-    if read == made.as_slice() {
-        println!(rt; "the {} directives are those of seed {SEED}", made.len())
+    let count = made.len();
+    let read = format!(in rt.alloc(); "{read:?}")?;
+    let made = format!(in rt.alloc(); "{made:?}")?;
+    if read == made {
+        println!(rt; "the {count} directives are those of seed {SEED}")
     } else {
-        println!(rt; "other directives\n  read {read:?}\n  made {made:?}")
+        println!(rt; "other directives\n  read {read}\n  made {made}")
     }
 }
 

@@ -18,7 +18,7 @@ use mcal_base::{Answer, ErrorName, Service};
 use service_outline::{Done, Looked, Owed, Reply, nothing, number};
 
 /// A call with the driver that it is made of.
-#[derive(Clone, Copy, Debug)]
+#[derive(Clone, Copy)]
 pub struct Asked {
     /// The call.
     pub call: Call,

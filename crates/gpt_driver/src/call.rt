@@ -6,7 +6,7 @@ use mcal_base::{ModuleName, Service};
 use run_model::{Class, Key, KeyKind, Kind};
 
 /// `Gpt_ModeType`.
-#[derive(Clone, Copy, Debug, PartialEq, Eq)]
+#[derive(Clone, Copy)]
 pub enum GptMode {
     /// `GPT_MODE_NORMAL`
     Normal,
@@ -15,7 +15,7 @@ pub enum GptMode {
 }
 
 /// A change of a channel's switches.
-#[derive(Clone, Copy, Debug, PartialEq, Eq)]
+#[derive(Clone, Copy)]
 pub enum Change {
     /// `Gpt_EnableNotification` or `Gpt_DisableNotification`
     Notification(bool),
@@ -26,7 +26,7 @@ pub enum Change {
 }
 
 /// What is asked of a channel. Values are any numbers.
-#[derive(Clone, Copy, Debug, PartialEq, Eq)]
+#[derive(Clone, Copy)]
 pub enum ChannelCall {
     /// `Gpt_GetTimeElapsed`
     GetTimeElapsed,
@@ -41,7 +41,7 @@ pub enum ChannelCall {
 }
 
 /// A call of the timer driver, with its arguments. Channels are any numbers.
-#[derive(Clone, Copy, Debug, PartialEq, Eq)]
+#[derive(Clone, Copy)]
 pub enum Call {
     /// `Gpt_Init`
     Init,

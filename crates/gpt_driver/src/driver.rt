@@ -9,7 +9,7 @@ use mcal_base::{Config, ErrorName, GptChannel, GptChannelMode, Service};
 use service_outline::Owed;
 
 /// A configured channel.
-#[derive(Clone, Copy, Debug, PartialEq, Eq)]
+#[derive(Clone, Copy)]
 pub struct Channel {
     /// `GptChannelId`, 0 to 7.
     pub number: u8,
@@ -28,7 +28,7 @@ pub struct Channel {
 }
 
 /// The timer driver: what it keeps of a configuration.
-#[derive(Clone, Copy, Debug)]
+#[derive(Clone, Copy)]
 pub struct GptDriver {
     /// `GptDevErrorDetect`.
     pub detect: bool,

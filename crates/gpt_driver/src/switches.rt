@@ -2,7 +2,7 @@ ghost use Rattle.std.specs.Prelude.{◌≡◌};
 ghost use Rattle.gpt_driver.specs.Words as spec;
 
 /// The switches of a channel, as they stand in its word.
-#[derive(Clone, Copy, Debug, PartialEq, Eq)]
+#[derive(Clone, Copy)]
 pub struct Switches {
     /// An expiry is notified.
     pub notification: bool,

@@ -5,7 +5,7 @@ use mcal_base::{Event, Move, Notice, NoticeKind, Reg, Unit};
 use service_outline::{Body, BodyTaken, Owed, acts, ends, goes, nothing};
 
 /// A request: the act, its notice, and the start that is possible.
-#[derive(Clone, Copy, Debug, PartialEq, Eq)]
+#[derive(Clone, Copy)]
 pub enum Asking {
     /// It marks that the unit waits, and acts.
     Want,

@@ -1,5 +1,5 @@
 /// A call of the module.
-#[derive(Clone, Copy, Debug, PartialEq, Eq)]
+#[derive(Clone, Copy)]
 pub enum Call {
     /// Fills a section with a value.
     Fill(u8, u32),

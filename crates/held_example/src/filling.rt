@@ -5,7 +5,7 @@ use mcal_base::Move;
 use service_outline::{Body, BodyTaken, Objects, Owed, acts_with, nothing};
 
 /// What is filled, and with what: eight words, with the mask open.
-#[derive(Clone, Copy, Debug, PartialEq, Eq)]
+#[derive(Clone, Copy)]
 pub struct Job {
     /// The section.
     pub section: u8,
@@ -45,7 +45,7 @@ fn cell(section: u8, place: u16) -> u32
 }
 
 /// What follows, in a window.
-#[derive(Clone, Copy, Debug, PartialEq, Eq)]
+#[derive(Clone, Copy)]
 pub enum Filled {
     /// It acts.
     Act(Job),

@@ -94,7 +94,7 @@ impl Model for ToyState {
 }
 
 /// The module.
-#[derive(Clone, Copy, Debug, PartialEq, Eq)]
+#[derive(Clone, Copy)]
 pub struct ToyModule;
 
 impl Module for ToyModule {

@@ -5,7 +5,7 @@ use mcal_base::{Answer, ErrorName, Head, Move, Service, Words};
 use service_outline::{Body, BodyTaken, Owed, acts, acts_with, ends, error, goes, nothing};
 
 /// A value is put into the bank that isn't pinned, which is the newest then.
-#[derive(Clone, Copy, Debug, PartialEq, Eq)]
+#[derive(Clone, Copy)]
 pub enum Putting {
     /// It looks which bank is pinned.
     Look(u32),
@@ -44,7 +44,7 @@ impl Body for Putting {
 
 /// The value that was kept last is taken, twice: the act pins its bank, which is read with the mask open. The body keeps what
 /// it read, and ends its frame with that at its last opening of the mask.
-#[derive(Clone, Copy, Debug, PartialEq, Eq)]
+#[derive(Clone, Copy)]
 pub enum Taking {
     /// It looks which bank is the newest.
     Newest,

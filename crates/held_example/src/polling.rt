@@ -2,7 +2,7 @@ use mcal_base::{Event, Move};
 use service_outline::{Body, BodyTaken, Owed, acts, ends, nothing};
 
 /// A call that polls a line: it acts, and serves the line, which is ready.
-#[derive(Clone, Copy, Debug, PartialEq, Eq)]
+#[derive(Clone, Copy)]
 pub enum Polling {
     /// It acts.
     Act,

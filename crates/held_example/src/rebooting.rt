@@ -2,7 +2,7 @@ use mcal_base::{Move, Reg};
 use service_outline::{Body, BodyTaken, Owed, acts_with, nothing};
 
 /// The reset of the chip.
-#[derive(Clone, Copy, Debug, PartialEq, Eq)]
+#[derive(Clone, Copy)]
 pub enum Rebooting {
     /// It resets the chip, and acts.
     Reset,

@@ -22,7 +22,7 @@ use mcal_base::{
 use service_outline::{Done, Looked, Owed, Reply, named, nothing, number, numbers};
 
 /// A call with the driver that it is made of.
-#[derive(Clone, Copy, Debug)]
+#[derive(Clone, Copy)]
 pub struct Asked {
     /// The call.
     pub call: Call,

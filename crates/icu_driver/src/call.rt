@@ -6,7 +6,7 @@ use mcal_base::{IcuStartEdge, ModuleName, Service};
 use run_model::{Class, Key, KeyKind, Kind};
 
 /// What is asked of a channel. Sizes and intervals are any numbers.
-#[derive(Clone, Copy, Debug, PartialEq, Eq)]
+#[derive(Clone, Copy)]
 pub enum ChannelCall {
     /// `Icu_SetActivationCondition` to the edges that are chosen; `None` is no such choice.
     SetActivationCondition(Option<IcuStartEdge>),
@@ -45,7 +45,7 @@ pub enum ChannelCall {
 }
 
 /// A call of the capture driver, with its arguments. Channels are any numbers.
-#[derive(Clone, Copy, Debug, PartialEq, Eq)]
+#[derive(Clone, Copy)]
 pub enum Call {
     /// `Icu_Init`
     Init,

@@ -13,7 +13,7 @@ use run_model::Class;
 use service_outline::Owed;
 
 /// A configured channel.
-#[derive(Clone, Copy, Debug, PartialEq, Eq)]
+#[derive(Clone, Copy)]
 pub struct Channel {
     /// `IcuChannelId`, 0 to 7.
     pub number: u8,
@@ -36,7 +36,7 @@ pub struct Channel {
 }
 
 /// The capture driver: what it keeps of a configuration.
-#[derive(Clone, Copy, Debug)]
+#[derive(Clone, Copy)]
 pub struct IcuDriver {
     /// `IcuDevErrorDetect`.
     pub detect: bool,

@@ -5,7 +5,7 @@ ghost use Rattle.irq_control.specs.Control.{control_fresh, enabling, disabling, 
 use std::marker::Model;
 
 /// The enable bits of the 32 lines, written by `IE.SET` and `IE.CLR`, and the interrupt mask.
-#[derive(Clone, Copy, Debug)]
+#[derive(Clone, Copy)]
 pub struct Irq {
     enabled: u32,
     is_masked: bool,

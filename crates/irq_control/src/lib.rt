@@ -6,6 +6,3 @@ mod irq;
 
 pub use held::Held;
 pub use irq::Irq;
-
-#[cfg(test)]
-mod tests;

@@ -5,7 +5,7 @@ use crate::short::Short;
 pub type Words = Short<u32, 64>;
 
 /// What an answer begins with.
-#[derive(Clone, Copy, Debug, PartialEq, Eq)]
+#[derive(Clone, Copy)]
 pub enum Head {
     /// The service answers nothing.
     Nothing,
@@ -18,7 +18,7 @@ pub enum Head {
 }
 
 /// The answer of a call.
-#[derive(Debug, Drop, PartialEq)]
+#[derive(Drop)]
 pub struct Answer {
     /// What it begins with.
     pub head: Head,

@@ -2,7 +2,7 @@ ghost use Rattle.std.specs.Prelude.{◌≡◌};
 ghost use Rattle.mcal_base.specs.Names as spec;
 
 /// The named arguments of services. `Source`, `Destination`, `Null` and `Invalid` are words of the bench language; the others are names of the standard.
-#[derive(Clone, Copy, Debug, PartialEq, Eq, Default)]
+#[derive(Clone, Copy, Debug, Default)]
 pub enum ArgumentName {
     /// `PORT_PIN_IN`
     PortPinIn,

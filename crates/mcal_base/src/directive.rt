@@ -4,7 +4,7 @@ use crate::service::Service;
 use crate::short::Short;
 
 /// Why the chip was reset.
-#[derive(Clone, Copy, Debug, PartialEq, Eq)]
+#[derive(Clone, Copy, Debug)]
 pub enum Reason {
     /// Power came on.
     PowerOn,
@@ -15,7 +15,7 @@ pub enum Reason {
 }
 
 /// An argument of a service.
-#[derive(Clone, Copy, Debug, PartialEq, Eq)]
+#[derive(Clone, Copy, Debug)]
 pub enum Argument {
     /// A number.
     Number(u32),
@@ -30,7 +30,7 @@ impl Default for Argument {
 }
 
 /// A service with its arguments, in the order of its table.
-#[derive(Debug, Drop, PartialEq)]
+#[derive(Debug, Drop)]
 pub struct Request {
     /// The service.
     pub service: Service,
@@ -39,7 +39,7 @@ pub struct Request {
 }
 
 /// Where `upto` stops, beside the end of the frame.
-#[derive(Clone, Copy, Debug, PartialEq, Eq)]
+#[derive(Clone, Copy, Debug)]
 pub enum Stop {
     /// A step that carries an act.
     Act,
@@ -52,7 +52,7 @@ pub enum Stop {
 }
 
 /// What `show` prints.
-#[derive(Clone, Copy, Debug, PartialEq, Eq)]
+#[derive(Clone, Copy, Debug)]
 pub enum Shown {
     /// The levels of the configured pins.
     Pins,
@@ -65,7 +65,7 @@ pub enum Shown {
 }
 
 /// What a line of a script asks for.
-#[derive(Debug, Drop, PartialEq)]
+#[derive(Debug, Drop)]
 pub enum Order {
     /// Begins a call at a level, 0 to 7.
     Call(u32, Request),
@@ -104,7 +104,7 @@ pub enum Order {
 }
 
 /// A line of a script that asks for something.
-#[derive(Debug, Drop, PartialEq)]
+#[derive(Debug, Drop)]
 pub struct Directive {
     /// The number of the line in the script, from 1.
     pub line: u32,

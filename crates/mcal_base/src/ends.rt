@@ -3,11 +3,11 @@ ghost use Rattle.std.specs.Io.KnownBytes.{ReadConsumes, WriteAppends};
 ghost use Rattle.mcal_base.specs.Causes.{HasCause};
 
 /// A read, a write or an exchange met a fault.
-#[derive(Clone, Copy, Debug, PartialEq, Eq)]
+#[derive(Clone, Copy)]
 pub struct Failed;
 
 /// Memory was not found.
-#[derive(Clone, Copy, Debug, PartialEq, Eq)]
+#[derive(Clone, Copy)]
 pub struct NoMemory;
 
 /// Where bytes come from.

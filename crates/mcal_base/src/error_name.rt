@@ -1,5 +1,5 @@
 /// The development errors of the seven modules. `det_errors` says when each comes, and spells it.
-#[derive(Clone, Copy, Debug, PartialEq, Eq)]
+#[derive(Clone, Copy)]
 pub enum ErrorName {
     /// `MCU_E_UNINIT`
     McuUninit,

@@ -22,7 +22,7 @@ pub const SOURCES: u32 = 139_776;
 pub const DESTINATIONS: u32 = 140_800;
 
 /// An array of the users.
-#[derive(Clone, Copy, Debug, PartialEq, Eq)]
+#[derive(Clone, Copy)]
 pub enum Array {
     /// The results of a converter group, and the number of the buffer, 0 or 1.
     Round(u32, u32),

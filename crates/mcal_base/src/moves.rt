@@ -4,7 +4,7 @@ use crate::register::Reg;
 use crate::service::Service;
 
 /// An error with the service that found it, as it is reported.
-#[derive(Clone, Copy, Debug, PartialEq, Eq)]
+#[derive(Clone, Copy)]
 pub struct DevError {
     /// The service that found the error.
     pub service: Service,
@@ -15,7 +15,7 @@ pub struct DevError {
 }
 
 /// One move of a frame: all that a step does to the world.
-#[derive(Clone, Copy, Debug, PartialEq, Eq)]
+#[derive(Clone, Copy)]
 pub enum Move {
     /// Reads a register.
     Read(Reg),
@@ -36,7 +36,7 @@ pub enum Move {
 }
 
 /// A hardware unit that converts or transfers.
-#[derive(Clone, Copy, Debug, PartialEq, Eq)]
+#[derive(Clone, Copy)]
 pub enum Unit {
     /// The first converter unit.
     Adc0,
@@ -49,7 +49,7 @@ pub enum Unit {
 }
 
 /// What a step is to the machine of its module, beside its move.
-#[derive(Clone, Copy, Debug, PartialEq, Eq)]
+#[derive(Clone, Copy)]
 pub enum Event {
     /// The call acts: its effect and its answer are those of the machine here.
     Act,

@@ -2,7 +2,7 @@ ghost use Rattle.std.specs.Prelude.{◌≡◌};
 ghost use Rattle.mcal_base.specs.Names as spec;
 
 /// The callbacks that drivers call.
-#[derive(Clone, Copy, Debug, PartialEq, Eq)]
+#[derive(Clone, Copy)]
 pub enum NoticeKind {
     /// `GptNotification`
     GptNotification,
@@ -44,7 +44,7 @@ impl NoticeKind {
 }
 
 /// A callback with the object that it speaks of: a channel, a group, a job or a sequence.
-#[derive(Clone, Copy, Debug, PartialEq, Eq)]
+#[derive(Clone, Copy)]
 pub struct Notice {
     /// Which callback is called.
     pub kind: NoticeKind,

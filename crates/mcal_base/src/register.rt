@@ -1,7 +1,7 @@
 /// A register of the reference chip, with the number of its channel, unit, pin or word where it has one.
 /// The two registers of a converter unit that stand in rows have the unit and the place in the row, in
 /// small types, so that a journal's item stays within 64 bytes.
-#[derive(Clone, Copy, Debug, PartialEq, Eq)]
+#[derive(Clone, Copy)]
 pub enum Reg {
     /// `IE.SET`: ones enable lines.
     EnableSet,

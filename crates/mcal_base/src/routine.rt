@@ -6,7 +6,7 @@ use crate::answer::Answer;
 use crate::moves::{Event, Move};
 
 /// What a step was, beside its move.
-#[derive(Debug, Drop, PartialEq)]
+#[derive(Drop)]
 pub struct Taken {
     /// The event that stands at the step.
     pub event: Option<Event>,

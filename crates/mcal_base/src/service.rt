@@ -4,7 +4,7 @@ ghost use Rattle.mcal_base.specs.Names as spec;
 use crate::module_name::ModuleName;
 
 /// The services of the seven modules, in the order of the modules and of their tables.
-#[derive(Clone, Copy, Debug, PartialEq, Eq)]
+#[derive(Clone, Copy, Debug)]
 pub enum Service {
     /// `Mcu_Init`
     McuInit,

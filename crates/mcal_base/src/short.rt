@@ -4,7 +4,7 @@ use arrayvec::ArrayVec;
 use std::marker::Model;
 
 /// At most `N` items, which contracts see as a list. No call on it takes memory.
-#[derive(Debug, Drop, PartialEq)]
+#[derive(Debug, Drop)]
 pub struct Short<T, const N: usize> {
     items: ArrayVec<T, N>,
 }

@@ -277,21 +277,22 @@ impl Caller for Drivers {
 
     #[tactic(auto, unfolding(crate::specs::Drivers::as_one, crate::specs::Setting::has_service, crate::specs::Setting::call_of))]
     fn call(&self, request: &Request) -> Call {
-        let service = request.service;
-        if self.clock.has(service) {
-            Either::Left(Either::Left(self.clock.call(request)))
-        } else if self.pins.has(service) {
-            Either::Left(Either::Right(Either::Left(self.pins.call(request))))
-        } else if self.timers.has(service) {
-            Either::Left(Either::Right(Either::Right(self.timers.call(request))))
-        } else if self.pulses.has(service) {
-            Either::Right(Either::Left(Either::Left(self.pulses.call(request))))
-        } else if self.captures.has(service) {
-            Either::Right(Either::Left(Either::Right(self.captures.call(request))))
-        } else if self.converters.has(service) {
-            Either::Right(Either::Right(Either::Left(self.converters.call(request))))
-        } else {
-            Either::Right(Either::Right(Either::Right(self.serial.call(request))))
+        match request.service.module() {
+            ModuleName::Mcu => Either::Left(Either::Left(self.clock.call(request))),
+            ModuleName::Port => Either::Left(Either::Right(Either::Left(self.pins.call(request)))),
+            ModuleName::Gpt => {
+                Either::Left(Either::Right(Either::Right(self.timers.call(request))))
+            }
+            ModuleName::Pwm => {
+                Either::Right(Either::Left(Either::Left(self.pulses.call(request))))
+            }
+            ModuleName::Icu => {
+                Either::Right(Either::Left(Either::Right(self.captures.call(request))))
+            }
+            ModuleName::Adc => {
+                Either::Right(Either::Right(Either::Left(self.converters.call(request))))
+            }
+            _ => Either::Right(Either::Right(Either::Right(self.serial.call(request)))),
         }
     }
 

@@ -12,7 +12,7 @@ use std::marker::Model;
 const REFUSED: u32 = 65_536;
 
 /// A word that was sent on a serial unit, and what came in with it.
-#[derive(Clone, Copy, Debug, PartialEq, Eq)]
+#[derive(Clone, Copy)]
 pub struct Exchange {
     /// The word, masked by the unit's width.
     pub sent: u32,

@@ -16,7 +16,7 @@ use mcal_base::{Answer, AnswerName, ErrorName, Service};
 use service_outline::{Done, Looked, Owed, Reply, named, nothing};
 
 /// A call with the driver that it is made of.
-#[derive(Clone, Copy, Debug)]
+#[derive(Clone, Copy)]
 pub struct Asked {
     /// The call.
     pub call: Call,

@@ -6,7 +6,7 @@ use mcal_base::{ModuleName, Service};
 use run_model::{Class, Key, KeyKind, Kind};
 
 /// What is asked of the clock.
-#[derive(Clone, Copy, Debug, PartialEq, Eq)]
+#[derive(Clone, Copy)]
 pub enum ClockCall {
     /// `Mcu_InitClock` with the number of a clock setting.
     InitClock(u32),
@@ -15,7 +15,7 @@ pub enum ClockCall {
 }
 
 /// A call of the driver, with its arguments. Numbers of settings, sections and modes are any numbers.
-#[derive(Clone, Copy, Debug, PartialEq, Eq)]
+#[derive(Clone, Copy)]
 pub enum Call {
     /// `Mcu_Init`
     Init,

@@ -13,7 +13,7 @@ use service_outline::Owed;
 const MOST: u32 = 8;
 
 /// A configured RAM section.
-#[derive(Clone, Copy, Debug, PartialEq, Eq)]
+#[derive(Clone, Copy)]
 pub struct Section {
     /// `McuRamSectionBaseAddress`: its first word.
     pub base: u32,
@@ -24,7 +24,7 @@ pub struct Section {
 }
 
 /// The driver: what it keeps of a configuration.
-#[derive(Clone, Copy, Debug)]
+#[derive(Clone, Copy)]
 pub struct McuDriver {
     /// `McuDevErrorDetect`.
     pub detect: bool,

@@ -14,7 +14,7 @@ use mcal_base::{Answer, ErrorName, PortPinMode};
 use service_outline::{Done, Looked, Owed, error, nothing};
 
 /// A call with the driver that it is made of.
-#[derive(Clone, Copy, Debug)]
+#[derive(Clone, Copy)]
 pub struct Asked {
     /// The call.
     pub call: Call,

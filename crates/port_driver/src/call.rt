@@ -6,7 +6,7 @@ use mcal_base::{ModuleName, PortPinDirection, PortPinMode, Service};
 use run_model::{Class, Key, KeyKind, Kind};
 
 /// What is asked of a pin.
-#[derive(Clone, Copy, Debug, PartialEq, Eq)]
+#[derive(Clone, Copy)]
 pub enum PinCall {
     /// `Port_SetPinDirection` to a direction.
     SetPinDirection(PortPinDirection),
@@ -15,7 +15,7 @@ pub enum PinCall {
 }
 
 /// A call of the driver, with its arguments. Pins are any numbers.
-#[derive(Clone, Copy, Debug, PartialEq, Eq)]
+#[derive(Clone, Copy)]
 pub enum Call {
     /// `Port_Init`
     Init,

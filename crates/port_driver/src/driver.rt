@@ -8,7 +8,7 @@ use mcal_base::{Config, ModuleName, PortPin, PortPinDirection, PortPinMode};
 const PINS: u32 = 64;
 
 /// Which modes a pin may have.
-#[derive(Clone, Copy, Debug, PartialEq, Eq)]
+#[derive(Clone, Copy)]
 pub struct Modes {
     /// `PORT_PIN_MODE_ADC`
     pub adc: bool,
@@ -38,7 +38,7 @@ impl Modes {
 }
 
 /// A configured pin.
-#[derive(Clone, Copy, Debug, PartialEq, Eq)]
+#[derive(Clone, Copy)]
 pub struct Pin {
     /// `PortPinDirection`: its direction after `Port_Init`.
     pub direction: PortPinDirection,
@@ -55,7 +55,7 @@ pub struct Pin {
 }
 
 /// The driver: what it keeps of a configuration.
-#[derive(Clone, Copy, Debug)]
+#[derive(Clone, Copy)]
 pub struct PortDriver {
     /// `PortDevErrorDetect`.
     pub detect: bool,

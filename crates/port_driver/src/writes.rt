@@ -9,7 +9,7 @@ use crate::driver::{Pin, PortDriver};
 use mcal_base::{Move, PortPinDirection, PortPinMode, Reg};
 
 /// What is written by halves of the pins.
-#[derive(Clone, Copy, Debug, PartialEq, Eq)]
+#[derive(Clone, Copy)]
 pub enum Side {
     /// The levels of the configured pins.
     Levels,

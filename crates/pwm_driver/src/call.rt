@@ -6,7 +6,7 @@ use mcal_base::{ModuleName, Service};
 use run_model::{Class, Key, KeyKind, Kind};
 
 /// `Pwm_EdgeNotificationType`: which changes of the level are notified.
-#[derive(Clone, Copy, Debug, PartialEq, Eq)]
+#[derive(Clone, Copy)]
 pub enum PwmEdge {
     /// `PWM_RISING_EDGE`
     Rising,
@@ -17,7 +17,7 @@ pub enum PwmEdge {
 }
 
 /// What is asked of a channel. Periods and duties are any numbers.
-#[derive(Clone, Copy, Debug, PartialEq, Eq)]
+#[derive(Clone, Copy)]
 pub enum ChannelCall {
     /// `Pwm_SetDutyCycle` with a duty.
     SetDutyCycle(u32),
@@ -32,7 +32,7 @@ pub enum ChannelCall {
 }
 
 /// A call of the pulse driver, with its arguments. Channels are any numbers.
-#[derive(Clone, Copy, Debug, PartialEq, Eq)]
+#[derive(Clone, Copy)]
 pub enum Call {
     /// `Pwm_Init`
     Init,

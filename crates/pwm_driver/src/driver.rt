@@ -7,7 +7,7 @@ use mcal_base::{Config, ErrorName, PwmChannel, PwmChannelClass, PwmOutputState, 
 use service_outline::Owed;
 
 /// A configured channel.
-#[derive(Clone, Copy, Debug, PartialEq, Eq)]
+#[derive(Clone, Copy)]
 pub struct Channel {
     /// `PwmChannelId`, 0 to 7.
     pub number: u8,
@@ -28,7 +28,7 @@ pub struct Channel {
 }
 
 /// The pulse driver: what it keeps of a configuration.
-#[derive(Clone, Copy, Debug)]
+#[derive(Clone, Copy)]
 pub struct PwmDriver {
     /// `PwmDevErrorDetect`.
     pub detect: bool,

@@ -1,7 +1,7 @@
 use mcal_base::ModuleName;
 
 /// How a call bears other frames of its module.
-#[derive(Clone, Copy, Debug, PartialEq, Eq)]
+#[derive(Clone, Copy)]
 pub enum Kind {
     /// May not begin while any frame of its module is there.
     Exclusive,
@@ -14,7 +14,7 @@ pub enum Kind {
 }
 
 /// What a key is: a kind of object, or one of the names that stand for themselves.
-#[derive(Clone, Copy, Debug, PartialEq, Eq)]
+#[derive(Clone, Copy)]
 pub enum KeyKind {
     /// A RAM section.
     Section,
@@ -35,7 +35,7 @@ pub enum KeyKind {
 }
 
 /// A key: what a keyed call is about.
-#[derive(Clone, Copy, Debug, PartialEq, Eq)]
+#[derive(Clone, Copy)]
 pub struct Key {
     /// What it is.
     pub kind: KeyKind,
@@ -44,7 +44,7 @@ pub struct Key {
 }
 
 /// The class of a call: with which frames of its module it may nest.
-#[derive(Clone, Copy, Debug, PartialEq, Eq)]
+#[derive(Clone, Copy)]
 pub struct Class {
     /// How it bears others.
     pub kind: Kind,
@@ -55,7 +55,7 @@ pub struct Class {
 }
 
 /// What the rules of beginning look at of a frame under way: its level and module, and a call's class.
-#[derive(Clone, Copy, Debug, PartialEq, Eq)]
+#[derive(Clone, Copy)]
 pub struct Tag {
     /// The level, 0 to 7.
     pub level: u32,

@@ -4,7 +4,7 @@ use irq_control::Held;
 use mcal_base::{Answer, Event, Head, Move, Reason, Shown};
 
 /// A stretch of a journal's words.
-#[derive(Clone, Copy, Debug, PartialEq, Eq)]
+#[derive(Clone, Copy)]
 pub struct Span {
     /// Where it begins.
     pub at: u32,
@@ -13,7 +13,7 @@ pub struct Span {
 }
 
 /// A step: its move, what that gave, and what stood there.
-#[derive(Debug, Drop, PartialEq)]
+#[derive(Drop)]
 pub struct Stepped {
     /// The move.
     pub made: Move,
@@ -43,7 +43,7 @@ impl Stepped {
 }
 
 /// An answer whose words stand among the journal's.
-#[derive(Clone, Copy, Debug, PartialEq, Eq)]
+#[derive(Clone, Copy)]
 pub struct LoggedAnswer {
     /// What it begins with.
     pub head: Head,
@@ -52,7 +52,7 @@ pub struct LoggedAnswer {
 }
 
 /// A step whose lists of words stand among the journal's.
-#[derive(Clone, Copy, Debug, PartialEq, Eq)]
+#[derive(Clone, Copy)]
 pub struct Logged {
     /// The move.
     pub made: Move,
@@ -67,7 +67,7 @@ pub struct Logged {
 }
 
 /// What happened to the hardware, or was shown, with lists of words among the journal's.
-#[derive(Clone, Copy, Debug, PartialEq, Eq)]
+#[derive(Clone, Copy)]
 pub enum Hardware {
     /// Ticks of the oscillator.
     Tick(u32),
@@ -90,7 +90,7 @@ pub enum Hardware {
 }
 
 /// What an item of a journal says.
-#[derive(Clone, Copy, Debug, PartialEq, Eq)]
+#[derive(Clone, Copy)]
 pub enum What {
     /// The hardware moved, or something was shown.
     Happened(Hardware),
@@ -105,7 +105,7 @@ pub enum What {
 }
 
 /// An item of a journal.
-#[derive(Clone, Copy, Debug, PartialEq, Eq)]
+#[derive(Clone, Copy)]
 pub struct Item {
     /// The script line of its directive.
     pub line: u32,

@@ -1,7 +1,7 @@
 use mcal_base::Stop;
 
 /// How far a directive steps the top frame; it stops before that where the frame ends.
-#[derive(Clone, Copy, Debug, PartialEq, Eq)]
+#[derive(Clone, Copy)]
 pub enum Reach {
     /// So many steps.
     Count(u32),

@@ -16,7 +16,7 @@ use serial_devices::SerialDevice;
 use step_runner::{reset, step_into};
 
 /// A step past the most of a run would be taken.
-#[derive(Clone, Copy, Debug, PartialEq, Eq)]
+#[derive(Clone, Copy)]
 pub struct TooLong;
 
 /// Whether a step is one at which `upto` stops.
@@ -68,6 +68,7 @@ fn answer_is_short(stepped: &Stepped) -> usize
 
 /// Takes a step of the top frame, and notes it, unless so many were taken. The step is written to a place that holds
 /// no answer.
+#[inline(always)]
 pub(crate) fn take_step<M: Caller>(
     course: &Course<M>,
     script_line: u32,

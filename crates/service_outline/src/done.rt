@@ -1,4 +1,4 @@
-ghost use Rattle.std.specs.Prelude.{◌≡◌, [], ◌∷◌};
+ghost use Rattle.std.specs.Prelude.{◌≡◌, [], ◌∷◌, Some};
 ghost use Rattle.mcal_base.specs.declared.moves.Event.TheVariants.{Act};
 ghost use Rattle.run_model.specs.Machine.{no_answer};
 ghost use Rattle.service_outline.specs.Done as spec;
@@ -8,7 +8,7 @@ use mcal_base::{Answer, AnswerName, DevError, ErrorName, Event, Head, Notice, Se
 use std::marker::Model;
 
 /// The numbers that a reply carries.
-#[derive(Clone, Copy, Debug)]
+#[derive(Clone, Copy)]
 pub enum Carried {
     /// None.
     Nothing,
@@ -19,7 +19,7 @@ pub enum Carried {
 }
 
 /// An answer of at most two numbers, as a frame keeps it; contracts see the answer.
-#[derive(Clone, Copy, Debug)]
+#[derive(Clone, Copy)]
 pub struct Reply {
     head: Head,
     numbers: Carried,
@@ -41,8 +41,24 @@ impl Model for Reply {
 }
 
 impl Reply {
-    /// The answer, in full.
-    pub fn answer(&self) -> Answer
+    /// Writes the answer, in full, to a place. Most answers have no numbers.
+    pub fn write(&self, place: &mut Option<Answer>)
+        ensures { place.new ≡ Some self.now }
+    {
+        match self.numbers {
+            Carried::Nothing => {
+                *place = Some(Answer {
+                    head: self.head,
+                    words: Words::new(),
+                });
+            }
+            _ => *place = Some(self.answer()),
+        }
+    }
+
+    /// The answer, in full. It isn't inlined, so that an answer without numbers makes no room for its words twice.
+    #[inline(never)]
+    fn answer(&self) -> Answer
         ensures { result ≡ self.now }
     {
         let mut words = Words::new();
@@ -62,7 +78,7 @@ impl Reply {
 }
 
 /// What a frame tells after its window.
-#[derive(Clone, Copy, Debug, PartialEq, Eq)]
+#[derive(Clone, Copy)]
 pub enum Owed {
     /// Nothing.
     Nothing,
@@ -75,7 +91,7 @@ pub enum Owed {
 }
 
 /// What stands after the work of a window.
-#[derive(Clone, Copy, Debug)]
+#[derive(Clone, Copy)]
 pub struct Done {
     /// The answer that the frame ends with.
     pub answer: Reply,
@@ -84,7 +100,7 @@ pub struct Done {
 }
 
 /// What a step of a body was, beside its move.
-#[derive(Clone, Copy, Debug)]
+#[derive(Clone, Copy)]
 pub struct BodyTaken {
     /// The event that stands at the step.
     pub event: Option<Event>,

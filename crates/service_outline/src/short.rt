@@ -57,6 +57,7 @@ impl<C: Service> Routine for Short<C, C::Body> {
         Taken { event, ended }
     }
 
+    #[inline(never)]
     fn took_into(&mut self, value: u32, ended: &mut Option<Answer>) -> Option<Event> {
         match self {
             Short::Inside(body) => {
@@ -109,11 +110,11 @@ impl<C: Service> Short<C, C::Body> {
     fn begins(&mut self)
         ensures { self.new ≡ spec.begun self.old }
     {
-        *self = match mem::replace(self, Short::Returning(nothing())) {
-            Short::Calling(call) => Short::Loading(call),
-            Short::Entering(body) => Short::Inside(body),
-            other => other,
-        };
+        match mem::replace(self, Short::Returning(nothing())) {
+            Short::Calling(call) => *self = Short::Loading(call),
+            Short::Entering(body) => *self = Short::Inside(body),
+            other => *self = other,
+        }
     }
 
     /// The load of the state word, which decides for a call.
@@ -176,6 +177,6 @@ impl<C: Service> Short<C, C::Body> {
         ensures answer { ended.new ≡ Some answer }
     {
         *self = Short::Returning(nothing());
-        *ended = Some(answer.answer());
+        answer.write(ended);
     }
 }

@@ -63,7 +63,7 @@ pub fn release(placed: Placed, side: Side) -> Take
 }
 
 /// What a running job received of an internal channel becomes readable.
-#[derive(Clone, Copy, Debug, PartialEq, Eq)]
+#[derive(Clone, Copy)]
 pub enum Commit {
     /// It loads the bank that the job holds.
     Held(Placed),

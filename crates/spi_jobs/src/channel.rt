@@ -7,7 +7,7 @@ use mcal_base::{DESTINATIONS, SOURCES};
 pub const START: u32 = 49_152;
 
 /// A configured channel.
-#[derive(Clone, Copy, Debug, PartialEq, Eq)]
+#[derive(Clone, Copy)]
 pub struct Channel {
     /// `SpiChannelType` is `IB`.
     pub internal: bool,
@@ -21,7 +21,7 @@ pub struct Channel {
 
 /// A channel with its number and the place of its driver words. They are the control words of what it sends and of what
 /// it received, the word that a running job holds, its set-up, and three banks of each.
-#[derive(Clone, Copy, Debug, PartialEq, Eq)]
+#[derive(Clone, Copy)]
 pub struct Placed {
     /// Its number.
     pub number: u8,
@@ -32,7 +32,7 @@ pub struct Placed {
 }
 
 /// Three banks of a channel's words.
-#[derive(Clone, Copy, Debug, PartialEq, Eq)]
+#[derive(Clone, Copy)]
 pub enum Side {
     /// Those that it sends.
     Sent,

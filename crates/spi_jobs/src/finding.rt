@@ -9,7 +9,7 @@ use mcal_base::Move;
 
 /// The word of a job that begins next is found: of an internal channel in the bank that the job sends, of an external one in
 /// its source, or it is default data. It gives the word, masked to the width.
-#[derive(Clone, Copy, Debug, PartialEq, Eq)]
+#[derive(Clone, Copy)]
 pub enum Find {
     /// Before the job: it loads the control word of its first channel, an internal one, to see which bank is the newest.
     Newest(Placed),

@@ -7,7 +7,7 @@ use crate::set_up::SetUp;
 use mcal_base::Move;
 
 /// Where a word that comes in goes.
-#[derive(Clone, Copy, Debug, PartialEq, Eq)]
+#[derive(Clone, Copy)]
 pub enum Taker {
     /// To this bank of received words.
     Bank(u8),
@@ -17,7 +17,7 @@ pub enum Taker {
 
 /// A word that came in is kept: of an internal channel in the bank that takes its received words, of an external one in its
 /// destination, or nowhere.
-#[derive(Clone, Copy, Debug, PartialEq, Eq)]
+#[derive(Clone, Copy)]
 pub enum Keep {
     /// It holds the bank that was chosen, and then fills in the word, which is the channel's first.
     Hold(Placed, u8, u32),

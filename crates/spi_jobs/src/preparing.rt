@@ -9,7 +9,7 @@ use word_shapes::Take;
 
 /// A channel is made ready for a job that starts: what an internal one sends is pinned, and the set-up of an external one is
 /// held.
-#[derive(Clone, Copy, Debug, PartialEq, Eq)]
+#[derive(Clone, Copy)]
 pub enum Prepare {
     /// It pins the newest bank.
     Pin(Take),

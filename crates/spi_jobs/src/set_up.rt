@@ -4,7 +4,7 @@ ghost use Rattle.spi_jobs.specs.Placing as spec;
 use crate::channel::Channel;
 
 /// A set-up of an external channel.
-#[derive(Clone, Copy, Debug, PartialEq, Eq)]
+#[derive(Clone, Copy)]
 pub struct SetUp {
     /// Words are sent from the user's source array.
     pub source: bool,

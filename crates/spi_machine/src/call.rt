@@ -7,7 +7,7 @@ use mcal_base::{ModuleName, Service};
 use run_model::{Class, Key, KeyKind, Kind};
 
 /// `Spi_AsyncModeType`.
-#[derive(Clone, Copy, Debug, PartialEq, Eq)]
+#[derive(Clone, Copy)]
 pub enum AsyncMode {
     /// `SPI_POLLING_MODE`
     Polling,
@@ -16,7 +16,7 @@ pub enum AsyncMode {
 }
 
 /// A pointer to a buffer.
-#[derive(Clone, Copy, Debug, PartialEq, Eq)]
+#[derive(Clone, Copy)]
 pub enum Pointer {
     /// The user's array of the channel, its source or its destination.
     Users,
@@ -37,7 +37,7 @@ impl Pointer {
 }
 
 /// What is asked of a channel.
-#[derive(Clone, Copy, Debug, PartialEq, Eq)]
+#[derive(Clone, Copy)]
 pub enum ChannelCall {
     /// `Spi_WriteIB` with a source.
     WriteIb(Pointer),
@@ -48,7 +48,7 @@ pub enum ChannelCall {
 }
 
 /// What is asked of a sequence.
-#[derive(Clone, Copy, Debug, PartialEq, Eq)]
+#[derive(Clone, Copy)]
 pub enum SequenceCall {
     /// `Spi_AsyncTransmit`
     AsyncTransmit,
@@ -57,7 +57,7 @@ pub enum SequenceCall {
 }
 
 /// What is asked without changing anything.
-#[derive(Clone, Copy, Debug, PartialEq, Eq)]
+#[derive(Clone, Copy)]
 pub enum Query {
     /// `Spi_GetStatus`
     Status,
@@ -70,7 +70,7 @@ pub enum Query {
 }
 
 /// A call of the serial driver, with its arguments. Numbers of objects are any numbers.
-#[derive(Clone, Copy, Debug, PartialEq, Eq)]
+#[derive(Clone, Copy)]
 pub enum Call {
     /// `Spi_Init`
     Init,

@@ -1,6 +1,7 @@
 pub mod Accepted
 pub mod Alike
 pub mod Banked
+pub mod Beside
 pub mod Bodies
 pub mod Cancel
 pub mod Cancelling

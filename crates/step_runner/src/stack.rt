@@ -346,6 +346,7 @@ impl<M: Module> Stack<M> {
     }
 
     /// Lets the top frame make its move and take the value, where it stands. It is taken off where it ended.
+    #[inline(always)]
     pub(crate) fn step_top(
         &mut self,
         bus: &mut Bus,

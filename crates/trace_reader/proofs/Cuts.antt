@@ -1,5 +1,5 @@
 -- Where a text is cut at the first byte that passes.
-use Rattle.std.proofs.Common.{◌≡◌, ℕ, ◌+◌, ◌-◌, ◌<◌, ◌≤◌, List, [], ◌∷◌, ◌++◌, length, take, drop, map, Option, Some, None, Bool, true, false, refl, ◌∙◌, ap, sym, arith, cond, append_assoc}
+use Rattle.std.proofs.Common.{◌≡◌, ℕ, ◌+◌, ◌-◌, ◌<◌, ◌≤◌, List, [], ◌∷◌, ◌++◌, length, take, drop, map, Some, None, Bool, true, false, refl, ◌∙◌, ap, sym, arith, cond, append_assoc}
 use Rattle.std.specs.Prelude.{◌==◌, nat_lt, not, option_map, if◌then◌else◌}
 use Rattle.std.specs.List.{slice_split, position, position_or_len}
 use Rattle.std.proofs.lemmas.Bool.{false≢true}
@@ -78,6 +78,3 @@ pair_there word k h = ap (pair (take k word)) (take_rest word (k + 1)) ∙ ap (v
 
 pub one_there : (word : List ℕ) → None ≡ position (λ b. b == 47) word → option_map (λ n. values.One n) (number word) ≡ value word
 one_there word h = ap (value_at word) h
-
-pub both : {A : Type 0} {x y : A} {xs ys : List A} → x ≡ y → xs ≡ ys → x ∷ xs ≡ y ∷ ys
-both e f = rw (e, f) refl

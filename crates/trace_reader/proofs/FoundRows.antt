@@ -9,13 +9,13 @@ use Rattle.trace_reader.specs.Registers.{Row, row, row_of, timers, pulses, captu
 use Rattle.trace_reader.specs.declared.registers.Row as code
 
 abbrev pub is_own : List ℕ → List ℕ → code.Row → Bool
-is_own letter name row = bytes_eq row.name.now name && bytes_eq row.letter.now letter
+is_own letter name row = bytes_eq row.1.now name && bytes_eq row.0.now letter
 
 abbrev pub is_it : List ℕ → List ℕ → Row → Bool
 is_it letter name row = bytes_eq row.name name && bytes_eq row.letter letter
 
 abbrev pub own_reg : Option code.Row → Option Reg
-own_reg o = option_map (λ (r : code.Row). r.reg) o
+own_reg o = option_map (λ (r : code.Row). r.2) o
 
 abbrev pub reg_of : Option Row → Option Reg
 reg_of o = option_map (λ (r : Row). r.reg) o
@@ -48,7 +48,3 @@ chosen_rows letter name n k =
     (or_append letter name (((timers n ++ pulses n) ++ captures n) ++ converters n k) (serials n) _
     (or_append letter name ((timers n ++ pulses n) ++ captures n) (converters n k) _
     (or_append letter name (timers n ++ pulses n) (captures n) _ (chosen_append letter name (timers n) (pulses n))))))
-
--- a row of a register that has its numbers in small types
-pub small_reg : {x : Row} {letter name : List ℕ} {u k m n : ℕ} (reg : ℕ → ℕ → Reg) → x ≡ row letter name (reg u k) → u ≡ m → k ≡ n → x ≡ row letter name (reg m n)
-small_reg reg h e f = h ∙ cc

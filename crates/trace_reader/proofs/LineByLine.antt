@@ -1,21 +1,19 @@
 -- How a text is read line by line, and that the text of a trace is read as what it tells.
-use Rattle.std.proofs.Common.{◌≡◌, ℕ, ◌+◌, List, [], ◌∷◌, ◌++◌, length, take, map, Option, Some, None, Bool, true, false, refl, ◌∙◌, ap, sym, arith, append_assoc}
-use Rattle.std.specs.Prelude.{◌==◌, Result, Ok, Err, bytes_eq, codes, decimal, flat_map, count_by, if◌then◌else◌}
-use Rattle.std.specs.List.{slice_split, join_with_byte}
-use Rattle.std.proofs.lemmas.Bool.{false≢true}
+use Rattle.std.proofs.Common.{◌≡◌, ℕ, ◌+◌, List, [], ◌∷◌, ◌++◌, length, Option, Some, None, Bool, true, false, refl, ◌∙◌, ap, sym, append_assoc}
+use Rattle.std.specs.Prelude.{◌==◌, Err, bytes_eq, codes, decimal, if◌then◌else◌}
+use Rattle.std.specs.List.{join_with_byte}
 use Rattle.std.proofs.lemmas.List.Splits.{join_with_byte-slice_split}
 use Rattle.std.proofs.lemmas.Slice.Eq.{bytes_eq-Decides}
-use Rattle.bench_report.specs.Lines.{Line, line_text, numbered, end_text}
-use Rattle.bench_report.specs.Report.{Numbered, end_of}
+use Rattle.bench_report.specs.Lines.{Line, line_text, numbered}
 use Rattle.trace_reader.specs.Guess.{words_of, guess}
 use Rattle.trace_reader.specs.Numbers.{number}
-use Rattle.trace_reader.specs.Reading.{line_with, told_where, read_number, read_words, read_line, parts_of, ended, go_on, read_parts, read_trace, tally_of}
+use Rattle.trace_reader.specs.Reading.{line_with, told_where, read_number, read_words, read_line, parts_of, ended, go_on, read_parts}
 use Rattle.trace_reader.specs.Told.{told, told_line}
-use Rattle.trace_reader.specs.Trace.{IsNumber, HasLineNumbers, IsWithin, IsLineOf, Each, lines_text, trace_text}
+use Rattle.trace_reader.specs.Trace.{IsNumber, HasLineNumbers, IsLineOf}
 use Rattle.trace_reader.specs.declared.told.TraceLine.{TraceLine}
-use Rattle.trace_reader.proofs.Digits.{none, number_again, no_space}
+use Rattle.trace_reader.proofs.Digits.{number_again, no_space}
 use Rattle.trace_reader.proofs.LineLaws.{IsRead, read_again}
-use Rattle.trace_reader.proofs.Splits.{sp, front_word}
+use Rattle.trace_reader.proofs.Splits.{front_word}
 
 -- ---- one line after the other
 

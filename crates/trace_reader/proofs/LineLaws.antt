@@ -1,6 +1,6 @@
 -- Each line of a report is read as what it tells: its words, what they may be, and what that prints.
-use Rattle.std.proofs.Common.{◌≡◌, ℕ, ◌<◌, ◌+◌, ◌-◌, length, take, drop, length-append, suc, add-one, List, [], ◌∷◌, ◌++◌, map, Option, Some, None, Bool, true, false, refl, ◌∙◌, ap, sym, arith, append_assoc}
-use Rattle.std.specs.Prelude.{codes, decimal, flat_map, option_map, bytes_eq, ◌==◌, if◌then◌else◌}
+use Rattle.std.proofs.Common.{◌≡◌, ℕ, ◌<◌, ◌+◌, ◌-◌, length, drop, length-append, suc, add-one, List, [], ◌∷◌, ◌++◌, map, Option, Some, None, Bool, true, false, refl, ◌∙◌, ap, sym, arith, append_assoc}
+use Rattle.std.specs.Prelude.{codes, decimal, option_map, bytes_eq, ◌==◌, if◌then◌else◌}
 use Rattle.std.specs.Prelude.{nat_lt}
 use Rattle.std.specs.Char.{is_ascii_digit}
 use Rattle.std.specs.List.{position, position_or_len}
@@ -24,19 +24,17 @@ use Rattle.mcal_base.specs.declared.notice.Notice.{Notice}
 use Rattle.mcal_base.specs.declared.register.Reg.{Reg}
 use Rattle.mcal_base.specs.declared.register.Reg.TheVariants as regs
 use Rattle.mcal_base.specs.declared.service.Service.{Service}
-use Rattle.bench_report.specs.Lines.{Line, Holds, Makes, Notes, Errs, Returns, Leaves, Restarts, Shows, Done, event_text, move_text, note_text, report_text, incoming_text, head_text, words_text, line_text, reason_text}
+use Rattle.bench_report.specs.Lines.{Line, Holds, Makes, Notes, Errs, Returns, Leaves, Restarts, Shows, Done, event_text, move_text, incoming_text, head_text, words_text, line_text, reason_text}
 use Rattle.bench_report.specs.Registers.{register_text}
-use Rattle.bench_report.specs.Rows.{Row, values_text}
+use Rattle.bench_report.specs.Rows.{values_text}
 use Rattle.bench_report.specs.declared.rows.RowName.{RowName}
 use Rattle.bench_report.specs.declared.rows.RowName.TheVariants as names
 use Rattle.bench_report.specs.declared.rows.Value.{Value}
 use Rattle.bench_report.specs.declared.rows.Value.TheVariants as values
-use Rattle.trace_reader.specs.Guess.{words_of, before_colon, value, register, notice, found, marked, ending, guess, step, moved, long_step, long_move, access, each, answered, numbered, answer, is_numeral}
-use Rattle.bench_script.specs.Words.{named, all_services}
-use Rattle.trace_reader.specs.Names.{all_causes, all_reasons, all_notices, all_answers, all_errors}
+use Rattle.trace_reader.specs.Guess.{words_of, before_colon, value, notice, found, marked, ending, guess, step, each, numbered, answer, is_numeral}
 use Rattle.trace_reader.specs.Numbers.{number}
 use Rattle.trace_reader.specs.Told.{told, given, incoming, mark_of}
-use Rattle.trace_reader.specs.Trace.{IsNumber, HasNumbers, HasMoveNumbers, HasEventNumber, HasLineNumbers, HasNameNumbers, HasValueNumbers, Each}
+use Rattle.trace_reader.specs.Trace.{IsNumber, HasMoveNumbers, HasEventNumber, HasLineNumbers, HasNameNumbers, HasValueNumbers, Each}
 use Rattle.trace_reader.proofs.Digits.{none, none_append, number_again, no_space, no_feed, no_stroke, not_n, digits_of, some_digit}
 use Rattle.trace_reader.proofs.NameLaws.{cause_again, cause_plain, reason_again, reason_plain, notice_again, notice_plain, answer_again, answer_plain, answer_letter, error_again, error_plain, service_again, service_plain}
 use Rattle.trace_reader.proofs.RegisterLaws.{register_again, register_plain}

@@ -1,5 +1,6 @@
 -- Each name is found by its word, and no word of a name has a space.
-use Rattle.std.proofs.Common.{◌≡◌, true, false, Some, refl, ◌∙◌, ap, sym}
+use Rattle.std.proofs.Common.{◌≡◌, true, false, Option, Some, None, refl, ◌∙◌, ap, sym}
+use Rattle.std.specs.Prelude.{Ok}
 use Rattle.det_errors.specs.Spelling.{error_text}
 use Rattle.irq_control.specs.Spelling.{held_text}
 use Rattle.irq_control.specs.declared.held.Held.{Held}
@@ -17,7 +18,9 @@ use Rattle.mcal_base.specs.declared.service.Service.{Service}
 use Rattle.mcal_base.specs.declared.service.Service.TheVariants as services
 use Rattle.bench_report.specs.Lines.{reason_text}
 use Rattle.trace_reader.specs.Guess.{is_numeral}
+use Rattle.bench_script.specs.Orders.{known}
 use Rattle.bench_script.specs.Words.{named, all_services}
+use Rattle.bench_script.proofs.Choices.{service_again as spelled_again}
 use Rattle.trace_reader.specs.Names.{all_causes, all_reasons, all_notices, all_answers, all_errors}
 use Rattle.trace_reader.proofs.Digits.{none}
 use Rattle.trace_reader.proofs.Splits.{sp}
@@ -230,83 +233,12 @@ error_plain errors.SpiSeqPending = refl
 error_plain errors.SpiParamJob = refl
 error_plain errors.SpiParamUnit = refl
 
+known_some : (o : Option Service) (x : Service) → known o ≡ Ok x → o ≡ Some x
+known_some None x e = cc
+known_some (Some y) x e = cc
+
 pub service_again : (x : Service) → named service_text all_services (service_text x) ≡ Some x
-service_again services.McuInit = refl
-service_again services.McuInitRamSection = refl
-service_again services.McuInitClock = refl
-service_again services.McuDistributePllClock = refl
-service_again services.McuGetPllStatus = refl
-service_again services.McuGetResetReason = refl
-service_again services.McuPerformReset = refl
-service_again services.McuSetMode = refl
-service_again services.PortInit = refl
-service_again services.PortSetPinDirection = refl
-service_again services.PortRefreshPortDirection = refl
-service_again services.PortSetPinMode = refl
-service_again services.GptInit = refl
-service_again services.GptDeInit = refl
-service_again services.GptGetTimeElapsed = refl
-service_again services.GptGetTimeRemaining = refl
-service_again services.GptStartTimer = refl
-service_again services.GptStopTimer = refl
-service_again services.GptEnableNotification = refl
-service_again services.GptDisableNotification = refl
-service_again services.GptSetMode = refl
-service_again services.GptEnableWakeup = refl
-service_again services.GptDisableWakeup = refl
-service_again services.GptCheckWakeup = refl
-service_again services.PwmInit = refl
-service_again services.PwmDeInit = refl
-service_again services.PwmSetDutyCycle = refl
-service_again services.PwmSetPeriodAndDuty = refl
-service_again services.PwmSetOutputToIdle = refl
-service_again services.PwmGetOutputState = refl
-service_again services.PwmEnableNotification = refl
-service_again services.PwmDisableNotification = refl
-service_again services.IcuInit = refl
-service_again services.IcuDeInit = refl
-service_again services.IcuSetActivationCondition = refl
-service_again services.IcuEnableNotification = refl
-service_again services.IcuDisableNotification = refl
-service_again services.IcuGetInputState = refl
-service_again services.IcuEnableEdgeDetection = refl
-service_again services.IcuDisableEdgeDetection = refl
-service_again services.IcuResetEdgeCount = refl
-service_again services.IcuEnableEdgeCount = refl
-service_again services.IcuDisableEdgeCount = refl
-service_again services.IcuGetEdgeNumbers = refl
-service_again services.IcuStartTimestamp = refl
-service_again services.IcuStopTimestamp = refl
-service_again services.IcuGetTimestampIndex = refl
-service_again services.IcuStartSignalMeasurement = refl
-service_again services.IcuStopSignalMeasurement = refl
-service_again services.IcuGetTimeElapsed = refl
-service_again services.IcuGetDutyCycleValues = refl
-service_again services.AdcInit = refl
-service_again services.AdcDeInit = refl
-service_again services.AdcSetupResultBuffer = refl
-service_again services.AdcStartGroupConversion = refl
-service_again services.AdcStopGroupConversion = refl
-service_again services.AdcReadGroup = refl
-service_again services.AdcEnableHardwareTrigger = refl
-service_again services.AdcDisableHardwareTrigger = refl
-service_again services.AdcEnableGroupNotification = refl
-service_again services.AdcDisableGroupNotification = refl
-service_again services.AdcGetGroupStatus = refl
-service_again services.AdcGetStreamLastPointer = refl
-service_again services.SpiInit = refl
-service_again services.SpiDeInit = refl
-service_again services.SpiWriteIb = refl
-service_again services.SpiReadIb = refl
-service_again services.SpiSetupEb = refl
-service_again services.SpiAsyncTransmit = refl
-service_again services.SpiCancel = refl
-service_again services.SpiGetStatus = refl
-service_again services.SpiGetJobResult = refl
-service_again services.SpiGetSequenceResult = refl
-service_again services.SpiGetHwUnitStatus = refl
-service_again services.SpiSetAsyncMode = refl
-service_again services.SpiMainFunctionHandling = refl
+service_again x = known_some (named service_text all_services (service_text x)) x (spelled_again x)
 
 pub service_plain : (x : Service) → none sp (service_text x) ≡ true
 service_plain services.McuInit = refl

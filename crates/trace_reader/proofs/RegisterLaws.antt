@@ -1,12 +1,12 @@
 -- Each register is found by its word, and no word of a register has a space.
-use Rattle.std.proofs.Common.{◌≡◌, ℕ, ◌<◌, List, [], ◌∷◌, ◌++◌, true, Some, refl, ◌∙◌, ap, arith}
-use Rattle.std.specs.Prelude.{codes, decimal, min, not}
+use Rattle.std.proofs.Common.{◌≡◌, ℕ, ◌<◌, List, [], ◌++◌, true, Some, refl, ◌∙◌, ap, arith}
+use Rattle.std.specs.Prelude.{codes, decimal, min}
 use Rattle.std.specs.Char.{is_ascii_digit}
 use Rattle.std.proofs.lemmas.List.{append-nil}
 use Rattle.mcal_base.specs.declared.register.Reg.{Reg}
 use Rattle.mcal_base.specs.declared.register.Reg.TheVariants as regs
 use Rattle.bench_report.specs.Registers.{register_text}
-use Rattle.trace_reader.specs.Guess.{register, register_at}
+use Rattle.trace_reader.specs.Guess.{register}
 use Rattle.trace_reader.specs.Numbers.{number, front, rest, is_letter}
 use Rattle.trace_reader.specs.Registers.{rows, chosen}
 use Rattle.trace_reader.specs.Trace.{IsNumber, HasNumbers}
@@ -14,7 +14,7 @@ use Rattle.trace_reader.proofs.Digits.{none, starts, none_append, number_again, 
 use Rattle.trace_reader.proofs.Splits.{sp, front_at, rest_at, front_all, rest_all}
 
 -- a word by its parts
-by_parts : (w m c a b : List ℕ) (n k : ℕ) → rest is_ascii_digit w ≡ m → rest is_letter m ≡ c → number (front is_letter m) ≡ Some n → number (rest is_ascii_digit c) ≡ Some k → front is_ascii_digit w ≡ a → front is_ascii_digit c ≡ b → register w ≡ chosen (rows n k) a b
+pub by_parts : (w m c a b : List ℕ) (n k : ℕ) → rest is_ascii_digit w ≡ m → rest is_letter m ≡ c → number (front is_letter m) ≡ Some n → number (rest is_ascii_digit c) ≡ Some k → front is_ascii_digit w ≡ a → front is_ascii_digit c ≡ b → register w ≡ chosen (rows n k) a b
 by_parts w m c a b n k em ec hn hk ea eb = rw (em, ec, hn, hk, ea, eb) refl
 
 -- letters, a number and letters

@@ -1,14 +1,12 @@
 -- Where a text is cut at its spaces, and a word between letters and digits.
-use Rattle.std.proofs.Common.{◌≡◌, ℕ, ◌+◌, List, [], ◌∷◌, ◌++◌, length, take, drop, Bool, true, false, Some, None, refl, ◌∙◌, ap, append_assoc, sym, arith}
-use Rattle.std.specs.Prelude.{not, ◌==◌, codes, decimal, flat_map, map, if◌then◌else◌}
-use Rattle.std.specs.Char.{is_ascii_digit}
-use Rattle.std.specs.List.{slice_split, position_or_len, prefix_len}
+use Rattle.std.proofs.Common.{◌≡◌, ℕ, List, [], ◌∷◌, ◌++◌, length, Bool, true, false, refl, ◌∙◌, ap, append_assoc, sym, arith}
+use Rattle.std.specs.Prelude.{◌==◌, codes, if◌then◌else◌}
+use Rattle.std.specs.List.{position_or_len}
 use Rattle.std.proofs.lemmas.Bool.{false≢true}
 use Rattle.std.proofs.lemmas.List.{take_at, drop_at, append-nil}
 use Rattle.trace_reader.specs.Numbers.{front, rest}
 use Rattle.trace_reader.specs.Guess.{words_of}
-use Rattle.trace_reader.specs.Trace.{IsNumber, Each}
-use Rattle.trace_reader.proofs.Digits.{none, starts, no_space}
+use Rattle.trace_reader.proofs.Digits.{none, starts}
 
 -- a space
 abbrev pub sp : ℕ → Bool

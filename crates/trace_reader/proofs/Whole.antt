@@ -1,6 +1,6 @@
 -- The text of a trace is read as what its lines tell, and a text that is read is that of a trace.
 use Rattle.std.proofs.Common.{◌≡◌, ℕ, ◌+◌, ◌<◌, ◌≤◌, List, [], ◌∷◌, ◌++◌, length, map, Some, None, Bool, true, false, refl, ◌∙◌, ap, sym, subst, arith, append_assoc, cond}
-use Rattle.std.specs.Prelude.{◌==◌, Option, Ok, Err, bytes_eq, codes, decimal, flat_map, count_by, if◌then◌else◌}
+use Rattle.std.specs.Prelude.{◌==◌, Option, Ok, Err, bytes_eq, codes, decimal, count_by, if◌then◌else◌}
 use Rattle.std.proofs.lemmas.List.{append-nil}
 use Rattle.std.proofs.lemmas.List.Sums.{count_by-le-length, sum_by-cons}
 use Rattle.std.specs.List.{join_with_byte}

@@ -17,7 +17,6 @@ use Rattle.mcal_base.specs.declared.notice.Notice.{Notice}
 use Rattle.mcal_base.specs.declared.register.Reg.{Reg}
 use Rattle.mcal_base.specs.declared.service.Service.{Service}
 use Rattle.bench_report.specs.Lines.{Line, Holds, Makes, Notes, Errs, Returns, Leaves, Restarts, Shows, Done, reason_text}
-use Rattle.bench_report.specs.Rows.{Row}
 use Rattle.bench_report.specs.declared.rows.RowName.{RowName}
 use Rattle.bench_report.specs.declared.rows.RowName.TheVariants as names
 use Rattle.bench_report.specs.declared.rows.Value.{Value}

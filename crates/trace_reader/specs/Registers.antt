@@ -15,7 +15,7 @@ abbrev pub row : List ℕ → List ℕ → Reg → Row
 row letter name reg = record { letter = letter; name = name; reg = reg }
 
 abbrev pub row_of : code.Row → Row
-row_of r = row r.letter.now r.name.now r.reg
+row_of r = row r.0.now r.1.now r.2
 
 -- the registers of enable bits and timers, with a number
 abbrev pub timers : ℕ → List Row

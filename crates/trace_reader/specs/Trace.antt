@@ -1,5 +1,5 @@
 -- What the lines of a trace are, and which of them a text prints.
-use Rattle.std.specs.Prelude.{◌≡◌, ℕ, ◌<◌, ◌++◌, List, [], ◌∷◌, Option, Some, None, map, flat_map}
+use Rattle.std.specs.Prelude.{◌≡◌, ℕ, ◌<◌, ◌++◌, List, [], ◌∷◌, Option, Some, map, flat_map}
 use Rattle.mcal_base.specs.declared.moves.Event.{Event}
 use Rattle.mcal_base.specs.declared.moves.Event.TheVariants as events
 use Rattle.mcal_base.specs.declared.moves.Move.{Move}
@@ -8,7 +8,6 @@ use Rattle.mcal_base.specs.declared.register.Reg.{Reg}
 use Rattle.mcal_base.specs.declared.register.Reg.TheVariants as regs
 use Rattle.bench_report.specs.Lines.{Line, Holds, Makes, Notes, Errs, Returns, Leaves, Restarts, Shows, Done, numbered}
 use Rattle.bench_report.specs.Report.{Numbered, end_of}
-use Rattle.bench_report.specs.Rows.{Row}
 use Rattle.bench_report.specs.declared.rows.RowName.{RowName}
 use Rattle.bench_report.specs.declared.rows.RowName.TheVariants as names
 use Rattle.bench_report.specs.declared.rows.Value.{Value}

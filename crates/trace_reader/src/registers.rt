@@ -4,26 +4,15 @@ ghost use Rattle.trace_reader.specs.Registers as spec;
 
 use mcal_base::Reg;
 
-/// A register by the letters before its number and those after it.
+/// The letters before the number of a register, those after it, and the register.
 #[derive(Clone, Copy)]
-struct Row {
-    letter: &'static str,
-    name: &'static str,
-    reg: Reg,
-}
-
-/// The row of a register.
-fn register(letter: &'static str, name: &'static str, reg: Reg) -> Row
-    ensures { spec.row_of result ≡ spec.row letter.now name.now reg }
-{
-    Row { letter, name, reg }
-}
+struct Row(&'static str, &'static str, Reg);
 
 /// The first row with these letters.
 fn found(rows: &[Row], letter: &[u8], name: &[u8]) -> Option<Row>
-    ensures { result ≡ find (λ row. bytes_eq row.name.now name.now && bytes_eq row.letter.now letter.now) rows.now }
+    ensures { result ≡ find (λ row. bytes_eq row.1.now name.now && bytes_eq row.0.now letter.now) rows.now }
 {
-    rows.iter().copied().find(|row| row.name.as_bytes() == name && row.letter.as_bytes() == letter)
+    rows.iter().copied().find(|row| row.1.as_bytes() == name && row.0.as_bytes() == letter)
 }
 
 /// The first of some registers with these letters.
@@ -31,7 +20,7 @@ fn chosen(rows: &[Row], letter: &[u8], name: &[u8]) -> Option<Reg>
     ensures { result ≡ spec.chosen (map spec.row_of rows.now) letter.now name.now }
 {
     match found(rows, letter, name) {
-        Some(row) => Some(row.reg),
+        Some(row) => Some(row.2),
         None => None,
     }
 }
@@ -41,18 +30,18 @@ fn timer(letter: &[u8], number: u32, name: &[u8]) -> Option<Reg>
     ensures { result ≡ spec.chosen (spec.timers number) letter.now name.now }
 {
     let rows = [
-        register("IE.SET", "", Reg::EnableSet),
-        register("IE.CLR", "", Reg::EnableClear),
-        register("T", ".TARGET", Reg::TimerTarget(number)),
-        register("T", ".PRE", Reg::TimerPrescaler(number)),
-        register("T.ONESHOT", "", Reg::TimerOneShot),
-        register("T.GATESET", "", Reg::TimerGateSet),
-        register("T.GATECLR", "", Reg::TimerGateClear),
-        register("T.RUN", "", Reg::TimerRun),
-        register("T.FLAGS", "", Reg::TimerFlags),
-        register("T.ZERO", "", Reg::TimerZero),
-        register("T", ".LOW", Reg::TimerLow(number)),
-        register("T", ".HIGH", Reg::TimerHigh(number)),
+        Row("IE.SET", "", Reg::EnableSet),
+        Row("IE.CLR", "", Reg::EnableClear),
+        Row("T", ".TARGET", Reg::TimerTarget(number)),
+        Row("T", ".PRE", Reg::TimerPrescaler(number)),
+        Row("T.ONESHOT", "", Reg::TimerOneShot),
+        Row("T.GATESET", "", Reg::TimerGateSet),
+        Row("T.GATECLR", "", Reg::TimerGateClear),
+        Row("T.RUN", "", Reg::TimerRun),
+        Row("T.FLAGS", "", Reg::TimerFlags),
+        Row("T.ZERO", "", Reg::TimerZero),
+        Row("T", ".LOW", Reg::TimerLow(number)),
+        Row("T", ".HIGH", Reg::TimerHigh(number)),
     ];
     chosen(&rows, letter, name)
 }
@@ -62,14 +51,14 @@ fn pulse(letter: &[u8], number: u32, name: &[u8]) -> Option<Reg>
     ensures { result ≡ spec.chosen (spec.pulses number) letter.now name.now }
 {
     let rows = [
-        register("P", ".PERIOD", Reg::PulsePeriod(number)),
-        register("P", ".DUTY", Reg::PulseDuty(number)),
-        register("P", ".POL", Reg::PulsePolarity(number)),
-        register("P", ".COMMIT", Reg::PulseCommit(number)),
-        register("P", ".IDLE", Reg::PulseIdle(number)),
-        register("P", ".OUT", Reg::PulseOut(number)),
-        register("P.EDGES", "", Reg::PulseEdges),
-        register("P.FLAGS", "", Reg::PulseFlags),
+        Row("P", ".PERIOD", Reg::PulsePeriod(number)),
+        Row("P", ".DUTY", Reg::PulseDuty(number)),
+        Row("P", ".POL", Reg::PulsePolarity(number)),
+        Row("P", ".COMMIT", Reg::PulseCommit(number)),
+        Row("P", ".IDLE", Reg::PulseIdle(number)),
+        Row("P", ".OUT", Reg::PulseOut(number)),
+        Row("P.EDGES", "", Reg::PulseEdges),
+        Row("P.FLAGS", "", Reg::PulseFlags),
     ];
     chosen(&rows, letter, name)
 }
@@ -79,18 +68,18 @@ fn capture(letter: &[u8], number: u32, name: &[u8]) -> Option<Reg>
     ensures { result ≡ spec.chosen (spec.captures number) letter.now name.now }
 {
     let rows = [
-        register("C", ".COND", Reg::CaptureCondition(number)),
-        register("C", ".MODE", Reg::CaptureMode(number)),
-        register("C.GATESET", "", Reg::CaptureGateSet),
-        register("C.GATECLR", "", Reg::CaptureGateClear),
-        register("C", ".COUNTLOW", Reg::CaptureCountLow(number)),
-        register("C", ".COUNTHIGH", Reg::CaptureCountHigh(number)),
-        register("C", ".ZERO", Reg::CaptureZero(number)),
-        register("C", ".TIMELOW", Reg::CaptureTimeLow(number)),
-        register("C", ".TIMEHIGH", Reg::CaptureTimeHigh(number)),
-        register("C", ".INFO", Reg::CaptureInfo(number)),
-        register("C", ".POP", Reg::CapturePop(number)),
-        register("C", ".FLUSH", Reg::CaptureFlush(number)),
+        Row("C", ".COND", Reg::CaptureCondition(number)),
+        Row("C", ".MODE", Reg::CaptureMode(number)),
+        Row("C.GATESET", "", Reg::CaptureGateSet),
+        Row("C.GATECLR", "", Reg::CaptureGateClear),
+        Row("C", ".COUNTLOW", Reg::CaptureCountLow(number)),
+        Row("C", ".COUNTHIGH", Reg::CaptureCountHigh(number)),
+        Row("C", ".ZERO", Reg::CaptureZero(number)),
+        Row("C", ".TIMELOW", Reg::CaptureTimeLow(number)),
+        Row("C", ".TIMEHIGH", Reg::CaptureTimeHigh(number)),
+        Row("C", ".INFO", Reg::CaptureInfo(number)),
+        Row("C", ".POP", Reg::CapturePop(number)),
+        Row("C", ".FLUSH", Reg::CaptureFlush(number)),
     ];
     chosen(&rows, letter, name)
 }
@@ -102,16 +91,16 @@ fn converter(letter: &[u8], first: u32, name: &[u8], second: u32) -> Option<Reg>
     let unit = first.min(255) as u8;
     let place = second.min(255) as u8;
     let rows = [
-        register("A", ".LIST", Reg::ConverterList(unit, place)),
-        register("A", ".GO", Reg::ConverterGo(first)),
-        register("A", ".STATE", Reg::ConverterState(first)),
-        register("A", ".RESULT", Reg::ConverterResult(unit, place)),
-        register("A", ".DONE", Reg::ConverterDone(first)),
-        register("A", ".ABORT", Reg::ConverterAbort(first)),
-        register("A", ".ACK", Reg::ConverterAck(first)),
-        register("A.TRIGSET", "", Reg::TriggerSet),
-        register("A.TRIGCLR", "", Reg::TriggerClear),
-        register("A.TRIGFLAGS", "", Reg::TriggerFlags),
+        Row("A", ".LIST", Reg::ConverterList(unit, place)),
+        Row("A", ".GO", Reg::ConverterGo(first)),
+        Row("A", ".STATE", Reg::ConverterState(first)),
+        Row("A", ".RESULT", Reg::ConverterResult(unit, place)),
+        Row("A", ".DONE", Reg::ConverterDone(first)),
+        Row("A", ".ABORT", Reg::ConverterAbort(first)),
+        Row("A", ".ACK", Reg::ConverterAck(first)),
+        Row("A.TRIGSET", "", Reg::TriggerSet),
+        Row("A.TRIGCLR", "", Reg::TriggerClear),
+        Row("A.TRIGFLAGS", "", Reg::TriggerFlags),
     ];
     chosen(&rows, letter, name)
 }
@@ -121,12 +110,12 @@ fn serial(letter: &[u8], number: u32, name: &[u8]) -> Option<Reg>
     ensures { result ≡ spec.chosen (spec.serials number) letter.now name.now }
 {
     let rows = [
-        register("S", ".SELECT", Reg::SerialSelect(number)),
-        register("S", ".WIDTH", Reg::SerialWidth(number)),
-        register("S", ".DATA", Reg::SerialData(number)),
-        register("S", ".RX", Reg::SerialReceived(number)),
-        register("S", ".STATE", Reg::SerialState(number)),
-        register("S", ".ACK", Reg::SerialAck(number)),
+        Row("S", ".SELECT", Reg::SerialSelect(number)),
+        Row("S", ".WIDTH", Reg::SerialWidth(number)),
+        Row("S", ".DATA", Reg::SerialData(number)),
+        Row("S", ".RX", Reg::SerialReceived(number)),
+        Row("S", ".STATE", Reg::SerialState(number)),
+        Row("S", ".ACK", Reg::SerialAck(number)),
     ];
     chosen(&rows, letter, name)
 }
@@ -136,11 +125,11 @@ fn pin(letter: &[u8], number: u32, name: &[u8]) -> Option<Reg>
     ensures { result ≡ spec.chosen (spec.pins number) letter.now name.now }
 {
     let rows = [
-        register("D.DIRSET", "", Reg::PinDirectionSet(number)),
-        register("D.DIRCLR", "", Reg::PinDirectionClear(number)),
-        register("D.OUTSET", "", Reg::PinOutSet(number)),
-        register("D.OUTCLR", "", Reg::PinOutClear(number)),
-        register("D", ".MODE", Reg::PinMode(number)),
+        Row("D.DIRSET", "", Reg::PinDirectionSet(number)),
+        Row("D.DIRCLR", "", Reg::PinDirectionClear(number)),
+        Row("D.OUTSET", "", Reg::PinOutSet(number)),
+        Row("D.OUTCLR", "", Reg::PinOutClear(number)),
+        Row("D", ".MODE", Reg::PinMode(number)),
     ];
     chosen(&rows, letter, name)
 }
@@ -150,12 +139,12 @@ fn clock(letter: &[u8], number: u32, name: &[u8]) -> Option<Reg>
     ensures { result ≡ spec.chosen (spec.clocks number) letter.now name.now }
 {
     let rows = [
-        register("M.PLL", "", Reg::ClockPll),
-        register("M.LOCK", "", Reg::ClockLock),
-        register("M.RATE", "", Reg::ClockRate),
-        register("M.REASON", "", Reg::ResetReason),
-        register("M.RESET", "", Reg::ResetRequest),
-        register("R", "", Reg::Ram(number)),
+        Row("M.PLL", "", Reg::ClockPll),
+        Row("M.LOCK", "", Reg::ClockLock),
+        Row("M.RATE", "", Reg::ClockRate),
+        Row("M.REASON", "", Reg::ResetReason),
+        Row("M.RESET", "", Reg::ResetRequest),
+        Row("R", "", Reg::Ram(number)),
     ];
     chosen(&rows, letter, name)
 }

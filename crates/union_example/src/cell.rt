@@ -4,7 +4,7 @@ use run_model::{Class, Kind};
 use step_runner::Module;
 
 /// A call of a cell.
-#[derive(Clone, Copy, Debug, PartialEq, Eq)]
+#[derive(Clone, Copy)]
 pub enum CellCall {
     /// Gives the word.
     Get,
@@ -13,7 +13,7 @@ pub enum CellCall {
 }
 
 /// A call under way: it makes one step, and acts there.
-#[derive(Clone, Copy, Debug, PartialEq, Eq)]
+#[derive(Clone, Copy)]
 pub struct CellFrame {
     /// The number of the driver word.
     pub word: u32,
@@ -60,7 +60,7 @@ impl Routine for CellFrame {
 }
 
 /// A driver of one driver word.
-#[derive(Clone, Copy, Debug, PartialEq, Eq)]
+#[derive(Clone, Copy)]
 pub struct Cell {
     /// The number of the word.
     pub word: u32,

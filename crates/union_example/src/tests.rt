@@ -146,32 +146,72 @@ impl Module for Bells {
     ghost laws = { λ m fits. absurd fits };
 }
 
+/// A letter for what held a directive.
+fn cause(held: Held) -> u8 {
+    match held {
+        Held::Masked => b'M',
+        Held::Level => b'L',
+        Held::Reentry => b'R',
+        Held::Idle => b'I',
+        Held::Empty => b'E',
+        _ => b'?',
+    }
+}
+
+/// A letter for what a beginning came to: a dot where it began, and else what held it.
+fn begun(outcome: Result<(), Held>) -> u8 {
+    match outcome {
+        Ok(()) => b'.',
+        Err(held) => cause(held),
+    }
+}
+
+/// A letter for the move of a step: for the mask's closing and opening and for the notice.
+fn sign(made: &Move) -> u8 {
+    match made {
+        Move::Mask => b'c',
+        Move::Unmask => b'o',
+        Move::Note(
+            Notice {
+                kind: NoticeKind::GptNotification,
+                id: 4,
+            },
+        ) => b'n',
+        _ => b'?',
+    }
+}
+
+/// A digit for a number of frames.
+fn digit(frames: u32) -> u8 {
+    match frames {
+        0 => b'0',
+        1 => b'1',
+        _ => b'?',
+    }
+}
+
 /// Begins the call at a level.
-fn call(stack: &mut Stack<Bells>, bus: &Bus, level: u32) -> Result<(), Held>
+fn call(stack: &mut Stack<Bells>, bus: &Bus, level: u32) -> u8
     ensures { stack.new.steps ≡ stack.old.steps }
 {
-    begin(stack, &Bells, bus, (), level)
+    begun(begin(stack, &Bells, bus, (), level))
 }
 
 /// Begins the handler of a line.
-fn serve(stack: &mut Stack<Bells>, bus: &Bus, line: u32) -> Result<(), Held>
+fn serve(stack: &mut Stack<Bells>, bus: &Bus, line: u32) -> u8
     ensures { stack.new.steps ≡ stack.old.steps }
 {
-    enter(stack, &Bells, bus, line)
+    begun(enter(stack, &Bells, bus, line))
 }
 
 /// Makes a step, and tells its move.
-fn go(
-    stack: &mut Stack<Bells>,
-    bus: &mut Bus,
-    rack: &mut Vec<Box<dyn SerialDevice>>,
-) -> Result<Move, Held>
+fn go(stack: &mut Stack<Bells>, bus: &mut Bus, rack: &mut Vec<Box<dyn SerialDevice>>) -> u8
     requires { stack.old.steps < 1000 }
     ensures { stack.new.steps ≤ stack.old.steps + 1 }
 {
     match step(stack, bus, rack) {
-        Ok(stepped) => Ok(stepped.made),
-        Err(cause) => Err(cause),
+        Ok(stepped) => sign(&stepped.made),
+        Err(held) => cause(held),
     }
 }
 
@@ -186,24 +226,27 @@ fn beginnings_and_steps(rt: HostRuntime) {
     let bus = &mut bus;
     let rack = &mut Vec::new(rt.alloc());
     let stack = &mut stack;
-    assert_eq!(rt; go(stack, bus, rack), Err(Held::Empty));
-    assert_eq!(rt; serve(stack, bus, 3), Err(Held::Idle));
-    assert_eq!(rt; call(stack, bus, 2), Ok(()));
-    assert_eq!(rt; stack.depth(), 1);
-    assert_eq!(rt; call(stack, bus, 2), Err(Held::Level));
-    assert_eq!(rt; call(stack, bus, 3), Err(Held::Reentry));
-    assert_eq!(rt; serve(stack, bus, 3), Err(Held::Level));
-    assert_eq!(rt; go(stack, bus, rack), Ok(Move::Mask));
-    assert_eq!(rt; call(stack, bus, 3), Err(Held::Masked));
-    assert_eq!(rt; go(stack, bus, rack), Ok(Move::Unmask));
-    assert_eq!(rt; go(stack, bus, rack), Ok(Move::Note(NOTICE)));
-    assert_eq!(rt; call(stack, bus, 2), Err(Held::Reentry));
-    assert_eq!(rt; call(stack, bus, 1), Err(Held::Level));
-    assert_eq!(rt; go(stack, bus, rack), Ok(Move::Note(NOTICE)));
-    assert_eq!(rt; stack.depth(), 0);
-    assert_eq!(rt; call(stack, bus, 0), Ok(()));
-    assert_eq!(rt; reset(stack, bus, Reason::Software), 1);
-    assert_eq!(rt; go(stack, bus, rack), Err(Held::Empty));
+    let told = [
+        go(stack, bus, rack),
+        serve(stack, bus, 3),
+        call(stack, bus, 2),
+        digit(stack.depth()),
+        call(stack, bus, 2),
+        call(stack, bus, 3),
+        serve(stack, bus, 3),
+        go(stack, bus, rack),
+        call(stack, bus, 3),
+        go(stack, bus, rack),
+        go(stack, bus, rack),
+        call(stack, bus, 2),
+        call(stack, bus, 1),
+        go(stack, bus, rack),
+        digit(stack.depth()),
+        call(stack, bus, 0),
+        digit(reset(stack, bus, Reason::Software)),
+        go(stack, bus, rack),
+    ];
+    assert_eq!(rt; told, *b"EI.1LRLcMonRLn0.1E");
 }
 
 #[test]
@@ -220,15 +263,15 @@ fn two_modules_as_one(rt: HostRuntime) {
     };
     let stack = &mut stack;
     assert_eq!(rt; bells.level(3), 2);
-    assert_eq!(rt; begin(stack, &bells, &bus, Either::Right(()), 2), Ok(()));
-    assert_eq!(rt;
-        begin(stack, &bells, &bus, Either::Left(()), 3),
-        Err(Held::Reentry)
-    );
-    assert_eq!(rt; enter(stack, &bells, &bus, 3), Err(Held::Level));
-    assert_eq!(rt; stack.clear(), 1);
-    assert_eq!(rt; begin(stack, &bells, &bus, Either::Left(()), 3), Ok(()));
-    assert_eq!(rt; stack.depth(), 1);
+    let told = [
+        begun(begin(stack, &bells, &bus, Either::Right(()), 2)),
+        begun(begin(stack, &bells, &bus, Either::Left(()), 3)),
+        begun(enter(stack, &bells, &bus, 3)),
+        digit(stack.clear()),
+        begun(begin(stack, &bells, &bus, Either::Left(()), 3)),
+        digit(stack.depth()),
+    ];
+    assert_eq!(rt; told, *b".RL1.1");
 }
 
 /// Makes a step of a call of one of three cells, and tells its answer.

@@ -6,7 +6,7 @@ use crate::part::{gives_nothing, goes};
 use mcal_base::{Move, Routine, Taken};
 
 /// An entry that is put in the last place, under way.
-#[derive(Clone, Copy, Debug, PartialEq, Eq)]
+#[derive(Clone, Copy)]
 pub enum Add {
     /// It loads the number of entries and the marks.
     Count(Places, u32),

@@ -5,7 +5,7 @@ use crate::part::{gives_nothing, goes};
 use mcal_base::{Move, Routine, Taken};
 
 /// An entry that is made to wait in its place, under way.
-#[derive(Clone, Copy, Debug, PartialEq, Eq)]
+#[derive(Clone, Copy)]
 pub enum Again {
     /// It loads the marks.
     Look(Places, u32),

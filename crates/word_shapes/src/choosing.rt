@@ -6,7 +6,7 @@ use crate::search::{Search, Sought};
 use mcal_base::{Move, Routine, Taken};
 
 /// The choice of a waiting entry, under way.
-#[derive(Clone, Copy, Debug, PartialEq, Eq)]
+#[derive(Clone, Copy)]
 pub struct Front {
     /// What it looks at next.
     pub search: Search,
@@ -39,7 +39,7 @@ impl Routine for Front {
 }
 
 /// The choice of a waiting entry, which then waits no longer, under way.
-#[derive(Clone, Copy, Debug, PartialEq, Eq)]
+#[derive(Clone, Copy)]
 pub enum Next {
     /// It looks at the order.
     Look(Search, [u32; 16]),

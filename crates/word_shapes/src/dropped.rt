@@ -7,7 +7,7 @@ use crate::search::{Search, Sought};
 use mcal_base::{Move, Routine, Taken};
 
 /// An entry that is taken out, under way.
-#[derive(Clone, Copy, Debug, PartialEq, Eq)]
+#[derive(Clone, Copy)]
 pub enum Dropped {
     /// It looks at the order.
     Look(Search, u32),

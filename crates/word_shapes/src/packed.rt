@@ -5,7 +5,7 @@ ghost use Rattle.word_shapes.specs.Packing.{places, order_of, entries, count_in,
 ghost use Rattle.word_shapes.specs.Packing as spec;
 
 /// The numbers of the three words of an order.
-#[derive(Clone, Copy, Debug, PartialEq, Eq)]
+#[derive(Clone, Copy)]
 pub struct Places {
     /// The first eight places.
     pub low: u32,
@@ -17,7 +17,7 @@ pub struct Places {
 
 /// What stands in the three words of an order. Where at most eight entries are there, the word of the other places isn't
 /// looked at, and is 0 here.
-#[derive(Clone, Copy, Debug, PartialEq, Eq)]
+#[derive(Clone, Copy)]
 pub struct Packed {
     /// The first eight places, four bits each.
     pub low: u32,

@@ -5,7 +5,7 @@ use crate::part::{gives, gives_nothing, goes};
 use mcal_base::{Move, Routine, Taken};
 
 /// A part of a put.
-#[derive(Clone, Copy, Debug, PartialEq, Eq)]
+#[derive(Clone, Copy)]
 pub enum PutPart {
     /// Gives a bank that is neither newest nor pinned.
     Choose,
@@ -16,7 +16,7 @@ pub enum PutPart {
 }
 
 /// A part of a put, under way.
-#[derive(Clone, Copy, Debug, PartialEq, Eq)]
+#[derive(Clone, Copy)]
 pub enum Put {
     /// It loads the control word and gives a bank.
     Choose(u32),

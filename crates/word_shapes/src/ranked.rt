@@ -14,7 +14,7 @@ use crate::search::Search;
 /// An order of at most 16 entries, numbered 0 to 15, each waiting or not, in three driver words from this number on.
 /// Words that are 0 stand for the empty order, and so does any order whose third word is cleared. The moves of one
 /// routine stand in one window, and nothing but these routines stores to the three words.
-#[derive(Clone, Copy, Debug, PartialEq, Eq)]
+#[derive(Clone, Copy)]
 pub struct Ranked {
     /// The number of the first word.
     pub at: u32,

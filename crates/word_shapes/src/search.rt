@@ -5,7 +5,7 @@ use crate::packed::{Packed, Places, count};
 use mcal_base::Move;
 
 /// The loads that look at an order.
-#[derive(Clone, Copy, Debug, PartialEq, Eq)]
+#[derive(Clone, Copy)]
 pub enum Search {
     /// It loads the number of entries and the marks.
     Tally(Places),
@@ -16,7 +16,7 @@ pub enum Search {
 }
 
 /// What a load of a search makes of it.
-#[derive(Clone, Copy, Debug, PartialEq, Eq)]
+#[derive(Clone, Copy)]
 pub enum Sought {
     /// It goes on.
     More(Search),

@@ -4,7 +4,7 @@ use crate::part::{gives, gives_nothing, goes};
 use mcal_base::{Move, Routine, Taken};
 
 /// A part of a take.
-#[derive(Clone, Copy, Debug, PartialEq, Eq)]
+#[derive(Clone, Copy)]
 pub enum TakePart {
     /// Pins the newest bank and gives its number.
     Pin,
@@ -15,7 +15,7 @@ pub enum TakePart {
 }
 
 /// A part of a take, under way.
-#[derive(Clone, Copy, Debug, PartialEq, Eq)]
+#[derive(Clone, Copy)]
 pub enum Take {
     /// It loads the control word.
     Pin(u32),

@@ -11,7 +11,7 @@ use crate::take::{Take, TakePart};
 /// that are 0 stand for banks of which the first is newest and none is pinned. At most one put and one take are open,
 /// a put fills its bank in the order of the indexes, and nothing but these routines stores to the words. `Commit`,
 /// `Pin` and `Release` are each made in one window.
-#[derive(Clone, Copy, Debug, PartialEq, Eq)]
+#[derive(Clone, Copy)]
 pub struct Trio {
     /// The number of the first word of the banks.
     pub banks: u32,

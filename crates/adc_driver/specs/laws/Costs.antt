@@ -1,11 +1,10 @@
 -- Calls and handlers keep within their bounds of steps, and their windows within theirs of moves.
-use Rattle.std.proofs.Common.{ℕ, ◌+◌, ◌-◌, ◌*◌, ◌≤◌, ◌&&◌, cond, not, Bool, true, false, Option, Some, None, sym, subst, arith}
+use Rattle.std.proofs.Common.{ℕ, ◌+◌, ◌-◌, ◌*◌, ◌≤◌, ◌&&◌, cond, not, Bool, true, false, Option, Some, None, arith}
 use Rattle.std.specs.Prelude.{if◌then◌else◌}
-use Rattle.run_model.specs.Frame.{Called, Entered}
+use Rattle.run_model.specs.Frame.{Entered}
 use Rattle.adc_machine.specs.Bounds.{group_of_input, group_steps, most_inputs, request_steps, steps_of}
 use Rattle.adc_machine.specs.Machine.{is_trigger_line, is_unit_line, takes_one}
 use Rattle.adc_machine.specs.Table.{group_of}
-use Rattle.adc_machine.specs.declared.call.Call.TheVariants as calls
 use Rattle.adc_machine.specs.declared.call.GroupCall.{GroupCall}
 use Rattle.adc_machine.specs.declared.call.GroupCall.TheVariants as groups
 use Rattle.adc_machine.specs.declared.call.ResultBuffer.{ResultBuffer}
@@ -15,12 +14,10 @@ use Rattle.adc_groups.specs.Ground.{FitsAdc}
 use Rattle.adc_groups.specs.declared.body.Place.{Place}
 use Rattle.adc_groups.specs.declared.body.Place.TheVariants.{Flag}
 use Rattle.adc_groups.specs.declared.window.Window.TheVariants as windows
-use Rattle.adc_groups.specs.laws.Deciding.{lists_for, survey}
+use Rattle.adc_groups.specs.laws.Deciding.{lists_for}
 use Rattle.adc_groups.specs.laws.Look.{place_for, set_up_at}
 use Rattle.adc_driver.specs.Handlers.{group_on, handled_body}
-use Rattle.adc_driver.specs.laws.Covers.{survey_few}
 use Rattle.adc_driver.specs.laws.Measure.{begins_after, bodies, cost, largest, looks_on, requests_after, yields_after}
-use Rattle.adc_driver.specs.laws.Shortens.{fuel_is, room_is}
 use Rattle.adc_driver.specs.laws.Sizes.{few_inputs, lists_more}
 
 module _ (d : AdcTable) (fits : FitsAdc d) where
@@ -90,10 +87,6 @@ module _ (d : AdcTable) (fits : FitsAdc d) where
   group_costs g groups.GetGroupStatus = omega arith
   group_costs g groups.GetStreamLastPointer = omega arith
 
-  -- a call about a group keeps within its steps, and its first window within its moves
-  pub group_fuel : (g : ℕ) (call : GroupCall) → 7 + Fuel (place_for d g call) ≤ steps_of d (Called (calls.Group g call))
-  group_fuel g call = subst (λ n. 7 + n ≤ group_steps d call (group_of d g)) (sym (fuel_is d (record { table = d; place = place_for d g call }))) (group_costs g call)
-
   set_up_moves : (g : ℕ) (b : Option ResultBuffer) → 3 + cost false d (set_up_at g b) ≤ 32
   set_up_moves g None = omega arith
   set_up_moves g (Some b) = omega arith
@@ -108,16 +101,6 @@ module _ (d : AdcTable) (fits : FitsAdc d) where
   group_moves g (groups.Notification on) = omega arith
   group_moves g groups.GetGroupStatus = omega arith
   group_moves g groups.GetStreamLastPointer = omega arith
-
-  pub group_room : (g : ℕ) (call : GroupCall) → 3 + Room (place_for d g call) ≤ 32
-  group_room g call = subst (λ n. 3 + n ≤ 32) (sym (room_is d (record { table = d; place = place_for d g call }))) (group_moves g call)
-
-  -- Adc_DeInit
-  pub close_fuel : 7 + Fuel (survey d windows.Close 0) ≤ steps_of d (Called calls.DeInit)
-  close_fuel = subst (λ n. 7 + n ≤ steps_of d (Called calls.DeInit)) (sym (fuel_is d (record { table = d; place = survey d windows.Close 0 }))) (let le = survey_few true d windows.Close 0 in omega (arith, le))
-
-  pub close_room : 3 + Room (survey d windows.Close 0) ≤ 32
-  close_room = subst (λ n. 3 + n ≤ 32) (sym (room_is d (record { table = d; place = survey d windows.Close 0 }))) (let le = survey_few false d windows.Close 0 in omega (arith, le))
 
   -- ---- handlers
 

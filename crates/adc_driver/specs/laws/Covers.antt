@@ -1,5 +1,5 @@
 -- What each window decides costs no more than was counted for it.
-use Rattle.std.proofs.Common.{◌≡◌, ℕ, zero, suc, ◌+◌, ◌-◌, ◌*◌, ◌<◌, ◌≤◌, ◌==◌, ◌&&◌, Bool, true, false, List, [], ◌∷◌, ◌++◌, length, drop, map, nat_lt, not, Option, Some, None, refl, ◌∙◌, ap, arith, length-append}
+use Rattle.std.proofs.Common.{◌≡◌, ℕ, zero, suc, ◌+◌, ◌-◌, ◌*◌, ◌<◌, ◌≤◌, ◌==◌, ◌&&◌, Bool, true, false, List, [], ◌∷◌, ◌++◌, length, map, nat_lt, not, Option, Some, None, refl, ◌∙◌, ap, arith, length-append}
 use Rattle.std.specs.Prelude.{is_some, if◌then◌else◌}
 use Rattle.std.specs.List.{range_with_len}
 use Rattle.std.proofs.lemmas.Bool.Decides.{nat_tests}
@@ -28,13 +28,12 @@ use Rattle.adc_machine.specs.Turns.{is_on, rank_of}
 use Rattle.adc_machine.specs.Words.{buffer_number}
 use Rattle.adc_machine.specs.declared.call.ResultBuffer.{ResultBuffer}
 use Rattle.adc_machine.specs.declared.table.AdcTable.{AdcTable}
-use Rattle.adc_groups.specs.Owed.{all_rooms, shape_room}
+use Rattle.adc_groups.specs.Owed.{shape_room}
 use Rattle.adc_groups.specs.Stored.{group_in, is_under_way, order_of, phase_in, rounds_of}
 use Rattle.adc_groups.specs.declared.body.Decided.{Decided}
 use Rattle.adc_groups.specs.declared.body.Decided.TheVariants.{Ends, Goes}
 use Rattle.adc_groups.specs.declared.body.Place.TheVariants.{Chooses, Quits, Seeks}
 use Rattle.adc_groups.specs.declared.making.Deed.TheVariants.{Set, Write}
-use Rattle.adc_groups.specs.declared.making.Making.{Making}
 use Rattle.adc_groups.specs.declared.making.Then.TheVariants as thens
 use Rattle.adc_groups.specs.declared.outside.Copied.{Copied}
 use Rattle.adc_groups.specs.declared.outside.Copied.TheVariants.{Serves, Tells}
@@ -105,10 +104,6 @@ claims_more : (q : Bool) (d : AdcTable) (m n : ℕ) → m ≤ n → and_then q (
 claims_more q d m n le = and_then_more q _ _ (omega (arith, le))
 
 -- ---- makings
-
--- so many moves, and what comes after them
-made_few : (q : Bool) (d : AdcTable) (m : Making) (n t : ℕ) → 0 < n → all_rooms m.order m.banks (drop m.made m.deeds) ≤ n → then_cost q d m.after ≤ t → making_cost q d m ≤ n + t
-made_few q d m n t some few le = omega (arith, some, few, le)
 
 start_length : (d : AdcTable) (u g e left : ℕ) (c : Bool) → length (start_deeds d u g e left c) ≤ lists_for left + 3
 start_length d u g e left c =

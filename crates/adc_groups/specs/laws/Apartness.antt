@@ -1,11 +1,10 @@
 -- The words of a group that calls change are apart from all others.
-use Rattle.std.proofs.Common.{◌≡◌, ◌≢◌, ℕ, ◌+◌, ◌-◌, ◌*◌, ◌<◌, ◌≤◌, Bool, true, false, not, ◌&&◌, ◌==◌, nat_lt, length, Option, Some, None, refl, sym, ◌∙◌, ap, arith, ◌⊎◌, inl, inr}
+use Rattle.std.proofs.Common.{◌≡◌, ◌≢◌, ℕ, ◌+◌, ◌-◌, ◌*◌, ◌<◌, ◌≤◌, Bool, true, false, ◌==◌, length, Option, Some, None, refl, sym, ◌∙◌, ap, arith, ◌⊎◌, inl, inr}
 use Rattle.std.specs.Prelude.{is_some}
 use Rattle.std.proofs.lemmas.Bool.{cases_lt}
 use Rattle.std.proofs.lemmas.Bool.Decides.{nat_tests}
 use Rattle.word_shapes.specs.Trio.{own_of}
-use Rattle.adc_stream.specs.Rounds.{trio_of, bank_word, kept_word}
-use Rattle.adc_stream.specs.declared.rounds.Bank.{Bank}
+use Rattle.adc_stream.specs.Rounds.{trio_of, kept_word}
 use Rattle.adc_groups.specs.Ground.{FitsAdc, end_of}
 use Rattle.adc_machine.specs.Groups.{inputs_of}
 use Rattle.adc_groups.specs.Stored.{group_word, rounds_of, start_of}
@@ -50,15 +49,8 @@ module _ (d : AdcTable) (fits : FitsAdc d) where
   place_apart g i h buffers.Zero p there lt same = let high = (start_from g there).1 in omega (arith, high, lt, same)
   place_apart g i h buffers.One p there lt same = let high = (start_from g there).1 in omega (arith, high, lt, same)
 
-  -- a word of its own banks, and a kept value, is none of the first seven
-  pub banks_apart : (g i : ℕ) (b : Bank) (j : ℕ) → i < 7 → bank_word (rounds_of d g) b j ≢ group_word d g i
-  banks_apart g i b j lt same = omega (arith, same, lt)
-
   pub kept_apart : (g i j : ℕ) → i < 7 → kept_word (rounds_of d g) j ≢ group_word d g i
   kept_apart g i j lt same = omega (arith, same, lt)
-
-  in_banks : (first len k : ℕ) → not (nat_lt k first) && nat_lt k (first + len) ≡ true → (first ≤ k) × (k < first + len)
-  in_banks first len k e = (grind (arith, nat_tests), grind (arith, nat_tests))
 
   -- the banks' words, with their control word, of any group
   pub trio_apart : (g h i k : ℕ) → is_some (group_of d g) ≡ true → is_some (group_of d h) ≡ true → i < 7 → own_of (trio_of (rounds_of d h)) k ≡ true → k ≢ group_word d g i

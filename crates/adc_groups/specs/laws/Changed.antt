@@ -1,6 +1,6 @@
 -- A change of one group, of its unit and of their words leaves all else agreeing: other groups, the other unit, what frames hold,
 -- and the places of the users' buffers.
-use Rattle.std.proofs.Common.{◌≡◌, ◌≢◌, ℕ, zero, suc, ◌+◌, ◌-◌, ◌*◌, ◌/◌, ◌%◌, ◌<◌, ◌≤◌, Bool, true, false, ◌&&◌, ◌||◌, ◌==◌, not, nat_lt, nat_le, min, List, [], ◌∷◌, length, Option, Some, None, refl, sym, ◌∙◌, ap, subst, arith, ◌⊎◌, inl, inr}
+use Rattle.std.proofs.Common.{◌≡◌, ◌≢◌, ℕ, ◌+◌, ◌-◌, ◌*◌, ◌/◌, ◌%◌, ◌<◌, ◌≤◌, Bool, true, false, ◌&&◌, ◌||◌, ◌==◌, not, nat_lt, min, List, [], ◌∷◌, length, Option, Some, None, refl, sym, ◌∙◌, ap, subst, arith, ◌⊎◌, inl, inr}
 use Rattle.std.specs.Prelude.{is_some, if◌then◌else◌, slice_get}
 use Rattle.std.proofs.lemmas.Bool.Decides.{nat_tests}
 use Rattle.chip_converter.specs.Converters as chips
@@ -12,7 +12,7 @@ use Rattle.mcal_base.specs.Bits.{has_bit, bit_of}
 use Rattle.run_model.specs.Outside.{StandsIn}
 use Rattle.run_model.specs.World.{World}
 use Rattle.service_outline.specs.Services.{Held}
-use Rattle.word_shapes.specs.Order.{Entry, is_there}
+use Rattle.word_shapes.specs.Order.{Entry}
 use Rattle.word_shapes.specs.Ranked as ranked
 use Rattle.word_shapes.specs.Trio.{own_of}
 use Rattle.word_shapes.proofs.RankedLaws.{holds-agree}
@@ -29,62 +29,15 @@ use Rattle.adc_machine.specs.Turns.{AdcState, group_at, round_at, has_turn, is_r
 use Rattle.adc_machine.specs.Words.{result_word}
 use Rattle.adc_machine.specs.declared.call.Call.{Call}
 use Rattle.adc_machine.specs.declared.call.ResultBuffer.{ResultBuffer}
-use Rattle.adc_machine.specs.declared.call.ResultBuffer.TheVariants as buffers
 use Rattle.adc_machine.specs.declared.table.AdcTable.{AdcTable}
 use Rattle.adc_groups.specs.Ground.{FitsAdc, Hold, Clears, Starts, Yields, Fills, Full, Keeps, Whole, Claims, Copies, Reads, Holds, some_hold, claims_on, claim_fits, SoundGroup, IsSoundGroup, IsSoundRequest, IsSound, kept_of_round, kept_by, kept_in, running_of, phase_of, chosen_of, number_by, number_at, GroupAgrees, UnitAgrees, claim_right, RoundAgrees, IsBlock, TriggersAgree, put_of, take_of, first_held, BanksAgree, KeepsRight, WholeRight, HeldRight, AllRight, PlacesAgree, Backed, Promised, Settled, Agrees}
-use Rattle.adc_groups.specs.Stored.{word_number, group_word, order_of, rounds_of}
+use Rattle.adc_groups.specs.Stored.{word_number, group_word, order_of, rounds_of, start_of}
 use Rattle.adc_groups.specs.declared.words.TheConstants.{STATE}
 use Rattle.adc_groups.specs.declared.words.Word.TheVariants as words
 use Rattle.adc_groups.specs.laws.Apartness.{groups_apart, place_apart, start_from}
+use Rattle.adc_groups.specs.laws.Beside.{SameRound, some_none, look_same, turn_look, kept_look, listed_there, and_off, equal_numbers, same_or, itself, past_unit, past_state, past_eight, units_apart, unit_low, small_low, at_most, eight_low, low_within, one_low, none_low, six_low, seven_low, kept_place, bank_place, bank_past, kept_past, in_order, bank_is, kept_is, control_is, claim_is, running_is, banks_front, own_at, place_past}
 use Rattle.adc_groups.specs.laws.Onward.{value_within, listed_agree, kept_within}
 use Rattle.adc_groups.specs.laws.Own.{on_there, second_of, bank_below, unit_small, unit_is, unit_within}
-
--- ---- rounds of other groups
-
--- of a unit's round that isn't this group's both see the same
-record SameRound (g : ℕ) (q p : Option Round) : Type 0 where
-  from : (x : Round) → q ≡ Some x → x.group ≢ g → p ≡ Some x
-  to : (x : Round) → p ≡ Some x → x.group ≢ g → q ≡ Some x
-
--- what is seen of a round of a group
-abbrev look : {A : Type 0} → A → (Round → A) → ℕ → Option Round → A
-look e f k None = e
-look e f k (Some x) = if x.group == k then f x else e
-
-some_none : {A B : Type 0} {x : A} → None ≡ Some x → B
-some_none e = absurd (cc)
-
-look_same : {A : Type 0} (e : A) (f : Round → A) (g k : ℕ) (q p : Option Round) → k ≢ g → SameRound g q p → look e f k q ≡ look e f k p
-look_same e f g k None None ne h = refl
-look_same e f g k None (Some y) ne h = by (y.group == k) refl
-  where
-    by : (b : Bool) → (y.group == k) ≡ b → e ≡ (if b then f y else e)
-    by true i = let at : y.group ≡ k = grind (arith, nat_tests) in some_none (h.to y refl (λ z. ne (sym at ∙ z)))
-    by false i = refl
-look_same e f g k (Some x) None ne h = by (x.group == k) refl
-  where
-    by : (b : Bool) → (x.group == k) ≡ b → (if b then f x else e) ≡ e
-    by true i = let at : x.group ≡ k = grind (arith, nat_tests) in some_none (h.from x refl (λ z. ne (sym at ∙ z)))
-    by false i = refl
-look_same e f g k (Some x) (Some y) ne h = by (x.group == k) refl (y.group == k) refl
-  where
-    by : (b : Bool) → (x.group == k) ≡ b → (c : Bool) → (y.group == k) ≡ c → (if b then f x else e) ≡ (if c then f y else e)
-    by true i true j = let at : x.group ≡ k = grind (arith, nat_tests) in let same : y ≡ x = (let z = h.from x refl (λ z. ne (sym at ∙ z)) in cc) in ap f (sym same)
-    by true i false j = let at : x.group ≡ k = grind (arith, nat_tests) in let same : y ≡ x = (let z = h.from x refl (λ z. ne (sym at ∙ z)) in cc) in absurd (let c : (x.group == k) ≡ false = ap (λ (r : Round). r.group == k) (sym same) ∙ j in cc)
-    by false i true j = let at : y.group ≡ k = grind (arith, nat_tests) in let same : x ≡ y = (let z = h.to y refl (λ z. ne (sym at ∙ z)) in cc) in absurd (let c : (y.group == k) ≡ false = ap (λ (r : Round). r.group == k) (sym same) ∙ i in cc)
-    by false i false j = refl
-
-turn_look : (k : ℕ) (q : Option Round) → is_round_of k q ≡ look false (λ x. true) k q
-turn_look k None = refl
-turn_look k (Some x) = by (x.group == k)
-  where
-    by : (b : Bool) → b ≡ (if b then true else false)
-    by true = refl
-    by false = refl
-
-kept_look : (k : ℕ) (q : Option Round) → kept_of_round k q ≡ look [] (λ x. x.request.kept) k q
-kept_look k None = refl
-kept_look k (Some x) = refl
 
 -- ---- what changes, and what stays
 
@@ -210,15 +163,6 @@ pub record Fresh (d : AdcTable) (after : Holds) (b : Chip) (w : World) (t : AdcS
   pub claims : (v : ℕ) → v < 2 → claim_right after v (word_of b (word_number d (words.Claim v))) ≡ true
   pub promised : (v : ℕ) → Promised d after w t v
 
-equal_numbers : (m n : ℕ) → (m == n) ≡ true → m ≡ n
-equal_numbers m n e = grind (arith, nat_tests)
-
-in_banks : (control first len k : ℕ) → (k == control) ≡ false → k == control || (nat_le first k && nat_lt k (first + len)) ≡ true → first ≤ k
-in_banks control first len k off e = grind (arith, nat_tests)
-
-below_banks : (control first len k : ℕ) → (k == control) ≡ false → k == control || (nat_le first k && nat_lt k (first + len)) ≡ true → k < first + len
-below_banks control first len k off e = grind (arith, nat_tests)
-
 -- a unit's round agrees as before where the unit is the same, at the same time
 pub round_kept : (d : AdcTable) (x y : Converters) (w : World) (p q : Converter) (r : Option Round) → q ≡ p → y.levels ≡ x.levels → y.time ≡ x.time → RoundAgrees d x w p r → RoundAgrees d y w q r
 round_kept d x y w p q None same levels time h = (h.0, ap (λ (z : Converter). z.round.closed) same ∙ h.1, subst (λ n. h.0 ≤ n) (sym time) h.2)
@@ -237,74 +181,47 @@ module _ (d : AdcTable) (fits : FitsAdc d) (before after : Holds) (a b : Chip) (
   few : u < 2
   few = unit_within d fits u g at
 
-  same_or : (x y : ℕ) → (x ≡ y) ⊎ (x ≢ y)
-  same_or x y = grind arith
-
   -- ---- words that stay
 
   of_other : (k j : ℕ) → is_some (group_of d k) ≡ true → k ≢ g → j < 32 + 6 * length (inputs_of (group_of d k)) → word_of b (group_word d k j) ≡ word_of a (group_word d k j)
-  of_other k j here ne less = c.elsewhere (group_word d k j) (λ i lt. groups_apart d fits g k i j there here (λ e. ne (sym e)) (omega (arith, lt)) less) (λ i lt e. high k j i here lt e)
-    where
-      high : (k j i : ℕ) → is_some (group_of d k) ≡ true → i < 5 → group_word d k j ≡ STATE + 8 + 8 * u + i → ⊥
-      high k j i here lt e = let low = (start_from d fits k here).0 in let most = few in omega (arith, e, low, lt, most)
+  of_other k j here ne less = c.elsewhere (group_word d k j) (λ i lt. groups_apart d fits g k i j there here (λ e. ne (sym e)) (eight_low i lt) less) (λ i lt e. past_unit (start_of (group_of d k)) j u i (start_from d fits k here).0 few lt e)
 
   low_stays : (k j : ℕ) → is_some (group_of d k) ≡ true → k ≢ g → j < 32 → word_of b (group_word d k j) ≡ word_of a (group_word d k j)
-  low_stays k j here ne less = of_other k j here ne (omega (arith, less))
+  low_stays k j here ne less = of_other k j here ne (low_within j (length (inputs_of (group_of d k))) less)
 
   -- a word of the group's own, behind its first eight
   of_group : (j : ℕ) → 8 ≤ j → word_of b (group_word d g j) ≡ word_of a (group_word d g j)
-  of_group j le = c.elsewhere (group_word d g j) (λ i lt e. omega (arith, e, lt, le)) (λ i lt e. let low = (start_from d fits g there).0 in let most = few in omega (arith, e, low, lt, most))
+  of_group j le = c.elsewhere (group_word d g j) (λ i lt e. past_eight (start_of (group_of d g)) i j lt le e) (λ i lt e. past_unit (start_of (group_of d g)) j u i (start_from d fits g there).0 few lt e)
 
   bank_stays : (k : ℕ) (n : Bank) (j : ℕ) → is_some (group_of d k) ≡ true → j < length (inputs_of (group_of d k)) → word_of b (bank_word (rounds_of d k) n j) ≡ word_of a (bank_word (rounds_of d k) n j)
-  bank_stays k n j here less = by (same_or k g)
+  bank_stays k n j here less = subst (λ m. word_of b m ≡ word_of a m) (bank_is d k n j) (by (same_or k g))
     where
-      len : ℕ
-      len = length (inputs_of (group_of d k))
-
       place : ℕ
       place = 32 + bank_number n * length (inputs_of (group_of d k)) + j
 
-      is : group_word d k (32 + bank_number n * length (inputs_of (group_of d k)) + j) ≡ bank_word (rounds_of d k) n j
-      is = omega arith
-
-      within : 32 + bank_number n * length (inputs_of (group_of d k)) + j < 32 + 6 * length (inputs_of (group_of d k))
-      within = by_bank n
-        where
-          by_bank : (n : Bank) → 32 + bank_number n * length (inputs_of (group_of d k)) + j < 32 + 6 * length (inputs_of (group_of d k))
-          by_bank n = let lt = bank_below d fits n in rows (bank_number n) (length (inputs_of (group_of d k))) j lt less
-            where
-              rows : (n l j : ℕ) → n < 3 → j < l → 32 + n * l + j < 32 + 6 * l
-              rows zero l j lt less = omega (arith, less)
-              rows (suc zero) l j lt less = omega (arith, less)
-              rows (suc (suc zero)) l j lt less = omega (arith, less)
-              rows (suc (suc (suc n))) l j lt less = absurd (omega (arith, lt))
-
-      by : (k ≡ g) ⊎ (k ≢ g) → word_of b (bank_word (rounds_of d k) n j) ≡ word_of a (bank_word (rounds_of d k) n j)
-      by (inl e) = subst (λ m. word_of b m ≡ word_of a m) is (subst (λ m. word_of b (group_word d m (32 + bank_number n * length (inputs_of (group_of d k)) + j)) ≡ word_of a (group_word d m (32 + bank_number n * length (inputs_of (group_of d k)) + j))) (sym e) (of_group (32 + bank_number n * length (inputs_of (group_of d k)) + j) (omega arith)))
-      by (inr ne) = subst (λ m. word_of b m ≡ word_of a m) is (of_other k (32 + bank_number n * length (inputs_of (group_of d k)) + j) here ne within)
+      by : (k ≡ g) ⊎ (k ≢ g) → word_of b (group_word d k place) ≡ word_of a (group_word d k place)
+      by (inl e) = subst (λ m. word_of b (group_word d m place) ≡ word_of a (group_word d m place)) (sym e) (of_group place (bank_past (bank_number n) (length (inputs_of (group_of d k))) j))
+      by (inr ne) = of_other k place here ne (bank_place (bank_number n) (length (inputs_of (group_of d k))) j (bank_below d fits n) less)
 
   kept_stays : (k j : ℕ) → is_some (group_of d k) ≡ true → j < length (inputs_of (group_of d k)) → word_of b (kept_word (rounds_of d k) j) ≡ word_of a (kept_word (rounds_of d k) j)
-  kept_stays k j here less = by (same_or k g)
+  kept_stays k j here less = subst (λ m. word_of b m ≡ word_of a m) (kept_is d k j) (by (same_or k g))
     where
-      is : group_word d k (32 + 3 * length (inputs_of (group_of d k)) + j) ≡ kept_word (rounds_of d k) j
-      is = omega arith
+      place : ℕ
+      place = 32 + 3 * length (inputs_of (group_of d k)) + j
 
-      by : (k ≡ g) ⊎ (k ≢ g) → word_of b (kept_word (rounds_of d k) j) ≡ word_of a (kept_word (rounds_of d k) j)
-      by (inl e) = subst (λ m. word_of b m ≡ word_of a m) is (subst (λ m. word_of b (group_word d m (32 + 3 * length (inputs_of (group_of d k)) + j)) ≡ word_of a (group_word d m (32 + 3 * length (inputs_of (group_of d k)) + j))) (sym e) (of_group (32 + 3 * length (inputs_of (group_of d k)) + j) (omega arith)))
-      by (inr ne) = subst (λ m. word_of b m ≡ word_of a m) is (of_other k (32 + 3 * length (inputs_of (group_of d k)) + j) here ne (omega (arith, less)))
+      by : (k ≡ g) ⊎ (k ≢ g) → word_of b (group_word d k place) ≡ word_of a (group_word d k place)
+      by (inl e) = subst (λ m. word_of b (group_word d m place) ≡ word_of a (group_word d m place)) (sym e) (of_group place (kept_past (length (inputs_of (group_of d k))) j))
+      by (inr ne) = of_other k place here ne (kept_place j (length (inputs_of (group_of d k))) less)
 
   -- a word of the other unit, and the state word
   unit_stays : (v i : ℕ) → v < 2 → v ≢ u → i < 5 → word_of b (STATE + 8 + 8 * v + i) ≡ word_of a (STATE + 8 + 8 * v + i)
-  unit_stays v i less ne lt = c.elsewhere (STATE + 8 + 8 * v + i) (λ j lt1 e. low v i j less lt e) (λ j lt1 e. omega (arith, e, lt, lt1, ne))
-    where
-      low : (v i j : ℕ) → v < 2 → i < 5 → STATE + 8 + 8 * v + i ≡ group_word d g j → ⊥
-      low v i j less lt e = let start = (start_from d fits g there).0 in omega (arith, e, start, less, lt)
+  unit_stays v i less ne lt = c.elsewhere (STATE + 8 + 8 * v + i) (λ j lt1 e. past_unit (start_of (group_of d g)) j v i (start_from d fits g there).0 less lt (sym e)) (λ j lt1 e. units_apart u v i j lt lt1 ne e)
 
   state_stays : word_of b STATE ≡ word_of a STATE
-  state_stays = c.elsewhere STATE (λ j lt e. let start = (start_from d fits g there).0 in omega (arith, e, start)) (λ j lt e. omega (arith, e))
+  state_stays = c.elsewhere STATE (λ j lt e. past_state (start_of (group_of d g)) j (start_from d fits g there).0 e) (λ j lt e. unit_low u j e)
 
   pub claim_stays : (v : ℕ) → v < 2 → v ≢ u → word_of b (word_number d (words.Claim v)) ≡ word_of a (word_number d (words.Claim v))
-  claim_stays v less ne = let is : STATE + 8 + 8 * v + 1 ≡ word_number d (words.Claim v) = omega arith in subst (λ k. word_of b k ≡ word_of a k) is (unit_stays v 1 less ne (omega arith))
+  claim_stays v less ne = subst (λ k. word_of b k ≡ word_of a k) (claim_is d v) (unit_stays v 1 less ne one_low)
 
   -- ---- the state of other groups
 
@@ -365,9 +282,6 @@ module _ (d : AdcTable) (fits : FitsAdc d) (before after : Holds) (a b : Chip) (
       by None i = refl
       by (Some r) i = some_none (sym e ∙ was_there v z free claims r i)
 
-  itself : (v : ℕ) → (v == v) ≡ true
-  itself v = grind (arith, nat_tests)
-
   -- where a unit's claim keeps a group's values, that is another group, whose claim was there before
   module _ (v k : ℕ) (z : Hold) (free : Spares d a b s t g u z) (claims : claims_on v z ≡ true) (on : is_on v (group_of d k) ≡ true) (claim : word_of b (word_number d (words.Claim v)) ≡ 2 + k) where
     kept_other : k ≢ g
@@ -401,7 +315,7 @@ module _ (d : AdcTable) (fits : FitsAdc d) (before after : Holds) (a b : Chip) (
       waits = ap (λ o. is_some o) (waiting_same k kept_other) ∙ q.waits;
       count = ap length (kept_same k kept_other) ∙ (q.count ∙ sym (ap (λ m. e + m) ended));
       told = λ m f. q.told m f ∙ sym ended;
-      word = low_stays k 6 (on_there v (group_of d k) on) kept_other (omega arith) ∙ q.word;
+      word = low_stays k 6 (on_there v (group_of d k) on) kept_other six_low ∙ q.word;
       kept = λ j m less is. let was = sym (ap (λ xs. slice_get xs j) (kept_same k kept_other)) ∙ is in kept_stays k j (on_there v (group_of d k) on) (kept_within d w s h.sound k j m was) ∙ q.kept j m less was;
       results = λ j m is. result j ∙ q.results j m (sym (ap (λ xs. slice_get xs (e + j)) (kept_same k kept_other)) ∙ is);
       next = λ m is. ap (λ xs. slice_get xs (e + i)) (kept_same k kept_other) ∙ q.next m is;
@@ -464,14 +378,11 @@ module _ (d : AdcTable) (fits : FitsAdc d) (before after : Holds) (a b : Chip) (
     }),
   )
     where
-      control : (k : ℕ) → group_word d k 7 ≡ (trio_of (rounds_of d k)).control
-      control k = omega arith
-
       by : (k.group ≡ g) ⊎ (k.group ≢ g) → (word_of b (trio_of (rounds_of d k.group)).control % 4 ≡ word_of a (trio_of (rounds_of d k.group)).control % 4) × ((m : ResultBuffer) (i : ℕ) → place_value t k.group m i ≡ place_value s k.group m i)
       by (inl e) =
           let kept = free.copies n k j p refl e in
-          (subst (λ z. word_of b z % 4 ≡ word_of a z % 4) (ap (λ z. group_word d z 7) (sym e) ∙ control k.group) kept.0, λ m i. subst (λ z. place_value t z m i ≡ place_value s z m i) (sym e) (kept.1 m i))
-      by (inr ne) = (ap (λ m. m % 4) (subst (λ m. word_of b m ≡ word_of a m) (control k.group) (low_stays k.group 7 r.2 ne (omega arith))), c.results k.group ne)
+          (subst (λ z. word_of b z % 4 ≡ word_of a z % 4) (ap (λ z. group_word d z 7) (sym e) ∙ control_is d k.group) kept.0, λ m i. subst (λ z. place_value t z m i ≡ place_value s z m i) (sym e) (kept.1 m i))
+      by (inr ne) = (ap (λ m. m % 4) (subst (λ m. word_of b m ≡ word_of a m) (control_is d k.group) (low_stays k.group 7 r.2 ne seven_low)), c.results k.group ne)
   held_changed x (Reads k n vs) free r = (
     r.0,
     c.still,
@@ -480,20 +391,17 @@ module _ (d : AdcTable) (fits : FitsAdc d) (before after : Holds) (a b : Chip) (
       whole = q.whole;
       answered = q.answered;
       pinned = pin (same_or k g) ∙ q.pinned;
-      bank = (q.bank.0, listed_agree (word_of b) (word_of a) (bank_word (rounds_of d k) n 0) (length q.whole) (λ m less. word m (let e = q.bank.0 in omega (arith, less, e))) ∙ q.bank.1);
+      bank = (q.bank.0, listed_agree (word_of b) (word_of a) (bank_word (rounds_of d k) n 0) (length q.whole) (λ m less. word m (subst (λ z. m < z) (q.bank.0) less)) ∙ q.bank.1);
       front = q.front;
     }),
   )
     where
-      control : (k : ℕ) → group_word d k 7 ≡ (trio_of (rounds_of d k)).control
-      control k = omega arith
-
       pin : (k ≡ g) ⊎ (k ≢ g) → word_of b (trio_of (rounds_of d k)).control / 4 ≡ word_of a (trio_of (rounds_of d k)).control / 4
-      pin (inl e) = subst (λ z. word_of b z / 4 ≡ word_of a z / 4) (ap (λ z. group_word d z 7) (sym e) ∙ control k) (free.reads k n vs refl e)
-      pin (inr ne) = ap (λ m. m / 4) (subst (λ m. word_of b m ≡ word_of a m) (control k) (low_stays k 7 r.2 ne (omega arith)))
+      pin (inl e) = subst (λ z. word_of b z / 4 ≡ word_of a z / 4) (ap (λ z. group_word d z 7) (sym e) ∙ control_is d k) (free.reads k n vs refl e)
+      pin (inr ne) = ap (λ m. m / 4) (subst (λ m. word_of b m ≡ word_of a m) (control_is d k) (low_stays k 7 r.2 ne seven_low))
 
       word : (m : ℕ) → m < length (inputs_of (group_of d k)) → word_of b (bank_word (rounds_of d k) n 0 + m) ≡ word_of a (bank_word (rounds_of d k) n 0 + m)
-      word m less = let same : bank_word (rounds_of d k) n m ≡ bank_word (rounds_of d k) n 0 + m = omega arith in subst (λ z. word_of b z ≡ word_of a z) same (bank_stays k n m r.2 less)
+      word m less = subst (λ z. word_of b z ≡ word_of a z) (banks_front d k n m) (bank_stays k n m r.2 less)
 
   -- what frames below hold stays right
   pub all_changed : (hs : Holds) → AllSpare d a b s t g u hs → AllRight d a w s hs → AllRight d b w t hs
@@ -506,32 +414,20 @@ module _ (d : AdcTable) (fits : FitsAdc d) (before after : Holds) (a b : Chip) (
   trio_other k j here ne own = sym (by (j == (trio_of (rounds_of d k)).control) refl)
     where
       by : (q : Bool) → (j == (trio_of (rounds_of d k)).control) ≡ q → word_of b j ≡ word_of a j
-      by true e = let is : group_word d k 7 ≡ j = (let same = equal_numbers j (trio_of (rounds_of d k)).control e in omega (arith, same)) in subst (λ m. word_of b m ≡ word_of a m) is (low_stays k 7 here ne (omega arith))
-      by false e =
-          let trio = trio_of (rounds_of d k) in
-          let low = in_banks trio.control trio.banks (3 * length (inputs_of (group_of d k))) j e own in
-          let high = below_banks trio.control trio.banks (3 * length (inputs_of (group_of d k))) j e own in
-          let is : group_word d k (j - (STATE + (rounds_of d k).start)) ≡ j = omega (arith, low) in
-          subst (λ m. word_of b m ≡ word_of a m) is (of_other k (j - (STATE + (rounds_of d k).start)) here ne (omega (arith, low, high)))
+      by true e = subst (λ m. word_of b m ≡ word_of a m) (control_is d k ∙ sym (equal_numbers j (trio_of (rounds_of d k)).control e)) (low_stays k 7 here ne seven_low)
+      by false e = let at = own_at d k j e own in subst (λ m. word_of b m ≡ word_of a m) at.0 (of_other k (j - (STATE + start_of (group_of d k))) here ne at.2)
 
   -- and those of the group, where its control word stays
   pub trio_group : word_of b (group_word d g 7) ≡ word_of a (group_word d g 7) → (j : ℕ) → own_of (trio_of (rounds_of d g)) j ≡ true → word_of a j ≡ word_of b j
   trio_group control j own = sym (by (j == (trio_of (rounds_of d g)).control) refl)
     where
       by : (q : Bool) → (j == (trio_of (rounds_of d g)).control) ≡ q → word_of b j ≡ word_of a j
-      by true e = let is : group_word d g 7 ≡ j = (let same = equal_numbers j (trio_of (rounds_of d g)).control e in omega (arith, same)) in subst (λ m. word_of b m ≡ word_of a m) is control
-      by false e =
-          let low = in_banks (trio_of (rounds_of d g)).control (trio_of (rounds_of d g)).banks (3 * length (inputs_of (group_of d g))) j e own in
-          let is : group_word d g (j - (STATE + (rounds_of d g).start)) ≡ j = omega (arith, low) in
-          subst (λ m. word_of b m ≡ word_of a m) is (of_group (j - (STATE + (rounds_of d g).start)) (omega (arith, low)))
+      by true e = subst (λ m. word_of b m ≡ word_of a m) (control_is d g ∙ sym (equal_numbers j (trio_of (rounds_of d g)).control e)) control
+      by false e = let at = own_at d g j e own in subst (λ m. word_of b m ≡ word_of a m) at.0 (of_group (j - (STATE + start_of (group_of d g))) at.1)
 
   -- the places of the users' buffers
   pub place_stays : (k : ℕ) (n : ResultBuffer) (p : ℕ) → word_of b (result_word k n p) ≡ word_of a (result_word k n p)
-  place_stays k n p = c.elsewhere (result_word k n p) (λ i lt. place_apart d fits g i k n p there (omega (arith, lt))) (λ i lt e. high n e lt)
-    where
-      high : (n : ResultBuffer) {i : ℕ} → result_word k n p ≡ STATE + 8 + 8 * u + i → i < 5 → ⊥
-      high buffers.Zero e lt = let most = few in omega (arith, e, lt, most)
-      high buffers.One e lt = let most = few in omega (arith, e, lt, most)
+  place_stays k n p = c.elsewhere (result_word k n p) (λ i lt. place_apart d fits g i k n p there (eight_low i lt)) (λ i lt e. place_past k n p u i few lt e)
 
   -- the claims' words, where that of the unit stays
   pub claims_stay : word_of b (word_number d (words.Claim u)) ≡ word_of a (word_number d (words.Claim u)) → (v : ℕ) → v < 2 → word_of b (word_number d (words.Claim v)) ≡ word_of a (word_number d (words.Claim v))
@@ -552,18 +448,18 @@ module _ (d : AdcTable) (fits : FitsAdc d) (before after : Holds) (a b : Chip) (
 
   group_changed : (k : ℕ) → is_some (group_of d k) ≡ true → k ≢ g → GroupAgrees d (word_of a) s k → GroupAgrees d (word_of b) t k
   group_changed k here ne q = record {
-    phase = low 0 (omega arith) ∙ (q.phase ∙ (ap (λ (x : GroupState). phase_of x.status (has_turn s k || x.trigger)) (sym (c.others k ne)) ∙ ap (λ o. phase_of (group_at t k).status (o || (group_at t k).trigger)) (sym (turn_same k ne))));
-    chosen = low 1 (omega arith) ∙ (q.chosen ∙ ap (λ (x : GroupState). chosen_of x.chosen) (sym (c.others k ne)));
-    notified = low 2 (omega arith) ∙ (q.notified ∙ ap (λ (x : GroupState). bit_of x.notification) (sym (c.others k ne)));
-    turn = low 3 (omega arith) ∙ (q.turn ∙ ap (λ o. bit_of o) (sym (turn_same k ne)));
-    count = λ e. low 4 (omega arith) ∙ (q.count (λ i. e (ap (λ (x : GroupState). x.status) (c.others k ne) ∙ i)) ∙ ap (λ (x : GroupState). min (length x.rounds) (samples_of (group_of d k))) (sym (c.others k ne)));
-    place = λ e. low 5 (omega arith) ∙ (q.place (λ i. e (ap (λ (x : GroupState). x.status) (c.others k ne) ∙ i)) ∙ ap (λ (x : GroupState). length x.rounds % samples_of (group_of d k)) (sym (c.others k ne)));
-    kept = λ e f. low 6 (omega arith) ∙ (q.kept (sym (turn_same k ne) ∙ e) (λ i. f (claimed i)) ∙ ap length (sym (kept_same k ne)));
+    phase = low 0 refl ∙ (q.phase ∙ (ap (λ (x : GroupState). phase_of x.status (has_turn s k || x.trigger)) (sym (c.others k ne)) ∙ ap (λ o. phase_of (group_at t k).status (o || (group_at t k).trigger)) (sym (turn_same k ne))));
+    chosen = low 1 refl ∙ (q.chosen ∙ ap (λ (x : GroupState). chosen_of x.chosen) (sym (c.others k ne)));
+    notified = low 2 refl ∙ (q.notified ∙ ap (λ (x : GroupState). bit_of x.notification) (sym (c.others k ne)));
+    turn = low 3 refl ∙ (q.turn ∙ ap (λ o. bit_of o) (sym (turn_same k ne)));
+    count = λ e. low 4 refl ∙ (q.count (λ i. e (ap (λ (x : GroupState). x.status) (c.others k ne) ∙ i)) ∙ ap (λ (x : GroupState). min (length x.rounds) (samples_of (group_of d k))) (sym (c.others k ne)));
+    place = λ e. low 5 refl ∙ (q.place (λ i. e (ap (λ (x : GroupState). x.status) (c.others k ne) ∙ i)) ∙ ap (λ (x : GroupState). length x.rounds % samples_of (group_of d k)) (sym (c.others k ne)));
+    kept = λ e f. low 6 refl ∙ (q.kept (sym (turn_same k ne) ∙ e) (λ i. f (claimed i)) ∙ ap length (sym (kept_same k ne)));
     values = λ e f j m is. let was = sym (ap (λ xs. slice_get xs j) (kept_same k ne)) ∙ is in kept_stays k j here (kept_within d w s h.sound k j m was) ∙ q.values (sym (turn_same k ne) ∙ e) (λ i. f (claimed i)) j m was;
   }
     where
-      low : (j : ℕ) → j < 32 → word_of b (group_word d k j) ≡ word_of a (group_word d k j)
-      low j less = low_stays k j here ne less
+      low : (j : ℕ) → nat_lt j 8 ≡ true → word_of b (group_word d k j) ≡ word_of a (group_word d k j)
+      low j less = low_stays k j here ne (small_low j less)
 
       v : ℕ
       v = unit_of (group_of d k)
@@ -575,26 +471,6 @@ module _ (d : AdcTable) (fits : FitsAdc d) (before after : Holds) (a b : Chip) (
           by (inl i) = subst (λ n. word_of b (word_number d (words.Claim n)) ≡ 2 + k) (sym i) (c.claim_to k ne (subst (λ n. word_of a (word_number d (words.Claim n)) ≡ 2 + k) i e))
           by (inr nu) = claim_stays (unit_of (group_of d k)) (unit_small d fits k here) nu ∙ e
 
-  -- an entry of an order is there
-  listed_there : (xs : List Entry) (i : ℕ) (x : Entry) → slice_get xs i ≡ Some x → is_there x.number xs ≡ true
-  listed_there [] i x e = absurd (cc)
-  listed_there (z ∷ zs) zero x e = let same : z ≡ x = cc in by (z.number == x.number) (subst (λ n. (n == x.number) ≡ true) (ap (λ (q : Entry). q.number) (sym same)) (itself x.number))
-    where
-      by : (q : Bool) → q ≡ true → q || is_there x.number zs ≡ true
-      by true f = refl
-      by false f = absurd (cc)
-  listed_there (z ∷ zs) (suc i) x e = by (z.number == x.number) (listed_there zs i x e)
-    where
-      by : (q : Bool) → is_there x.number zs ≡ true → q || is_there x.number zs ≡ true
-      by true f = refl
-      by false f = f
-
-  and_off : (x y z : Bool) → z ≡ false → x && z ≡ y && z
-  and_off true true z e = refl
-  and_off true false z e = e
-  and_off false true z e = sym e
-  and_off false false z e = refl
-
   off_unit : (v : ℕ) → v ≢ u → is_on v (group_of d g) ≡ false
   off_unit v ne = by (is_on v (group_of d g)) refl
     where
@@ -604,7 +480,7 @@ module _ (d : AdcTable) (fits : FitsAdc d) (before after : Holds) (a b : Chip) (
 
   unit_changed : (v : ℕ) → v < 2 → v ≢ u → UnitAgrees d (word_of a) s v → UnitAgrees d (word_of b) t v
   unit_changed v less ne q = record {
-    running = (let is : STATE + 8 + 8 * v + 0 ≡ word_number d (words.Running v) = omega arith in subst (λ k. word_of b k ≡ word_of a k) is (unit_stays v 0 less ne (omega arith))) ∙ (q.running ∙ ap (λ r. running_of r) (sym (c.rounds v ne)));
+    running = subst (λ k. word_of b k ≡ word_of a k) (running_is d v) (unit_stays v 0 less ne none_low) ∙ (q.running ∙ ap (λ r. running_of r) (sym (c.rounds v ne)));
     order =
         let o = q.order.2 in (
           q.order.0,
@@ -625,17 +501,13 @@ module _ (d : AdcTable) (fits : FitsAdc d) (before after : Holds) (a b : Chip) (
       turned k (inr nk) = ap (λ z. z && is_on v (group_of d k)) (sym (turn_same k nk))
 
       order_stays : (k : ℕ) → ranked.own_of (order_of v) k ≡ true → word_of b k ≡ word_of a k
-      order_stays k own =
-          let low : STATE + 10 + 8 * v ≤ k = grind (arith, nat_tests) in
-          let high : k ≤ STATE + 12 + 8 * v = grind (arith, nat_tests) in
-          let is : STATE + 8 + 8 * v + (k - (STATE + 8 + 8 * v)) ≡ k = omega (arith, low) in
-          subst (λ j. word_of b j ≡ word_of a j) is (unit_stays v (k - (STATE + 8 + 8 * v)) less ne (omega (arith, low, high)))
+      order_stays k own = let at = in_order v k own in subst (λ j. word_of b j ≡ word_of a j) at.0 (unit_stays v (k - (STATE + 8 + 8 * v)) less ne at.1)
 
   -- ---- all of it
 
   module _ (n : Fresh d after b w t g u) where
     more : (m : ℕ) → m ≤ s.requests → m ≤ t.requests
-    more m le = let up = c.requests in omega (arith, le, up)
+    more m le = at_most m s.requests t.requests le c.requests
 
     sound_changed : IsSound d w t
     sound_changed = record {

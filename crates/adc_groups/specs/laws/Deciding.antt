@@ -159,9 +159,6 @@ reading d g b = record { group = g; reading = record { rounds = rounds_of d g; b
 abbrev pub after_request : AdcTable → ℕ → Then
 after_request d u = thens.Goes (Closes (if d.priorities then windows.Yield u else windows.Begin u))
 
-abbrev pub begun_deeds : ℕ → List Deed
-begun_deeds g = Set (words.Phase g) 1 ∷ Set (words.Count g) 0 ∷ Set (words.Place g) 0 ∷ []
-
 -- a group begins a stream and makes a request, or has its trigger switched on; and the module is uninitialised
 abbrev pub start : AdcTable → ℕ → Making
 start d g = record (making (Some events.Act) (Set (words.Phase g) 1 ∷ Set (words.Count g) 0 ∷ Set (words.Place g) 0 ∷ Set (words.Kept g) 0 ∷ Set (words.Turn g) 1 ∷ []) (after_request d (unit_of (group_of d g)))) { order = Some (shapes.Add (add_start (order_of (unit_of (group_of d g))) (entry g))) }

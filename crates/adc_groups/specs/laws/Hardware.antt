@@ -101,6 +101,58 @@ listener_few d fits s i (g ∷ gs) e = by (listens d s i g) refl (λ h. listener
     by true f rest h = input_few (group_of d g) refl (first (is_input i (trigger_input (group_of d g))) (group_at s g).trigger f)
     by false f rest h = rest h
 
+-- ---- lemmas without the words and the state, so that no search reads those
+
+le_same : (m n : ℕ) → n ≡ m → m ≤ n
+le_same m n e = omega (arith, e)
+
+le_self : (m : ℕ) → m ≤ m
+le_self m = omega arith
+
+le_more : (m n : ℕ) → m ≤ m + n
+le_more m n = omega arith
+
+le_past : (m n k : ℕ) → m ≤ n → m ≤ n + k
+le_past m n k le = omega (arith, le)
+
+no_time : {A : Type 0} (m n end : ℕ) → n ≡ m → m < end → end ≤ n → A
+no_time m n end e late early = absurd (omega (arith, e, late, early))
+
+before_end : (since time now end : ℕ) → since ≤ time → time ≡ now → now < end → since < end
+before_end since time now end le e late = omega (arith, le, e, late)
+
+ended_still : (r : rounds.Round) (i m n : ℕ) → m ≤ n → rounds.has_ended r i m ≡ true → rounds.has_ended r i n ≡ true
+ended_still r i m n le e = let later = ended-later r m n le in grind (arith, nat_tests)
+
+four_or_more : {A : Type 0} (j : ℕ) → suc (suc (suc (suc j))) < 4 → A
+four_or_more j lt = absurd (omega (arith, lt))
+
+off_on : {A : Type 0} → false ≡ true → A
+off_on e = absurd (cc)
+
+clash : {A : Type 0} {b : Bool} → b ≡ false → b ≡ true → A
+clash e f = absurd (cc)
+
+equal : (i j : ℕ) → (j == i) ≡ true → j ≡ i
+equal i j e = grind (arith, nat_tests)
+
+is_few : (i : ℕ) → i < 4 → nat_lt i 4 ≡ true
+is_few i lt = grind (arith, nat_tests)
+
+few_is : (i : ℕ) → nat_lt i 4 ≡ true → i < 4
+few_is i e = grind (arith, nat_tests)
+
+one_bit : (i j : ℕ) (q : Bool) → (j == i) ≡ q → has_bit (2 ^ i) j ≡ (j == i)
+one_bit i j true e = ap (λ k. has_bit (2 ^ i) k) (equal i j e) ∙ (has_bit-pow_same i ∙ sym e)
+one_bit i j false e = let other : j ≢ i = grind (arith, nat_tests) in has_bit-pow_other i j other ∙ sym e
+
+below_pow : (k : ℕ) → k < 4 → 2 ^ k < 2 ^ 4
+below_pow zero lt = omega arith
+below_pow (suc zero) lt = omega arith
+below_pow (suc (suc zero)) lt = omega arith
+below_pow (suc (suc (suc zero))) lt = omega arith
+below_pow (suc (suc (suc (suc k)))) lt = four_or_more k lt
+
 module _ (d : AdcTable) (fits : FitsAdc d) (held : Holds) (chip : Chip) (w : World) (s : AdcState) (h : Agrees d held chip w s) where
   here : chip.converters.time ≡ w.now
   here = now_here chip w h.outside
@@ -125,12 +177,12 @@ module _ (d : AdcTable) (fits : FitsAdc d) (held : Holds) (chip : Chip) (w : Wor
         };
         words = words;
         lines = lines;
-        now = omega (arith, now);
-        time = (let t : b.converters.time ≡ chip.converters.time = ap (λ c. c.time) same in omega (arith, t));
+        now = le_same w.now x.now now;
+        time = le_same chip.converters.time b.converters.time (ap (λ c. c.time) same);
         units = λ u lt. Goes_on (record {
           round = ap (λ c. (chips.unit_at c u).round) same;
           ended = λ i few e. ap (λ c. chips.result c.levels c.time (chips.unit_at c u) i) same;
-          fresh = λ i input few unclosed small is late early. absurd (omega (arith, late, early, now));
+          fresh = λ i input few unclosed small is late early. no_time w.now x.now ((chips.unit_at chip.converters u).round.start + 4 * (i + 1)) now late early;
         });
         samples = λ i at le. ap (λ xs. sample_at xs i at) samples;
         marks = h.sound.marks;
@@ -141,15 +193,10 @@ module _ (d : AdcTable) (fits : FitsAdc d) (held : Holds) (chip : Chip) (w : Wor
   -- ---- time
 
   module _ (n : ℕ) where
-    more : ℕ
-    more = n * chip.clock.rate
-
     ticked_result : (u i : ℕ) → rounds.has_ended (chips.unit_at chip.converters u).round i chip.converters.time ≡ true → result_of (happened chip (orders.Tick n)) u i ≡ result_of chip u i
     ticked_result u i e =
         let a = chips.unit_at chip.converters u in
-        let le : chip.converters.time ≤ chip.converters.time + n * chip.clock.rate = omega arith in
-        let later = ended-later a.round chip.converters.time (chip.converters.time + n * chip.clock.rate) le in
-        let still_ended : rounds.has_ended a.round i (chip.converters.time + n * chip.clock.rate) ≡ true = grind (arith, nat_tests) in
+        let still_ended = ended_still a.round i chip.converters.time (chip.converters.time + n * chip.clock.rate) (le_more chip.converters.time (n * chip.clock.rate)) e in
         ap (λ q. if q && not (rounds.has_ended a.round i chip.converters.levels.since) then chips.level_at chip.converters.levels (rounds.input_of a.round i) else slice_index a.results i) (still_ended ∙ sym e)
 
     ticked_fresh : (u i input : ℕ) → i < (chips.unit_at chip.converters u).round.count → (chips.unit_at chip.converters u).round.closed ≡ None → input < 32 → rounds.input_of (chips.unit_at chip.converters u).round i ≡ input
@@ -157,14 +204,13 @@ module _ (d : AdcTable) (fits : FitsAdc d) (held : Holds) (chip : Chip) (w : Wor
     ticked_fresh u i input few unclosed small is late early =
         let a = chips.unit_at chip.converters u in
         let end = a.round.start + 4 * (i + 1) in
-        let t = here in
-        let p = h.block.past in
-        let yes : rounds.has_ended a.round i (chip.converters.time + n * chip.clock.rate) ≡ true = has_ended-open a.round i (chip.converters.time + n * chip.clock.rate) (ap (λ q. is_some q) unclosed) few (omega (arith, early, t)) in
-        let no : rounds.has_ended a.round i chip.converters.levels.since ≡ false = has_ended-not_yet a.round i chip.converters.levels.since (omega (arith, late, t, p)) in
+        let first : chip.converters.levels.since < end = before_end chip.converters.levels.since chip.converters.time w.now end h.block.past here late in
+        let yes : rounds.has_ended a.round i (chip.converters.time + n * chip.clock.rate) ≡ true = has_ended-open a.round i (chip.converters.time + n * chip.clock.rate) (ap (λ q. is_some q) unclosed) few (subst (λ k. end ≤ k + n * chip.clock.rate) (sym here) early) in
+        let no : rounds.has_ended a.round i chip.converters.levels.since ≡ false = has_ended-not_yet a.round i chip.converters.levels.since first in
         ap (λ q. if q && not (rounds.has_ended a.round i chip.converters.levels.since) then chips.level_at chip.converters.levels (rounds.input_of a.round i) else slice_index a.results i) yes
         ∙ (ap (λ q. if not q then chips.level_at chip.converters.levels (rounds.input_of a.round i) else slice_index a.results i) no
         ∙ (ap (λ j. chips.level_at chip.converters.levels j) is
-        ∙ (h.outside.analog input small ∙ sym (last_counts w.samples chip.converters.levels.since end input h.block.samples (omega (arith, late, t, p))))))
+        ∙ (h.outside.analog input small ∙ sym (last_counts w.samples chip.converters.levels.since end input h.block.samples first))))
 
     ticks : Agrees d held (happened chip (orders.Tick n)) (world_after w chip.clock.rate (orders.Tick n)) s
     ticks = onward_agrees d fits chip (happened chip (orders.Tick n)) w (world_after w chip.clock.rate (orders.Tick n)) s s.marks on held h
@@ -172,11 +218,11 @@ module _ (d : AdcTable) (fits : FitsAdc d) (held : Holds) (chip : Chip) (w : Wor
         on : Onward d chip (happened chip (orders.Tick n)) w (world_after w chip.clock.rate (orders.Tick n)) s s.marks
         on = record {
           outside = stands-event chip w (orders.Tick n) tt h.outside;
-          block = record { all = h.block.all; lists = h.block.lists; past = (let p = h.block.past in omega (arith, p)); samples = h.block.samples };
+          block = record { all = h.block.all; lists = h.block.lists; past = le_past chip.converters.levels.since chip.converters.time (n * chip.clock.rate) h.block.past; samples = h.block.samples };
           words = λ k own. refl;
           lines = λ l e. refl;
-          now = omega arith;
-          time = omega arith;
+          now = le_more w.now (n * chip.clock.rate);
+          time = le_more chip.converters.time (n * chip.clock.rate);
           units = λ u lt. Goes_on (record { round = refl; ended = λ i few e. ticked_result u i e; fresh = λ i input few unclosed small is late early. ticked_fresh u i input few unclosed small is late early });
           samples = λ i at le. refl;
           marks = h.sound.marks;
@@ -204,18 +250,18 @@ module _ (d : AdcTable) (fits : FitsAdc d) (held : Holds) (chip : Chip) (w : Wor
         block = record {
           all = length-map chip.converters.units (chips.settled chip.converters.levels chip.converters.time) ∙ h.block.all;
           lists = λ u lt. ap (λ a. length a.list) (unit u lt) ∙ h.block.lists u lt;
-          past = omega arith;
-          samples = ((let t = here in omega (arith, t)), samples_now);
+          past = le_self chip.converters.time;
+          samples = (le_same w.now chip.converters.time here, samples_now);
         };
         words = λ k own. refl;
         lines = λ l e. refl;
-        now = omega arith;
-        time = omega arith;
+        now = le_self w.now;
+        time = le_self chip.converters.time;
         units = λ u lt. Goes_on (record {
           round = ap (λ a. a.round) (unit u lt);
           ended = λ i few e.
               ap (λ a. chips.result (chips.with_level chip.converters.levels input v chip.converters.time) chip.converters.time a i) (unit u lt) ∙ result-settled chip.converters.levels (chips.with_level chip.converters.levels input v chip.converters.time) chip.converters.time i (chips.unit_at chip.converters u) few refl;
-          fresh = λ i j few unclosed small is late early. absurd (omega (arith, late, early));
+          fresh = λ i j few unclosed small is late early. no_time w.now w.now ((chips.unit_at chip.converters u).round.start + 4 * (i + 1)) refl late early;
         });
         samples = λ i at le. new_sample w.samples w.now v input i at le;
         marks = h.sound.marks;
@@ -245,12 +291,12 @@ module _ (d : AdcTable) (fits : FitsAdc d) (held : Holds) (chip : Chip) (w : Wor
         };
         words = λ k own. ap (λ c. word_of c k) is;
         lines = λ l e. ap (λ c. has_bit c.control.enabled l) is;
-        now = omega arith;
-        time = (let t : b.converters.time ≡ chip.converters.time = ap (λ c. c.time) same in omega (arith, t));
+        now = le_self w.now;
+        time = le_same chip.converters.time b.converters.time (ap (λ c. c.time) same);
         units = λ u lt. Goes_on (record {
           round = ap (λ c. (chips.unit_at c u).round) same;
           ended = λ i few e. ap (λ c. chips.result c.levels c.time (chips.unit_at c u) i) same;
-          fresh = λ i input few unclosed small at late early. absurd (omega (arith, late, early));
+          fresh = λ i input few unclosed small at late early. no_time w.now w.now ((chips.unit_at chip.converters u).round.start + 4 * (i + 1)) refl late early;
         });
         samples = λ i at le. refl;
         marks = marks;
@@ -271,28 +317,17 @@ module _ (d : AdcTable) (fits : FitsAdc d) (held : Holds) (chip : Chip) (w : Wor
     marked (suc zero) lt = swap (1 == i) (mark_at s 1) (1 == i) refl
     marked (suc (suc zero)) lt = swap (2 == i) (mark_at s 2) (2 == i) refl
     marked (suc (suc (suc zero))) lt = swap (3 == i) (mark_at s 3) (3 == i) refl
-    marked (suc (suc (suc (suc j)))) lt = absurd (omega (arith, lt))
+    marked (suc (suc (suc (suc j)))) lt = four_or_more j lt
 
     heard_flags : TriggersAgree d (record chip.converters { pulses = bit_or chip.converters.pulses (2 ^ i) }) (with_mark s i true)
     heard_flags = record {
       gates = h.triggers.gates;
-      flags = λ j lt. has_bit-or chip.converters.pulses (2 ^ i) j ∙ (ap (λ q. q || has_bit (2 ^ i) j) (h.triggers.flags j lt) ∙ (ap (λ q. mark_at s j || q) (one_bit j (j == i) refl) ∙ sym (marked j lt)));
+      flags = λ j lt. has_bit-or chip.converters.pulses (2 ^ i) j ∙ (ap (λ q. q || has_bit (2 ^ i) j) (h.triggers.flags j lt) ∙ (ap (λ q. mark_at s j || q) (one_bit i j (j == i) refl) ∙ sym (marked j lt)));
       others = (let p = h.triggers.others in or_lt 4 chip.converters.pulses (2 ^ i) p (below_pow i few));
     }
-      where
-        one_bit : (j : ℕ) (q : Bool) → (j == i) ≡ q → has_bit (2 ^ i) j ≡ (j == i)
-        one_bit j true e = let same : j ≡ i = grind (arith, nat_tests) in ap (λ k. has_bit (2 ^ i) k) same ∙ (has_bit-pow_same i ∙ sym e)
-        one_bit j false e = let other : j ≢ i = grind (arith, nat_tests) in has_bit-pow_other i j other ∙ sym e
-
-        below_pow : (k : ℕ) → k < 4 → 2 ^ k < 2 ^ 4
-        below_pow zero lt = omega arith
-        below_pow (suc zero) lt = omega arith
-        below_pow (suc (suc zero)) lt = omega arith
-        below_pow (suc (suc (suc zero))) lt = omega arith
-        below_pow (suc (suc (suc (suc k)))) lt = absurd (omega (arith, lt))
 
     pick : (j : ℕ) (q : Bool) → (j == i) ≡ q → cond q true (mark_at s j) ≡ true → is_some (listener d s j) ≡ true
-    pick j true e f = let same : j ≡ i = grind (arith, nat_tests) in ap (λ k. is_some (listener d s k)) same ∙ heard
+    pick j true e f = ap (λ k. is_some (listener d s k)) (equal i j e) ∙ heard
     pick j false e f = h.sound.marks j f
 
     heard_marks : (j : ℕ) → mark_at (with_mark s i true) j ≡ true → is_some (listener d s j) ≡ true
@@ -300,13 +335,10 @@ module _ (d : AdcTable) (fits : FitsAdc d) (held : Holds) (chip : Chip) (w : Wor
     heard_marks (suc zero) e = pick 1 (1 == i) refl e
     heard_marks (suc (suc zero)) e = pick 2 (2 == i) refl e
     heard_marks (suc (suc (suc zero))) e = pick 3 (3 == i) refl e
-    heard_marks (suc (suc (suc (suc j)))) e = absurd (cc)
+    heard_marks (suc (suc (suc (suc j)))) e = off_on e
 
     heard_off : s.initialised ≡ false → (j : ℕ) → mark_at (with_mark s i true) j ≡ false
-    heard_off off j = absurd (quiet off)
-      where
-        quiet : s.initialised ≡ false → ⊥
-        quiet off = let none : is_some (listener d s i) ≡ false = ap (λ o. is_some o) (none_listens d s i all_groups (λ g. (h.sound.groups g).trigger (h.sound.rest off g).0)) in absurd (cc)
+    heard_off off j = clash (ap (λ o. is_some o) (none_listens d s i all_groups (λ g. (h.sound.groups g).trigger (h.sound.rest off g).0))) heard
 
   pulses_one : (i : ℕ) (q : Bool) → is_some (listener d s i) ≡ q → Agrees d held (happened chip (orders.Trigger i)) w (cond q (with_mark s i true) s)
   pulses_one i true e = flagged (happened chip (orders.Trigger i)) w (with_mark s i true).marks (bit_or chip.converters.pulses (2 ^ i)) (gated (few i e) (gate i e)) (stands-event chip w (orders.Trigger i) tt h.outside) (heard_marks i e) (heard_off i e) (heard_flags i e)
@@ -315,12 +347,12 @@ module _ (d : AdcTable) (fits : FitsAdc d) (held : Holds) (chip : Chip) (w : Wor
       gated lt on = ap (λ q. record chip { converters = if q then record chip.converters { pulses = bit_or chip.converters.pulses (2 ^ i) } else chip.converters }) both
         where
           both : nat_lt i 4 && has_bit chip.converters.gates i ≡ true
-          both = (let small : nat_lt i 4 ≡ true = grind (arith, nat_tests) in ap (λ q. q && has_bit chip.converters.gates i) small ∙ on)
+          both = ap (λ q. q && has_bit chip.converters.gates i) (is_few i lt) ∙ on
   pulses_one i false e = flagged (happened chip (orders.Trigger i)) w s.marks chip.converters.pulses (gated (nat_lt i 4) refl) (stands-event chip w (orders.Trigger i) tt h.outside) h.sound.marks h.sound.off h.triggers
     where
       gated : (q : Bool) → nat_lt i 4 ≡ q → happened chip (orders.Trigger i) ≡ chip
       gated true f =
-          let lt : i < 4 = grind (arith, nat_tests) in
+          let lt = few_is i f in
           let off : nat_lt i 4 && has_bit chip.converters.gates i ≡ false = ap (λ q. q && has_bit chip.converters.gates i) f ∙ (h.triggers.gates i lt ∙ e) in
           ap (λ q. record chip { converters = if q then record chip.converters { pulses = bit_or chip.converters.pulses (2 ^ i) } else chip.converters }) off
       gated false f =

@@ -14,7 +14,7 @@ use Rattle.word_shapes.specs.Trio.{own_of}
 use Rattle.adc_stream.specs.Rounds.{trio_of, bank_word, bank_number, kept_word}
 use Rattle.adc_stream.specs.declared.rounds.Bank.{Bank}
 use Rattle.adc_stream.specs.declared.rounds.Bank.TheVariants.{Zero, One, Two}
-use Rattle.adc_groups.specs.Ground.{FitsAdc, FitsGroup}
+use Rattle.adc_groups.specs.Ground.{FitsAdc}
 use Rattle.adc_machine.specs.Groups.{inputs_of, samples_of, is_linear_stream, is_full}
 use Rattle.adc_machine.specs.Configured.{unit_of}
 use Rattle.adc_groups.specs.Stored.{word_number, group_word, order_of, rounds_of, start_of as group_start}
@@ -138,9 +138,6 @@ place_words d g b p lt = or_second (is_own_word d (result_word g b p)) (is_resul
     by buffers.One = or_second _ _ (in_range (start_of (Round g 1)) (place_count d g) p lt)
 
 module _ (d : AdcTable) (fits : FitsAdc d) where
-  pub fit : (g : ℕ) (k : Group) → group_of d g ≡ Some k → FitsGroup d k
-  fit g k e = fits.groups g k e
-
   -- a word of a group
   pub group_words : (g i : ℕ) → is_some (group_of d g) ≡ true → i < 32 + 6 * length (inputs_of (group_of d g)) → is_word d (group_word d g i) ≡ true
   group_words g i there lt = by (group_of d g) refl there lt
@@ -184,9 +181,6 @@ module _ (d : AdcTable) (fits : FitsAdc d) where
       let t = trio_of (rounds_of d g) in
       by (k == t.control) refl own
     where
-      in_banks : (first len k : ℕ) → not (nat_lt k first) && nat_lt k (first + 3 * len) ≡ true → (first ≤ k) × (k < first + 3 * len)
-      in_banks first len k e = (grind (arith, nat_tests), grind (arith, nat_tests))
-
       by : (q : Bool) → (k == (trio_of (rounds_of d g)).control) ≡ q → own_of (trio_of (rounds_of d g)) k ≡ true → is_word d k ≡ true
       by true e own =
           let same : k ≡ (trio_of (rounds_of d g)).control = grind (arith, nat_tests) in

@@ -1,5 +1,5 @@
 -- Where nothing is under way, neither before nor after, the agreement rests on few words: those of banks and of users' buffers.
-use Rattle.std.proofs.Common.{◌≡◌, ℕ, ◌+◌, ◌*◌, ◌<◌, ◌≤◌, Bool, true, false, ◌&&◌, ◌==◌, not, nat_lt, None, refl, sym, ◌∙◌, ap, subst, arith}
+use Rattle.std.proofs.Common.{◌≡◌, ℕ, ◌+◌, ◌<◌, ◌≤◌, Bool, true, false, ◌==◌, None, refl, sym, ◌∙◌, ap, subst, arith}
 use Rattle.std.specs.Prelude.{is_some}
 use Rattle.std.proofs.lemmas.Bool.Decides.{nat_tests}
 use Rattle.chip_converter.specs.Converters as chips
@@ -33,9 +33,6 @@ use Rattle.adc_groups.specs.laws.Hardware.{none_listens}
 pub trio_past : (r : Rounds) (k : ℕ) → own_of (trio_of r) k ≡ true → STATE + r.start + 7 ≤ k
 trio_past r k own = by (k == STATE + r.start + 7) refl own
   where
-    in_banks : (first len k : ℕ) → not (nat_lt k first) && nat_lt k (first + 3 * len) ≡ true → first ≤ k
-    in_banks first len k e = grind (arith, nat_tests)
-
     by : (q : Bool) → (k == STATE + r.start + 7) ≡ q → own_of (trio_of r) k ≡ true → STATE + r.start + 7 ≤ k
     by true e own = let same : k ≡ STATE + r.start + 7 = grind (arith, nat_tests) in omega (arith, same)
     by false e own = let low : STATE + r.start + 32 ≤ k = grind (arith, nat_tests) in omega (arith, low)

@@ -15,7 +15,6 @@ use Rattle.shapes_on_chip.specs.OnChip.{HasWords}
 use Rattle.shapes_on_chip.specs.Parts.{IsPart, PartTo, AreListed, after_list}
 use Rattle.word_shapes.specs.Playing.{Play, NamesOwn}
 use Rattle.word_shapes.specs.Ranked.{adding, waiting_again, dropping}
-use Rattle.word_shapes.specs.Trio.{putting, taking}
 use Rattle.adc_machine.specs.Table.{group_of}
 use Rattle.adc_machine.specs.Words.{is_word}
 use Rattle.adc_machine.specs.declared.table.AdcTable.{AdcTable}
@@ -64,10 +63,6 @@ module _ (d : AdcTable) (fits : FitsAdc d) where
   order_steps b ds t s None = refl
   order_steps b ds t s (Some a) = refl
 
-  banks_steps : (ds : List Deed) (t : Then) (s : Shape) (q : Option Answer) → owed_of d None (if is_some q then None else Some s) ds t ≡ (if is_some q then owed_of d None None ds t else Some (record { table = d; order = None; banks = Some s; deeds = ds; after = t }))
-  banks_steps ds t s None = refl
-  banks_steps ds t s (Some a) = refl
-
   -- what comes after a step of a part, by whether it ended
   part_to : {R : Type 0} (q : Play R) (into : R → Owed) (over : Option Owed) (r : R) (v : ℕ) (a : Option Answer) → (making_owed d).left (into r) v ≡ (if is_some a then over else Some (into (q.left r v))) → PartTo q (making_owed d) into (λ ws. over) r v a
   part_to q into over r v None e = e
@@ -93,22 +88,6 @@ module _ (d : AdcTable) (fits : FitsAdc d) where
   drop_part own is b ds t = record {
     moves = λ r. refl;
     steps = λ r v. part_to dropping (λ r. record { table = d; order = Some (shapes.Drop r); banks = b; deeds = ds; after = t }) (owed_of d None b ds t) r v (dropping.gave r v).ended (order_steps b ds t (shapes.Drop (dropping.left r v)) (dropping.gave r v).ended);
-    named = own_named own is;
-    fits = λ r chip. tt;
-  }
-
-  pub put_part : (own : ℕ → Bool) → ((k : ℕ) → own k ≡ true → is_word d k ≡ true) → (ds : List Deed) (t : Then) → IsPart putting own (making_owed d) (λ r. record { table = d; order = None; banks = Some (shapes.Put r); deeds = ds; after = t }) (λ ws. owed_of d None None ds t)
-  put_part own is ds t = record {
-    moves = λ r. refl;
-    steps = λ r v. part_to putting (λ r. record { table = d; order = None; banks = Some (shapes.Put r); deeds = ds; after = t }) (owed_of d None None ds t) r v (putting.gave r v).ended (banks_steps ds t (shapes.Put (putting.left r v)) (putting.gave r v).ended);
-    named = own_named own is;
-    fits = λ r chip. tt;
-  }
-
-  pub take_part : (own : ℕ → Bool) → ((k : ℕ) → own k ≡ true → is_word d k ≡ true) → (ds : List Deed) (t : Then) → IsPart taking own (making_owed d) (λ r. record { table = d; order = None; banks = Some (shapes.Take r); deeds = ds; after = t }) (λ ws. owed_of d None None ds t)
-  take_part own is ds t = record {
-    moves = λ r. refl;
-    steps = λ r v. part_to taking (λ r. record { table = d; order = None; banks = Some (shapes.Take r); deeds = ds; after = t }) (owed_of d None None ds t) r v (taking.gave r v).ended (banks_steps ds t (shapes.Take (taking.left r v)) (taking.gave r v).ended);
     named = own_named own is;
     fits = λ r chip. tt;
   }

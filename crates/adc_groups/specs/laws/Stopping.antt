@@ -1,15 +1,13 @@
 -- A call stops a group: the step at which it acts, and all that its window makes after that.
-use Rattle.std.proofs.Common.{◌≡◌, ◌≢◌, ℕ, zero, suc, ◌+◌, ◌*◌, ◌/◌, ◌%◌, ◌^◌, ◌<◌, Bool, true, false, ◌&&◌, ◌||◌, ◌==◌, not, nat_lt, cond, List, [], ◌∷◌, ◌++◌, length, Option, Some, None, refl, sym, ◌∙◌, ap, subst, arith, ◌⊎◌, inl, inr}
+use Rattle.std.proofs.Common.{◌≡◌, ◌≢◌, ℕ, suc, ◌+◌, ◌*◌, ◌/◌, ◌%◌, ◌<◌, Bool, true, false, ◌&&◌, ◌||◌, ◌==◌, nat_lt, cond, List, [], ◌∷◌, ◌++◌, length, Option, Some, None, refl, sym, ◌∙◌, ap, subst, arith, ◌⊎◌, inl, inr}
 use Rattle.std.specs.Prelude.{is_some, if◌then◌else◌}
 use Rattle.std.proofs.Math.Nat.{mod-eq_of_lt}
-use Rattle.std.proofs.lemmas.Bool.Decides.{nat_tests}
 use Rattle.chip_converter.specs.Converters as chips
 use Rattle.chip_converter.specs.Converters.{Converters}
 use Rattle.chip_converter.specs.declared.converter.Converter.{Converter}
 use Rattle.chip_model.specs.Chip.{Chip, word_of, value_of, chip_after}
 use Rattle.det_errors.specs.Rows.{first_error}
 use Rattle.mcal_base.specs.Bits.{has_bit, bit_of}
-use Rattle.mcal_base.specs.declared.answer.Answer.{Answer}
 use Rattle.mcal_base.specs.declared.moves.Event.TheVariants as events
 use Rattle.mcal_base.specs.declared.service.Service.TheVariants as services
 use Rattle.run_model.specs.Frame.{Origin, Called}
@@ -35,15 +33,13 @@ use Rattle.adc_machine.specs.Machine.{acts_by, circumstances, stopped, adc_machi
 use Rattle.adc_machine.specs.Table.{group_of}
 use Rattle.adc_machine.specs.Triggers.{mark_at, without_mark}
 use Rattle.adc_machine.specs.Turns.{AdcState, group_at, round_at, has_turn, is_round_of, unless_of, is_on, waits_for}
-use Rattle.adc_machine.specs.Words.{is_word}
 use Rattle.adc_machine.specs.declared.call.Call.{Call}
 use Rattle.adc_machine.specs.declared.call.Call.TheVariants as calls
 use Rattle.adc_machine.specs.declared.call.GroupCall.{GroupCall}
 use Rattle.adc_machine.specs.declared.call.GroupCall.TheVariants.{StopGroupConversion, DisableHardwareTrigger}
-use Rattle.adc_machine.specs.declared.call.ResultBuffer.{ResultBuffer}
 use Rattle.adc_machine.specs.declared.table.AdcTable.{AdcTable}
 use Rattle.adc_machine.proofs.Stopped.{off}
-use Rattle.adc_groups.specs.Ground.{FitsAdc, Hold, Holds, some_hold, starts_on, yields_on, SoundGroup, IsSoundGroup, number_at, number_by, phase_of, chosen_of, running_of, GroupAgrees, UnitAgrees, IsOrder, claim_right, RoundAgrees, IsBlock, TriggersAgree, put_of, take_of, first_held, is_owed, BanksAgree, AllRight, Backed, Promised, Agrees}
+use Rattle.adc_groups.specs.Ground.{FitsAdc, Hold, Holds, starts_on, yields_on, SoundGroup, IsSoundGroup, number_at, number_by, phase_of, chosen_of, running_of, GroupAgrees, UnitAgrees, IsOrder, claim_right, RoundAgrees, IsBlock, TriggersAgree, BanksAgree, AllRight, Promised, Agrees}
 use Rattle.adc_groups.specs.Owed.{making_owed, owed_of, IsSound, Is_open}
 use Rattle.adc_groups.specs.Places.{AdcGround, MayCall, IsStop, Has_acted, Leaves_acted, adc_bodies}
 use Rattle.adc_groups.specs.Stored.{word_number, group_word, order_of, rounds_of, entry}
@@ -59,87 +55,22 @@ use Rattle.adc_groups.specs.declared.window.Window.TheVariants as windows
 use Rattle.adc_groups.specs.declared.words.TheConstants.{STATE}
 use Rattle.adc_groups.specs.declared.words.Word.TheVariants as words
 use Rattle.adc_groups.specs.laws.Asking.{group_errors, not_reset}
+use Rattle.adc_groups.specs.laws.Beside.{same_or, itself, equal_numbers}
 use Rattle.adc_groups.specs.laws.Body.{body_work, body_ends, step}
 use Rattle.adc_groups.specs.laws.Changed.{Stays, Fresh, Spares, all_spare, no_keeper, all_changed, changed, turn_same, trio_group, place_stays, claim_stays, round_kept}
 use Rattle.adc_groups.specs.laws.Deciding.{quieted, stop_by, nothing_more, trigger_bit, off_where, taken_away, claim_lost}
 use Rattle.adc_groups.specs.laws.Firsts.{first_takes, steps_so}
+use Rattle.adc_groups.specs.laws.Gone.{unlike, and_off, gone_round, unless_some, none_of_three, left_in, left_right, left_puts, left_takes, left_owed, left_claims, left_backed}
 use Rattle.adc_groups.specs.laws.Lost.{kept_none}
 use Rattle.adc_groups.specs.laws.Making.{making, deed_move}
 use Rattle.adc_groups.specs.laws.Orders.{order_without, order_kept}
 use Rattle.adc_groups.specs.laws.Own.{unit_is, within, order_words, unit_small}
 use Rattle.adc_groups.specs.laws.Promising.{promised_same, waits_other, aborts_fewer}
-use Rattle.adc_groups.specs.laws.Requesting.{sound_past, none_waits, none_runs, on_own, asking, asking_right, asking_puts, asking_takes, asking_owed, asking_backed, asking_claims, asking_starts, asking_more}
+use Rattle.adc_groups.specs.laws.Requesting.{sound_past, none_waits, none_runs, on_own, asking, asking_starts, asking_more}
 use Rattle.adc_groups.specs.laws.Sequences.{differs_none, low_last, unit_last, other_last, order_first, order_last, whole_first, stands_last}
 use Rattle.adc_groups.specs.laws.ShapeParts.{AllOf, set_at, word_there, drop_part, deeds_listed}
 use Rattle.adc_groups.specs.laws.Switched.{marks_off, triggers_off}
 use Rattle.adc_groups.specs.laws.Stops.{halted, halted_group, halted_other, halted_round, halted_rest, ends_of, ends_all, ends_low, ends_claim, ends_running, turn_set, turn_kept, off_block, away_block, ends_block, ends_control, block_stays, off_unit, off_time, away_bits, away_over, kept_free, claim_loses, may_ends}
-
-same_or : (x y : ℕ) → (x ≡ y) ⊎ (x ≢ y)
-same_or x y = grind arith
-
-itself : (n : ℕ) → (n == n) ≡ true
-itself n = grind (arith, nat_tests)
-
-equal : (x y : ℕ) → (x == y) ≡ true → x ≡ y
-equal x y e = grind (arith, nat_tests)
-
-unlike : (x y : ℕ) → x ≢ y → (x == y) ≡ false
-unlike x y ne = grind (arith, nat_tests, ne)
-
-and_off : (q : Bool) → q && false ≡ false
-and_off true = refl
-and_off false = refl
-
-and_on : (q : Bool) → q && true ≡ q
-and_on true = refl
-and_on false = refl
-
--- ---- a turn that is gone
-
-gone_round : (g : ℕ) (q : Option Round) (b : Bool) → is_round_of g q ≡ b → is_round_of g (cond b None q) ≡ false
-gone_round g q true e = refl
-gone_round g q false e = e
-
-unless_some : (q : Option Round) (b : Bool) (r : Round) → cond b None q ≡ Some r → q ≡ Some r
-unless_some q true r e = absurd (cc)
-unless_some q false r e = e
-
-none_of_three : (a b c : Bool) → a ≡ false → b ≡ false → c ≡ false → (a || b || c) ≡ false
-none_of_three false false false e f h = refl
-none_of_three true b c e f h = absurd (cc)
-none_of_three false true c e f h = absurd (cc)
-none_of_three false false true e f h = absurd (cc)
-
--- ---- what a frame holds after it
-
-module _ (o : Origin Call) (a : Option Answer) (u : ℕ) (below : Holds) where
-  abbrev left_in : Bool → Holds
-  left_in true = asking o a u below false
-  left_in false = below
-
-  left_right : (d : AdcTable) (b : Chip) (w : World) (t : AdcState) (q : Bool) → t.initialised ≡ true → AllRight d b w t below → AllRight d b w t (left_in q)
-  left_right d b w t true on r = asking_right o a u below d b w t false on r
-  left_right d b w t false on r = r
-
-  left_puts : (d : AdcTable) (k : ℕ) (q : Bool) → first_held (put_of d k) (left_in q) ≡ first_held (put_of d k) below
-  left_puts d k true = asking_puts o a u below d k false
-  left_puts d k false = refl
-
-  left_takes : (k : ℕ) (q : Bool) → first_held (take_of k) (left_in q) ≡ first_held (take_of k) below
-  left_takes k true = asking_takes o a u below k false
-  left_takes k false = refl
-
-  left_owed : (k : ℕ) (n : ResultBuffer) (p : ℕ) (q : Bool) → some_hold (is_owed k n p) (left_in q) ≡ some_hold (is_owed k n p) below
-  left_owed k n p true = asking_owed o a u below k n p false
-  left_owed k n p false = refl
-
-  left_claims : (v x : ℕ) (q : Bool) → claim_right (left_in q) v x ≡ claim_right below v x
-  left_claims v x true = asking_claims o a u below v x false
-  left_claims v x false = refl
-
-  left_backed : (q : Bool) → Backed below → Backed (left_in q)
-  left_backed true h = asking_backed o a u below false h
-  left_backed false h = h
 
 -- ---- the group and its unit
 
@@ -190,7 +121,7 @@ module _ (d : AdcTable) (fits : FitsAdc d) (f r : AdcBody → ℕ) (below : Hold
     where
       by : (q : Option Round) → round_at s v ≡ q → is_round_of k q ≡ true → v ≡ unit_of (group_of d k)
       by None i j = absurd (cc)
-      by (Some x) i j = let on = (h.sound.runs v x i).1 in sym (unit_is d fits v (group_of d k) (subst (λ n. is_on v (group_of d n) ≡ true) (equal x.group k j) on))
+      by (Some x) i j = let on = (h.sound.runs v x i).1 in sym (unit_is d fits v (group_of d k) (subst (λ n. is_on v (group_of d n) ≡ true) (equal_numbers x.group k j) on))
 
   none_elsewhere : (v : ℕ) → v ≢ u → is_round_of g (round_at s v) ≡ false
   none_elsewhere v ne = by (is_round_of g (round_at s v)) refl
@@ -230,7 +161,7 @@ module _ (d : AdcTable) (fits : FitsAdc d) (f r : AdcBody → ℕ) (below : Hold
     where
       not_g : (q : Option Round) → is_round_of k q ≡ true → is_round_of g q ≡ false
       not_g None e = absurd (cc)
-      not_g (Some x) e = unlike x.group g (λ i. ne (sym (equal x.group k e) ∙ i))
+      not_g (Some x) e = unlike x.group g (λ i. ne (sym (equal_numbers x.group k e) ∙ i))
 
       by : (q : Option Request) → (group_at s k).waiting ≡ q → number_by q (round_at t u) ≡ number_by q (round_at s u)
       by (Some q) e = refl
@@ -381,7 +312,7 @@ module _ (d : AdcTable) (fits : FitsAdc d) (f r : AdcBody → ℕ) (below : Hold
       claim_by k false e i = i
 
       claim_on : (k : ℕ) → k ≢ g → (l : Bool) → (word_of chip (word_number d (words.Claim u)) == 2 + g) ≡ l → word_of chip (word_number d (words.Claim u)) ≡ 2 + k → (if l then 1 else word_of chip (word_number d (words.Claim u))) ≡ 2 + k
-      claim_on k ne true e i = absurd (let same = equal (word_of chip (word_number d (words.Claim u))) (2 + g) e in omega (arith, same, i, ne))
+      claim_on k ne true e i = absurd (let same = equal_numbers (word_of chip (word_number d (words.Claim u))) (2 + g) e in omega (arith, same, i, ne))
       claim_on k ne false e i = i
 
       unkept : word_of b (word_number d (words.Claim u)) ≢ 2 + g
@@ -489,7 +420,7 @@ module _ (d : AdcTable) (fits : FitsAdc d) (f r : AdcBody → ℕ) (below : Hold
       claims v less = by (same_or v u)
         where
           here : (l : Bool) → (word_of chip (word_number d (words.Claim u)) == 2 + g) ≡ l → claim_right below u (if l then 1 else word_of chip (word_number d (words.Claim u))) ≡ true
-          here true e = claim_loses u g below (subst (λ x. claim_right below u x ≡ true) (equal (word_of chip (word_number d (words.Claim u))) (2 + g) e) claim_was)
+          here true e = claim_loses u g below (subst (λ x. claim_right below u x ≡ true) (equal_numbers (word_of chip (word_number d (words.Claim u))) (2 + g) e) claim_was)
           here false e = claim_was
 
           by : (v ≡ u) ⊎ (v ≢ u) → claim_right below v (word_of b (word_number d (words.Claim v))) ≡ true
@@ -553,9 +484,6 @@ module _ (d : AdcTable) (fits : FitsAdc d) (f r : AdcBody → ℕ) (below : Hold
       agrees = changed d fits below after chip b w s t h g u at stays fresh
 
     -- ---- the moves that are owed
-
-    own_there : (k : ℕ) → own_of (order_of u) k ≡ true → is_word d k ≡ true
-    own_there k e = order_words d u k few e
 
     comes : (next : Then) (c : Chip) → DiffersIn (own_of (order_of u)) acted c → HoldsOrder (order_of u) (word_of c) left → Comes (making_owed d) (owed_of d None None deeds next) c (λ z. Agrees d after z w t)
     comes next c differs holds =

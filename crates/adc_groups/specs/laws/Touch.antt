@@ -113,9 +113,6 @@ module _ (d : AdcTable) (fits : FitsAdc d) (held : Holds) (a : Chip) (w : World)
   kept_stays : (k j : ℕ) → is_some (group_of d k) ≡ true → j < length (inputs_of (group_of d k)) → word_of b (kept_word (rounds_of d k) j) ≡ word_of a (kept_word (rounds_of d k) j)
   kept_stays k j here few = by (same_or k)
     where
-      len : ℕ
-      len = length (inputs_of (group_of d k))
-
       at : kept_word (rounds_of d k) j ≡ group_word d k (32 + 3 * length (inputs_of (group_of d k)) + j)
       at = omega arith
 

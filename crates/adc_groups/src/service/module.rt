@@ -7,7 +7,7 @@ use mcal_base::{Move, Reg};
 use service_outline::{Body, BodyTaken, Objects, Owed, acts_with, goes, nothing};
 
 /// The words that `Adc_Init` clears, with the mask open: three of each unit, and where groups are configured four of each.
-#[derive(Debug, Drop)]
+#[derive(Drop)]
 pub struct Setup {
     /// The driver.
     pub table: AdcTable,
@@ -85,7 +85,7 @@ fn group_word(group: u8, at: u8) -> Word
 }
 
 /// `Adc_Init` in its last window.
-#[derive(Clone, Copy, Debug, PartialEq, Eq)]
+#[derive(Clone, Copy)]
 pub enum InitBody {
     /// It enables the lines.
     Enable,

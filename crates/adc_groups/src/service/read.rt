@@ -59,7 +59,7 @@ pub fn reading(table: &AdcTable, group: u8, bank: Bank) -> Newest
 }
 
 /// Where a call stands that reads a pinned bank.
-#[derive(Clone, Copy, Debug, PartialEq, Eq)]
+#[derive(Clone, Copy)]
 pub enum Stage {
     /// It reads, with the mask open.
     Reads,
@@ -74,7 +74,7 @@ pub enum Stage {
 }
 
 /// A pinned bank that is read.
-#[derive(Debug, Drop)]
+#[derive(Drop)]
 pub struct Newest {
     /// The group.
     pub group: u8,

@@ -15,7 +15,7 @@ use mcal_base::{Event, Reg};
 use word_shapes::PutPart;
 
 /// What a serving has seen.
-#[derive(Clone, Copy, Debug, PartialEq, Eq)]
+#[derive(Clone, Copy)]
 pub struct RoundSeen {
     /// What the unit runs.
     pub running: u32,

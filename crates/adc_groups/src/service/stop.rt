@@ -15,7 +15,7 @@ use mcal_base::{ErrorName, Event, Reg, Service};
 use service_outline::nothing;
 
 /// What a stop has seen.
-#[derive(Clone, Copy, Debug, PartialEq, Eq)]
+#[derive(Clone, Copy)]
 pub struct StopSeen {
     /// The group's phase.
     pub phase: u32,

@@ -1,8 +1,7 @@
 -- A finished round is served: all agrees after the acknowledgement, the change of the unit's order, the new newest bank and the deeds.
-use Rattle.std.proofs.Common.{◌≡◌, ◌≢◌, ℕ, ◌+◌, ◌*◌, ◌/◌, ◌%◌, ◌<◌, ◌≤◌, Bool, true, false, ◌&&◌, ◌||◌, ◌==◌, not, nat_lt, nat_le, min, List, [], ◌∷◌, ◌++◌, length, Option, Some, None, refl, sym, ◌∙◌, ap, subst, arith, ◌⊎◌, inl, inr, length-set}
+use Rattle.std.proofs.Common.{◌≡◌, ◌≢◌, ℕ, ◌+◌, ◌*◌, ◌/◌, ◌%◌, ◌<◌, ◌≤◌, Bool, true, false, ◌&&◌, ◌||◌, ◌==◌, not, min, List, [], ◌∷◌, ◌++◌, length, Option, Some, None, refl, sym, ◌∙◌, ap, subst, ◌⊎◌, inl, inr, length-set}
 use Rattle.std.specs.Prelude.{is_some, if◌then◌else◌, slice_get}
 use Rattle.std.proofs.Math.Nat.{mod-lt}
-use Rattle.std.proofs.lemmas.Bool.Decides.{nat_tests}
 use Rattle.std.proofs.lemmas.List.{length_push, length-drop}
 use Rattle.chip_converter.specs.Converters as chips
 use Rattle.chip_converter.specs.Converters.{Converters}
@@ -23,11 +22,11 @@ use Rattle.adc_stream.specs.Rounds.{trio_of, bank_number, bank_word}
 use Rattle.adc_stream.specs.declared.column.Column.{Column}
 use Rattle.adc_stream.specs.declared.rounds.Bank.{Bank}
 use Rattle.adc_machine.specs.Configured.{unit_of}
-use Rattle.adc_machine.specs.Groups.{Idle, GroupState, Request, Round, inputs_of, samples_of, trigger_input, is_continuous, is_finished, is_full, values_of, newest, status_after, with_round_of, untouched, held_in}
+use Rattle.adc_machine.specs.Groups.{GroupState, Request, Round, inputs_of, samples_of, trigger_input, is_continuous, is_finished, is_full, values_of, newest, status_after, with_round_of, untouched, held_in}
 use Rattle.adc_machine.specs.Machine.{is_done, place_value}
 use Rattle.adc_machine.specs.Table.{group_of}
 use Rattle.adc_machine.specs.Triggers.{mark_at, without_mark, listener}
-use Rattle.adc_machine.specs.Turns.{AdcState, group_at, round_at, has_turn, is_round_of, is_on, aborts, aborts_by}
+use Rattle.adc_machine.specs.Turns.{AdcState, group_at, round_at, has_turn, is_round_of, is_on, aborts_by}
 use Rattle.adc_machine.specs.Words.{result_word, place_count}
 use Rattle.adc_machine.specs.declared.call.Call.{Call}
 use Rattle.adc_machine.specs.declared.call.ResultBuffer.{ResultBuffer}
@@ -59,15 +58,10 @@ use Rattle.adc_serving.specs.laws.Committed.{part_of, newest_pushed, quarter_lef
 use Rattle.adc_serving.specs.laws.Filling.{got}
 use Rattle.adc_serving.specs.laws.Leaving.{no_puts, none_right}
 use Rattle.adc_serving.specs.laws.Moves.{turn_set, last, low_served, control_served, running_served, claim_served, other_served, order_served, block_served, lines_served, stands_served}
+use Rattle.adc_serving.specs.laws.Plain.{three_off, none_some, some_same, clash, off_on, none_of, no_less, some_left, whole_count, three_four, below_seven, zero_claims, one_claims, past_order, control_past, control_word, in_banks, past_eight, past_unit, bank_from}
 use Rattle.adc_serving.specs.laws.Served.{served, served_group, is_group, is_other, is_free, other_round, is_rest, marks_full, marks_rest}
-use Rattle.adc_serving.specs.laws.Sounds.{not_idle, after_full, after_again, after_rest}
+use Rattle.adc_serving.specs.laws.Sounds.{after_full, after_again, after_rest}
 use Rattle.adc_serving.specs.laws.Words.{same_or, itself, equal, unlike}
-
-three_off : (a b c : Bool) → b ≡ false → c ≡ false → a || b || c ≡ a
-three_off true b c e f = refl
-three_off false false false e f = refl
-three_off false true c e f = absurd (cc)
-three_off false false true e f = absurd (cc)
 
 module _ (d : AdcTable) (fits : FitsAdc d) (below : Holds) (chip : Chip) (w : World) (s : AdcState) (u g : ℕ) (b : Bank) (few : u < 2) (alone : IsAlone (24 + u) below) (x : Round) (is : round_at s u ≡ Some x) (h : Agrees d (claiming u (Full u g b) below) chip w s) where
   abbrev before : Holds
@@ -114,17 +108,10 @@ module _ (d : AdcTable) (fits : FitsAdc d) (below : Holds) (chip : Chip) (w : Wo
   turn_was = round_turn s g u few of_group
 
   whole_round : length values ≡ length (inputs_of (group_of d g))
-  whole_round =
-      let count = (whole_values w (group_of d g) x).count in
-      let left = length-drop (length x.request.kept) (inputs_of (group_of d g)) in
-      let less = sound_request.2 in
-      omega (arith, count, left, less)
+  whole_round = whole_count _ _ _ _ (whole_values w (group_of d g) x).count (length-drop (length x.request.kept) (inputs_of (group_of d g))) sound_request.2
 
   was_sound : SoundGroup (group_of d g) true (group_at s g)
   was_sound = subst (λ q. SoundGroup (group_of d g) q (group_at s g)) turn_was (h.sound.groups g)
-
-  awake : (group_at s g).status ≢ Idle
-  awake e = absurd (let off = was_sound.turn e in cc)
 
   claim_parts : (word_of chip (word_number d (words.Claim u)) ≡ 1) × (some_hold (claims_on u) below ≡ false)
   claim_parts = claimed_parts u (word_of chip (word_number d (words.Claim u))) below (claim_right below u (word_of chip (word_number d (words.Claim u)))) ((h.settled on).claims u few)
@@ -146,9 +133,6 @@ module _ (d : AdcTable) (fits : FitsAdc d) (below : Holds) (chip : Chip) (w : Wo
   module _ (f c : Bool) where
     abbrev pub t : AdcState
     t = served d s g u few lt past x.request.number values f c
-
-    abbrev pub again : Bool
-    again = c && not f
 
     group_now : group_at t g ≡ served_group d s g u few lt past x.request.number values f c
     group_now = is_group d s g u few lt past x.request.number values f c
@@ -305,7 +289,7 @@ module _ (d : AdcTable) (fits : FitsAdc d) (below : Holds) (chip : Chip) (w : Wo
     lines = lines_served d fits g u there few chip whole a differs value count place phase (c && not f) (f && is_some (trigger_input (group_of d g)))
 
     within_units : u < length chip.converters.units
-    within_units = let all = h.block.all in let l = few in omega (arith, all, l)
+    within_units = subst (λ n. u < n) (sym h.block.all) few
 
     is_unit : chips.unit_at acked u ≡ chips.acknowledged chip.converters.time (chips.unit_at chip.converters u)
     is_unit = unit_set chip.converters.units u (chips.acknowledged chip.converters.time (chips.unit_at chip.converters u)) within_units
@@ -411,16 +395,16 @@ module _ (d : AdcTable) (fits : FitsAdc d) (below : Holds) (chip : Chip) (w : Wo
     stays = record {
       on = on;
       still = still f c;
-      requests = (let same = (rest_as f c).1 in omega (arith, same));
+      requests = no_less s.requests t1.requests (rest_as f c).1;
       others = others_as f c;
       rounds = rounds_as f c;
-      from = λ y i ne. absurd (let none : None ≡ Some y = sym (free f c) ∙ i in cc);
-      to = λ y i ne. absurd (ne (let same : Some x ≡ Some y = sym is ∙ i in let q : x ≡ y = cc in ap (λ (r : Round). r.group) (sym q) ∙ group_is));
+      from = λ y i ne. none_some (sym (free f c) ∙ i);
+      to = λ y i ne. absurd (ne (ap (λ (r : Round). r.group) (sym (some_same (sym is ∙ i))) ∙ group_is));
       results = results_other;
       elsewhere = elsewhere;
-      claim_from = λ k ne i. absurd (let none = claim_now in omega (arith, none, i));
-      claim_to = λ k ne i. absurd (let one = claim_parts.0 in omega (arith, one, i));
-      unit = λ k ne i. absurd (let none = claim_now in omega (arith, none, i));
+      claim_from = λ k ne i. absurd (zero_claims (word_of z (word_number d (words.Claim u))) k claim_now i);
+      claim_to = λ k ne i. absurd (one_claims (word_of chip (word_number d (words.Claim u))) k claim_parts.0 i);
+      unit = λ k ne i. absurd (zero_claims (word_of z (word_number d (words.Claim u))) k claim_now i);
       units = λ k less ne. unit_z k ∙ other_units k ne;
       levels = ap (λ (e : Converters). e.levels) block ∙ off_levels (f && is_some (trigger_input (group_of d g))) (trigger_bit d g) acked;
       time = time_z;
@@ -432,25 +416,19 @@ module _ (d : AdcTable) (fits : FitsAdc d) (below : Holds) (chip : Chip) (w : Wo
     -- ---- what is held
 
     stays_control : word_of a (trio_of (rounds_of d g)).control ≡ word_of chip (trio_of (rounds_of d g)).control
-    stays_control = differs.others (trio_of (rounds_of d g)).control (off (trio_of (rounds_of d g)).control (STATE + 10 + 8 * u) (let low = (start_from d fits g there).0 in omega (arith, low, few)))
-      where
-        off : (k at : ℕ) → at + 2 < k → k == at || (k == at + 1 || k == at + 2) ≡ false
-        off k at lt = grind (arith, nat_tests)
+    stays_control = differs.others (trio_of (rounds_of d g)).control (past_order (trio_of (rounds_of d g)).control (STATE + 10 + 8 * u) (control_past (rounds_of d g).start u (start_from d fits g there).0 few))
 
     value_is : value ≡ bank_number b % 4 + 4 * (word_of chip (trio_of (rounds_of d g)).control / 4)
     value_is = ap (λ n. bank_number b % 4 + 4 * (n / 4)) stays_control
 
     bank_small : bank_number b < 4
-    bank_small = let less = bank_below d fits b in omega (arith, less)
-
-    is_control : group_word d g 7 ≡ (trio_of (rounds_of d g)).control
-    is_control = omega arith
+    bank_small = three_four (bank_number b) (bank_below d fits b)
 
     control_is : word_of z (trio_of (rounds_of d g)).control ≡ bank_number b % 4 + 4 * (word_of chip (trio_of (rounds_of d g)).control / 4)
-    control_is = ap (λ k. word_of z k) (sym is_control) ∙ (control_now ∙ value_is)
+    control_is = ap (λ k. word_of z k) (sym (control_word d g)) ∙ (control_now ∙ value_is)
 
     pinned_same : word_of z (group_word d g 7) / 4 ≡ word_of chip (group_word d g 7) / 4
-    pinned_same = ap (λ n. n / 4) (control_now ∙ value_is) ∙ (quarter_left (bank_number b) (word_of chip (trio_of (rounds_of d g)).control) bank_small ∙ ap (λ k. word_of chip k / 4) (sym is_control))
+    pinned_same = ap (λ n. n / 4) (control_now ∙ value_is) ∙ (quarter_left (bank_number b) (word_of chip (trio_of (rounds_of d g)).control) bank_small ∙ ap (λ k. word_of chip k / 4) (sym (control_word d g)))
 
     -- frames below claim nothing of the unit, and copy nothing of the group
     spare : (hs : Holds) → AllRight d chip w s hs → IsAlone (24 + u) hs → some_hold (claims_on u) hs ≡ false → AllSpare d chip z s t1 g u hs
@@ -458,19 +436,15 @@ module _ (d : AdcTable) (fits : FitsAdc d) (below : Holds) (chip : Chip) (w : Wo
     spare (y ∷ ys) r al e =
         let k = none_of (claims_on u y.what) (some_hold (claims_on u) ys) e in (
           record {
-            rounds = λ i. absurd (let off = k.0 in cc);
-            unkept = λ i. absurd (let off = k.0 in cc);
-            lost = λ i. absurd (let off = k.0 in cc);
+            rounds = λ i. clash k.0 i;
+            unkept = λ i. clash k.0 i;
+            lost = λ i. clash k.0 i;
             copies = λ n q j o i same. absurd (al.0 (by_line y y.what n q j o r.0 i same));
             reads = λ n q vs i same. pinned_same;
           },
           spare ys r.1 al.1 k.1,
         )
       where
-        none_of : (i j : Bool) → i || j ≡ false → (i ≡ false) × (j ≡ false)
-        none_of true j f = absurd (cc)
-        none_of false j f = (refl, f)
-
         by_line : (y : Held Call Hold) (m : Hold) (n : Bank) (q : Column) (j : ℕ) (o : Option ℕ) → HeldRight d chip w s y m → m ≡ Copies n q j o → q.group ≡ g → y.by ≡ Entered (24 + u)
         by_line y m n q j o r i same = (subst (λ e. HeldRight d chip w s y e) i r).0 ∙ ap (λ k. Entered (24 + k)) (ap (λ k. unit_of (group_of d k)) same ∙ here)
 
@@ -483,19 +457,13 @@ module _ (d : AdcTable) (fits : FitsAdc d) (below : Holds) (chip : Chip) (w : Wo
     trio_other j own ne =
         let from = in_banks (trio_of (rounds_of d g)).control (trio_of (rounds_of d g)).banks (3 * length (inputs_of (group_of d g))) j (unlike j (trio_of (rounds_of d g)).control ne) own in
         let start = (start_from d fits g there).0 in
-        elsewhere j (λ i less e. omega (arith, from, less, e)) (λ i less e. omega (arith, from, less, e, start, few))
-      where
-        in_banks : (control first len k : ℕ) → (k == control) ≡ false → k == control || (nat_le first k && nat_lt k (first + len)) ≡ true → first ≤ k
-        in_banks control first len k off e = grind (arith, nat_tests)
+        elsewhere j (λ i less e. past_eight (rounds_of d g).start i j from less e) (λ i less e. past_unit (rounds_of d g).start u i j from start few less e)
 
     filled_is : (j n : ℕ) → slice_get values j ≡ Some n → word_of chip (bank_word (rounds_of d g) b j) ≡ n
     filled_is j n e = h.right.0.3.filled x j n is e
 
     put_is : part_of (h.banks g there).banks.put ≡ Some (bank_number b, length (inputs_of (group_of d g)))
     put_is = (h.banks g there).put ∙ ap (λ q. or_else (if q then Some (bank_number b, length (inputs_of (group_of d g))) else None) (first_held (put_of d g) below)) (itself g)
-
-    awake_now : (group_at t1 g).status ≢ Idle
-    awake_now e = not_idle (length (group_at s g).rounds % samples_of (group_of d g) + 1 == samples_of (group_of d g)) (group_at s g).status (sym (status_now f c) ∙ e)
 
     banks : BanksAgree d after (word_of z) t1 g
     banks =
@@ -512,23 +480,17 @@ module _ (d : AdcTable) (fits : FitsAdc d) (below : Holds) (chip : Chip) (w : Wo
     -- each value's word in the bank, and its place in the buffer
     value_now : (j : ℕ) → j < length (inputs_of (group_of d g)) → word_of z (bank_word (rounds_of d g) b j) ≡ place_value t1 g (buffer_by second) (j * samples_of (group_of d g) + length (group_at s g).rounds % samples_of (group_of d g))
     value_now j less =
-        let n = got values j (let all = whole_round in omega (arith, less, all)) in
+        let n = got values j (subst (λ n. j < n) (sym whole_round) less) in
         let start = (start_from d fits g there).0 in
-        let at_word : bank_word (rounds_of d g) b j ≡ STATE + (rounds_of d g).start + 32 + bank_number b * length (inputs_of (group_of d g)) + j = omega arith in
-        elsewhere (bank_word (rounds_of d g) b j) (λ i lt e. far (bank_number b * length (inputs_of (group_of d g))) i j lt (sym at_word ∙ e)) (λ i lt e. past_unit (bank_number b * length (inputs_of (group_of d g))) i j lt start few (sym at_word ∙ e))
+        let from = bank_from d g b j in
+        elsewhere (bank_word (rounds_of d g) b j) (λ i lt e. past_eight (rounds_of d g).start i (bank_word (rounds_of d g) b j) from lt e) (λ i lt e. past_unit (rounds_of d g).start u i (bank_word (rounds_of d g) b j) from start few lt e)
         ∙ (filled_is j n.0 n.1 ∙ sym (ap (λ r. held_in r g (buffer_by second) (j * samples_of (group_of d g) + length (group_at s g).rounds % samples_of (group_of d g))) results_now ∙ value_stored (group_of d g) (some_samples d fits g there) (length (group_at s g).rounds) g second values s.results j n.0 n.1))
-      where
-        far : (m i j : ℕ) → i < 8 → STATE + (rounds_of d g).start + 32 + m + j ≡ group_word d g i → ⊥
-        far m i j lt e = omega (arith, lt, e)
-
-        past_unit : (m i j : ℕ) → i < 5 → 64 ≤ (rounds_of d g).start → u < 2 → STATE + (rounds_of d g).start + 32 + m + j ≡ STATE + 8 + 8 * u + i → ⊥
-        past_unit m i j lt start small e = omega (arith, lt, start, small, e)
 
     copies_right : CopiesRight d z t1 b col 0 None
     copies_right = record {
       newest = ap (λ n. n % 4) control_is ∙ rest_left (bank_number b) (word_of chip (trio_of (rounds_of d g)).control) bank_small;
       values = λ j less le. value_now j less;
-      next = λ n e. absurd (cc);
+      next = λ n e. none_some e;
     }
 
     right : AllRight d z w t1 after
@@ -541,10 +503,6 @@ module _ (d : AdcTable) (fits : FitsAdc d) (below : Holds) (chip : Chip) (w : Wo
         place_stays d fits before after chip z w s t1 h g u at stays k n p
         ∙ (h.places k n p less both.1
         ∙ sym (ap (λ r. held_in r k n p) results_now ∙ place_unstored (group_of d g) (some_samples d fits g there) (length (group_at s g).rounds) g second values s.results k n p b (mod-lt (length (group_at s g).rounds) (some_samples d fits g there)) both.0))
-      where
-        none_of : (i j : Bool) → i || j ≡ false → (i ≡ false) × (j ≡ false)
-        none_of true j e = absurd (cc)
-        none_of false j e = (refl, e)
 
     -- ---- the group's words
 
@@ -561,26 +519,26 @@ module _ (d : AdcTable) (fits : FitsAdc d) (below : Holds) (chip : Chip) (w : Wo
         ∙ (ap (λ q. phase_of (status_after (length (group_at s g).rounds % samples_of (group_of d g) + 1 == samples_of (group_of d g)) (group_at s g).status) (c && not f || q)) (trigger_now f c) ∙ sym phase_is))
 
     kept_by_turn : (q : Bool) → c && not f ≡ q → (has_turn t1 g ≡ true → word_of z (group_word d g 6) ≡ length (kept_in d t1 g)) × ((i n : ℕ) → has_turn t1 g ≡ true → slice_get (kept_in d t1 g) i ≡ Some n → ⊥)
-    kept_by_turn false e = (λ k. absurd (let off : has_turn t1 g ≡ false = turn_now f c ∙ e in cc), λ i n k. absurd (let off : has_turn t1 g ≡ false = turn_now f c ∙ e in cc))
-    kept_by_turn true e = (λ k. low 6 (λ i. omega (arith, i)) ∙ (ap (λ q. turn_set q 6 (word_of chip (group_word d g 6))) e ∙ sym (ap length none)), λ i n k o. let gone : slice_get [] i ≡ Some n = sym (ap (λ vs. slice_get vs i) none) ∙ o in cc)
+    kept_by_turn false e = (λ k. clash (turn_now f c ∙ e) k, λ i n k. clash (turn_now f c ∙ e) k)
+    kept_by_turn true e = (λ k. low 6 (below_seven 6 refl) ∙ (ap (λ q. turn_set q 6 (word_of chip (group_word d g 6))) e ∙ sym (ap length none)), λ i n k o. none_some (sym (ap (λ vs. slice_get vs i) none) ∙ o))
       where
         asks : (f c : Bool) → c && not f ≡ true → (served_group d s g u few lt past x.request.number values f c).waiting ≡ Some (record { number = x.request.number; kept = [] })
-        asks true true i = absurd (cc)
-        asks true false i = absurd (cc)
+        asks true true i = off_on i
+        asks true false i = off_on i
         asks false true i = refl
-        asks false false i = absurd (cc)
+        asks false false i = off_on i
 
         none : kept_in d t1 g ≡ []
         none = ap (λ q. kept_by q (kept_of_round g (round_at t1 (unit_of (group_of d g))))) (ap (λ (q : GroupState). q.waiting) (group_now f c) ∙ asks f c e)
 
     group : GroupAgrees d (word_of z) t1 g
     group = record {
-      phase = low 0 (λ i. omega (arith, i)) ∙ (by_turn (c && not f) 0 phase refl refl ∙ sym phase_word);
-      chosen = low 1 (λ i. omega (arith, i)) ∙ (by_turn (c && not f) 1 (word_of chip (group_word d g 1)) refl refl ∙ (was.chosen ∙ sym (ap (λ o. chosen_of o) (chosen_now f c))));
-      notified = low 2 (λ i. omega (arith, i)) ∙ (by_turn (c && not f) 2 (word_of chip (group_word d g 2)) refl refl ∙ (was.notified ∙ sym (ap (λ q. bit_of q) (notified_now f c))));
-      turn = low 3 (λ i. omega (arith, i)) ∙ (turn_word (c && not f) ∙ sym (ap (λ q. bit_of q) (turn_now f c)));
-      count = λ ne. low 4 (λ i. omega (arith, i)) ∙ (by_turn (c && not f) 4 count refl refl ∙ sym count_word);
-      place = λ ne. low 5 (λ i. omega (arith, i)) ∙ (by_turn (c && not f) 5 place refl refl ∙ sym place_word);
+      phase = low 0 (below_seven 0 refl) ∙ (by_turn (c && not f) 0 phase refl refl ∙ sym phase_word);
+      chosen = low 1 (below_seven 1 refl) ∙ (by_turn (c && not f) 1 (word_of chip (group_word d g 1)) refl refl ∙ (was.chosen ∙ sym (ap (λ o. chosen_of o) (chosen_now f c))));
+      notified = low 2 (below_seven 2 refl) ∙ (by_turn (c && not f) 2 (word_of chip (group_word d g 2)) refl refl ∙ (was.notified ∙ sym (ap (λ q. bit_of q) (notified_now f c))));
+      turn = low 3 (below_seven 3 refl) ∙ (turn_word (c && not f) ∙ sym (ap (λ q. bit_of q) (turn_now f c)));
+      count = λ ne. low 4 (below_seven 4 refl) ∙ (by_turn (c && not f) 4 count refl refl ∙ sym count_word);
+      place = λ ne. low 5 (below_seven 5 refl) ∙ (by_turn (c && not f) 5 place refl refl ∙ sym place_word);
       kept = λ k ne. (kept_by_turn (c && not f) refl).0 k;
       values = λ k ne i n e. absurd ((kept_by_turn (c && not f) refl).1 i n k e);
     }
@@ -612,10 +570,10 @@ module _ (d : AdcTable) (fits : FitsAdc d) (below : Holds) (chip : Chip) (w : Wo
     order_by true e = order_waiting d s t1 g u at turns waits unit_was.order.0 unit_was.order.2 (λ k turned unit. numbers k turned unit (same_or k g)) (turn_now f c ∙ (e ∙ sym turn_was)) true (waits_now f c ∙ e)
       where
         own : (f c : Bool) → c && not f ≡ true → number_by (served_group d s g u few lt past x.request.number values f c).waiting (round_at t1 (unit_of (group_of d g))) ≡ x.request.number
-        own true true i = absurd (cc)
-        own true false i = absurd (cc)
+        own true true i = off_on i
+        own true false i = off_on i
         own false true i = refl
-        own false false i = absurd (cc)
+        own false false i = off_on i
 
         own_was : number_at d s g ≡ x.request.number
         own_was = ap (λ q. number_by q (round_at s (unit_of (group_of d g)))) waits_none ∙ (ap (λ n. number_by None (round_at s n)) here ∙ ap (λ q. number_by None q) is)
@@ -639,7 +597,7 @@ module _ (d : AdcTable) (fits : FitsAdc d) (below : Holds) (chip : Chip) (w : Wo
     promised : (k : ℕ) → (k ≡ u) ⊎ (k ≢ u) → Promised d after w t1 k
     promised k (inl i) = subst (λ n. Promised d after w t1 n) (sym i) (record {
       starts = λ e. ap (λ q. q || some_hold (starts_on u) below) (itself u);
-      yields = λ e. absurd (let none : is_some (aborts d w t1 u) ≡ false = ap (λ q. is_some (aborts_by d w t1 u q)) (free f c) in cc);
+      yields = λ e. clash (ap (λ q. is_some (aborts_by d w t1 u q)) (free f c)) e;
     })
     promised k (inr ne) = promised_same d w s t1 k (rounds_as f c k ne) (waits_other d s t1 g k (off_group d fits g u k at ne) waits) before after (λ e. e) (λ e. e) ((h.settled on).promised k)
 
@@ -647,25 +605,24 @@ module _ (d : AdcTable) (fits : FitsAdc d) (below : Holds) (chip : Chip) (w : Wo
     waits_fresh r e = by f c (sym (ap (λ (q : GroupState). q.waiting) (group_now f c)) ∙ e) (rest_as f c).1
       where
         none : (o : Option Request) → o ≡ None → o ≡ Some r → ⊥
-        none o i j = absurd (let k : None ≡ Some r = sym i ∙ j in cc)
+        none o i j = none_some (sym i ∙ j)
 
         some_inputs_left : 0 < length (inputs_of (group_of d g))
-        some_inputs_left = let less = sound_request.2 in omega (arith, less)
+        some_inputs_left = some_left (length x.request.kept) (length (inputs_of (group_of d g))) sound_request.2
 
         by : (f c : Bool) → (served_group d s g u few lt past x.request.number values f c).waiting ≡ Some r → t1.requests ≡ s.requests → IsSoundRequest d t1 g r
         by true true i same = absurd (none (group_at s g).waiting waits_none i)
         by true false i same = absurd (none (group_at s g).waiting waits_none i)
         by false true i same =
-            let is_r : record { number = x.request.number; kept = [] } ≡ r = cc in
-            subst (λ (q : Request). IsSoundRequest d t1 g q) is_r (sound_request.0, (let le = sound_request.1 in omega (arith, le, same)), some_inputs_left, λ k. refl)
+            subst (λ (q : Request). IsSoundRequest d t1 g q) (some_same i) (sound_request.0, subst (λ n. x.request.number ≤ n) (sym same) sound_request.1, some_inputs_left, λ k. refl)
         by false false i same = absurd (none (group_at s g).waiting waits_none i)
 
     hears_now : has_turn t1 g ≡ true → is_some (trigger_input (group_of d g)) ≡ true → (group_at t1 g).trigger ≡ true
     hears_now turned i = trigger_now f c ∙ (ap (λ q. q && not f) (h.sound.hears g turn_was i) ∙ by f c (sym (turn_now f c) ∙ turned))
       where
         by : (f c : Bool) → c && not f ≡ true → not f ≡ true
-        by true true e = absurd (cc)
-        by true false e = absurd (cc)
+        by true true e = off_on e
+        by true false e = off_on e
         by false c e = refl
 
     -- ---- all of it
@@ -674,7 +631,7 @@ module _ (d : AdcTable) (fits : FitsAdc d) (below : Holds) (chip : Chip) (w : Wo
     fresh = record {
       sound = sound f c ef ec;
       waits = waits_fresh;
-      runs = λ r i same. absurd (let none : None ≡ Some r = sym (free f c) ∙ i in cc);
+      runs = λ r i same. none_some (sym (free f c) ∙ i);
       marks = marks_now f refl;
       hears = hears_now;
       outside = stands_served d fits g u there few chip whole a differs value count place phase (c && not f) (f && is_some (trigger_input (group_of d g))) w h.outside;
@@ -684,7 +641,7 @@ module _ (d : AdcTable) (fits : FitsAdc d) (below : Holds) (chip : Chip) (w : Wo
       right = right;
       banks = banks;
       places = places;
-      backed = (λ k e. absurd (cc), (λ k e. absurd (cc), h.backed.1.1));
+      backed = (λ k e. off_on e, (λ k e. off_on e, h.backed.1.1));
       group = group;
       unit = record { running = running_now ∙ sym (ap (λ q. running_of q) (free f c)); order = ((if c && not f then waiting g true unit_was.order.0 else left_of g unit_was.order.0), order_served d fits g u there few chip whole a differs value count place phase (c && not f) (f && is_some (trigger_input (group_of d g))) (if c && not f then waiting g true unit_was.order.0 else left_of g unit_was.order.0) holds, order) };
       claims = λ k less. claims k less (same_or k u);

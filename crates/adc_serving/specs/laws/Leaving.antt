@@ -1,36 +1,25 @@
--- A group was stopped while its round was copied: the round is served no more, and the handler's claim ends.
-use Rattle.std.proofs.Common.{◌≡◌, ◌≢◌, ℕ, ◌+◌, ◌<◌, Bool, true, false, ◌&&◌, ◌||◌, ◌==◌, not, [], ◌∷◌, length, Option, Some, None, refl, sym, ◌∙◌, ap, subst, arith, ◌⊎◌, inl, inr}
+-- A group was stopped while its round was copied: the round is served no more, and the handler gives the bank up.
+use Rattle.std.proofs.Common.{◌≡◌, ◌≢◌, ℕ, ◌<◌, Bool, true, false, ◌&&◌, ◌||◌, ◌==◌, not, [], ◌∷◌, length, Option, Some, None, refl, sym, ◌∙◌, ap, subst, ◌⊎◌, inl, inr}
 use Rattle.std.specs.Prelude.{is_some, if◌then◌else◌}
-use Rattle.chip_model.specs.Chip.{Chip, word_of, value_of, chip_after}
-use Rattle.mcal_base.specs.declared.moves.Move.TheVariants.{Store}
-use Rattle.run_model.specs.Frame.{Origin}
+use Rattle.chip_model.specs.Chip.{Chip, word_of}
 use Rattle.run_model.specs.World.{World}
-use Rattle.service_outline.specs.Past.{Past, Is_being}
-use Rattle.service_outline.specs.Services.{Held, RightOr, ended_at, with_holds}
-use Rattle.shapes_on_chip.specs.OnChip.{HasWords}
+use Rattle.service_outline.specs.Services.{Held}
 use Rattle.word_shapes.specs.Banks.{abandoning}
-use Rattle.word_shapes.proofs.TrioLaws.{abandons, stands-agree}
+use Rattle.word_shapes.proofs.TrioLaws.{abandons}
 use Rattle.adc_stream.specs.Rounds.{trio_of, bank_number}
 use Rattle.adc_stream.specs.declared.rounds.Bank.{Bank}
 use Rattle.adc_machine.specs.Configured.{unit_of}
 use Rattle.adc_machine.specs.Groups.{inputs_of}
-use Rattle.adc_machine.specs.Machine.{is_done}
 use Rattle.adc_machine.specs.Table.{group_of}
-use Rattle.adc_machine.specs.Turns.{AdcState, round_at, is_on, starts, starts_by, next_group}
+use Rattle.adc_machine.specs.Turns.{AdcState, round_at, is_on, starts}
 use Rattle.adc_machine.specs.declared.call.Call.{Call}
 use Rattle.adc_machine.specs.declared.table.AdcTable.{AdcTable}
-use Rattle.adc_groups.specs.Ground.{FitsAdc, Hold, Clears, Starts, Yields, Fills, Full, Keeps, Whole, Claims, Copies, Reads, Holds, HeldRight, AllRight, BanksAgree, Promised, Agrees, some_hold, starts_on, claims_on, claim_fits, claim_right, put_of, first_held, or_else}
-use Rattle.adc_groups.specs.Places.{AdcGround, MaySeek, adc_bodies}
+use Rattle.adc_groups.specs.Ground.{FitsAdc, Hold, Clears, Starts, Yields, Fills, Full, Keeps, Whole, Claims, Copies, Reads, Holds, HeldRight, AllRight, BanksAgree, Agrees, some_hold, claims_on, claim_fits, claim_right, put_of, first_held, or_else}
 use Rattle.adc_groups.specs.Stored.{word_number, rounds_of}
-use Rattle.adc_groups.specs.declared.body.AdcBody.{AdcBody}
-use Rattle.adc_groups.specs.declared.body.Place.TheVariants.{Quits}
-use Rattle.adc_groups.specs.declared.window.Window.TheVariants as windows
 use Rattle.adc_groups.specs.declared.words.Word.TheVariants as words
-use Rattle.adc_groups.specs.laws.Body.{body_work, body_ends}
 use Rattle.adc_groups.specs.laws.Own.{on_there, unit_is}
-use Rattle.adc_serving.specs.laws.Claiming.{claiming, claimed_parts, claim_now, claim_other, trio_claimed, place_claimed, claim_stays_below}
-use Rattle.adc_serving.specs.laws.Taking.{off_line}
-use Rattle.adc_serving.specs.laws.Words.{same_or, itself, equal, unlike, CoreStays, all_stay, stays_agree, core_claim}
+use Rattle.adc_serving.specs.laws.Claiming.{claiming, claimed_parts}
+use Rattle.adc_serving.specs.laws.Words.{same_or, itself, equal, unlike}
 
 neither : (p q : Bool) → p || q ≡ false → (p ≡ false) × (q ≡ false)
 neither true q f = absurd (cc)
@@ -114,7 +103,7 @@ module _ (d : AdcTable) (fits : FitsAdc d) (below : Holds) (chip : Chip) (w : Wo
       by k there (inl e) = subst (λ n. BanksAgree d (claiming u (Claims u) below) (word_of chip) s n) (sym e) given_up
       by k there (inr ne) = others k there ne
 
--- ---- the claim ends
+-- ---- a unit that none claims
 
 -- where none claims the unit the claim's word has to be 0
 pub none_right : (u v : ℕ) (hs : Holds) → some_hold (claims_on u) hs ≡ false → v ≡ 0 → claim_right hs u v ≡ true
@@ -122,56 +111,3 @@ none_right u v [] free e = ap (λ n. n == 0) e
 none_right u v (x ∷ xs) free e =
     let both = neither (claims_on u x.what) (some_hold (claims_on u) xs) free in
     ap (λ q. if q then claim_fits x.what v && not (some_hold (claims_on u) xs) else claim_right xs u v) both.0 ∙ none_right u v xs both.1 e
-
-module _ (d : AdcTable) (fits : FitsAdc d) (below : Holds) (chip : Chip) (w : World) (s : AdcState) (u : ℕ) (few : u < 2) (h : Agrees d (claiming u (Claims u) below) chip w s) (rests : next_group d s u ≡ None) where
-  abbrev now : Chip
-  now = chip_after chip (Store (word_number d (words.Claim u)) 0) 0
-
-  on : s.initialised ≡ true
-  on = h.right.0.1
-
-  whole : HasWords chip
-  whole = h.outside.all.words
-
-  alone_quits : some_hold (claims_on u) below ≡ false
-  alone_quits = (claimed_parts u (word_of chip (word_number d (words.Claim u))) below (claim_right below u (word_of chip (word_number d (words.Claim u)))) ((h.settled on).claims u few)).1
-
-  core : CoreStays d chip now
-  core = core_claim d fits chip 0 whole u few
-
-  claims_by : (v : ℕ) → v < 2 → (v ≡ u) ⊎ (v ≢ u) → claim_right below v (word_of now (word_number d (words.Claim v))) ≡ true
-  claims_by v less (inl e) = subst (λ n. claim_right below n (word_of now (word_number d (words.Claim n))) ≡ true) (sym e) (none_right u (word_of now (word_number d (words.Claim u))) below alone_quits (claim_now d fits u few chip whole 0))
-  claims_by v less (inr ne) =
-      ap (λ n. claim_right below v n) (claim_other d fits u few chip whole 0 v ne)
-      ∙ (sym (ap (λ q. if q then (word_of chip (word_number d (words.Claim v)) == 1) && not (some_hold (claims_on v) below) else claim_right below v (word_of chip (word_number d (words.Claim v)))) (unlike v u ne)) ∙ (h.settled on).claims v less)
-
-  claimed_by : (k : ℕ) → (unit_of (group_of d k) ≡ u) ⊎ (unit_of (group_of d k) ≢ u) → word_of now (word_number d (words.Claim (unit_of (group_of d k)))) ≢ 2 + k → word_of chip (word_number d (words.Claim (unit_of (group_of d k)))) ≢ 2 + k
-  claimed_by k (inl e) ne same =
-      let one = (claimed_parts u (word_of chip (word_number d (words.Claim u))) below (claim_right below u (word_of chip (word_number d (words.Claim u)))) ((h.settled on).claims u few)).0 in
-      let is = ap (λ n. word_of chip (word_number d (words.Claim n))) e in
-      omega (arith, same, one, is)
-  claimed_by k (inr off) ne same = ne (claim_other d fits u few chip whole 0 (unit_of (group_of d k)) off ∙ same)
-
-  no_start : starts d s u ≡ None
-  no_start = ap (λ q. starts_by q (next_group d s u)) h.right.0.2 ∙ rests
-
-  promised : (v : ℕ) → (v ≡ u) ⊎ (v ≢ u) → Promised d below w s v
-  promised v (inl e) = let q = (h.settled on).promised v in record { starts = λ f. absurd (let none : is_some (starts d s v) ≡ false = ap (λ n. is_some (starts d s n)) e ∙ ap (λ o. is_some o) no_start in cc); yields = q.yields }
-  promised v (inr ne) = let q = (h.settled on).promised v in record { starts = λ f. sym (ap (λ z. z || some_hold (starts_on v) below) (unlike v u ne)) ∙ q.starts f; yields = q.yields }
-
-  pub quits_agree : Agrees d below (chip_after chip (Store (word_number d (words.Claim u)) 0) 0) w s
-  quits_agree = stays_agree d fits (claiming u (Claims u) below) chip now w s h on core below (record {
-    right = all_stay d fits (claiming u (Claims u) below) chip now w s h on core below (claim_stays_below d fits u few chip whole 0 (omega arith) w s below h.right.1.1 alone_quits) h.right.1.1;
-    banks = λ k there. (let q = h.banks k there in record { banks = q.banks; stands = stands-agree (trio_of (rounds_of d k)) (word_of chip) (word_of now) q.banks (λ j own. sym (trio_claimed d fits u few chip whole 0 k j there own)) q.stands; newest = q.newest; put = q.put; take = q.take });
-    places = λ k n p lt free. place_claimed d fits u few chip whole 0 k n p ∙ h.places k n p lt free;
-    backed = h.backed.1.1;
-    claimed = λ k there. claimed_by k (same_or (unit_of (group_of d k)) u);
-    claims = λ v less. claims_by v less (same_or v u);
-    promised = λ v. promised v (same_or v u);
-  })
-
--- it has nothing to serve, and ends
-pub quits_step : (d : AdcTable) (fits : FitsAdc d) (f r : AdcBody → ℕ) (below : Holds) (chip : Chip) (w : World) (s : AdcState) (m : ℕ → Bool) (y u : ℕ) (o : Origin Call) (p : Past) → MaySeek d (windows.Leave u) below w s o p → next_group d s u ≡ None → Agrees d (with_holds o p.acted (Claims u ∷ Starts u ∷ []) below) chip w s
-    → RightOr (AdcGround d) (adc_bodies d f r) below chip w s (record { table = d; place = Quits u }) o y p m (ended_at (adc_bodies d f r) body_ends (record { table = d; place = Quits u }) (value_of chip (body_work (record { table = d; place = Quits u }))))
-quits_step d fits f r below chip w s m y u _ _ (Is_being, few, on, alone, free) rests h =
-    (quits_agree d fits below chip w s u few h rests, record { may = (off_line d fits f r below chip w s m y u few (ap (λ q. is_done d w q) free), refl); served = false; owed = refl; shown = λ z. absurd (cc); report = refl })

@@ -27,9 +27,6 @@ completed_by false StreamCompleted e = inr refl
 equal : (x y : ℕ) → (x == y) ≡ true → x ≡ y
 equal x y e = grind (arith, nat_tests)
 
-le_of : (x y : ℕ) → nat_le x y ≡ true → x ≤ y
-le_of x y e = grind (arith, nat_tests)
-
 lt_of : (x y : ℕ) → nat_le x y ≡ false → y < x
 lt_of x y e = grind (arith, nat_tests)
 

@@ -6,7 +6,7 @@ use mcal_base::{Move, Reg};
 use service_outline::{Body, BodyTaken, Owed, acts, ends, goes, number};
 
 /// `Gpt_GetTimeElapsed` and `Gpt_GetTimeRemaining`, from the load of the state word on. The counter is read in halves.
-#[derive(Clone, Copy, Debug, PartialEq, Eq)]
+#[derive(Clone, Copy)]
 pub enum CountBody {
     /// It acts, and reads the low half.
     ElapsedLow(u8),

@@ -3,7 +3,7 @@ use mcal_base::{Move, Reg};
 use service_outline::{Body, BodyTaken, Owed, acts, acts_with, ends, goes, nothing};
 
 /// `Gpt_DeInit`, from the load of the state word on.
-#[derive(Clone, Copy, Debug, PartialEq, Eq)]
+#[derive(Clone, Copy)]
 pub enum DeInitBody {
     /// It looks whether a channel runs. Where one does, it owes this.
     Look(Owed),

@@ -3,7 +3,7 @@ use mcal_base::{Move, Reg};
 use service_outline::{Body, BodyTaken, Owed, acts_with, goes, nothing};
 
 /// `Gpt_Init`, from the load of the state word on.
-#[derive(Clone, Copy, Debug, PartialEq, Eq)]
+#[derive(Clone, Copy)]
 pub enum InitBody {
     /// It enables the lines.
     Enable,

@@ -7,7 +7,7 @@ use mcal_base::{Move, Reg};
 use service_outline::{Body, BodyTaken, Owed, acts, acts_with, ends, goes, nothing};
 
 /// `Gpt_SetMode`, from the load of the state word on.
-#[derive(Clone, Copy, Debug, PartialEq, Eq)]
+#[derive(Clone, Copy)]
 pub enum ModeBody {
     /// It acts, and the mode is normal.
     Wake,

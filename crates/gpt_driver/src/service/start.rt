@@ -3,7 +3,7 @@ use mcal_base::{Move, Reg};
 use service_outline::{Body, BodyTaken, Owed, acts, acts_with, ends, goes, nothing};
 
 /// What is to be started.
-#[derive(Clone, Copy, Debug, PartialEq, Eq)]
+#[derive(Clone, Copy)]
 pub struct Start {
     /// The channel.
     pub channel: u8,
@@ -18,7 +18,7 @@ pub struct Start {
 }
 
 /// `Gpt_StartTimer`, from the load of the state word on.
-#[derive(Clone, Copy, Debug, PartialEq, Eq)]
+#[derive(Clone, Copy)]
 pub enum StartBody {
     /// It looks whether the channel runs.
     Look(Start),

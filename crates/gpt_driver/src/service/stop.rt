@@ -3,7 +3,7 @@ use mcal_base::{Move, Reg};
 use service_outline::{Body, BodyTaken, Owed, acts, acts_with, ends, nothing};
 
 /// `Gpt_StopTimer`, from the load of the state word on.
-#[derive(Clone, Copy, Debug, PartialEq, Eq)]
+#[derive(Clone, Copy)]
 pub enum StopBody {
     /// It acts, and a one-shot channel stops. One that has expired keeps its flag.
     OneShot(u8),

@@ -9,7 +9,7 @@ use mcal_base::{Move, Notice, NoticeKind};
 use service_outline::{Body, BodyTaken, Owed, acts_with, goes, nothing};
 
 /// The services that change the switches of a channel, from the load of the state word on.
-#[derive(Clone, Copy, Debug, PartialEq, Eq)]
+#[derive(Clone, Copy)]
 pub enum SwitchBody {
     /// It loads the switches of the channel.
     Load(u8, Change),

@@ -15,14 +15,8 @@ use Rattle.icu_driver.specs.laws.Keep.{fills, next_index, left_now}
 equal_by : (k c : ℕ) → (k == c) ≡ true → k ≡ c
 equal_by k c e = grind (arith, nat_tests)
 
-equal_test : (k c : ℕ) → k ≡ c → (k == c) ≡ true
-equal_test k c e = grind (arith, nat_tests)
-
 differ_by : (k c : ℕ) → (k == c) ≡ false → k ≢ c
 differ_by k c e = grind (arith, nat_tests)
-
-differ_test : (k c : ℕ) → k ≢ c → (k == c) ≡ false
-differ_test k c e = grind (arith, nat_tests)
 
 -- a number modulo another one goes up by one, or begins anew
 mod_next : (n s : ℕ) → 0 < s → (n + 1) % s ≡ (if n % s + 1 == s then 0 else n % s + 1)

@@ -99,9 +99,6 @@ module _ (d : IcuDriver) (fits : FitsIcu d) (gap : Gap) (chip : Chip) (w : World
   see_level true = refl
   see_level false = refl
 
-  machine_level : (r : Bool) → is_same (w.levels pin) v ≡ r → moved d w s (Level pin v) ≡ (if r then s else edged_state)
-  machine_level r e = ap (λ z. if z then s else edged_state) e
-
   level_at : (there : Bool) → nat_lt pin 64 ≡ there → BlockAgrees d gap (if is_other (outside_at chip pin) v then edged_block else chip.captures) (if is_same (w.levels pin) v then s else edged_state)
   level_at true e = level_by (is_other (outside_at chip pin) v) (is_same (w.levels pin) v) (ap (λ z. is_other z v) (outside.levels pin (below pin e)) ∙ other_or_same (w.levels pin) v)
   level_at false e = far_by e (is_other (outside_at chip pin) v) (is_same (w.levels pin) v)

@@ -97,8 +97,3 @@ measure_closed at rs c k x _ (New_start new) h = record { waits = λ f. h.waits 
 measure_closed at rs c k x _ (New_opposite new) h = record { waits = λ f. h.waits (still_not rs PLACES SWITCHES c refl f); mark = λ f. h.mark (still_not rs PLACES MARKS c refl f); seen = λ f g. h.seen (still_not rs PLACES SIZES c refl f) g; start = λ f g. h.start (still_not rs PLACES INTERVALS c refl f) g; opposite = λ f g. new; value = λ f. h.value (still_not rs PLACES VALUES c refl f); time = λ f. h.time (still_not rs PLACES TIMES c refl f) }
 measure_closed at rs c k x _ (New_value new) h = record { waits = λ f. h.waits (still_not rs VALUES SWITCHES c refl f); mark = λ f. h.mark (still_not rs VALUES MARKS c refl f); seen = λ f g. h.seen (still_not rs VALUES SIZES c refl f) g; start = λ f g. h.start (still_not rs VALUES INTERVALS c refl f) g; opposite = λ f g. h.opposite (still_not rs VALUES PLACES c refl f) g; value = λ f. new; time = λ f. h.time (still_not rs VALUES TIMES c refl f) }
 measure_closed at rs c k x _ (New_time new) h = record { waits = λ f. h.waits (still_not rs TIMES SWITCHES c refl f); mark = λ f. h.mark (still_not rs TIMES MARKS c refl f); seen = λ f g. h.seen (still_not rs TIMES SIZES c refl f) g; start = λ f g. h.start (still_not rs TIMES INTERVALS c refl f) g; opposite = λ f g. h.opposite (still_not rs TIMES PLACES c refl f) g; value = λ f. h.value (still_not rs TIMES VALUES c refl f); time = λ f. new }
-
--- ---- no row is behind
-
-pub rows_none : (c : ℕ) → rows_of [] c ≡ settled
-rows_none c = refl

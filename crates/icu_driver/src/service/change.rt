@@ -4,7 +4,7 @@ use mcal_base::{AnswerName, IcuStartEdge, Move, Reg};
 use service_outline::{Body, BodyTaken, Owed, acts, acts_with, ends, named, nothing};
 
 /// The services that set or ask for what a channel keeps, from the load of the state word on.
-#[derive(Clone, Copy, Debug, PartialEq, Eq)]
+#[derive(Clone, Copy)]
 pub enum ChangeBody {
     /// It acts, and the notification is on or off.
     Notify(u8, bool),

@@ -6,7 +6,7 @@ use mcal_base::{Move, Reg};
 use service_outline::{Body, BodyTaken, Owed, acts, acts_with, ends, nothing, number};
 
 /// The services of an edge counter, from the load of the state word on. The count is read in halves.
-#[derive(Clone, Copy, Debug, PartialEq, Eq)]
+#[derive(Clone, Copy)]
 pub enum CountBody {
     /// It acts, and edges are counted.
     Open(u8),

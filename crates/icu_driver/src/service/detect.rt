@@ -3,7 +3,7 @@ use mcal_base::{Event, Move, Notice, NoticeKind, Reg};
 use service_outline::{Body, BodyTaken, Owed, ends, goes, nothing};
 
 /// The handler of an edge detection, in its window.
-#[derive(Clone, Copy, Debug, PartialEq, Eq)]
+#[derive(Clone, Copy)]
 pub enum DetectBody {
     /// It looks whether an edge waits.
     Look(u8),

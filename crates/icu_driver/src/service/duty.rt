@@ -3,7 +3,7 @@ use mcal_base::Move;
 use service_outline::{Body, BodyTaken, Owed, acts, ends, goes, numbers};
 
 /// `Icu_GetDutyCycleValues`, from the load of the state word on.
-#[derive(Clone, Copy, Debug, PartialEq, Eq)]
+#[derive(Clone, Copy)]
 pub enum DutyBody {
     /// It loads whether a value waits.
     Waits(u8),

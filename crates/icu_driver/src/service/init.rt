@@ -7,7 +7,7 @@ use mcal_base::{IcuMeasurementMode, IcuStartEdge, Move, Reg};
 use service_outline::{Body, BodyTaken, Owed, acts_with, goes, nothing};
 
 /// `Icu_Init`, from the load of the state word on.
-#[derive(Clone, Copy, Debug)]
+#[derive(Clone, Copy)]
 pub enum InitBody {
     /// It chooses the edges of this channel.
     Condition(IcuDriver, u8),

@@ -9,7 +9,7 @@ use mcal_base::{Event, Move, Notice, NoticeKind, Reg};
 use service_outline::{Body, BodyTaken, Owed, ends, goes, nothing};
 
 /// What the handler of a timestamp channel knows of its channel and of the oldest edge.
-#[derive(Clone, Copy, Debug, PartialEq, Eq)]
+#[derive(Clone, Copy)]
 pub struct Kept {
     /// The channel.
     pub channel: u8,
@@ -30,7 +30,7 @@ pub struct Kept {
 }
 
 /// The handler of a timestamp channel, in its window.
-#[derive(Clone, Copy, Debug, PartialEq, Eq)]
+#[derive(Clone, Copy)]
 pub enum KeepBody {
     /// It looks whether an edge waits.
     Look(Kept),

@@ -3,7 +3,7 @@ use mcal_base::{Move, Reg};
 use service_outline::{Body, BodyTaken, Owed, acts, ends, goes, nothing, number};
 
 /// `Icu_StartSignalMeasurement` and `Icu_GetTimeElapsed`, from the load of the state word on.
-#[derive(Clone, Copy, Debug, PartialEq, Eq)]
+#[derive(Clone, Copy)]
 pub enum MeasureBody {
     /// It opens the gate.
     Open(u8),

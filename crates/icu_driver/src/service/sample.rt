@@ -7,7 +7,7 @@ use mcal_base::{Event, Move, Reg};
 use service_outline::{Body, BodyTaken, Owed, ends, goes, nothing};
 
 /// What the handler of a measurement knows of its channel, of the oldest edge, and of what was seen before it.
-#[derive(Clone, Copy, Debug, PartialEq, Eq)]
+#[derive(Clone, Copy)]
 pub struct Sampled {
     /// The channel.
     pub channel: u8,
@@ -32,7 +32,7 @@ pub struct Sampled {
 }
 
 /// The handler of a measurement, in its window.
-#[derive(Clone, Copy, Debug, PartialEq, Eq)]
+#[derive(Clone, Copy)]
 pub enum SampleBody {
     /// It looks whether an edge waits, and which.
     Look(Sampled),

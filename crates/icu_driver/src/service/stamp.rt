@@ -3,7 +3,7 @@ use mcal_base::{Move, Reg};
 use service_outline::{Body, BodyTaken, Owed, acts, acts_with, ends, goes, nothing, number};
 
 /// A start of stamps.
-#[derive(Clone, Copy, Debug, PartialEq, Eq)]
+#[derive(Clone, Copy)]
 pub struct Stamping {
     /// The channel.
     pub channel: u8,
@@ -14,7 +14,7 @@ pub struct Stamping {
 }
 
 /// The services of timestamps, from the load of the state word on.
-#[derive(Clone, Copy, Debug, PartialEq, Eq)]
+#[derive(Clone, Copy)]
 pub enum StampBody {
     /// It opens the gate.
     Open(Stamping),

@@ -1,7 +1,7 @@
 use crate::short::Short;
 
 /// `AdcPriorityImplementation`.
-#[derive(Clone, Copy, Debug, Default, PartialEq, Eq)]
+#[derive(Clone, Copy, Debug, Default)]
 pub enum AdcPriorityImplementation {
     /// `ADC_PRIORITY_NONE`
     #[default]
@@ -11,7 +11,7 @@ pub enum AdcPriorityImplementation {
 }
 
 /// `AdcGroupAccessMode`.
-#[derive(Clone, Copy, Debug, Default, PartialEq, Eq)]
+#[derive(Clone, Copy, Debug, Default)]
 pub enum AdcAccessMode {
     /// `ADC_ACCESS_MODE_SINGLE`
     #[default]
@@ -21,7 +21,7 @@ pub enum AdcAccessMode {
 }
 
 /// `AdcGroupConversionMode`.
-#[derive(Clone, Copy, Debug, Default, PartialEq, Eq)]
+#[derive(Clone, Copy, Debug, Default)]
 pub enum AdcConversionMode {
     /// `ADC_CONV_MODE_ONESHOT`
     #[default]
@@ -31,7 +31,7 @@ pub enum AdcConversionMode {
 }
 
 /// `AdcGroupReplacement`.
-#[derive(Clone, Copy, Debug, Default, PartialEq, Eq)]
+#[derive(Clone, Copy, Debug, Default)]
 pub enum AdcGroupReplacement {
     /// `ADC_GROUP_REPL_ABORT_RESTART`: an aborted round begins anew.
     #[default]
@@ -41,7 +41,7 @@ pub enum AdcGroupReplacement {
 }
 
 /// `AdcGroupTriggSrc`.
-#[derive(Clone, Copy, Debug, Default, PartialEq, Eq)]
+#[derive(Clone, Copy, Debug, Default)]
 pub enum AdcTriggerSource {
     /// `ADC_TRIGG_SRC_SW`
     #[default]
@@ -51,7 +51,7 @@ pub enum AdcTriggerSource {
 }
 
 /// `AdcStreamingBufferMode`.
-#[derive(Clone, Copy, Debug, Default, PartialEq, Eq)]
+#[derive(Clone, Copy, Debug, Default)]
 pub enum AdcStreamBufferMode {
     /// `ADC_STREAM_BUFFER_LINEAR`
     #[default]
@@ -61,7 +61,7 @@ pub enum AdcStreamBufferMode {
 }
 
 /// A converter unit.
-#[derive(Debug, Default, Drop, PartialEq)]
+#[derive(Debug, Default, Drop)]
 pub struct AdcHwUnit {
     /// `AdcHwUnitId`, 0 or 1.
     pub id: u32,
@@ -70,7 +70,7 @@ pub struct AdcHwUnit {
 }
 
 /// A converter group.
-#[derive(Debug, Default, Drop, PartialEq)]
+#[derive(Debug, Default, Drop)]
 pub struct AdcGroup {
     /// `AdcGroupId`, 0 to 15.
     pub id: u32,

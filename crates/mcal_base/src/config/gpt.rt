@@ -1,7 +1,7 @@
 use crate::short::Short;
 
 /// `GptChannelMode`.
-#[derive(Clone, Copy, Debug, Default, PartialEq, Eq)]
+#[derive(Clone, Copy, Debug, Default)]
 pub enum GptChannelMode {
     /// `GPT_CH_MODE_CONTINUOUS`
     #[default]
@@ -11,7 +11,7 @@ pub enum GptChannelMode {
 }
 
 /// A timer channel.
-#[derive(Debug, Default, Drop, PartialEq)]
+#[derive(Debug, Default, Drop)]
 pub struct GptChannel {
     /// `GptChannelId`, 0 to 7.
     pub id: u32,

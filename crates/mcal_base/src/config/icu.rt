@@ -1,7 +1,7 @@
 use crate::short::Short;
 
 /// `IcuDefaultStartEdge`.
-#[derive(Clone, Copy, Debug, Default, PartialEq, Eq)]
+#[derive(Clone, Copy, Debug, Default)]
 pub enum IcuStartEdge {
     /// `ICU_RISING_EDGE`
     #[default]
@@ -13,7 +13,7 @@ pub enum IcuStartEdge {
 }
 
 /// `IcuMeasurementMode`.
-#[derive(Clone, Copy, Debug, Default, PartialEq, Eq)]
+#[derive(Clone, Copy, Debug, Default)]
 pub enum IcuMeasurementMode {
     /// `ICU_MODE_SIGNAL_EDGE_DETECT`
     #[default]
@@ -27,7 +27,7 @@ pub enum IcuMeasurementMode {
 }
 
 /// `IcuSignalMeasurementProperty`.
-#[derive(Clone, Copy, Debug, Default, PartialEq, Eq)]
+#[derive(Clone, Copy, Debug, Default)]
 pub enum IcuSignalMeasurementProperty {
     /// `ICU_LOW_TIME`
     #[default]
@@ -41,7 +41,7 @@ pub enum IcuSignalMeasurementProperty {
 }
 
 /// `IcuTimestampMeasurementProperty`.
-#[derive(Clone, Copy, Debug, Default, PartialEq, Eq)]
+#[derive(Clone, Copy, Debug, Default)]
 pub enum IcuTimestampMeasurementProperty {
     /// `ICU_LINEAR_BUFFER`
     #[default]
@@ -51,7 +51,7 @@ pub enum IcuTimestampMeasurementProperty {
 }
 
 /// A capture input.
-#[derive(Debug, Default, Drop, PartialEq)]
+#[derive(Debug, Default, Drop)]
 pub struct IcuChannel {
     /// `IcuChannelId`, 0 to 7.
     pub id: u32,

@@ -1,7 +1,7 @@
 use crate::short::Short;
 
 /// A clock setting.
-#[derive(Debug, Default, Drop, PartialEq)]
+#[derive(Debug, Default, Drop)]
 pub struct McuClockSetting {
     /// `McuClockSettingId`, 0 to 7.
     pub id: u32,
@@ -10,14 +10,14 @@ pub struct McuClockSetting {
 }
 
 /// A mode.
-#[derive(Debug, Default, Drop, PartialEq)]
+#[derive(Debug, Default, Drop)]
 pub struct McuModeSetting {
     /// `McuMode`, 0 to 7.
     pub mode: u32,
 }
 
 /// A RAM section. Its number is its place in the array.
-#[derive(Debug, Default, Drop, PartialEq)]
+#[derive(Debug, Default, Drop)]
 pub struct McuRamSection {
     /// `McuRamSectionBaseAddress`: its first word, 0 to 511.
     pub base_address: u32,

@@ -1,7 +1,7 @@
 use crate::short::Short;
 
 /// `PortPinDirection`.
-#[derive(Clone, Copy, Debug, Default, PartialEq, Eq)]
+#[derive(Clone, Copy, Debug, Default)]
 pub enum PortPinDirection {
     /// `PORT_PIN_IN`
     #[default]
@@ -11,7 +11,7 @@ pub enum PortPinDirection {
 }
 
 /// The modes of a pin. The order is that of the chip's numbers, from 0.
-#[derive(Clone, Copy, Debug, Default, PartialEq, Eq)]
+#[derive(Clone, Copy, Debug, Default)]
 pub enum PortPinMode {
     /// `PORT_PIN_MODE_ADC`
     Adc,
@@ -27,7 +27,7 @@ pub enum PortPinMode {
 }
 
 /// A pin.
-#[derive(Debug, Default, Drop, PartialEq)]
+#[derive(Debug, Default, Drop)]
 pub struct PortPin {
     /// `PortPinId`, 0 to 63.
     pub id: u32,

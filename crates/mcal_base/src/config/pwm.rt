@@ -1,7 +1,7 @@
 use crate::short::Short;
 
 /// `PwmChannelClass`.
-#[derive(Clone, Copy, Debug, Default, PartialEq, Eq)]
+#[derive(Clone, Copy, Debug, Default)]
 pub enum PwmChannelClass {
     /// `PWM_FIXED_PERIOD`
     #[default]
@@ -13,7 +13,7 @@ pub enum PwmChannelClass {
 }
 
 /// A level of a pulse output.
-#[derive(Clone, Copy, Debug, Default, PartialEq, Eq)]
+#[derive(Clone, Copy, Debug, Default)]
 pub enum PwmOutputState {
     /// `PWM_HIGH`
     High,
@@ -23,7 +23,7 @@ pub enum PwmOutputState {
 }
 
 /// A pulse output.
-#[derive(Debug, Default, Drop, PartialEq)]
+#[derive(Debug, Default, Drop)]
 pub struct PwmChannel {
     /// `PwmChannelId`, 0 to 7.
     pub id: u32,

@@ -1,7 +1,7 @@
 use crate::short::Short;
 
 /// `SpiChannelType`, with what only a channel of that type has.
-#[derive(Clone, Copy, Debug, PartialEq, Eq)]
+#[derive(Clone, Copy, Debug)]
 pub enum SpiChannelType {
     /// `IB`: an internal channel of `SpiIbNBuffers` words, 1 to 64.
     Internal(u32),
@@ -16,7 +16,7 @@ impl Default for SpiChannelType {
 }
 
 /// A serial channel.
-#[derive(Debug, Default, Drop, PartialEq)]
+#[derive(Debug, Default, Drop)]
 pub struct SpiChannel {
     /// `SpiChannelId`, 0 to 15.
     pub id: u32,
@@ -29,7 +29,7 @@ pub struct SpiChannel {
 }
 
 /// A serial job.
-#[derive(Debug, Default, Drop, PartialEq)]
+#[derive(Debug, Default, Drop)]
 pub struct SpiJob {
     /// `SpiJobId`, 0 to 15.
     pub id: u32,
@@ -46,7 +46,7 @@ pub struct SpiJob {
 }
 
 /// A serial sequence.
-#[derive(Debug, Default, Drop, PartialEq)]
+#[derive(Debug, Default, Drop)]
 pub struct SpiSequence {
     /// `SpiSequenceId`, 0 to 7.
     pub id: u32,

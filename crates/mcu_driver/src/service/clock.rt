@@ -2,7 +2,7 @@ use mcal_base::{AnswerName, Move, Reg};
 use service_outline::{Body, BodyTaken, Owed, acts_with, goes, named};
 
 /// `Mcu_InitClock` and `Mcu_DistributePllClock`, from the load of the state word on.
-#[derive(Clone, Copy, Debug, PartialEq, Eq)]
+#[derive(Clone, Copy)]
 pub enum ClockBody {
     /// It acts, and the PLL starts with this multiplier.
     Start(u32),

@@ -3,7 +3,7 @@ use mcal_base::{AnswerName, Move, Reg};
 use service_outline::{Body, BodyTaken, Objects, Owed, acts_with, named};
 
 /// A section that is filled word by word, with the mask open.
-#[derive(Clone, Copy, Debug, PartialEq, Eq)]
+#[derive(Clone, Copy)]
 pub struct Fill {
     /// The section's number.
     pub section: u32,
@@ -41,7 +41,7 @@ impl Objects for Fill {
 }
 
 /// What follows, in a window.
-#[derive(Clone, Copy, Debug, PartialEq, Eq)]
+#[derive(Clone, Copy)]
 pub enum FilledBody {
     /// It acts: all words of the section are written.
     Act(Fill),

@@ -5,7 +5,7 @@ use mcal_base::{AnswerName, Move, Reg};
 use service_outline::{Body, BodyTaken, Owed, acts_with, named};
 
 /// `Mcu_GetPllStatus` and `Mcu_GetResetReason`, from the load of the state word on.
-#[derive(Clone, Copy, Debug, PartialEq, Eq)]
+#[derive(Clone, Copy)]
 pub enum QueryBody {
     /// It acts, and reads whether the PLL is locked.
     Status,

@@ -2,7 +2,7 @@ use mcal_base::{Move, Reg};
 use service_outline::{Body, BodyTaken, Owed, acts_with, nothing};
 
 /// `Mcu_PerformReset`, from the load of the state word on.
-#[derive(Clone, Copy, Debug, PartialEq, Eq)]
+#[derive(Clone, Copy)]
 pub enum ResetBody {
     /// It acts, and asks for the reset, which ends the frame.
     Reset,

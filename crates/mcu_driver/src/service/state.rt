@@ -3,7 +3,7 @@ use mcal_base::Move;
 use service_outline::{Body, BodyTaken, Owed, acts_with, nothing};
 
 /// `Mcu_Init` and `Mcu_SetMode`, from the load of the state word on.
-#[derive(Clone, Copy, Debug, PartialEq, Eq)]
+#[derive(Clone, Copy)]
 pub enum StateBody {
     /// It acts, and the module is initialised.
     Initialise,

@@ -6,7 +6,7 @@ use service_outline::{Body, BodyTaken, Objects, Owed, acts_with, nothing};
 
 /// The writes of `Port_Init`, with the mask open: levels and modes before directions, so that a pin drives nothing but
 /// its configured level.
-#[derive(Clone, Copy, Debug)]
+#[derive(Clone, Copy)]
 pub struct Setup {
     /// The driver.
     pub driver: PortDriver,
@@ -44,7 +44,7 @@ impl Objects for Setup {
 }
 
 /// What follows, in a window.
-#[derive(Clone, Copy, Debug, PartialEq, Eq)]
+#[derive(Clone, Copy)]
 pub enum InitDone {
     /// It acts, and the module is initialised.
     Store,

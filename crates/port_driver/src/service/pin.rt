@@ -3,7 +3,7 @@ use mcal_base::{Move, PortPinDirection, PortPinMode, Reg};
 use service_outline::{Body, BodyTaken, Owed, acts_with, nothing};
 
 /// A call about a pin, from the load of the state word on.
-#[derive(Clone, Copy, Debug, PartialEq, Eq)]
+#[derive(Clone, Copy)]
 pub enum PinBody {
     /// It acts, and the pin takes the direction.
     Direction(u32, PortPinDirection),

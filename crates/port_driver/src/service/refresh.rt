@@ -4,7 +4,7 @@ use mcal_base::Move;
 use service_outline::{Body, BodyTaken, Owed, acts_with, goes, nothing};
 
 /// `Port_RefreshPortDirection`, from the load of the state word on.
-#[derive(Clone, Copy, Debug)]
+#[derive(Clone, Copy)]
 pub enum RefreshBody {
     /// It makes this one of its four writes, and acts at the last one.
     Write(PortDriver, u16),

@@ -7,7 +7,7 @@ use mcal_base::{Move, Reg};
 use service_outline::{Body, BodyTaken, Owed, acts, ends, goes, nothing};
 
 /// `Pwm_DeInit`, from the load of the state word on.
-#[derive(Clone, Copy, Debug)]
+#[derive(Clone, Copy)]
 pub enum DeInitBody {
     /// It acts, and the module is uninitialised.
     Store(PwmDriver),

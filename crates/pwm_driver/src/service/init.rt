@@ -8,7 +8,7 @@ use service_outline::{Body, BodyTaken, Objects, Owed, acts_with, goes, nothing};
 
 /// The defaults of all channels, four objects each, written with the mask open: the word of the period, and the registers
 /// of period, duty and polarity.
-#[derive(Clone, Copy, Debug)]
+#[derive(Clone, Copy)]
 pub struct Setup {
     /// The driver.
     pub driver: PwmDriver,
@@ -76,7 +76,7 @@ fn defaults(channel: Option<Channel>) -> (u32, u32, bool)
 }
 
 /// `Pwm_Init` in its last window.
-#[derive(Clone, Copy, Debug)]
+#[derive(Clone, Copy)]
 pub enum InitBody {
     /// It commits a channel that is configured, and goes on with the next number.
     Commit(PwmDriver, u8),

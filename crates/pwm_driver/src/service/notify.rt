@@ -4,7 +4,7 @@ use mcal_base::{Move, Reg};
 use service_outline::{Body, BodyTaken, Owed, acts, ends, goes, nothing};
 
 /// `Pwm_EnableNotification` and `Pwm_DisableNotification`, from the load of the state word on.
-#[derive(Clone, Copy, Debug, PartialEq, Eq)]
+#[derive(Clone, Copy)]
 pub enum NotifyBody {
     /// To enable: it loads the chosen changes of all channels.
     Load(u8, PwmEdge),

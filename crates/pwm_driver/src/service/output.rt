@@ -3,7 +3,7 @@ use mcal_base::{Move, Reg};
 use service_outline::{Body, BodyTaken, Owed, acts, acts_with, ends, goes, nothing};
 
 /// What an output is to do.
-#[derive(Clone, Copy, Debug, PartialEq, Eq)]
+#[derive(Clone, Copy)]
 pub struct Want {
     /// The channel.
     pub channel: u8,
@@ -18,7 +18,7 @@ pub struct Want {
 }
 
 /// `Pwm_SetDutyCycle` and `Pwm_SetPeriodAndDuty`, from the load of the state word on.
-#[derive(Clone, Copy, Debug, PartialEq, Eq)]
+#[derive(Clone, Copy)]
 pub enum OutputBody {
     /// It loads the period that was set last.
     Load(Want),

@@ -3,7 +3,7 @@ use mcal_base::{AnswerName, Move, Reg};
 use service_outline::{Body, BodyTaken, Owed, acts_with, named, nothing};
 
 /// `Pwm_SetOutputToIdle` and `Pwm_GetOutputState`, from the load of the state word on.
-#[derive(Clone, Copy, Debug, PartialEq, Eq)]
+#[derive(Clone, Copy)]
 pub enum RestBody {
     /// It acts, and the output has this level from now on.
     Rest(u8, bool),

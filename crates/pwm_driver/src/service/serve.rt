@@ -3,7 +3,7 @@ use mcal_base::{Event, Move, Notice, NoticeKind, Reg};
 use service_outline::{Body, BodyTaken, Owed, ends, goes, nothing};
 
 /// The handler of a channel's line, in its window.
-#[derive(Clone, Copy, Debug, PartialEq, Eq)]
+#[derive(Clone, Copy)]
 pub enum ServeBody {
     /// It loads the chosen changes of all channels.
     Kinds(u8),

@@ -2,7 +2,6 @@
 use Rattle.std.proofs.Common.{◌≡◌, ◌≢◌, ℕ, suc, ◌+◌, ◌<◌, ◌≤◌, ◌==◌, Bool, true, false, ◌||◌, not, List, [], ◌∷◌, Option, Some, None, refl, sym, ◌∙◌, ap, subst, arith, ◌⊎◌, inl, inr}
 use Rattle.std.specs.Prelude.{Contains, bit_or, drop, filter, find, is_some, if◌then◌else◌}
 use Rattle.std.specs.List.{list_any}
-use Rattle.std.proofs.lemmas.Bool.Decides.{nat_tests}
 use Rattle.std.proofs.lemmas.Option.{same_Some}
 use Rattle.chip_model.specs.Chip.{Chip, chip_after, happened, value_of, word_of}
 use Rattle.mcal_base.specs.declared.answer.Answer.{Answer}
@@ -61,6 +60,8 @@ use Rattle.spi_sequences.specs.declared.service.cancel.CancelBody.{CancelBody}
 use Rattle.spi_sequences.specs.declared.service.cancel.CancelBody.TheVariants as cancel
 use Rattle.spi_sequences.specs.declared.service.cancel.Cancelled.{Cancelled}
 use Rattle.spi_sequences.specs.declared.words.TheConstants.{STATE, MARKS, NEXTS, PENDING, CANCELLED}
+pub use Rattle.spi_sequences.specs.laws.Beside.{from_order, not_order, to_order}
+use Rattle.spi_sequences.specs.laws.Beside.{before_sequences, high_enough, high_order, job_at, low_enough, low_order, marks_at, nexts_at, one_sequence, order_at, other_order, past_sequences, position_at, position_order, running_at, running_order, sequence_at, state_at}
 use Rattle.spi_sequences.specs.laws.Cancel.{cancel_drops, cancel_owed, cancel_takes, cancel_work, is_running_sequence}
 use Rattle.spi_sequences.specs.laws.Ended.{ended_sound, ended_words, left_order, stay, there_back, there_by, filter_back, filter_keeps}
 use Rattle.spi_sequences.specs.laws.Firsts.{firsts_changed, holds_same, stands_owed}
@@ -189,21 +190,6 @@ module _ (d : SpiTable) (fits : FitsSpi d) (r : Cancelled) (u : ℕ) (few : u < 
 
 -- ---- a sequence that waits ends
 
-pub not_order : (u j : ℕ) → j ≢ order_word u → j ≢ order_word u + 1 → j ≢ order_word u + 2 → ranked.own_of (record { at = order_word u }) j ≡ false
-not_order u j a b c = by (j == order_word u) refl (j == order_word u + 1) refl (j == order_word u + 2) refl
-  where
-    by : (x : Bool) → (j == order_word u) ≡ x → (y : Bool) → (j == order_word u + 1) ≡ y → (z : Bool) → (j == order_word u + 2) ≡ z → (j == order_word u || (j == order_word u + 1 || j == order_word u + 2)) ≡ false
-    by true e y f z g = absurd (a (is_number j (order_word u) e))
-    by false e true f z g = absurd (b (is_number j (order_word u + 1) f))
-    by false e false f true g = absurd (c (is_number j (order_word u + 2) g))
-    by false e false f false g = ap (λ x. x || (j == order_word u + 1 || j == order_word u + 2)) e ∙ ap (λ x. x || j == order_word u + 2) f ∙ g
-
-pub from_order : (u j : ℕ) → ranked.own_of (record { at = order_word u }) j ≡ true → order_word u ≤ j
-from_order u j own = grind (arith, nat_tests)
-
-pub to_order : (u j : ℕ) → ranked.own_of (record { at = order_word u }) j ≡ true → j ≤ order_word u + 2
-to_order u j own = grind (arith, nat_tests)
-
 module _ (d : SpiTable) (fits : FitsSpi d) (below : Holds) (chip : Chip) (w : World) (s : SpiState) (h : SpiAgrees d below chip w s) (on : is_off s.mode ≡ false) (p : Pending) (there : Contains s.pending p) (waits : is_running s p.sequence ≡ false) where
   abbrev unit : ℕ
   unit = unit_of_sequence d p.sequence
@@ -244,24 +230,24 @@ module _ (d : SpiTable) (fits : FitsSpi d) (below : Holds) (chip : Chip) (w : Wo
     word_same j e ne = differs.others j e ∙ stored_other chip (sequence_word p.sequence) CANCELLED 0 j ne
 
     above : (j : ℕ) → STATE + 64 ≤ j → word_of c j ≡ word_of chip j
-    above j le = word_same j (not_order unit j (λ e. omega (arith, le, e, few)) (λ e. omega (arith, le, e, few)) (λ e. omega (arith, le, e, few))) (λ e. omega (arith, le, e, number))
+    above j le = word_same j (high_order unit j few (high_enough j le).0) (past_sequences p.sequence j number le)
 
     below_orders : (j : ℕ) → STATE ≤ j → j < STATE + 10 → word_of c j ≡ word_of chip j
-    below_orders j low high = word_same j (not_order unit j (λ e. omega (arith, high, e)) (λ e. omega (arith, high, e)) (λ e. omega (arith, high, e))) (λ e. omega (arith, high, e))
+    below_orders j low high = word_same j (low_order unit j high) (before_sequences p.sequence j (low_enough j high))
 
     jobs_same : (j : ℕ) → j < 16 → word_of c (job_word j) ≡ word_of chip (job_word j)
-    jobs_same j lt = word_same (job_word j) (not_order unit (job_word j) (λ e. omega (arith, few, e)) (λ e. omega (arith, few, e)) (λ e. omega (arith, few, e))) (λ e. omega (arith, lt, e))
+    jobs_same j lt = word_same (job_word j) (high_order unit (job_word j) few (job_at j lt).1) (before_sequences p.sequence (job_word j) (job_at j lt).0)
 
     others_same : (n : ℕ) → n < 8 → n ≢ p.sequence → word_of c (sequence_word n) ≡ word_of chip (sequence_word n)
-    others_same n lt ne = word_same (sequence_word n) (not_order unit (sequence_word n) (λ e. omega (arith, few, e)) (λ e. omega (arith, few, e)) (λ e. omega (arith, few, e))) (λ e. ne (omega (arith, e)))
+    others_same n lt ne = word_same (sequence_word n) (high_order unit (sequence_word n) few (sequence_at n).0) (λ e. ne (one_sequence n p.sequence e))
 
     told : word_of c (sequence_word p.sequence) ≡ CANCELLED
-    told = differs.others (sequence_word p.sequence) (not_order unit (sequence_word p.sequence) (λ e. omega (arith, few, e)) (λ e. omega (arith, few, e)) (λ e. omega (arith, few, e))) ∙ stored_same chip (sequence_word p.sequence) CANCELLED 0 (omega (arith, number)) h.outside.all.words
+    told = differs.others (sequence_word p.sequence) (high_order unit (sequence_word p.sequence) few (sequence_at p.sequence).0) ∙ stored_same chip (sequence_word p.sequence) CANCELLED 0 (omega (arith, number)) h.outside.all.words
 
     runs_same : (u : ℕ) → u < 2 → (word_of c (running_word u) ≡ word_of chip (running_word u)) × (word_of c (position_word u) ≡ word_of chip (position_word u))
     runs_same u lt = (
-      word_same (running_word u) (not_order unit (running_word u) (λ e. omega (arith, few, lt, e)) (λ e. omega (arith, few, lt, e)) (λ e. omega (arith, few, lt, e))) (λ e. omega (arith, lt, e)),
-      word_same (position_word u) (not_order unit (position_word u) (λ e. omega (arith, few, lt, e)) (λ e. omega (arith, few, lt, e)) (λ e. omega (arith, few, lt, e))) (λ e. omega (arith, lt, e)),
+      word_same (running_word u) (running_order unit u few lt) (before_sequences p.sequence (running_word u) (running_at u lt).0),
+      word_same (position_word u) (position_order unit u few lt) (before_sequences p.sequence (position_word u) (position_at u lt).0),
     )
 
     orders : (u : ℕ) → u < 2 → ranked.Holds (ordered u) (word_of c) (entries_of d (view after) u)
@@ -274,7 +260,7 @@ module _ (d : SpiTable) (fits : FitsSpi d) (below : Holds) (chip : Chip) (w : Wo
         other_words ne j own =
             let low = from_order u j own in
             let high = to_order u j own in
-            sym (word_same j (not_order unit j (λ e. ne (omega (arith, low, high, e, lt, few))) (λ e. ne (omega (arith, low, high, e, lt, few))) (λ e. ne (omega (arith, low, high, e, lt, few)))) (λ e. omega (arith, e, high, lt)))
+            sym (word_same j (other_order unit u j few lt ne low high) (before_sequences p.sequence j (order_at u j lt low high).0))
 
         by : (u ≡ unit) ⊎ (u ≢ unit) → ranked.Holds (ordered u) (word_of c) (entries_of d (view after) u)
         by (inl e) = subst (λ n. ranked.Holds (ordered n) (word_of c) (entries_of d (view after) n)) (sym e) (subst (λ xs. ranked.Holds (ordered unit) (word_of c) xs) (sym (left_order d unit p.sequence (is_running s) (is_running s) (λ n ne. refl) s.pending ((h.words.on on).sequences.orders unit few).once)) holds)
@@ -289,7 +275,7 @@ module _ (d : SpiTable) (fits : FitsSpi d) (below : Holds) (chip : Chip) (w : Wo
 
     wordly : SequencesAgree d (word_of c) (view after)
     wordly = ended_words d fits (view s) h.sound p there p.next (omega arith) s.job_results (λ j a b. absurd (none_ran j a b)) (λ j e. refl) (view s).running (view s).idle SpiSeqCanceled tt (λ e. absurd (cc)) (λ n ne. refl) h.sound.few (λ e. (h.sound.off e).1) (word_of chip) (word_of c) (h.words.on on).sequences
-        others_same told (below_orders NEXTS (omega arith) (omega arith)) (below_orders MARKS (omega arith) (omega arith)) (λ j lt e. jobs_same j lt) (λ j lt a b. absurd (none_ran j a b)) orders
+        others_same told (below_orders NEXTS nexts_at.0 nexts_at.1) (below_orders MARKS marks_at.0 marks_at.1) (λ j lt e. jobs_same j lt) (λ j lt a b. absurd (none_ran j a b)) orders
 
     -- what runs is of another sequence
     nexts_kept : (u : ℕ) → u < 2 → (g : Option Going) → h.going u ≡ g → RunsNext d (view s) u g → RunsNext d (view after) u g
@@ -297,7 +283,7 @@ module _ (d : SpiTable) (fits : FitsSpi d) (below : Holds) (chip : Chip) (w : Wo
     nexts_kept u lt (Some g) e n = (filter_keeps (λ z. not (is_of p.sequence z)) s.pending g.pending n.0 (ap not (other_number g.pending.sequence p.sequence (λ f. let r = going_runs d fits below chip w s h u g lt e in let no = sym waits ∙ ap (is_running s) (sym f) ∙ r in cc))), n.1, n.2)
 
     ended_now : StandsIn c w → SpiAgrees d below c w after
-    ended_now outside = firsts_changed d fits below below chip c w s h on (holds_same d below) outside (ap (λ x. x.wiring) differs.rest) (ap (λ x. x.serials.units) differs.rest) (ap (λ x. x.control) differs.rest) above (below_orders STATE (omega arith) (omega arith)) runs_same
+    ended_now outside = firsts_changed d fits below below chip c w s h on (holds_same d below) outside (ap (λ x. x.wiring) differs.rest) (ap (λ x. x.serials.units) differs.rest) (ap (λ x. x.control) differs.rest) above (below_orders STATE state_at.0 state_at.1) runs_same
         after.pending after.requests after.sequence_results after.job_results h.right soundly (λ u lt. nexts_kept u lt (h.going u) refl (h.nexts u lt)) wordly (λ u x lt free is for. h.owed u x lt free (filter_back (λ z. not (is_of p.sequence z)) s.pending x is).0 for)
 
 -- ---- the steps

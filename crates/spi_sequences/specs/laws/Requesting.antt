@@ -39,8 +39,9 @@ use Rattle.spi_sequences.specs.declared.service.unit.UnitBody.{UnitBody}
 use Rattle.spi_sequences.specs.declared.service.unit.UnitPlace.TheVariants as units
 use Rattle.spi_sequences.specs.declared.words.TheConstants.{STATE, NEXTS, MARKS, PENDING}
 use Rattle.spi_sequences.specs.laws.Accepted.{accepted_sound, accepted_words, apart_from, new, order_with, order_without, some}
+use Rattle.spi_sequences.specs.laws.Beside.{before_sequences, from_order, high_enough, high_order, job_at, low_order, marks_apart, marks_at, nexts_apart, nexts_at, not_marks, not_nexts, one_sequence, order_at, other_order, past_sequences, position_at, position_order, running_at, running_order, sequence_at, state_apart, state_at, to_order}
 use Rattle.spi_sequences.specs.laws.Ended.{filter_back, there_back}
-use Rattle.spi_sequences.specs.laws.Cancelling.{from_order, named_own, not_order, order_there, own_order, to_order}
+use Rattle.spi_sequences.specs.laws.Cancelling.{named_own, order_there, own_order}
 use Rattle.spi_sequences.specs.laws.Firsts.{firsts_changed, holds_debt, stands_owed}
 use Rattle.spi_sequences.specs.laws.Own.{own_first}
 use Rattle.spi_sequences.specs.laws.Places.{job_unit, unit_few}
@@ -113,43 +114,43 @@ module _ (d : SpiTable) (fits : FitsSpi d) (below : Holds) (chip : Chip) (w : Wo
   third_other j a b c = stored_other second MARKS (unmarked_in (word_of second MARKS) q) 0 j c ∙ stored_other first NEXTS (with_next_in (word_of first NEXTS) q 0) 0 j b ∙ stored_other chip (sequence_word q) PENDING 0 j a
 
   third_told : word_of third (sequence_word q) ≡ 1
-  third_told = stored_other second MARKS (unmarked_in (word_of second MARKS) q) 0 (sequence_word q) (λ e. omega (arith, e)) ∙ stored_other first NEXTS (with_next_in (word_of first NEXTS) q 0) 0 (sequence_word q) (λ e. omega (arith, e)) ∙ stored_same chip (sequence_word q) PENDING 0 (omega (arith, small)) h.outside.all.words
+  third_told = stored_other second MARKS (unmarked_in (word_of second MARKS) q) 0 (sequence_word q) (not_marks (sequence_word q) (sequence_at q).1) ∙ stored_other first NEXTS (with_next_in (word_of first NEXTS) q 0) 0 (sequence_word q) (not_nexts (sequence_word q) (sequence_at q).1) ∙ stored_same chip (sequence_word q) PENDING 0 (omega (arith, small)) h.outside.all.words
 
   third_nexts : word_of third NEXTS ≡ with_next_in (word_of chip NEXTS) q 0
   third_nexts =
-      stored_other second MARKS (unmarked_in (word_of second MARKS) q) 0 NEXTS (λ e. omega (arith, e)) ∙ stored_same first NEXTS (with_next_in (word_of first NEXTS) q 0) 0 (omega arith) (stands-move chip w (Store (sequence_word q) PENDING) 0 h.outside).all.words
-      ∙ ap (λ n. with_next_in n q 0) (stored_other chip (sequence_word q) PENDING 0 NEXTS (λ e. omega (arith, e)))
+      stored_other second MARKS (unmarked_in (word_of second MARKS) q) 0 NEXTS (nexts_apart q).0 ∙ stored_same first NEXTS (with_next_in (word_of first NEXTS) q 0) 0 (omega arith) (stands-move chip w (Store (sequence_word q) PENDING) 0 h.outside).all.words
+      ∙ ap (λ n. with_next_in n q 0) (stored_other chip (sequence_word q) PENDING 0 NEXTS (nexts_apart q).1)
 
   third_marks : word_of third MARKS ≡ unmarked_in (word_of chip MARKS) q
   third_marks =
       stored_same second MARKS (unmarked_in (word_of second MARKS) q) 0 (omega arith) (stands-move first w (Store NEXTS (with_next_in (word_of first NEXTS) q 0)) 0 (stands-move chip w (Store (sequence_word q) PENDING) 0 h.outside)).all.words
-      ∙ ap (λ n. unmarked_in n q) (stored_other first NEXTS (with_next_in (word_of first NEXTS) q 0) 0 MARKS (λ e. omega (arith, e)) ∙ stored_other chip (sequence_word q) PENDING 0 MARKS (λ e. omega (arith, e)))
+      ∙ ap (λ n. unmarked_in n q) (stored_other first NEXTS (with_next_in (word_of first NEXTS) q 0) 0 MARKS (marks_apart q).0 ∙ stored_other chip (sequence_word q) PENDING 0 MARKS (marks_apart q).1)
 
   abbrev after : SpiState
   after = accepted d s q
 
   module _ (c : Chip) (differs : DiffersIn (ranked.own_of (record { at = order_word unit })) third c) (holds : ranked.Holds (record { at = order_word unit }) (word_of c) (order.added q (entries_of d (view s) unit))) where
-    apart : (j : ℕ) → ((j < STATE + 10) ⊎ (STATE + 26 ≤ j)) → ranked.own_of (record { at = order_word unit }) j ≡ false
-    apart j (inl lt) = not_order unit j (λ e. omega (arith, lt, e)) (λ e. omega (arith, lt, e)) (λ e. omega (arith, lt, e))
-    apart j (inr le) = not_order unit j (λ e. omega (arith, le, e, few)) (λ e. omega (arith, le, e, few)) (λ e. omega (arith, le, e, few))
+    apart : (j : ℕ) → ((j < STATE + 10) ⊎ (STATE + 24 ≤ j)) → ranked.own_of (record { at = order_word unit }) j ≡ false
+    apart j (inl lt) = low_order unit j lt
+    apart j (inr le) = high_order unit j few le
 
     word_same : (j : ℕ) → ranked.own_of (record { at = order_word unit }) j ≡ false → j ≢ sequence_word q → j ≢ NEXTS → j ≢ MARKS → word_of c j ≡ word_of chip j
     word_same j own a b m = differs.others j own ∙ third_other j a b m
 
     above : (j : ℕ) → STATE + 64 ≤ j → word_of c j ≡ word_of chip j
-    above j le = word_same j (apart j (inr (omega (arith, le)))) (λ e. omega (arith, le, e, small)) (λ e. omega (arith, le, e)) (λ e. omega (arith, le, e))
+    above j le = let at = high_enough j le in word_same j (apart j (inr at.0)) (past_sequences q j small le) (not_nexts j at.1) (not_marks j at.1)
 
     runs_same : (u : ℕ) → u < 2 → (word_of c (running_word u) ≡ word_of chip (running_word u)) × (word_of c (position_word u) ≡ word_of chip (position_word u))
     runs_same u lt = (
-      word_same (running_word u) (not_order unit (running_word u) (λ e. omega (arith, few, lt, e)) (λ e. omega (arith, few, lt, e)) (λ e. omega (arith, few, lt, e))) (λ e. omega (arith, lt, e)) (λ e. omega (arith, e)) (λ e. omega (arith, e)),
-      word_same (position_word u) (not_order unit (position_word u) (λ e. omega (arith, few, lt, e)) (λ e. omega (arith, few, lt, e)) (λ e. omega (arith, few, lt, e))) (λ e. omega (arith, lt, e)) (λ e. omega (arith, e)) (λ e. omega (arith, e)),
+      word_same (running_word u) (running_order unit u few lt) (before_sequences q (running_word u) (running_at u lt).0) (not_nexts (running_word u) (running_at u lt).1) (not_marks (running_word u) (running_at u lt).1),
+      word_same (position_word u) (position_order unit u few lt) (before_sequences q (position_word u) (position_at u lt).0) (not_nexts (position_word u) (position_at u lt).1) (not_marks (position_word u) (position_at u lt).1),
     )
 
     others_same : (n : ℕ) → n < 8 → n ≢ q → word_of c (sequence_word n) ≡ word_of chip (sequence_word n)
-    others_same n lt ne = word_same (sequence_word n) (apart (sequence_word n) (inr (omega arith))) (λ e. ne (omega (arith, e))) (λ e. omega (arith, e)) (λ e. omega (arith, e))
+    others_same n lt ne = let at = sequence_at n in word_same (sequence_word n) (apart (sequence_word n) (inr at.0)) (λ e. ne (one_sequence n q e)) (not_nexts (sequence_word n) at.1) (not_marks (sequence_word n) at.1)
 
     jobs_same : (j : ℕ) → j < 16 → word_of c (job_word j) ≡ word_of chip (job_word j)
-    jobs_same j lt = word_same (job_word j) (not_order unit (job_word j) (λ e. omega (arith, few, e)) (λ e. omega (arith, few, e)) (λ e. omega (arith, few, e))) (λ e. omega (arith, lt, e)) (λ e. omega (arith, e)) (λ e. omega (arith, e))
+    jobs_same j lt = let at = job_at j lt in word_same (job_word j) (high_order unit (job_word j) few at.1) (before_sequences q (job_word j) at.0) (not_nexts (job_word j) at.2) (not_marks (job_word j) at.2)
 
     orders : (u : ℕ) → u < 2 → ranked.Holds (record { at = order_word u }) (word_of c) (entries_of d (view after) u)
     orders u lt = by (same_or_other u unit)
@@ -158,7 +159,8 @@ module _ (d : SpiTable) (fits : FitsSpi d) (below : Holds) (chip : Chip) (w : Wo
         other_words ne j own =
             let low = from_order u j own in
             let high = to_order u j own in
-            sym (word_same j (not_order unit j (λ e. ne (omega (arith, low, high, e, lt, few))) (λ e. ne (omega (arith, low, high, e, lt, few))) (λ e. ne (omega (arith, low, high, e, lt, few)))) (λ e. omega (arith, e, high, lt)) (λ e. omega (arith, e, low)) (λ e. omega (arith, e, low)))
+            let at = order_at u j lt low high in
+            sym (word_same j (other_order unit u j few lt ne low high) (before_sequences q j at.0) (not_nexts j at.1) (not_marks j at.1))
 
         by : (u ≡ unit) ⊎ (u ≢ unit) → ranked.Holds (record { at = order_word u }) (word_of c) (entries_of d (view after) u)
         by (inl e) = subst (λ n. ranked.Holds (record { at = order_word n }) (word_of c) (entries_of d (view after) n)) (sym e) (subst (λ xs. ranked.Holds (record { at = order_word unit }) (word_of c) xs) (sym (order_with d fits (view s) h.sound q small x known free rests on unit refl)) holds)
@@ -169,7 +171,7 @@ module _ (d : SpiTable) (fits : FitsSpi d) (below : Holds) (chip : Chip) (w : Wo
 
     wordly : SequencesAgree d (word_of c) (view after)
     wordly = accepted_words d fits (view s) h.sound q small x known free rests on (word_of chip) (word_of c) (h.words.on on).sequences others_same
-        (differs.others (sequence_word q) (apart (sequence_word q) (inr (omega arith))) ∙ third_told) (differs.others NEXTS (apart NEXTS (inl (omega arith))) ∙ third_nexts) (differs.others MARKS (apart MARKS (inl (omega arith))) ∙ third_marks) jobs_same orders
+        (differs.others (sequence_word q) (apart (sequence_word q) (inr (sequence_at q).0)) ∙ third_told) (differs.others NEXTS (apart NEXTS (inl nexts_at.1)) ∙ third_nexts) (differs.others MARKS (apart MARKS (inl marks_at.1)) ∙ third_marks) jobs_same orders
 
     nexts_kept : (u : ℕ) → u < 2 → (g : Option Going) → RunsNext d (view s) u g → RunsNext d (view after) u g
     nexts_kept u lt None n = tt
@@ -178,7 +180,7 @@ module _ (d : SpiTable) (fits : FitsSpi d) (below : Holds) (chip : Chip) (w : Wo
     -- the frame owes a start
     accepted_now : (by : Origin Call) (acted : Option Answer) → StandsIn c w → SpiAgrees d (record { by = by; what = Debt unit; acted = acted } ∷ below) c w after
     accepted_now by acted stands = firsts_changed d fits below (record { by = by; what = Debt unit; acted = acted } ∷ below) chip c w s h on (holds_debt d (record { by = by; what = Debt unit; acted = acted }) unit below refl) stands (ap (λ x. x.wiring) differs.rest) (ap (λ x. x.serials.units) differs.rest) (ap (λ x. x.control) differs.rest) above
-        (word_same STATE (apart STATE (inl (omega arith))) (λ e. omega (arith, e)) (λ e. omega (arith, e)) (λ e. omega (arith, e))) runs_same after.pending after.requests after.sequence_results after.job_results ((few, on), h.right) soundly (λ u lt. nexts_kept u lt (h.going u) (h.nexts u lt)) wordly owed
+        (word_same STATE (apart STATE (inl state_at.1)) (before_sequences q STATE state_at.2) state_apart.0 state_apart.1) runs_same after.pending after.requests after.sequence_results after.job_results ((few, on), h.right) soundly (λ u lt. nexts_kept u lt (h.going u) (h.nexts u lt)) wordly owed
       where
         owed_by : (u : ℕ) (p : Pending) → u < 2 → h.going u ≡ None → is_for d u p ≡ true → Contains s.pending p ⊎ (new d fits (view s) h.sound q small x known free rests on ≡ p) → (unit == u) || is_owed u below ≡ true
         owed_by u p lt none for (inl there) = or_right (unit == u) (h.owed u p lt none there for)
@@ -213,7 +215,7 @@ module _ (d : SpiTable) (fits : FitsSpi d) (below : Holds) (chip : Chip) (w : Wo
       Done c = SpiAgrees d (record { by = by; what = Debt unit; acted = acted } ∷ below) c w after
 
       held : ranked.Holds (record { at = order_word unit }) (word_of third) (entries_of d (view s) unit)
-      held = holds-agree (record { at = order_word unit }) (word_of chip) (word_of third) (entries_of d (view s) unit) (λ j own. let low = from_order unit j own in let high = to_order unit j own in sym (third_other j (λ e. omega (arith, e, high, few)) (λ e. omega (arith, e, low)) (λ e. omega (arith, e, low)))) ((h.words.on on).sequences.orders unit few)
+      held = holds-agree (record { at = order_word unit }) (word_of chip) (word_of third) (entries_of d (view s) unit) (λ j own. let at = order_at unit j few (from_order unit j own) (to_order unit j own) in sym (third_other j (before_sequences q j at.0) (not_nexts j at.1) (not_marks j at.1))) ((h.words.on on).sequences.orders unit few)
 
       absent : order.is_there q (entries_of d (view s) unit) ≡ false
       absent = not_true (order.is_there q (entries_of d (view s) unit)) (λ e. by_entry (there_back (is_running s) q (filter (is_for d unit) s.pending) e))

@@ -1,8 +1,5 @@
-use Rattle.std.proofs.Common.{◌≡◌, ◌∙◌, ap}
 use Rattle.std.specs.Prelude.{string_bytes}
 use Rattle.std.proofs.lemmas.Result.{IfOk-weaker}
-use Rattle.run_model.specs.Entry.{entries}
-use Rattle.bench_report.specs.Pages.{script_put, beginning}
 use Rattle.bench_report.proofs.Ends.{is_report, is_longer, shown_is_longer}
 use Rattle.bench_report.proofs.whole.report.Goals as goal
 
