@@ -3,6 +3,7 @@ pub mod Lines
 pub mod Pages
 pub mod Registers
 pub mod Report
+pub mod RowParts
 pub mod Rows
 pub mod Showing
 pub mod Shown

@@ -1,5 +1,6 @@
 ghost use Rattle.std.specs.Prelude.{◌≡◌, ◌++◌, OnOk, Some, string_bytes};
 ghost use Rattle.bench_report.specs.Lines.{numbered, Shows};
+ghost use Rattle.bench_report.specs.RowParts.{parts_text};
 ghost use Rattle.bench_report.specs.Rows as spec;
 
 use std::alloc::AllocError;
@@ -28,20 +29,42 @@ pub enum RowName {
     Receive(u32),
 }
 
+/// What the name of a row is put together from.
+#[derive(Clone, Copy)]
+enum Parts {
+    /// A word and a number.
+    Numbered(&'static str, u32),
+    /// A word and two numbers.
+    Placed(&'static str, u32, u32),
+    /// A word, a number and a word.
+    Between(&'static str, u32, &'static str),
+}
+
+/// The parts of a row's name.
+fn parts_of(name: RowName) -> Parts
+    ensures { parts_text result ≡ spec.name_text name }
+{
+    match name {
+        RowName::Pin(pin) => Parts::Numbered("pin ", pin),
+        RowName::Ram(section) => Parts::Numbered("ram ", section),
+        RowName::Wire(unit) => Parts::Numbered("wire ", unit),
+        RowName::Stamps(channel) => Parts::Numbered("icu ", channel),
+        RowName::Results(group, buffer) => Parts::Placed("adc ", group, buffer),
+        RowName::Source(channel) => Parts::Between("spi ", channel, " src"),
+        RowName::Destination(channel) => Parts::Between("spi ", channel, " dst"),
+        RowName::Transmit(channel) => Parts::Between("spi ", channel, " tx"),
+        RowName::Receive(channel) => Parts::Between("spi ", channel, " rx"),
+    }
+}
+
 impl fmt::Display for RowName {
     ghost output = { λ n. Some (spec.name_text n) };
 
     fn fmt<W: fmt::Write>(&self, f: &mut fmt::Formatter<W>) -> fmt::Result {
-        match *self {
-            RowName::Pin(pin) => write!(f, "pin {pin}"),
-            RowName::Ram(section) => write!(f, "ram {section}"),
-            RowName::Wire(unit) => write!(f, "wire {unit}"),
-            RowName::Stamps(channel) => write!(f, "icu {channel}"),
-            RowName::Results(group, buffer) => write!(f, "adc {group} {buffer}"),
-            RowName::Source(channel) => write!(f, "spi {channel} src"),
-            RowName::Destination(channel) => write!(f, "spi {channel} dst"),
-            RowName::Transmit(channel) => write!(f, "spi {channel} tx"),
-            RowName::Receive(channel) => write!(f, "spi {channel} rx"),
+        match parts_of(*self) {
+            Parts::Numbered(word, number) => write!(f, "{word}{number}"),
+            Parts::Placed(word, number, place) => write!(f, "{word}{number} {place}"),
+            Parts::Between(word, number, last) => write!(f, "{word}{number}{last}"),
         }
     }
 }

@@ -8,6 +8,7 @@ pub mod Parts
 pub mod Readings
 pub mod Requests
 pub mod Rest
+pub mod Same
 pub mod Scanned
 pub mod Table
 pub mod Values

@@ -6,14 +6,14 @@ use Rattle.std.proofs.lemmas.List.{drop-drop}
 use Rattle.std.proofs.lemmas.Bool.Decides.{nat_tests}
 use Rattle.bench_script.specs.Lines.{is_blank}
 use Rattle.bench_script.specs.Scanned.{begins, after_line, line_words, is_letter, with_word}
-use Rattle.bench_script.proofs.Scanned.{word_first, blank_more, begins_not, after_bytes}
+use Rattle.bench_script.proofs.Scanned.{word_first, blank_more}
 
 -- how many letters come first
 abbrev pub letters : List ℕ → ℕ
 letters xs = position_or_len (λ b. not (is_letter b)) xs
 
 -- the byte at a place, and those after it
-byte_at : (xs : List ℕ) (place : ℕ) → place < length xs → drop place xs ≡ get_or xs place 0 ∷ drop (place + 1) xs
+pub byte_at : (xs : List ℕ) (place : ℕ) → place < length xs → drop place xs ≡ get_or xs place 0 ∷ drop (place + 1) xs
 byte_at xs place within = rw add-one (drop-cons xs place 0 within)
 
 pub begins_at : (p : ℕ → Bool) (xs : List ℕ) (place : ℕ) → place < length xs → begins p (drop place xs) ≡ p (get_or xs place 0)
@@ -65,29 +65,6 @@ kept_to now old new text start place before word read keeps e =
 
 pub blank_kept : {W : Type 0} (now : W → List ℕ) (words : List W) (text : List ℕ) (place : ℕ) → line_words text ≡ option_map (λ ws. map now words ++ ws) (line_words (drop place text)) → place < length text → is_blank (get_or text place 0) ≡ true → line_words text ≡ option_map (λ ws. map now words ++ ws) (line_words (drop (place + 1) text))
 blank_kept now words text place read within e = read ∙ ap (option_map (λ ws. map now words ++ ws)) (blank_on text place within e)
-
--- the same by where the letters end
-pub ends_at : (xs : List ℕ) (start end : ℕ) → end ≡ start + letters (drop start xs) → begins is_letter (drop end xs) ≡ false
-ends_at xs start end e =
-    let rest : drop (letters (drop start xs)) (drop start xs) ≡ drop end xs = drop-drop (letters (drop start xs)) start xs ∙ ap (λ (n : ℕ). drop n xs) (sym e) in
-    ap (begins is_letter) (sym rest) ∙ begins_not is_letter (drop start xs)
-
-pub after_word : (xs : List ℕ) (start end : ℕ) → end ≡ start + letters (drop start xs) → after_line xs ≡ after_line (drop start xs) → after_line xs ≡ after_line (drop end xs)
-after_word xs start end e h =
-    let rest : drop (letters (drop start xs)) (drop start xs) ≡ drop end xs = drop-drop (letters (drop start xs)) start xs ∙ ap (λ (n : ℕ). drop n xs) (sym e) in
-    h ∙ (sym (after_bytes is_letter (drop start xs) letter_stays) ∙ ap after_line rest)
-
-pub kept_at : {W : Type 0} (now : W → List ℕ) (old new : List W) (text : List ℕ) (start end : ℕ) → end ≡ start + letters (drop start text) → line_words text ≡ option_map (λ ws. map now old ++ ws) (line_words (drop start text)) → ((o : Option (List (List ℕ))) → option_map (λ ws. map now old ++ ws) (with_word (take (end - start) (drop start text)) o) ≡ option_map (λ ws. map now new ++ ws) o) → line_words text ≡ option_map (λ ws. map now new ++ ws) (line_words (drop end text))
-kept_at now old new text start end e read keeps =
-    let stops = ends_at text start end e in
-    let none = none_first (drop end text) stops in
-    let before : start ≤ end = omega arith in
-    let word : start + letters (drop start text) ≡ end + letters (drop end text) = omega arith in
-    kept_to now old new text start end before word read keeps stops
-
--- the bytes before a place that begins with no letter
-pub word_at : (xs : List ℕ) (start place : ℕ) → start + letters (drop start xs) ≡ place + letters (drop place xs) → begins is_letter (drop place xs) ≡ false → place ≡ start + letters (drop start xs)
-word_at xs start place h e = let none = none_first (drop place xs) e in omega arith
 
 -- no more words are there
 pub line_ends : {W : Type 0} (now : W → List ℕ) (words : List W) (text rest : List ℕ) (end : Option (Bor (List ℕ))) → line_words text ≡ option_map (λ ws. map now words ++ ws) (line_words rest) → after_line text ≡ after_line rest → MatchOption end (line_words rest ≡ None) (λ after. (line_words rest ≡ Some []) × (after.now ≡ after_line rest)) → MatchOption end (line_words text ≡ None) (λ after. (line_words text ≡ Some (map now words)) × (after.now ≡ after_line text))

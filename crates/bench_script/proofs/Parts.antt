@@ -1,13 +1,11 @@
 -- The parts of a text between line feeds, and its words.
-use Rattle.std.proofs.Common.{◌≡◌, ℕ, zero, suc, ◌+◌, ◌≤◌, ◌<◌, ◌==◌, List, [], ◌∷◌, Some, None, Bool, true, false, not, length, take, drop, refl, sym, subst, ◌∙◌, ap, arith, cond, ltb, ltb-true, rules, drop-cons, drop_of_length-le}
+use Rattle.std.proofs.Common.{◌≡◌, ℕ, suc, ◌+◌, ◌≤◌, ◌<◌, ◌==◌, List, [], ◌∷◌, Some, None, Bool, true, false, not, length, take, drop, refl, subst, ◌∙◌, ap, arith, cond, ltb, ltb-true}
 use Rattle.std.specs.List.{slice_split, onto_first, position, position_or_len, filter}
 use Rattle.std.specs.Str.Lines.{lines, lines_of_parts, strip_carriage_return}
-use Rattle.std.proofs.lemmas.List.Splits.{slice_split_first, slice_split-cons_no, slice_split-cons_yes}
-use Rattle.std.proofs.lemmas.List.Sums.{passes_at_first}
+use Rattle.std.proofs.lemmas.List.Splits.{slice_split_first, slice_split-cons_no}
 use Rattle.std.proofs.lemmas.Option.{cond_some}
-use Rattle.std.proofs.lemmas.Bool.{not-true, ne_eqb}
+use Rattle.std.proofs.lemmas.Bool.{ne_eqb}
 use Rattle.std.proofs.lemmas.Bool.Decides.{nat_tests}
-use Rattle.bench_script.specs.Lines.{is_blank, words_of}
 
 -- the place of the first byte that passes
 pub record IsPlace (p : ℕ → Bool) (xs : List ℕ) (n : ℕ) : Type 0 where
@@ -62,61 +60,10 @@ first_line xs n h =
     let s = some_part (λ b. b == 10) (drop (n + 1) xs) in
     ap lines_of_parts (cut (λ b. b == 10) xs n h) ∙ rw s.2
 
--- the lines of a text without one
-pub only_line : (xs : List ℕ) → position (λ b. b == 10) xs ≡ None → (length xs == 0) ≡ false → lines xs ≡ xs ∷ []
-only_line xs h e = ap lines_of_parts (uncut (λ b. b == 10) xs h) ∙ rw e
-
 -- blanks at the front of a text are left out
 one_more : (k x : ℕ) (xs : List ℕ) → drop (1 + k) (x ∷ xs) ≡ drop k xs
 one_more k x xs = let e : 1 + k ≡ suc k = omega arith in ap (λ (n : ℕ). drop n (x ∷ xs)) e
 
-blanks_more : (x : ℕ) (xs : List ℕ) (b : Bool) → is_blank x ≡ b → words_of xs ≡ words_of (drop (position_or_len (λ b. not (is_blank b)) xs) xs) → words_of (x ∷ xs) ≡ words_of (drop (position_or_len (λ b. not (is_blank b)) (x ∷ xs)) (x ∷ xs))
-blanks_more x xs true e ih =
-    let rest : drop (position_or_len (λ b. not (is_blank b)) (x ∷ xs)) (x ∷ xs) ≡ drop (position_or_len (λ b. not (is_blank b)) xs) xs = rw e (one_more _ x xs) in
-    rw (slice_split-cons_yes is_blank x xs e) (ih ∙ ap words_of (sym rest))
-blanks_more x xs false e ih = let same : drop (position_or_len (λ b. not (is_blank b)) (x ∷ xs)) (x ∷ xs) ≡ x ∷ xs = rw e refl in ap words_of (sym same)
-
-pub after_blanks : (xs : List ℕ) → words_of xs ≡ words_of (drop (position_or_len (λ b. not (is_blank b)) xs) xs)
-after_blanks [] = refl
-after_blanks (x ∷ xs) = blanks_more x xs (is_blank x) refl (after_blanks xs)
-
-pub first_words : (xs : List ℕ) (n : ℕ) → position (λ b. not (is_blank b)) xs ≡ Some n → words_of xs ≡ words_of (drop n xs)
-first_words xs n h =
-    let f = place_from (λ b. not (is_blank b)) xs n h in
-    subst (λ (k : ℕ). words_of xs ≡ words_of (drop k xs)) f.here (after_blanks xs)
-
--- a text of blanks has no words
-pub only_blanks : (xs : List ℕ) → position (λ b. not (is_blank b)) xs ≡ None → words_of xs ≡ []
-only_blanks xs h = after_blanks xs ∙ ap words_of (drop_of_length-le xs (no_place (λ b. not (is_blank b)) xs h))
-
--- a text that begins with a word
-begins_with : (y : ℕ) (ys : List ℕ) → position (λ b. not (is_blank b)) (y ∷ ys) ≡ Some 0 → is_blank y ≡ false
-begins_with y ys h =
-    let f = place_from (λ b. not (is_blank b)) (y ∷ ys) 0 h in
-    not-true (is_blank y) (rw f.here at (passes_at_first (λ b. not (is_blank b)) (y ∷ ys) 0 f.within))
-
--- the rest of a text from its first word on begins with that word
-pub from_word : (xs : List ℕ) (n : ℕ) → position (λ b. not (is_blank b)) xs ≡ Some n → position (λ b. not (is_blank b)) (drop n xs) ≡ Some 0
-from_word xs n h =
-    let f = place_from (λ b. not (is_blank b)) xs n h in
-    let within : n < length xs = omega arith in
-    let p = rw f.here at (passes_at_first (λ b. not (is_blank b)) xs 0 f.within) in
-    rw (drop-cons xs n 0 within) (rw p (search rules))
-
 -- a part that is no empty one is the first word
 pub first_word : (y : ℕ) (ys : List ℕ) (parts : List (List ℕ)) → filter (λ (w : List ℕ). not (length w == 0)) ((y ∷ ys) ∷ parts) ≡ (y ∷ ys) ∷ filter (λ (w : List ℕ). not (length w == 0)) parts
 first_word y ys parts = let e : (length (y ∷ ys) == 0) ≡ false = ne_eqb _ _ (λ (z : length (y ∷ ys) ≡ 0). omega arith) in rw e refl
-
--- a word that ends at a blank
-before_blank : (y : ℕ) (ys : List ℕ) (n : ℕ) → is_blank y ≡ false → position is_blank (y ∷ ys) ≡ Some n → words_of (y ∷ ys) ≡ take n (y ∷ ys) ∷ words_of (drop (n + 1) (y ∷ ys))
-before_blank y ys zero w b = let f = place_from is_blank (y ∷ ys) 0 b in absurd (omega (arith, rw w at f.here))
-before_blank y ys (suc n) w b = rw (cut is_blank (y ∷ ys) (suc n) b) (first_word y (take n ys) (slice_split is_blank (drop (suc n + 1) (y ∷ ys))))
-
-pub word_before_blank : (xs : List ℕ) (n : ℕ) → position (λ b. not (is_blank b)) xs ≡ Some 0 → position is_blank xs ≡ Some n → words_of xs ≡ take n xs ∷ words_of (drop (n + 1) xs)
-word_before_blank [] n h b = cc
-word_before_blank (y ∷ ys) n h b = before_blank y ys n (begins_with y ys h) b
-
--- a word that ends with its text
-pub last_word : (xs : List ℕ) → position (λ b. not (is_blank b)) xs ≡ Some 0 → position is_blank xs ≡ None → words_of xs ≡ xs ∷ []
-last_word [] h b = cc
-last_word (y ∷ ys) h b = rw (uncut is_blank (y ∷ ys) b) (first_word y ys [])

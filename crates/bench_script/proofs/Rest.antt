@@ -44,6 +44,10 @@ script_refused A items (faults.Number n) text old new number all line others h i
 script_refused A items (faults.Long n) text old new number all line others h i k = line_refused (faults.Long n) (script text) old number all line others h i (k (λ n. directives_from (number + 1 + 1) n others))
 script_refused A items faults.NoMemory text old new number all line others h i k = tt
 
+-- a line that is no text
+pub script_amiss : {V : Type 0} (items : V → List Directive) (text : List ℕ) (old : List Directive) (number : ℕ) (all : List (List ℕ)) (line : List ℕ) (others : List (List ℕ)) → script text ≡ prepended old (directives_from (number + 1) (length old) all) → all ≡ line ∷ others → read_line line ≡ Err kinds.NotText → GivesScript items (Err (faults.NotText (number + 1))) text
+script_amiss items text old number all line others h i e = script_refused (Unit {0}) items (faults.NotText (number + 1)) text old old number all line others h i (rw e (λ rest. refl))
+
 -- an order that is read where it is kept, behind the directives before it
 order_kept : (A : Type 0) (done : A) (old new : List Directive) (number : ℕ) (order : Order) (read : Result Order LineFault) → Ok order ≡ numbered number read → nat_lt (length old) 50000 ≡ true → new ≡ old ++ record { line = number; order = order } ∷ [] → KeepsLine (Ok done) old new number (read >>= (λ o. Ok (Some o)))
 order_kept A done old new number order (Ok o) e below n =

@@ -1,9 +1,8 @@
 -- The first line of a text and its words, byte by byte.
-use Rattle.std.proofs.Common.{◌≡◌, ℕ, suc, ◌+◌, ◌-◌, ◌≤◌, ◌==◌, List, [], ◌∷◌, ◌++◌, Option, Some, None, Bool, true, false, not, length, take, drop, refl, sym, ◌∙◌, ap, arith, cond, drop_of_length-le, append_assoc, map, Bor}
+use Rattle.std.proofs.Common.{◌≡◌, ℕ, suc, ◌+◌, ◌-◌, ◌≤◌, ◌==◌, List, [], ◌∷◌, Option, Some, None, Bool, true, false, not, length, take, drop, refl, sym, ◌∙◌, ap, arith, cond, drop_of_length-le, Bor}
 use Rattle.std.specs.Prelude.{◌&&◌, option_map, MatchOption, Err}
 use Rattle.std.specs.List.{slice_split, onto_first, position, position_or_len, filter}
 use Rattle.std.specs.Str.Lines.{lines, lines_of_parts, strip_carriage_return}
-use Rattle.std.proofs.lemmas.List.{map-append}
 use Rattle.std.proofs.lemmas.Bool.{ne_eqb}
 use Rattle.std.proofs.lemmas.Bool.Decides.{nat_tests}
 use Rattle.bench_script.specs.Lines.{before_comment, is_plain, is_text, is_blank, words_of}
@@ -153,25 +152,6 @@ blank_more x xs h =
 blanks : List ℕ → ℕ
 blanks xs = position_or_len (λ b. not (is_blank b)) xs
 
-blanks_more : (x : ℕ) (xs : List ℕ) (b : Bool) → is_blank x ≡ b → line_words (drop (blanks xs) xs) ≡ line_words xs → line_words (drop (blanks (x ∷ xs)) (x ∷ xs)) ≡ line_words (x ∷ xs)
-unfolding blanks
-blanks_more x xs true e ih = rw e (ap line_words (one_more _ x xs) ∙ (ih ∙ sym (blank_more x xs e)))
-blanks_more x xs false e ih = rw e refl
-
-pub blanks_out : (xs : List ℕ) → line_words (drop (position_or_len (λ b. not (is_blank b)) xs) xs) ≡ line_words xs
-unfolding blanks
-blanks_out [] = refl
-blanks_out (x ∷ xs) = blanks_more x xs (is_blank x) refl (blanks_out xs)
-
--- what stands after bytes that are no line feeds is in the line
-after_more : (p : ℕ → Bool) (x : ℕ) (xs : List ℕ) (b : Bool) → p x ≡ b → ((y : ℕ) → p y ≡ true → (y == 10) ≡ false) → after_line (drop (position_or_len (λ b. not (p b)) xs) xs) ≡ after_line xs → after_line (drop (position_or_len (λ b. not (p b)) (x ∷ xs)) (x ∷ xs)) ≡ after_line (x ∷ xs)
-after_more p x xs true e k ih = rw (e, k x e) (ap after_line (one_more _ x xs) ∙ ih)
-after_more p x xs false e k ih = rw e refl
-
-pub after_bytes : (p : ℕ → Bool) (xs : List ℕ) → ((x : ℕ) → p x ≡ true → (x == 10) ≡ false) → after_line (drop (position_or_len (λ b. not (p b)) xs) xs) ≡ after_line xs
-after_bytes p [] k = refl
-after_bytes p (x ∷ xs) k = after_more p x xs (p x) refl k (after_bytes p xs k)
-
 -- what stands after the bytes that pass begins with none
 begins_more : (p : ℕ → Bool) (x : ℕ) (xs : List ℕ) (b : Bool) → p x ≡ b → begins p (drop (position_or_len (λ b. not (p b)) xs) xs) ≡ false → begins p (drop (position_or_len (λ b. not (p b)) (x ∷ xs)) (x ∷ xs)) ≡ false
 begins_more p x xs true e ih = rw e (ap (begins p) (one_more _ x xs) ∙ ih)
@@ -271,49 +251,6 @@ no_parts x xs e r c b l = parts_on x xs e r c ∙ rw (other_is x l b c) refl
 pub no_words : (x : ℕ) (xs : List ℕ) → (x == 10) ≡ false → (begins (λ c. c == 10) xs && x == 13) ≡ false → (x == 35) ≡ false → is_blank x ≡ false → is_letter x ≡ false → line_words (x ∷ xs) ≡ None
 no_words x xs e r c b l = words_are (x ∷ xs) ∙ ap (option_map words_in) (no_parts x xs e r c b l)
 
--- the place of a byte, where there is one
-pub cut_at : (p : ℕ → Bool) (xs : List ℕ) (n : ℕ) → position p xs ≡ Some n → position_or_len p xs ≡ n
-cut_at p xs n h = (place_from p xs n h).here
-
-pub next_is : (xs ys : List ℕ) (p q : List ℕ) → ys ≡ drop (position_or_len (λ b. not (is_blank b)) xs) xs → p ≡ take (position_or_len (λ b. not (is_letter b)) ys) ys → q ≡ drop (position_or_len (λ b. not (is_letter b)) ys) ys → line_words xs ≡ with_word p (line_words q)
-next_is xs ys p q e f g = sym (blanks_out xs) ∙ (ap line_words (sym e) ∙ (word_first ys ∙ rw (f, g) refl))
-
-pub next_after : (xs ys q : List ℕ) → ys ≡ drop (position_or_len (λ b. not (is_blank b)) xs) xs → q ≡ drop (position_or_len (λ b. not (is_letter b)) ys) ys → after_line xs ≡ after_line q
-next_after xs ys q e g =
-    sym (after_bytes is_blank xs (λ x h. (blank_is x h).feed)) ∙ (ap after_line (sym e) ∙ (sym (after_bytes is_letter ys (λ x h. (letter_is x h).feed)) ∙ ap after_line (sym g)))
-
-pub next_letter : (ys q : List ℕ) → q ≡ drop (position_or_len (λ b. not (is_letter b)) ys) ys → begins is_letter q ≡ false
-next_letter ys q g = ap (begins is_letter) g ∙ begins_not is_letter ys
-
-none_more : (x : ℕ) (xs : List ℕ) (b : Bool) → is_letter x ≡ b → length (take (letters (x ∷ xs)) (x ∷ xs)) ≡ 0 → drop (letters (x ∷ xs)) (x ∷ xs) ≡ x ∷ xs
-unfolding letters
-none_more x xs true e h = absurd (omega (arith, rw (e, one_taken) at h))
-none_more x xs false e h = rw e refl
-
-none_taken : (ys : List ℕ) → length (take (letters ys) ys) ≡ 0 → drop (letters ys) ys ≡ ys
-unfolding letters
-none_taken [] h = refl
-none_taken (x ∷ xs) h = none_more x xs (is_letter x) refl h
-
-pub next_blank : (xs ys p q : List ℕ) → ys ≡ drop (position_or_len (λ b. not (is_blank b)) xs) xs → p ≡ take (position_or_len (λ b. not (is_letter b)) ys) ys → q ≡ drop (position_or_len (λ b. not (is_letter b)) ys) ys → length p ≡ 0 → begins is_blank q ≡ false
-unfolding letters
-next_blank xs ys p q e f g h =
-    let n : length (take (letters ys) ys) ≡ 0 = ap length (sym f) ∙ h in
-    ap (begins is_blank) (g ∙ none_taken ys n ∙ e) ∙ begins_not is_blank xs
-
--- one more word is kept
-with_some : (v : List ℕ) (o : Option (List (List ℕ))) → (length v == 0) ≡ false → with_word v o ≡ option_map (λ ws. v ∷ ws) o
-with_some [] o e = cc
-with_some (x ∷ xs) o e = refl
-
-kept_more : {W : Type 0} (now : W → List ℕ) (old : List W) (w : W) (o : Option (List (List ℕ))) → option_map {U = List (List ℕ)} (λ ws. map now old ++ ws) (option_map (λ ws. now w ∷ ws) o) ≡ option_map (λ ws. map now (old ++ w ∷ []) ++ ws) o
-kept_more now old w None = refl
-kept_more now old w (Some ws) = rw (map-append, append_assoc) refl
-
-pub word_kept : {W : Type 0} (now : W → List ℕ) (old new : List W) (w : W) (text rest after : Option (List (List ℕ))) → new ≡ old ++ w ∷ [] → text ≡ option_map (λ ws. map now old ++ ws) rest → rest ≡ with_word (now w) after → (length (now w) == 0) ≡ false → text ≡ option_map (λ ws. map now new ++ ws) after
-word_kept now old new w text rest after n t r e =
-    t ∙ (ap (option_map (λ ws. map now old ++ ws)) (r ∙ with_some (now w) after e) ∙ (kept_more now old w after ∙ ap (λ (ws : List _). option_map (λ vs. map now ws ++ vs) after) (sym n)))
-
 -- a carriage return ends a line before a line feed, and is no text elsewhere
 pub return_ends : (rest : List ℕ) (o : Option (Bor (List ℕ))) → MatchOption o (begins (λ b. b == 10) rest ≡ false) (λ after. rest ≡ 10 ∷ after.now) → MatchOption o (line_words (13 ∷ rest) ≡ None) (λ after. (line_words (13 ∷ rest) ≡ Some []) × (after.now ≡ after_line (13 ∷ rest)))
 return_ends rest None h = no_words 13 rest refl (rw h refl) refl refl refl
@@ -323,10 +260,6 @@ return_ends rest (Some after) h = rw h (refl, refl)
 pub some_lines : (xs : List ℕ) → (length xs == 0) ≡ false → lines xs ≡ first_line xs ∷ lines (after_line xs)
 some_lines [] e = cc
 some_lines (x ∷ xs) e = lines_first x xs
-
-pub no_lines : (xs : List ℕ) → (length xs == 0) ≡ true → lines xs ≡ []
-no_lines [] e = refl
-no_lines (x ∷ xs) e = cc (e, ne_eqb (length (x ∷ xs)) 0 (λ (h : length (x ∷ xs) ≡ 0). omega arith))
 
 shorter_by : (x : ℕ) (xs : List ℕ) (b : Bool) → (x == 10) ≡ b → length (after_line xs) ≤ length xs → length (after_line (x ∷ xs)) ≤ length xs
 shorter_by x xs true e h = rw e (omega arith)

@@ -1,5 +1,5 @@
-ghost use Rattle.std.specs.Prelude.{◌≡◌, ◌==◌, ◌<◌, ◌≤◌, [], ◌∷◌, ◌++◌, ◌+◌, ℕ, List, Option, true, false, Some, None, MatchOption, IfSome, IfOk, OnOk, length, map, not, drop, option_map};
-ghost use Rattle.std.specs.List.{position, position_or_len};
+ghost use Rattle.std.specs.Prelude.{◌≡◌, ◌==◌, ◌<◌, ◌≤◌, [], ◌∷◌, ◌++◌, ℕ, List, Option, true, false, Some, None, MatchOption, IfSome, IfOk, OnOk, length, map, option_map};
+ghost use Rattle.std.specs.List.{position};
 ghost use Rattle.std.specs.Str.Lines.{strip_carriage_return};
 ghost use Rattle.bench_script.specs.Lines as spec;
 ghost use Rattle.bench_script.specs.Scanned as scanned;
@@ -47,7 +47,9 @@ pub fn split_file(text: &[u8]) -> Option<(&[u8], &[u8])>
     }
 }
 
-/// What comes after the line feed of a line of which the rest is a comment.
+/// What comes after the line feed of a line of which the rest is a comment. Not inlined, so that the loop over a line
+/// counts no more than its place.
+#[inline(never)]
 fn after_comment(text: &[u8]) -> &[u8]
     ensures { result.now ≡ scanned.after_line text.now }
 {
@@ -57,7 +59,8 @@ fn after_comment(text: &[u8]) -> &[u8]
     }
 }
 
-/// What comes after a line feed at the front of a text.
+/// What comes after a line feed at the front of a text. Not inlined, for the same reason.
+#[inline(never)]
 fn after_feed(text: &[u8]) -> Option<&[u8]>
     ensures { MatchOption result (scanned.begins (λ b. b == 10) text.now ≡ false) (λ after. text.now ≡ 10 ∷ after.now) }
 {
@@ -78,18 +81,6 @@ fn after_end(byte: u8, rest: &[u8]) -> Option<&[u8]>
         b'\r' => after_feed(rest),
         b'#' => Some(after_comment(rest)),
         _ => None,
-    }
-}
-
-/// What comes after a line of which no more words are there; none where it goes on with a byte that is no text.
-fn end_of_line(text: &[u8]) -> Option<&[u8]>
-    requires blank { scanned.begins spec.is_blank text.now ≡ false }
-    requires letter { scanned.begins scanned.is_letter text.now ≡ false }
-    ensures { MatchOption result (scanned.line_words text.now ≡ None) (λ after. (scanned.line_words text.now ≡ Some []) × (after.now ≡ scanned.after_line text.now)) }
-{
-    match text {
-        [] => Some(&[]),
-        [byte, rest @ ..] => after_end(*byte, rest),
     }
 }
 
@@ -138,20 +129,6 @@ fn is_letter(byte: u8) -> bool
     letters()[byte as usize]
 }
 
-/// The end of the letters of a text from a place on.
-fn end_of_word(text: &[u8], start: usize) -> usize
-    requires { start ≤ length text.now }
-    ensures end { result ≡ start + position_or_len (λ b. not (scanned.is_letter b)) (drop start text.now) }
-    ensures within { result ≤ length text.now }
-    ensures after { start ≤ result }
-{
-    let mut place = start;
-    while place < text.len() && is_letter(text[place]) {
-        place += 1;
-    }
-    place
-}
-
 /// Keeps a word behind others, unless it is empty.
 fn keep_word<'a>(words: &mut Vec<&'a [u8]>, word: &'a [u8]) -> Result<(), AllocError>
     ensures { OnOk result ((o : Option (List (List ℕ))) → option_map (λ ws. map (λ w. w.now) words.old.items ++ ws) (scanned.with_word word.now o) ≡ option_map (λ ws. map (λ w. w.now) words.new.items ++ ws) o) }
@@ -173,13 +150,18 @@ pub(crate) fn line_words<'a>(
 {
     words.clear();
     let mut start = 0;
-    while start < text.len() {
-        let end = end_of_word(text, start);
-        keep_word(words, &text[start..end])?;
-        if end == text.len() || !is_blank(text[end]) {
-            return Ok(end_of_line(&text[end..]));
+    let mut place = 0;
+    while place < text.len() {
+        let byte = text[place];
+        if !is_letter(byte) {
+            keep_word(words, &text[start..place])?;
+            if !is_blank(byte) {
+                return Ok(after_end(byte, &text[place + 1..]));
+            }
+            start = place + 1;
         }
-        start = end + 1;
+        place += 1;
     }
+    keep_word(words, &text[start..])?;
     Ok(Some(&[]))
 }

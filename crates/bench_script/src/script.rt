@@ -1,6 +1,5 @@
-ghost use Rattle.std.specs.Prelude.{◌≡◌, ◌≤◌, ◌<◌, ◌^◌, ◌∷◌, IfOk, length, map, vec_len};
+ghost use Rattle.std.specs.Prelude.{◌≡◌, ◌≤◌, ◌<◌, ◌^◌, ◌∷◌, length, map, vec_len};
 ghost use Rattle.bench_script.specs.Orders.{keyword_of, order_by_keyword, order_of, some_order};
-ghost use Rattle.bench_script.specs.Scanned.{first_line, after_line};
 ghost use Rattle.bench_script.specs.Script as spec;
 ghost use Rattle.bench_script.specs.Steps.{put};
 
@@ -96,30 +95,8 @@ fn keep_words(
     }
 }
 
-/// Reads the first line of a text, keeps the directive that it holds, and gives what comes after the line. The words
-/// are in a place that serves each line.
-fn keep_line<'a>(
-    words: &mut Vec<&'a [u8]>,
-    directives: &mut Vec<Directive>,
-    number: u32,
-    text: &'a [u8],
-) -> Result<&'a [u8], ScriptFault>
-    requires { vec_len directives.old ≤ 50000 }
-    ensures keeps { spec.KeepsLine result directives.old.items directives.new.items number
-        (spec.read_line (first_line text.now)) }
-    ensures after { IfOk result (λ after. after.now ≡ after_line text.now) }
-    ensures few { vec_len directives.new ≤ 50000 }
-{
-    match line_words(words, text)? {
-        Some(after) => {
-            keep_words(directives, number, words.as_slice())?;
-            Ok(after)
-        }
-        None => Err(LineFault::NotText.at(number)),
-    }
-}
-
-/// The directives of a script. Its first line that is refused is named, with the first reason for it.
+/// The directives of a script. Its first line that is refused is named, with the first reason for it. The words of each
+/// line are kept in one place.
 #[inline(never)]
 pub fn read_script(alloc: Global, text: &[u8]) -> Result<Vec<Directive>, ScriptFault>
     requires { length text.now < 2 ^ 32 }
@@ -131,7 +108,13 @@ pub fn read_script(alloc: Global, text: &[u8]) -> Result<Vec<Directive>, ScriptF
     let mut number = 0;
     while !rest.is_empty() {
         number += 1;
-        rest = keep_line(&mut words, &mut directives, number, rest)?;
+        match line_words(&mut words, rest)? {
+            Some(after) => {
+                keep_words(&mut directives, number, words.as_slice())?;
+                rest = after;
+            }
+            None => return Err(LineFault::NotText.at(number)),
+        }
     }
     Ok(directives)
 }

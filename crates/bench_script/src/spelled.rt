@@ -1,4 +1,4 @@
-ghost use Rattle.std.specs.Prelude.{◌≡◌, List, ℕ};
+ghost use Rattle.std.specs.Prelude.{◌≡◌, ◌≤◌, ◌+◌, List, ℕ, bytes_eq, length, take, drop};
 ghost use Rattle.mcal_base.specs.Names.{service_text, argument_text};
 ghost use Rattle.bench_script.specs.Words as spec;
 
@@ -14,13 +14,46 @@ pub(crate) trait Spelled: Copy {
         ensures { result.now ≡ spelling self };
 }
 
+/// The eight bytes of a word from a place on.
+#[inline(always)]
+fn eight_at(word: &[u8], place: usize) -> &[u8; 8]
+    requires { place + 8 ≤ length word.now }
+    ensures { result.now ≡ take 8 (drop place word.now) }
+{
+    word[place..].first_chunk::<8>().unwrap()
+}
+
+/// Whether two words of one length are the same. Long ones are compared by eight bytes, first the last eight,
+/// which others overlap.
+#[inline(always)]
+fn is_same(text: &[u8], word: &[u8]) -> bool
+    requires { length text.now ≡ length word.now }
+    ensures { result ≡ bytes_eq text.now word.now }
+{
+    if text.len() < 8 {
+        return text == word;
+    }
+    let last = text.len() - 8;
+    if *eight_at(text, last) != *eight_at(word, last) {
+        return false;
+    }
+    let mut place = 0;
+    while place + 8 < text.len() {
+        if *eight_at(text, place) != *eight_at(word, place) {
+            return false;
+        }
+        place += 8;
+    }
+    true
+}
+
 /// The first of the choices that a word spells.
 pub(crate) fn named<T: Spelled>(choices: &[T], word: &[u8]) -> Option<T>
     ensures { result ≡ spec.named T.spelling choices.now word.now }
 {
     choices.iter().copied().find(|choice| {
         let text = choice.spelled().as_bytes();
-        text.len() == word.len() && text == word
+        text.len() == word.len() && is_same(text, word)
     })
 }
 

@@ -22,8 +22,8 @@ use Rattle.bench_report.proofs.Items.{is_show}
 use Rattle.bench_report.proofs.Journals.{nothing_shown, held_shown, one_shown}
 use Rattle.mcal_system.specs.Runs.{SystemRun, IsSameRun, AddsItems, moment_of, moment_after, most_steps, bound_of}
 use Rattle.mcal_system.specs.Setting.{SystemState, SystemCall, system_setting, call_of}
-use Rattle.bench_top.specs.Runs.{IsKept, IsShown, shows_of, IsWholeRun, IsStoppedRun}
-use Rattle.bench_top.specs.Shows.{show_rows, shown_by}
+use Rattle.bench_top.specs.Runs.{IsKept, IsShown, shown_by, shows_of, IsWholeRun, IsStoppedRun}
+use Rattle.shown_rows.specs.Shows.{show_rows}
 
 -- the texts of a run
 texts : (devices : ℕ) → Config → List Directive → List Entry → List (List ℕ)

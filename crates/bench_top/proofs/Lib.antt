@@ -10,6 +10,5 @@ pub mod LastLines
 pub mod Lines
 pub mod Numerals
 pub mod Promised
-pub mod Rows
 pub mod Scripts
 pub mod Stopping

@@ -1,8 +1,11 @@
 -- What the run of a script leaves: a run of all modules' machine over a configuration, from power on with the chip that
 -- the configuration wires, that has room for the words that the script gives to come in, and on which so many devices hang.
-use Rattle.std.specs.Prelude.{◌≡◌, ℕ, ◌<◌, ◌≤◌, Bool, false, List, [], Option}
+use Rattle.std.specs.Prelude.{◌≡◌, ℕ, ◌<◌, ◌≤◌, Bool, false, List, [], Option, Some, None}
 use Rattle.mcal_base.specs.declared.config.whole.Config.{Config}
 use Rattle.mcal_base.specs.declared.directive.Directive.{Directive}
+use Rattle.mcal_base.specs.declared.directive.Order.{Order}
+use Rattle.mcal_base.specs.declared.directive.Order.TheVariants.{Show}
+use Rattle.mcal_base.specs.declared.directive.Shown.{Shown}
 use Rattle.run_model.specs.Entry.{Entry}
 use Rattle.run_model.specs.Moment.{start_moment}
 use Rattle.run_model.specs.Stops.{steps_in}
@@ -13,7 +16,7 @@ use Rattle.bench_report.specs.Showing.{shows_from}
 use Rattle.bench_report.specs.Shown.{kept, texts_of}
 use Rattle.mcal_system.specs.Runs.{most_steps, bound_of, SystemRun}
 use Rattle.mcal_system.specs.Setting.{system_setting, call_of}
-use Rattle.bench_top.specs.Shows.{show_rows}
+use Rattle.shown_rows.specs.Shows.{show_rows}
 
 -- The whole script was run.
 pub record IsWholeRun (devices : ℕ) (config : Config) (script : List Directive) (journal : List Entry) : Type 0 where
@@ -24,6 +27,11 @@ pub record IsWholeRun (devices : ℕ) (config : Config) (script : List Directive
 pub record IsStoppedRun (devices : ℕ) (config : Config) (script : List Directive) (journal : List Entry) : Type 0 where
   pub run : IsStopped (system_setting config) (chip_for devices config script) call_of most_steps script journal
   pub bound : most_steps < bound_of config script
+
+-- what an order shows, where it is a show
+abbrev pub shown_by : Order → Option Shown
+shown_by (Show what) = Some what
+shown_by _ = None
 
 -- the rows of each show of a run, as the machine's state is there
 abbrev pub shows_of : (devices : ℕ) → Config → List Directive → List Entry → List (List Row)

@@ -7,7 +7,6 @@ mod input;
 mod output;
 mod refusal;
 mod run;
-mod show;
 mod tail;
 mod top;
 mod words;

@@ -6,15 +6,15 @@ ghost use Rattle.bench_report.specs.Shown.{kept};
 ghost use Rattle.run_model.specs.Exchanges.{AreToldBy};
 ghost use Rattle.mcal_system.specs.Runs.{AddsItems, IsSameRun, SystemRun};
 ghost use Rattle.mcal_system.specs.Setting.{has_service};
-ghost use Rattle.bench_top.specs.Shows as spec;
+ghost use Rattle.bench_top.specs.Runs as spec;
 ghost use Rattle.bench_top.specs.Runs.{IsWholeRun, IsStoppedRun, IsShown, IsKept};
 
-use crate::show::shown_text;
 use bench_report::ShownTexts;
 use mcal_base::{Config, Directive, NoMemory, Order, Shown};
 use mcal_system::System;
 use run_model::Journal;
 use serial_devices::SerialDevice;
+use shown_rows::shown_text;
 use std::alloc::{AllocError, Global};
 
 /// How a run ended.

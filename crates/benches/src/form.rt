@@ -29,12 +29,12 @@ impl Form {
         }
     }
 
-    /// The words of the command line that print it.
-    pub fn words(self) -> &'static [&'static str] {
+    /// The first line of the call that prints it, with the devices of the program.
+    pub fn first_line(self) -> &'static [u8] {
         match self {
-            Form::Report => &["run"],
-            Form::Trace => &["run", "--trace"],
-            Form::Check => &["check"],
+            Form::Report => b"run; rack",
+            Form::Trace => b"run --trace; rack",
+            Form::Check => b"check; rack",
         }
     }
 }

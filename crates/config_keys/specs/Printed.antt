@@ -4,6 +4,8 @@ use Rattle.mcal_base.specs.Names.{module_text}
 use Rattle.config_keys.specs.Names.{key_text}
 use Rattle.config_keys.specs.declared.key_name.KeyName.{KeyName}
 use Rattle.config_keys.specs.declared.fault.Path.{Path}
+use Rattle.config_keys.specs.declared.printed.Parts.{Parts}
+use Rattle.config_keys.specs.declared.printed.Parts.TheVariants as parts
 use Rattle.config_keys.specs.declared.fault.ConfigFault.{ConfigFault}
 use Rattle.config_keys.specs.declared.fault.ConfigFault.TheVariants.{NotToml, Missing, WrongKind, OutOfRange, Repeated, Unknown, Combination, NoMemory}
 
@@ -36,6 +38,12 @@ placed k at = decimal k ++ (codes " " ++ path_text at)
 
 abbrev pub placed_with : ℕ → Path → ℕ → List ℕ
 placed_with k at n = decimal k ++ (codes " " ++ (path_text at ++ (codes " " ++ decimal n)))
+
+-- the parts of a fault, as the code has them
+abbrev pub parts_text : Parts → List ℕ
+parts_text (parts.Alone number) = number.now
+parts_text (parts.Placed k at) = placed k at
+parts_text (parts.PlacedWith k at n) = placed_with k at n
 
 -- the fault's number, then its path, then its id or rule, where it has one
 abbrev pub fault_text : ConfigFault → List ℕ

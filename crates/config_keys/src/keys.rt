@@ -79,15 +79,10 @@ pub fn whole_if(
     ensures range { IfOk result (λ o. IfSome o (InRange low high)) }
     ensures needed { IfOk result (λ o. IsTrue needed → IsSome o) }
 {
-    match whole(table, at, key, low, high)? {
-        Some(number) => Ok(Some(number)),
-        None => {
-            if needed {
-                Err(ConfigFault::Missing(at.of_key(key)))
-            } else {
-                Ok(None)
-            }
-        }
+    if needed {
+        Ok(Some(needed_whole(table, at, key, low, high)?))
+    } else {
+        whole(table, at, key, low, high)
     }
 }
 
@@ -150,15 +145,10 @@ pub fn name_if<T: Named>(
     ensures gives { Gives result (spec.needed_if needed at key (name_kind T.named) (table_view table.now)) (spec.read_any key (name_kind T.named) (table_view table.now)) }
     ensures needed { IfOk result (λ o. IsTrue needed → IsSome o) }
 {
-    match name(table, at, key)? {
-        Some(named) => Ok(Some(named)),
-        None => {
-            if needed {
-                Err(ConfigFault::Missing(at.of_key(key)))
-            } else {
-                Ok(None)
-            }
-        }
+    if needed {
+        Ok(Some(needed_name(table, at, key)?))
+    } else {
+        name(table, at, key)
     }
 }
 

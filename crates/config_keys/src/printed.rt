@@ -52,6 +52,33 @@ impl fmt::Display for Path {
     }
 }
 
+/// What a printed fault is put together from.
+#[derive(Clone, Copy)]
+enum Parts {
+    /// The number alone.
+    Alone(&'static str),
+    /// The number and the path.
+    Placed(u32, Path),
+    /// The number, the path, and the id or the rule.
+    PlacedWith(u32, Path, u32),
+}
+
+/// The parts of a fault.
+fn parts_of(fault: ConfigFault) -> Parts
+    ensures { spec.parts_text result ≡ spec.fault_text fault }
+{
+    match fault {
+        ConfigFault::NotToml => Parts::Alone("1"),
+        ConfigFault::Missing(at) => Parts::Placed(2, at),
+        ConfigFault::WrongKind(at) => Parts::Placed(3, at),
+        ConfigFault::OutOfRange(at) => Parts::Placed(4, at),
+        ConfigFault::Repeated(at, id) => Parts::PlacedWith(5, at, id),
+        ConfigFault::Unknown(at, id) => Parts::PlacedWith(6, at, id),
+        ConfigFault::Combination(at, rule) => Parts::PlacedWith(7, at, rule),
+        ConfigFault::NoMemory => Parts::Alone("8"),
+    }
+}
+
 /// A fault as it is printed: its number, then its path, then its id or its rule, where it has one, with a space
 /// between them, as `5 Gpt.GptChannelConfiguration.1.GptChannelId 0`.
 #[derive(Clone, Copy)]
@@ -61,15 +88,10 @@ impl fmt::Display for Printed {
     ghost output = { λ p. Some (spec.fault_text p.0) };
 
     fn fmt<W: fmt::Write>(&self, f: &mut fmt::Formatter<W>) -> fmt::Result {
-        match self.0 {
-            ConfigFault::NotToml => f.write_str("1"),
-            ConfigFault::Missing(at) => write!(f, "{} {at}", 2),
-            ConfigFault::WrongKind(at) => write!(f, "{} {at}", 3),
-            ConfigFault::OutOfRange(at) => write!(f, "{} {at}", 4),
-            ConfigFault::Repeated(at, id) => write!(f, "{} {at} {id}", 5),
-            ConfigFault::Unknown(at, id) => write!(f, "{} {at} {id}", 6),
-            ConfigFault::Combination(at, rule) => write!(f, "{} {at} {rule}", 7),
-            ConfigFault::NoMemory => f.write_str("8"),
+        match parts_of(self.0) {
+            Parts::Alone(number) => f.write_str(number),
+            Parts::Placed(number, at) => write!(f, "{number} {at}"),
+            Parts::PlacedWith(number, at, more) => write!(f, "{number} {at} {more}"),
         }
     }
 }

@@ -11,7 +11,6 @@ use Rattle.mcal_base.specs.declared.service.Service.{Service}
 use Rattle.mcal_base.specs.declared.service.Service.TheVariants as services
 use Rattle.gpt_driver.specs.declared.call.Call.{Call}
 use Rattle.gpt_driver.specs.declared.call.Call.TheVariants.{Init, DeInit, SetMode, Channel}
-use Rattle.gpt_driver.specs.declared.call.Change as kinds
 use Rattle.gpt_driver.specs.declared.call.ChannelCall.{ChannelCall}
 use Rattle.gpt_driver.specs.declared.call.ChannelCall.TheVariants.{GetTimeElapsed, GetTimeRemaining, StartTimer, StopTimer, Change}
 use Rattle.gpt_driver.specs.declared.call.Change.TheVariants.{Notification, Wakeup, Check}
@@ -32,9 +31,6 @@ mode_of _ = None
 abbrev pub on : Option Argument → ChannelCall → Call
 on a call = Channel (number_of a) call
 
-abbrev pub changes : Option Argument → kinds.Change → Call
-changes a by = on a (Change by)
-
 -- the call of a service of the module with its arguments; that of another module asks for none, and what stands here for it is never asked for
 abbrev pub call_by : Service → (first second : Option Argument) → Call
 call_by services.GptDeInit a b = DeInit
@@ -43,11 +39,11 @@ call_by services.GptGetTimeElapsed a b = on a GetTimeElapsed
 call_by services.GptGetTimeRemaining a b = on a GetTimeRemaining
 call_by services.GptStartTimer a b = on a (StartTimer (number_of b))
 call_by services.GptStopTimer a b = on a StopTimer
-call_by services.GptEnableNotification a b = changes a (Notification true)
-call_by services.GptDisableNotification a b = changes a (Notification false)
-call_by services.GptEnableWakeup a b = changes a (Wakeup true)
-call_by services.GptDisableWakeup a b = changes a (Wakeup false)
-call_by services.GptCheckWakeup a b = changes a Check
+call_by services.GptEnableNotification a b = on a (Change (Notification true))
+call_by services.GptDisableNotification a b = on a (Change (Notification false))
+call_by services.GptEnableWakeup a b = on a (Change (Wakeup true))
+call_by services.GptDisableWakeup a b = on a (Change (Wakeup false))
+call_by services.GptCheckWakeup a b = on a (Change Check)
 call_by _ a b = Init
 
 abbrev pub call_of : Request → Call

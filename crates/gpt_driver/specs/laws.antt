@@ -14,4 +14,3 @@ pub mod Serve
 pub mod Start
 pub mod Stop
 pub mod Switch
-pub mod Windows

@@ -11,11 +11,11 @@ use crate::service::mode::ModeBody;
 use crate::service::start::{Start, StartBody};
 use crate::service::stop::StopBody;
 use crate::service::switch::SwitchBody;
-use crate::service::{self, GptBody};
+use crate::service::{ChannelBody, GptBody};
 use crate::words::STATE;
 use det_errors::{Facts, first_error};
 use mcal_base::{Answer, ErrorName, Service};
-use service_outline::{Done, Looked, Owed, Reply, nothing, number};
+use service_outline::{Done, Looked, Or, Owed, Reply, nothing, number};
 
 /// A call with the driver that it is made of.
 #[derive(Clone, Copy)]
@@ -89,47 +89,48 @@ impl Asked {
         ensures { result ≡ spec.begun_of self.now }
     {
         match self.call {
-            Call::Init => Looked::Goes(service::init_body(InitBody::Enable)),
+            Call::Init => Looked::Goes(Or::First(Or::First(InitBody::Enable))),
             Call::DeInit => {
                 let busy = self.driver.owed(Service::GptDeInit, ErrorName::GptBusy);
-                Looked::Goes(service::deinit_body(DeInitBody::Look(busy)))
+                Looked::Goes(Or::First(Or::Second(Or::First(DeInitBody::Look(busy)))))
             }
-            Call::SetMode(Some(GptMode::Normal)) => Looked::Goes(service::mode_body(
-                ModeBody::Wake,
-            )),
-            Call::SetMode(Some(GptMode::Sleep)) => {
-                Looked::Goes(service::mode_body(ModeBody::Gather(0, 0)))
+            Call::SetMode(Some(mode)) => {
+                let body = match mode {
+                    GptMode::Normal => ModeBody::Wake,
+                    GptMode::Sleep => ModeBody::Gather(0, 0),
+                };
+                Looked::Goes(Or::First(Or::Second(Or::Second(body))))
             }
             Call::SetMode(None) => let_be(),
             Call::Channel(number, call) => match self.driver.channel(number) {
-                Some(channel) => Looked::Goes(self.begin_at(channel, call)),
+                Some(channel) => Looked::Goes(Or::Second(Or::First(self.begin_at(channel, call)))),
                 None => let_be(),
             },
         }
     }
 
     /// The same, for a call that names a configured channel.
-    fn begin_at(&self, channel: Channel, call: ChannelCall) -> GptBody
+    fn begin_at(&self, channel: Channel, call: ChannelCall) -> ChannelBody
         ensures { result ≡ spec.begun_with self.now.driver channel call }
     {
         let number = channel.number;
         match call {
-            ChannelCall::GetTimeElapsed => service::count_body(CountBody::ElapsedLow(number)),
-            ChannelCall::GetTimeRemaining => service::count_body(CountBody::RemainingTarget(
+            ChannelCall::GetTimeElapsed => Or::First(Or::First(CountBody::ElapsedLow(number))),
+            ChannelCall::GetTimeRemaining => Or::First(Or::First(CountBody::RemainingTarget(
                 number,
-            )),
-            ChannelCall::StartTimer(value) => service::start_body(StartBody::Look(Start {
+            ))),
+            ChannelCall::StartTimer(value) => Or::First(Or::Second(StartBody::Look(Start {
                 channel: number,
                 value,
                 prescaler: channel.prescaler,
                 one_shot_bits: self.driver.one_shot_bits(),
                 busy: self.driver.owed(Service::GptStartTimer, ErrorName::GptBusy),
-            })),
-            ChannelCall::StopTimer if channel.one_shot => service::stop_body(StopBody::OneShot(
+            }))),
+            ChannelCall::StopTimer if channel.one_shot => Or::Second(Or::First(StopBody::OneShot(
                 number,
-            )),
-            ChannelCall::StopTimer => service::stop_body(StopBody::Continuous(number)),
-            ChannelCall::Change(change) => service::switch_body(SwitchBody::Load(number, change)),
+            ))),
+            ChannelCall::StopTimer => Or::Second(Or::First(StopBody::Continuous(number))),
+            ChannelCall::Change(change) => Or::Second(Or::Second(SwitchBody::Load(number, change))),
         }
     }
 }
@@ -150,13 +151,7 @@ fn refused(call: Call) -> Reply
 {
     match call {
         Call::Channel(_, ChannelCall::GetTimeElapsed | ChannelCall::GetTimeRemaining) => number(0),
-        Call::Channel(
-            _,
-            ChannelCall::StartTimer(_) | ChannelCall::StopTimer | ChannelCall::Change(_),
-        )
-        | Call::Init
-        | Call::DeInit
-        | Call::SetMode(_) => nothing(),
+        _ => nothing(),
     }
 }
 
@@ -164,32 +159,12 @@ fn refused(call: Call) -> Reply
 fn allows(call: ChannelCall, channel: Option<Channel>) -> bool
     ensures { result ≡ checks.allows call channel }
 {
-    match call {
-        ChannelCall::GetTimeElapsed
-        | ChannelCall::GetTimeRemaining
-        | ChannelCall::StartTimer(_)
-        | ChannelCall::StopTimer => channel.is_some(),
-        ChannelCall::Change(Change::Notification(_)) => has_notification(channel),
-        ChannelCall::Change(Change::Wakeup(_)) => has_wakeup(channel),
-        ChannelCall::Change(Change::Check) => true,
-    }
-}
-
-fn has_notification(channel: Option<Channel>) -> bool
-    ensures { result ≡ checks.has_notification channel }
-{
-    match channel {
-        Some(found) => found.notification,
-        None => false,
-    }
-}
-
-fn has_wakeup(channel: Option<Channel>) -> bool
-    ensures { result ≡ checks.has_wakeup channel }
-{
-    match channel {
-        Some(found) => found.wakeup,
-        None => false,
+    match (call, channel) {
+        (ChannelCall::Change(Change::Check), _) => true,
+        (_, None) => false,
+        (ChannelCall::Change(Change::Notification(_)), Some(found)) => found.notification,
+        (ChannelCall::Change(Change::Wakeup(_)), Some(found)) => found.wakeup,
+        (_, Some(_)) => true,
     }
 }
 
@@ -197,20 +172,11 @@ fn has_wakeup(channel: Option<Channel>) -> bool
 fn takes(call: ChannelCall, channel: Option<Channel>) -> bool
     ensures { result ≡ checks.takes call channel }
 {
-    match call {
-        ChannelCall::StartTimer(value) => has_value(value, channel),
-        ChannelCall::GetTimeElapsed
-        | ChannelCall::GetTimeRemaining
-        | ChannelCall::StopTimer
-        | ChannelCall::Change(_) => true,
-    }
-}
-
-fn has_value(value: u32, channel: Option<Channel>) -> bool
-    ensures { result ≡ checks.has_value value channel }
-{
-    match channel {
-        Some(found) => value != 0 && value <= found.tick_value_max,
-        None => false,
+    match (call, channel) {
+        (ChannelCall::StartTimer(_), None) => false,
+        (ChannelCall::StartTimer(value), Some(found)) => {
+            value != 0 && value <= found.tick_value_max
+        }
+        _ => true,
     }
 }

@@ -1,12 +1,12 @@
 use crate::asked::Asked;
 use crate::call::Call;
 use crate::driver::GptDriver;
+use crate::service::GptBody;
 use crate::service::serve::ServeBody;
-use crate::service::{self, GptBody};
 use chip_model::Bus;
 use mcal_base::ModuleName;
 use run_model::Class;
-use service_outline::Short;
+use service_outline::{Or, Short};
 use std::marker::Model;
 use step_runner::Module;
 
@@ -48,7 +48,7 @@ impl Module for GptDriver {
         match self.channel(line) {
             Some(channel) => {
                 let body = ServeBody::Look(channel.number);
-                Some(Short::Entering(service::serve_body(body)))
+                Some(Short::Entering(Or::Second(Or::Second(body))))
             }
             None => None,
         }

@@ -48,11 +48,17 @@ fn call_by(service: Service, first: Option<Argument>, second: Option<Argument>) 
         Service::GptGetTimeRemaining => on(first, ChannelCall::GetTimeRemaining),
         Service::GptStartTimer => on(first, ChannelCall::StartTimer(number(second))),
         Service::GptStopTimer => on(first, ChannelCall::StopTimer),
-        Service::GptEnableNotification => changes(first, Change::Notification(true)),
-        Service::GptDisableNotification => changes(first, Change::Notification(false)),
-        Service::GptEnableWakeup => changes(first, Change::Wakeup(true)),
-        Service::GptDisableWakeup => changes(first, Change::Wakeup(false)),
-        Service::GptCheckWakeup => changes(first, Change::Check),
+        Service::GptEnableNotification => on(
+            first,
+            ChannelCall::Change(Change::Notification(true)),
+        ),
+        Service::GptDisableNotification => on(
+            first,
+            ChannelCall::Change(Change::Notification(false)),
+        ),
+        Service::GptEnableWakeup => on(first, ChannelCall::Change(Change::Wakeup(true))),
+        Service::GptDisableWakeup => on(first, ChannelCall::Change(Change::Wakeup(false))),
+        Service::GptCheckWakeup => on(first, ChannelCall::Change(Change::Check)),
         _ => unreachable!(),
     }
 }
@@ -61,12 +67,6 @@ fn on(channel: Option<Argument>, call: ChannelCall) -> Call
     ensures { result ≡ spec.on channel call }
 {
     Call::Channel(number(channel), call)
-}
-
-fn changes(channel: Option<Argument>, change: Change) -> Call
-    ensures { result ≡ spec.changes channel change }
-{
-    on(channel, ChannelCall::Change(change))
 }
 
 impl Caller for GptDriver {

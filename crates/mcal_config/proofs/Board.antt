@@ -2,13 +2,11 @@
 use Rattle.std.proofs.Common.{◌≤◌, ℕ, List, [], ◌∷◌, arith}
 use Rattle.std.specs.Prelude.{Option, Bool}
 use Rattle.std.proofs.lemmas.List.Elements.{All-nil, All-cons}
-use Rattle.config_facts.specs.Ids.{InRange, IsList, IsTable, Keeps}
+use Rattle.config_facts.specs.Ids.{InRange, IsTable, Keeps}
 use Rattle.config_facts.specs.Rules.{ends_past, overlaps, initial_not_allowed, shares_pin, hardware_continuous, shares_trigger, single_with_samples, streaming_once, names_channel_twice, names_job_twice, mixes_units, shares_channel}
 use Rattle.config_facts.specs.Valid.{IsValid}
+use Rattle.config_tables.proofs.Levels.{in_range, ones}
 use Rattle.mcal_config.specs.Whole.{default_board}
-
-in_range : (low high n : ℕ) → low ≤ n → n ≤ high → InRange low high n
-in_range low high n a b = record { least = a; most = b }
 
 no_elements : {T : Type 0} (P : T → Type 0) (id : T → Option ℕ) (most : ℕ) → IsTable P id most []
 no_elements P id most = record { few = omega arith; each = All-nil P; once = λ i j d l m. absurd (omega arith) }
@@ -18,10 +16,6 @@ one_element P id most x h p = record { few = h; each = All-cons P x [] p (All-ni
 
 nothing_kept : {T : Type 0} (breaks : List T → T → Bool) → Keeps breaks []
 nothing_kept breaks = λ k d l. absurd (omega arith)
-
--- the levels of the two units at first
-pub ones : IsList 2 2 1 7 (1 ∷ 1 ∷ [])
-ones = record { enough = omega arith; few = omega arith; each = All-cons (InRange 1 7) 1 (1 ∷ []) (in_range 1 7 1 (omega arith) (omega arith)) (All-cons (InRange 1 7) 1 [] (in_range 1 7 1 (omega arith) (omega arith)) (All-nil (InRange 1 7))) }
 
 first_class : InRange 1 2 1
 first_class = in_range 1 2 1 (omega arith) (omega arith)

@@ -1,9 +1,9 @@
-pub mod Mcu
-pub mod Port
-pub mod Gpt
-pub mod Pwm
-pub mod Icu
-pub mod Adc
-pub mod SpiRules
-pub mod Spi
+pub use Rattle.config_tables.specs.Mcu
+pub use Rattle.config_tables.specs.Port
+pub use Rattle.config_tables.specs.Gpt
+pub use Rattle.config_tables.specs.Pwm
+pub use Rattle.config_tables.specs.Icu
+pub use Rattle.config_tables.specs.Adc
+pub use Rattle.config_tables.specs.SpiRules
+pub use Rattle.config_tables.specs.Spi
 pub mod Whole

@@ -15,13 +15,13 @@ use Rattle.mcal_base.specs.declared.config.gpt.GptConfig.{GptConfig}
 use Rattle.mcal_base.specs.declared.config.adc.AdcConfig.{AdcConfig}
 use Rattle.mcal_base.specs.declared.config.spi.SpiConfig.{SpiConfig}
 use Rattle.mcal_base.specs.declared.config.whole.Config.{Config}
-use Rattle.mcal_config.specs.Mcu as mcu_table
-use Rattle.mcal_config.specs.Port as port_table
-use Rattle.mcal_config.specs.Gpt as gpt_table
-use Rattle.mcal_config.specs.Pwm as pwm_table
-use Rattle.mcal_config.specs.Icu as icu_table
-use Rattle.mcal_config.specs.Adc as adc_table
-use Rattle.mcal_config.specs.Spi as spi_table
+use Rattle.config_tables.specs.Mcu as mcu_table
+use Rattle.config_tables.specs.Port as port_table
+use Rattle.config_tables.specs.Gpt as gpt_table
+use Rattle.config_tables.specs.Pwm as pwm_table
+use Rattle.config_tables.specs.Icu as icu_table
+use Rattle.config_tables.specs.Adc as adc_table
+use Rattle.config_tables.specs.Spi as spi_table
 
 -- the tree of a text, where it is TOML
 abbrev pub tree_of : List ℕ → Option Members

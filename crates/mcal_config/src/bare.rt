@@ -2,7 +2,7 @@ ghost use Rattle.std.specs.Prelude.{◌≡◌};
 ghost use Rattle.config_facts.specs.Valid.{IsValid};
 ghost use Rattle.mcal_config.specs.Whole as spec;
 
-use crate::spi::both_at_one;
+use config_tables::both_at_one;
 use mcal_base::{
     AdcConfig, AdcPriorityImplementation, Config, GptChannel, GptChannelMode, GptConfig, IcuConfig,
     McuConfig, PortConfig, PwmConfig, Short, SpiConfig,

@@ -3,15 +3,8 @@
 
 mod adc;
 mod bare;
-mod gpt;
-mod icu;
 mod laws;
 mod mcu;
-mod port;
-mod pwm;
-mod spi;
-mod spi_rules;
-mod spi_tables;
 mod whole;
 
 pub use bare::default_board;

@@ -6,14 +6,10 @@ ghost use Rattle.mcal_config.specs.Whole as spec;
 
 use crate::adc::Adc;
 use crate::bare::default_board;
-use crate::gpt::Gpt;
-use crate::icu::Icu;
 use crate::mcu::Mcu;
-use crate::port::Port;
-use crate::pwm::Pwm;
-use crate::spi::Spi;
 use config_keys::ConfigFault;
 use config_rows::read_module;
+use config_tables::{Gpt, Icu, Port, Pwm, Spi};
 use mcal_base::Config;
 use std::alloc::Global;
 use toml::Table;

@@ -66,17 +66,17 @@ use Rattle.spi_machine.specs.State.{SpiState, internal_word}
 use Rattle.spi_machine.specs.Table as serial_table
 use Rattle.spi_machine.specs.Table.{channel_of, is_internal_channel, length_by}
 use Rattle.spi_sequences.specs.Ground.{SpiAgrees}
-use Rattle.mcal_system.specs.Drivers.{clock, pins, timers, pulses, captures, converters, serial, drivers_of, as_one}
-use Rattle.mcal_system.specs.Frames.{SystemFrame}
+use Rattle.mcal_drivers.specs.Drivers.{clock, pins, timers, pulses, captures, converters, serial, drivers_of, as_one}
+use Rattle.mcal_drivers.specs.Frames.{SystemFrame}
 use Rattle.mcal_system.specs.Runs.{SystemRun, most_steps, bound_of, run_start, moment_of, AddsItems, CallsDevices}
-use Rattle.mcal_system.specs.Setting.{SystemState, SystemCall, clock_setting, pin_setting, timer_setting, pulse_setting, capture_setting, converter_setting, serial_setting, joined, system_setting, call_of}
-use Rattle.mcal_system.specs.Shows.{internal_at, level_at, ram_at, serial_channel, size_at, user_at}
-use Rattle.mcal_system.specs.declared.drivers.Drivers.{Drivers}
-use Rattle.mcal_system.proofs.SoundConverters.{sound_converters}
-use Rattle.mcal_system.proofs.SoundSerial.{array_length, sound_serial}
-use Rattle.mcal_system.proofs.Stamps.{size_few}
-use Rattle.mcal_system.proofs.Levels.{pin_level, ram_word, user_word}
-use Rattle.mcal_system.proofs.Resting.{Rests, rests, related, first_of, last_of, middle_of, opens-some, second_of}
+use Rattle.mcal_drivers.specs.Setting.{SystemState, SystemCall, clock_setting, pin_setting, timer_setting, pulse_setting, capture_setting, converter_setting, serial_setting, joined, system_setting, call_of}
+use Rattle.mcal_drivers.specs.Shows.{internal_at, level_at, ram_at, serial_channel, size_at, user_at}
+use Rattle.mcal_drivers.specs.declared.drivers.Drivers.{Drivers}
+use Rattle.mcal_drivers.proofs.SoundConverters.{sound_converters}
+use Rattle.mcal_drivers.proofs.SoundSerial.{array_length, sound_serial}
+use Rattle.mcal_drivers.proofs.Stamps.{size_few}
+use Rattle.mcal_drivers.proofs.Levels.{pin_level, ram_word, user_word}
+use Rattle.mcal_drivers.proofs.Resting.{Rests, rests, related, first_of, last_of, middle_of, opens-some, second_of}
 
 abbrev pub Inner : Type 0
 Inner = engine.Run Drivers SystemFrame

@@ -1,14 +1,5 @@
 mod Carried
-mod Growing
-mod Joining
-mod Levels
-pub mod Limits
-mod Named
-mod Resting
-pub mod Sound
-mod SoundConverters
-pub mod SoundSerial
-mod Sources
-mod Stamps
 mod WireTold
-mod Wordless
+pub use Rattle.mcal_drivers.proofs.Limits
+pub use Rattle.mcal_drivers.proofs.Sound
+pub use Rattle.mcal_drivers.proofs.SoundSerial

@@ -33,12 +33,12 @@ use Rattle.spi_machine.proofs.Numbers.{same_or_other}
 use Rattle.spi_machine.specs.Promised.{shown_on}
 use Rattle.spi_machine.specs.Transfers.{shown}
 use Rattle.mcal_system.specs.Runs.{moment_after}
-use Rattle.mcal_system.specs.Setting.{SystemState, SystemCall, system_setting, call_of}
-use Rattle.mcal_system.specs.Shows.{wire_at}
+use Rattle.mcal_drivers.specs.Setting.{SystemState, SystemCall, system_setting, call_of}
+use Rattle.mcal_drivers.specs.Shows.{wire_at}
 use Rattle.mcal_system.specs.Wires.{Wire, untold, exchange, with_step, with_said, with_all, told_by, pairs}
 use Rattle.mcal_system.specs.declared.wires.Exchange.{Exchange}
-use Rattle.mcal_system.proofs.Growing.{step_grows}
-use Rattle.mcal_system.proofs.Wordless.{system_wired}
+use Rattle.mcal_drivers.proofs.Growing.{step_grows}
+use Rattle.mcal_drivers.proofs.Wordless.{system_wired}
 
 -- ---- the width of a unit
 

@@ -1,7 +1,4 @@
-pub mod Drivers
-pub mod Frames
-pub mod Laws
 pub mod Runs
-pub mod Setting
-pub mod Shows
 pub mod Wires
+pub use Rattle.mcal_drivers.specs.Setting
+pub use Rattle.mcal_drivers.specs.Shows

@@ -1,5 +1,6 @@
 -- A run of a script over all modules, as those see it who have its directives obeyed.
 use Rattle.std.specs.Prelude.{◌≡◌, ℕ, ◌+◌, ◌*◌, min, Bool, false, List, [], ◌++◌, length}
+use Rattle.config_facts.specs.Valid.{IsValid}
 use Rattle.mcal_base.specs.declared.config.whole.Config.{Config}
 use Rattle.mcal_base.specs.declared.directive.Directive.{Directive}
 use Rattle.run_model.specs.Devices.{AllCalls, AreTold}
@@ -9,7 +10,9 @@ use Rattle.run_model.specs.Moment.{Moment, start_moment, after_all}
 use Rattle.run_model.specs.Script.{deeds_of}
 use Rattle.serial_devices.specs.Lines.{Line}
 use Rattle.script_runner.specs.Scripts.{chip_for, script_bound}
-use Rattle.mcal_system.specs.Setting.{SystemState, SystemCall, system_setting, call_of}
+use Rattle.mcal_drivers.specs.Drivers.{drivers_of}
+use Rattle.mcal_drivers.specs.declared.drivers.Drivers.{Drivers}
+use Rattle.mcal_drivers.specs.Setting.{SystemState, SystemCall, system_setting, call_of}
 
 -- the most steps of a run
 abbrev pub most_steps : ℕ
@@ -66,3 +69,9 @@ pub record CallsDevices (before after : SystemRun) (old new : List Line) : Type 
   pub calls : AllCalls (system_setting before.config) (moment_of before) (deeds_of call_of before.script items) old new
   -- so the pairs and faults of each that is still there are those before, and the ones of those steps
   pub told : AreTold (system_setting before.config) (moment_of before) (deeds_of call_of before.script items) old new
+
+-- a run is over the drivers of its sound configuration, in at most so many steps
+pub record IsOver (config : Config) (drivers : Drivers) (limit : ℕ) : Type 0 where
+  pub valid : IsValid config
+  pub made : drivers ≡ drivers_of config
+  pub limited : limit ≡ most_steps

@@ -12,15 +12,15 @@ ghost use Rattle.run_model.specs.Script.{deeds_of};
 ghost use Rattle.run_model.specs.Stops.{FollowsToStop, steps_in};
 ghost use Rattle.script_runner.specs.Scripts.{IsScript, IsRun, IsStopped, AllOffered, chip_for};
 ghost use Rattle.mcal_system.specs.Runs.{most_steps, bound_of, run_start, moment_of, IsSameRun, AddsItems, CallsDevices};
-ghost use Rattle.mcal_system.specs.Setting.{system_setting, call_of, has_service};
-ghost use Rattle.mcal_system.specs.Shows.{internal_at, level_at, ram_at, results_at, serial_channel, size_at, user_at, wire_at};
+ghost use Rattle.mcal_drivers.specs.Setting.{system_setting, call_of, has_service};
+ghost use Rattle.mcal_drivers.specs.Shows.{internal_at, level_at, ram_at, results_at, serial_channel, size_at, user_at, wire_at};
 ghost use Rattle.mcal_system.specs.Wires.{pairs};
 ghost use Rattle.spi_machine.specs.Table.{is_internal_channel};
 
-use crate::drivers::Drivers;
 use crate::wires::{Exchange, told_by};
 use adc_machine::ResultBuffer;
 use mcal_base::{Array, Config, Directive, NoMemory};
+use mcal_drivers::Drivers;
 use run_model::Journal;
 use script_runner::{Engine, TooLong};
 use serial_devices::SerialDevice;
@@ -39,8 +39,7 @@ pub struct System<'s> {
 }
 
 impl<'s> Model for System<'s> {
-    ghost use Rattle.mcal_system.specs.Runs.{SystemRun};
-    ghost use Rattle.mcal_system.specs.Drivers.{IsOver};
+    ghost use Rattle.mcal_system.specs.Runs.{IsOver, SystemRun};
 
     ghost Value = { SystemRun };
 

@@ -94,6 +94,10 @@ change_of at line whats.Done = time at ++ codes "1o\n"
 abbrev pub change : Sign → List ℕ
 change s = change_of s.step s.number s.what
 
+-- the changes of all signs, behind what is declared
+unfoldable pub sign_changes : List Sign → List ℕ
+sign_changes signs = HEAD.now ++ flat_map change signs
+
 -- all changes; the last time lets what was told behind the last step be seen
 abbrev pub changes : ℕ → List Sign → List ℕ
-changes steps signs = (HEAD.now ++ flat_map change signs) ++ time (sum_up steps 1)
+changes steps signs = sign_changes signs ++ time (sum_up steps 1)

@@ -56,5 +56,9 @@ row s =
     step_cell s.step s.what ++ (codes " " ++ (indent s.number ++ (decimal s.number ++ (codes " " ++ (columns s.depth (character s.what) ++
     (codes " " ++ (mask_cell s.closed ++ (codes " " ++ (sentence s.what ++ codes "\n")))))))))
 
+-- the rows of all signs, behind what their columns have
+unfoldable pub sign_rows : List Sign → List ℕ
+sign_rows signs = HEAD.now ++ flat_map row signs
+
 abbrev pub rows : List Sign → List ℕ
-rows signs = HEAD.now ++ (flat_map row signs ++ FOOT.now)
+rows signs = sign_rows signs ++ FOOT.now

@@ -1,4 +1,4 @@
-ghost use Rattle.std.specs.Prelude.{◌≡◌, ◌++◌, Some, IfOk, OnOk, flat_map, string_bytes};
+ghost use Rattle.std.specs.Prelude.{◌≡◌, ◌++◌, Some, IfOk, OnOk, string_bytes};
 ghost use Rattle.trace_drawing.specs.Drawing.{sum_up};
 ghost use Rattle.trace_drawing.specs.Sentences.{purpose_text};
 ghost use Rattle.trace_drawing.specs.Changes as spec;
@@ -318,7 +318,7 @@ fn put_end(text: &mut String, steps: usize) -> Result<(), AllocError>
 
 /// The changes of all signs, behind what is declared.
 fn all_changes(alloc: Global, signs: &[Sign]) -> Result<String, AllocError>
-    ensures { IfOk result (λ text. string_bytes text ≡ HEAD.now ++ flat_map spec.change signs.now) }
+    ensures { IfOk result (λ text. string_bytes text ≡ spec.sign_changes signs.now) }
 {
     let mut text = String::from_str(alloc, HEAD)?;
     for sign in signs {

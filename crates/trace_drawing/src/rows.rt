@@ -1,4 +1,4 @@
-ghost use Rattle.std.specs.Prelude.{◌≡◌, ◌-◌, Some, IfOk, min, replicate, string_bytes};
+ghost use Rattle.std.specs.Prelude.{◌≡◌, ◌-◌, ◌++◌, Some, IfOk, OnOk, min, replicate, string_bytes};
 ghost use Rattle.trace_drawing.specs.Rows as spec;
 
 use crate::sentences::Sentence;
@@ -169,15 +169,30 @@ impl fmt::Display for Row {
     }
 }
 
+/// Puts the row of a sign.
+fn put_row(text: &mut String, sign: Sign) -> Result<(), AllocError>
+    ensures { OnOk result (string_bytes text.new ≡ string_bytes text.old ++ spec.row sign) }
+{
+    let row = Row(sign);
+    write!(text, "{row}")
+}
+
+/// The rows of all signs, behind what their columns have.
+fn all_rows(alloc: Global, signs: &[Sign]) -> Result<String, AllocError>
+    ensures { IfOk result (λ text. string_bytes text ≡ spec.sign_rows signs.now) }
+{
+    let mut text = String::from_str(alloc, HEAD)?;
+    for sign in signs {
+        put_row(&mut text, *sign)?;
+    }
+    Ok(text)
+}
+
 /// The signs as rows of characters.
 pub(crate) fn rows_of(alloc: Global, signs: &[Sign]) -> Result<String, AllocError>
     ensures { IfOk result (λ text. string_bytes text ≡ spec.rows signs.now) }
 {
-    let mut text = String::from_str(alloc, HEAD)?;
-    for sign in signs {
-        let row = Row(*sign);
-        write!(text, "{row}")?;
-    }
+    let mut text = all_rows(alloc, signs)?;
     text.push_str(FOOT)?;
     Ok(text)
 }

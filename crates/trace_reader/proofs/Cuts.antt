@@ -1,5 +1,5 @@
 -- Where a text is cut at the first byte that passes.
-use Rattle.std.proofs.Common.{◌≡◌, ℕ, ◌+◌, ◌-◌, ◌<◌, ◌≤◌, List, [], ◌∷◌, ◌++◌, length, take, drop, map, Some, None, Bool, true, false, refl, ◌∙◌, ap, sym, arith, cond, append_assoc}
+use Rattle.std.proofs.Common.{◌≡◌, ℕ, ◌+◌, ◌-◌, ◌<◌, ◌≤◌, List, [], ◌∷◌, length, take, drop, Some, None, Bool, true, false, refl, ◌∙◌, ap, sym, arith, cond}
 use Rattle.std.specs.Prelude.{◌==◌, nat_lt, not, option_map, if◌then◌else◌}
 use Rattle.std.specs.List.{slice_split, position, position_or_len}
 use Rattle.std.proofs.lemmas.Bool.{false≢true}
@@ -43,14 +43,6 @@ cut_here p text k h =
 -- none passes
 pub cut_nowhere : (p : ℕ → Bool) (text : List ℕ) → position p text ≡ None → slice_split p text ≡ text ∷ []
 cut_nowhere p text h = split_none p text (all_pass p text (none_case (position_or_len p text) (length text) _ refl h))
-
-map_push : {W : Type 0} (now : W → List ℕ) (words : List W) (word : W) → map now (words ++ word ∷ []) ≡ map now words ++ now word ∷ []
-map_push now [] word = refl
-map_push now (x ∷ words) word = ap (λ (ws : List (List ℕ)). now x ∷ ws) (map_push now words word)
-
--- one more word
-pub word_kept : {W : Type 0} (now : W → List ℕ) (words more : List W) (word : W) (all rest behind : List (List ℕ)) → more ≡ words ++ word ∷ [] → all ≡ map now words ++ rest → rest ≡ now word ∷ behind → all ≡ map now more ++ behind
-word_kept now words more word all rest behind e h r = h ∙ (ap (λ (ws : List (List ℕ)). map now words ++ ws) r ∙ (sym (append_assoc (map now words) (now word ∷ []) behind) ∙ ap (λ (ws : List (List ℕ)). ws ++ behind) (sym (map_push now words word) ∙ ap (map now) (sym e))))
 
 -- a text up to its first byte that passes, and the rest
 pub front_here : (p : ℕ → Bool) (text : List ℕ) (k : ℕ) → position p text ≡ Some k → take k text ≡ front p text

@@ -1,5 +1,6 @@
 pub mod Cuts
 pub mod Digits
+pub mod Eaches
 pub mod FeedLaws
 pub mod FoundRows
 pub mod Lengths

@@ -31,7 +31,7 @@ use Rattle.bench_report.specs.declared.rows.RowName.{RowName}
 use Rattle.bench_report.specs.declared.rows.RowName.TheVariants as names
 use Rattle.bench_report.specs.declared.rows.Value.{Value}
 use Rattle.bench_report.specs.declared.rows.Value.TheVariants as values
-use Rattle.trace_reader.specs.Guess.{words_of, before_colon, value, notice, found, marked, ending, guess, step, each, numbered, answer, is_numeral}
+use Rattle.trace_reader.specs.Guess.{words_of, before_colon, value, notice, found, marked, ending, followed, made_step, with_more, guess, each, numbered, answer, is_numeral}
 use Rattle.trace_reader.specs.Numbers.{number}
 use Rattle.trace_reader.specs.Told.{told, given, incoming, mark_of}
 use Rattle.trace_reader.specs.Trace.{IsNumber, HasMoveNumbers, HasEventNumber, HasLineNumbers, HasNameNumbers, HasValueNumbers, Each}
@@ -120,8 +120,8 @@ event_told (Some (events.Start unit)) = refl
 pub record Comes (made : Move) (received : ℕ) (words : List (List ℕ)) (kept : ℕ) : Type 0 where
   pub spaces : spaced (incoming_text made received) ≡ true
   pub split : tail_words (incoming_text made received) ≡ words
-  pub ends : (depth value : ℕ) (e : Option Event) → ending depth made value e words ≡ Some (Makes depth made value kept e)
-  pub plain : (depth value : ℕ) → marked depth made value words ≡ ending depth made value None words
+  pub ends : ending words ≡ Some kept
+  pub plain : marked words ≡ followed None words
   pub feedless : none (λ b. b == 10) (incoming_text made received) ≡ true
   pub same : incoming_text made kept ≡ incoming_text made received
   pub tells : incoming made kept ≡ incoming made received
@@ -138,8 +138,8 @@ silent made received e e0 i = record {
   comes = record {
     spaces = rw e refl;
     split = rw e refl;
-    ends = λ depth value event. refl;
-    plain = λ depth value. refl;
+    ends = refl;
+    plain = refl;
     feedless = rw e refl;
     same = e0 ∙ sym e;
     tells = i;
@@ -153,8 +153,8 @@ got unit sent received h = record {
   comes = record {
     spaces = refl;
     split = ap (λ (ws : List (List ℕ)). codes "got" ∷ ws) (one_word (decimal received) (no_space received h));
-    ends = λ depth value event. rw (number_again received h) refl;
-    plain = λ depth value. refl;
+    ends = rw (number_again received h) refl;
+    plain = refl;
     feedless = no_feed received h;
     same = refl;
     tells = refl;
@@ -233,12 +233,18 @@ comes (moves.Note notice) received h = silent (moves.Note notice) received refl 
 comes (moves.Report found) received h = silent (moves.Report found) received refl refl refl
 
 -- the event and the incoming word are read
-marked_again : (depth value : ℕ) (made : Move) (e : Option Event) (received : ℕ) (c : ComesAny made received) → HasEventNumber e → marked depth made value (event_words e ++ c.words) ≡ Some (Makes depth made value c.kept (plain_event e))
-marked_again depth value made None received c h = c.comes.plain depth value ∙ c.comes.ends depth value None
-marked_again depth value made (Some events.Act) received c h = c.comes.ends depth value (Some events.Act)
-marked_again depth value made (Some (events.Serve line)) received c h = rw (number_again line h) (c.comes.ends depth value (Some (events.Serve line)))
-marked_again depth value made (Some (events.Abort unit)) received c h = c.comes.ends depth value (Some (events.Abort units.Adc0))
-marked_again depth value made (Some (events.Start unit)) received c h = c.comes.ends depth value (Some (events.Start units.Adc0))
+followed_again : (event : Option Event) (made : Move) (received : ℕ) (c : ComesAny made received) → followed event c.words ≡ Some (event, c.kept)
+followed_again event made received c = ap (λ (o : Option ℕ). option_map (λ n. (event, n)) o) c.comes.ends
+
+marked_again : (made : Move) (e : Option Event) (received : ℕ) (c : ComesAny made received) → HasEventNumber e → marked (event_words e ++ c.words) ≡ Some (plain_event e, c.kept)
+marked_again made None received c h = c.comes.plain ∙ followed_again None made received c
+marked_again made (Some events.Act) received c h = followed_again (Some events.Act) made received c
+marked_again made (Some (events.Serve line)) received c h = rw (number_again line h) (followed_again (Some (events.Serve line)) made received c)
+marked_again made (Some (events.Abort unit)) received c h = followed_again (Some (events.Abort units.Adc0)) made received c
+marked_again made (Some (events.Start unit)) received c h = followed_again (Some (events.Start units.Adc0)) made received c
+
+made_again : (depth value : ℕ) (made : Move) (e : Option Event) (received : ℕ) (c : ComesAny made received) → HasEventNumber e → made_step depth made value (event_words e ++ c.words) ≡ Some (Makes depth made value c.kept (plain_event e))
+made_again depth value made e received c h = ap (λ (o : Option (Option Event × ℕ)). option_map (λ m. Makes depth made value m.1 m.0) o) (marked_again made e received c h)
 
 -- ---- the moves
 
@@ -271,20 +277,22 @@ move_split (moves.Note n) value s h v k = ap (λ (ws : List (List ℕ)). codes "
 move_split (moves.Report e) value s h v k = report_split e.runtime e.service (error_text e.error) s (error_plain e.error) k
 
 report_again : (depth received : ℕ) (b : Bool) (service : Service) (n : DevError) (e : Option Event) (c : ComesAny (moves.Report n) received) → IsNumber depth → HasEventNumber e → n ≡ record { service = service; error = n.error; runtime = b } →
-    step (decimal depth ∷ (error_word b ∷ service_text service ∷ error_text n.error ∷ (event_words e ++ c.words))) ≡ Some (Makes depth (moves.Report n) 0 c.kept (plain_event e))
-report_again depth received true service n e c d h same = rw (number_again depth d, service_again service, error_again n.error, ← same) (marked_again depth 0 (moves.Report n) e received c h)
-report_again depth received false service n e c d h same = rw (number_again depth d, service_again service, error_again n.error, ← same) (marked_again depth 0 (moves.Report n) e received c h)
+    guess (codes "step" ∷ decimal depth ∷ (error_word b ∷ service_text service ∷ error_text n.error ∷ (event_words e ++ c.words))) ≡ Some (Makes depth (moves.Report n) 0 c.kept (plain_event e))
+unfolding with_more
+report_again depth received true service n e c d h same = rw (number_again depth d, service_again service, error_again n.error, ← same) (made_again depth 0 (moves.Report n) e received c h)
+report_again depth received false service n e c d h same = rw (number_again depth d, service_again service, error_again n.error, ← same) (made_again depth 0 (moves.Report n) e received c h)
 
 -- the move, the event and the incoming word are read
 step_again : (depth value received : ℕ) (m : Move) (e : Option Event) (c : ComesAny m received) → IsNumber depth → HasMoveNumbers m → IsNumber value → HasEventNumber e →
-    step (decimal depth ∷ (move_words m value ++ (event_words e ++ c.words))) ≡ Some (Makes depth m (given m value) c.kept (plain_event e))
-step_again depth value received (moves.Read reg) e c d h v k = rw (number_again depth d, register_again reg h, number_again value v) (marked_again depth value (moves.Read reg) e received c k)
-step_again depth value received (moves.Write reg written) e c d h v k = rw (number_again depth d, register_again reg h.0, number_again written h.1) (marked_again depth 0 (moves.Write reg written) e received c k)
-step_again depth value received (moves.Load word) e c d h v k = rw (number_again depth d, number_again word h, number_again value v) (marked_again depth value (moves.Load word) e received c k)
-step_again depth value received (moves.Store word stored) e c d h v k = rw (number_again depth d, number_again word h.0, number_again stored h.1) (marked_again depth 0 (moves.Store word stored) e received c k)
-step_again depth value received moves.Mask e c d h v k = rw (number_again depth d) (marked_again depth 0 moves.Mask e received c k)
-step_again depth value received moves.Unmask e c d h v k = rw (number_again depth d) (marked_again depth 0 moves.Unmask e received c k)
-step_again depth value received (moves.Note n) e c d h v k = rw (number_again depth d, notice_again n.kind, number_again n.id h) (marked_again depth 0 (moves.Note n) e received c k)
+    guess (codes "step" ∷ decimal depth ∷ (move_words m value ++ (event_words e ++ c.words))) ≡ Some (Makes depth m (given m value) c.kept (plain_event e))
+unfolding with_more
+step_again depth value received (moves.Read reg) e c d h v k = rw (number_again depth d, register_again reg h, number_again value v) (made_again depth value (moves.Read reg) e received c k)
+step_again depth value received (moves.Write reg written) e c d h v k = rw (number_again depth d, register_again reg h.0, number_again written h.1) (made_again depth 0 (moves.Write reg written) e received c k)
+step_again depth value received (moves.Load word) e c d h v k = rw (number_again depth d, number_again word h, number_again value v) (made_again depth value (moves.Load word) e received c k)
+step_again depth value received (moves.Store word stored) e c d h v k = rw (number_again depth d, number_again word h.0, number_again stored h.1) (made_again depth 0 (moves.Store word stored) e received c k)
+step_again depth value received moves.Mask e c d h v k = rw (number_again depth d) (made_again depth 0 moves.Mask e received c k)
+step_again depth value received moves.Unmask e c d h v k = rw (number_again depth d) (made_again depth 0 moves.Unmask e received c k)
+step_again depth value received (moves.Note n) e c d h v k = rw (number_again depth d, notice_again n.kind, number_again n.id h) (made_again depth 0 (moves.Note n) e received c k)
 step_again depth value received (moves.Report n) e c d h v k = report_again depth received n.runtime n.service n e c d k refl
 
 move_same : (m : Move) (value : ℕ) → move_text m (given m value) ≡ move_text m value
@@ -341,6 +349,7 @@ held_read : (cause : _) → IsRead (words_of (line_text (Holds cause))) (Holds c
 held_read cause = by_words _ (codes "held" ∷ held_text cause ∷ []) (Holds cause) (Holds cause) (ap (λ (ws : List (List ℕ)). codes "held" ∷ ws) (one_word (held_text cause) (cause_plain cause))) (rw (cause_again cause) refl) refl refl
 
 note_read : (n : Notice) → IsNumber n.id → IsRead (words_of (line_text (Notes n))) (Notes n)
+unfolding with_more
 note_read n h = by_words _ (codes "note" ∷ notice_text n.kind ∷ decimal n.id ∷ []) (Notes n) (Notes n) (ap (λ (ws : List (List ℕ)). codes "note" ∷ ws) (two_end (notice_text n.kind) (decimal n.id) (notice_plain n.kind) (no_space n.id h))) (rw (notice_again n.kind, number_again n.id h) refl) refl refl
 
 erred_split : (b : Bool) (service : Service) (error : List ℕ) → none sp error ≡ true → words_of ((if b then codes "runtime" else codes "error") ++ (codes " " ++ (service_text service ++ (codes " " ++ error)))) ≡ (if b then codes "runtime" else codes "error") ∷ service_text service ∷ error ∷ []
@@ -348,6 +357,7 @@ erred_split true service error h = ap (λ (ws : List (List ℕ)). codes "runtime
 erred_split false service error h = ap (λ (ws : List (List ℕ)). codes "error" ∷ ws) (two_end (service_text service) error (service_plain service) h)
 
 erred_guess : (b : Bool) (n : DevError) → n ≡ record { service = n.service; error = n.error; runtime = b } → guess ((if b then codes "runtime" else codes "error") ∷ service_text n.service ∷ error_text n.error ∷ []) ≡ Some (Errs n)
+unfolding with_more
 erred_guess true n same = rw (service_again n.service, error_again n.error, ← same) refl
 erred_guess false n same = rw (service_again n.service, error_again n.error, ← same) refl
 
@@ -358,6 +368,7 @@ left_read : (line : ℕ) → IsNumber line → IsRead (words_of (line_text (Leav
 left_read line h = by_words _ (codes "left" ∷ decimal line ∷ []) (Leaves line) (Leaves line) (ap (λ (ws : List (List ℕ)). codes "left" ∷ ws) (one_word (decimal line) (no_space line h))) (rw (number_again line h) refl) refl refl
 
 reset_read : (reason : Reason) (dropped : ℕ) → IsNumber dropped → IsRead (words_of (line_text (Restarts reason dropped))) (Restarts reason dropped)
+unfolding with_more
 reset_read reason dropped h = by_words _ (codes "reset" ∷ reason_text reason ∷ decimal dropped ∷ []) (Restarts reason dropped) (Restarts reason dropped) (ap (λ (ws : List (List ℕ)). codes "reset" ∷ ws) (two_end (reason_text reason) (decimal dropped) (reason_plain reason) (no_space dropped h))) (rw (reason_again reason, number_again dropped h) refl) refl refl
 
 -- ---- answers

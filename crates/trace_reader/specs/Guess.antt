@@ -121,75 +121,97 @@ long_move word first second =
     else if bytes_eq word (codes "runtime") then option_map (λ e. (moves.Report e, 0)) (found true first second)
     else access word first second
 
--- the end of a step: the word that came in, if one did
-abbrev pub ending : ℕ → Move → ℕ → Option Event → List (List ℕ) → Option Line
-ending depth made value event [] = Some (Makes depth made value 0 event)
-ending depth made value event (word ∷ count ∷ []) = if bytes_eq word (codes "got") then option_map (λ n. Makes depth made value n event) (number count) else None
-ending depth made value event _ = None
+-- the word that came in at the end of a step; 0 where none did
+abbrev pub ending : List (List ℕ) → Option ℕ
+ending [] = Some 0
+ending (word ∷ count ∷ []) = if bytes_eq word (codes "got") then number count else None
+ending _ = None
 
--- a line that is served, and the end
-abbrev pub serving : ℕ → Move → ℕ → List (List ℕ) → Option Line
-serving depth made value [] = None
-serving depth made value (line ∷ words) = do
+-- an event, and the word that came in behind it
+abbrev pub followed : Option Event → List (List ℕ) → Option (Option Event × ℕ)
+followed event words = option_map (λ n. (event, n)) (ending words)
+
+-- the same of a line that is served
+abbrev pub serving : List (List ℕ) → Option (Option Event × ℕ)
+serving [] = None
+serving (line ∷ words) = do
   l ← number line
-  ending depth made value (Some (events.Serve l)) words
+  followed (Some (events.Serve l)) words
 
--- the event of a step, and its end
-abbrev pub marked : ℕ → Move → ℕ → List (List ℕ) → Option Line
-marked depth made value [] = ending depth made value None []
-marked depth made value (word ∷ words) =
-    if bytes_eq word (codes "act") then ending depth made value (Some events.Act) words
-    else if bytes_eq word (codes "serve") then serving depth made value words
-    else if bytes_eq word (codes "abort") then ending depth made value (Some (events.Abort units.Adc0)) words
-    else if bytes_eq word (codes "start") then ending depth made value (Some (events.Start units.Adc0)) words
-    else ending depth made value None (word ∷ words)
+-- the event of a step, if it has one, and the word that came in
+abbrev pub marked : List (List ℕ) → Option (Option Event × ℕ)
+marked [] = followed None []
+marked (word ∷ words) =
+    if bytes_eq word (codes "act") then followed (Some events.Act) words
+    else if bytes_eq word (codes "serve") then serving words
+    else if bytes_eq word (codes "abort") then followed (Some (events.Abort units.Adc0)) words
+    else if bytes_eq word (codes "start") then followed (Some (events.Start units.Adc0)) words
+    else followed None (word ∷ words)
+
+-- a step by its move, the value that it gave, and the words behind those
+abbrev pub made_step : ℕ → Move → ℕ → List (List ℕ) → Option Line
+made_step depth made value words = option_map (λ m. Makes depth made value m.1 m.0) (marked words)
 
 abbrev pub long_step : ℕ → List ℕ → List (List ℕ) → Option Line
 long_step depth word (first ∷ second ∷ words) = do
   m ← long_move word first second
-  marked depth m.0 m.1 words
+  made_step depth m.0 m.1 words
 long_step depth word _ = None
 
 abbrev pub moved : ℕ → List ℕ → List (List ℕ) → Option Line
 moved depth word words =
-    if bytes_eq word (codes "mask") then marked depth moves.Mask 0 words
-    else if bytes_eq word (codes "unmask") then marked depth moves.Unmask 0 words
+    if bytes_eq word (codes "mask") then made_step depth moves.Mask 0 words
+    else if bytes_eq word (codes "unmask") then made_step depth moves.Unmask 0 words
     else long_step depth word words
 
-abbrev pub step : List (List ℕ) → Option Line
-step (depth ∷ word ∷ words) = do
+abbrev pub step : List ℕ → List ℕ → List (List ℕ) → Option Line
+step depth word words = do
   d ← number depth
   moved d word words
-step _ = None
 
--- ---- the other lines
+-- ---- the other lines without a list
 
-abbrev pub held : List (List ℕ) → Option Line
-held (word ∷ []) = option_map (λ c. Holds c) (named held_text all_causes word)
-held _ = None
+-- a word alone
+abbrev pub alone : List ℕ → Option Line
+alone word = if bytes_eq word (codes "ok") then Some Done else None
 
-abbrev pub noted : List (List ℕ) → Option Line
-noted (kind ∷ id ∷ []) = option_map (λ n. Notes n) (notice kind id)
-noted _ = None
+-- with one word behind it
+abbrev pub with_one : List ℕ → List ℕ → Option Line
+with_one word first =
+    if bytes_eq word (codes "left") then option_map (λ l. Leaves l) (number first)
+    else if bytes_eq word (codes "held") then option_map (λ c. Holds c) (named held_text all_causes first)
+    else None
 
-abbrev pub erred : Bool → List (List ℕ) → Option Line
-erred runtime (service ∷ error ∷ []) = option_map (λ e. Errs e) (found runtime service error)
-erred runtime _ = None
-
-abbrev pub left : List (List ℕ) → Option Line
-left (line ∷ []) = option_map (λ l. Leaves l) (number line)
-left _ = None
-
-abbrev pub restart : List (List ℕ) → Option Line
-restart (reason ∷ dropped ∷ []) = do
+abbrev pub restart : List ℕ → List ℕ → Option Line
+restart reason dropped = do
   r ← named reason_text all_reasons reason
   k ← number dropped
   Some (Restarts r k)
-restart _ = None
 
-abbrev pub done : List (List ℕ) → Option Line
-done [] = Some Done
-done _ = None
+-- with two words behind it
+abbrev pub with_two : List ℕ → List ℕ → List ℕ → Option Line
+with_two word first second =
+    if bytes_eq word (codes "note") then option_map (λ n. Notes n) (notice first second)
+    else if bytes_eq word (codes "error") then option_map (λ e. Errs e) (found false first second)
+    else if bytes_eq word (codes "runtime") then option_map (λ e. Errs e) (found true first second)
+    else if bytes_eq word (codes "reset") then restart first second
+    else None
+
+-- with two, and none behind those
+abbrev pub with_just_two : List ℕ → List ℕ → List ℕ → List (List ℕ) → Option Line
+with_just_two word first second [] = with_two word first second
+with_just_two word first second _ = None
+
+-- with two or more: a step may have more
+unfoldable pub with_more : List ℕ → List ℕ → List ℕ → List (List ℕ) → Option Line
+with_more word first second words = if bytes_eq word (codes "step") then step first second words else with_just_two word first second words
+
+abbrev pub plain : List ℕ → List (List ℕ) → Option Line
+plain word [] = alone word
+plain word (first ∷ []) = with_one word first
+plain word (first ∷ second ∷ words) = with_more word first second words
+
+-- ---- answers
 
 -- begins with a digit
 abbrev pub is_numeral : List ℕ → Bool
@@ -269,19 +291,6 @@ row word [] = None
 row word (first ∷ words) = if is_long word then long_row word (first ∷ words) else shown (short_name word first) words
 
 -- ---- lines
-
--- a line without a list, by its first word
-abbrev pub plain : List ℕ → List (List ℕ) → Option Line
-plain word words =
-    if bytes_eq word (codes "step") then step words
-    else if bytes_eq word (codes "ok") then done words
-    else if bytes_eq word (codes "left") then left words
-    else if bytes_eq word (codes "note") then noted words
-    else if bytes_eq word (codes "held") then held words
-    else if bytes_eq word (codes "error") then erred false words
-    else if bytes_eq word (codes "runtime") then erred true words
-    else if bytes_eq word (codes "reset") then restart words
-    else None
 
 -- a line that shows begins so
 abbrev pub is_row : List ℕ → Bool

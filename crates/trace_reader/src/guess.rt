@@ -96,57 +96,69 @@ fn long_move(word: &[u8], first: &[u8], second: &[u8]) -> Option<(Move, u32)>
     }
 }
 
-/// The end of a step: the word that came in, if one did.
-fn ending(
-    depth: u32,
-    made: Move,
-    value: u32,
-    event: Option<Event>,
-    words: &[&[u8]],
-) -> Option<Line<'static>>
-    ensures { option_map line_of result ≡ spec.ending depth made value event (map (λ w. w.now) words.now) }
+/// The word that came in at the end of a step; 0 where none did.
+fn ending(words: &[&[u8]]) -> Option<u32>
+    ensures { result ≡ spec.ending (map (λ w. w.now) words.now) }
 {
     match words {
-        [] => Some(Line::Makes(depth, made, value, 0, event)),
-        [word, count] if is(word, "got") => {
-            Some(Line::Makes(depth, made, value, number(count)?, event))
-        }
+        [] => Some(0),
+        [word, count] if is(word, "got") => number(count),
         _ => None,
     }
 }
 
-/// A line that is served, and the end of its step.
-fn serving(depth: u32, made: Move, value: u32, words: &[&[u8]]) -> Option<Line<'static>>
-    ensures { option_map line_of result ≡ spec.serving depth made value (map (λ w. w.now) words.now) }
+/// An event, and the word that came in behind it.
+fn followed(event: Option<Event>, words: &[&[u8]]) -> Option<(Option<Event>, u32)>
+    ensures { result ≡ spec.followed event (map (λ w. w.now) words.now) }
+{
+    match ending(words) {
+        Some(received) => Some((event, received)),
+        None => None,
+    }
+}
+
+/// The same of a line that is served.
+fn serving(words: &[&[u8]]) -> Option<(Option<Event>, u32)>
+    ensures { result ≡ spec.serving (map (λ w. w.now) words.now) }
 {
     match words {
         [line, words @ ..] => {
             let line = number(line)?;
-            ending(depth, made, value, Some(Event::Serve(line)), words)
+            followed(Some(Event::Serve(line)), words)
         }
         [] => None,
     }
 }
 
-/// The event of a step, and its end.
-fn marked(depth: u32, made: Move, value: u32, words: &[&[u8]]) -> Option<Line<'static>>
-    ensures { option_map line_of result ≡ spec.marked depth made value (map (λ w. w.now) words.now) }
+/// The event of a step, if it has one, and the word that came in.
+fn marked(words: &[&[u8]]) -> Option<(Option<Event>, u32)>
+    ensures { result ≡ spec.marked (map (λ w. w.now) words.now) }
 {
     match words {
-        [] => ending(depth, made, value, None, words),
+        [] => followed(None, words),
         [word, behind @ ..] => {
             if is(word, "act") {
-                ending(depth, made, value, Some(Event::Act), behind)
+                followed(Some(Event::Act), behind)
             } else if is(word, "serve") {
-                serving(depth, made, value, behind)
+                serving(behind)
             } else if is(word, "abort") {
-                ending(depth, made, value, Some(Event::Abort(Unit::Adc0)), behind)
+                followed(Some(Event::Abort(Unit::Adc0)), behind)
             } else if is(word, "start") {
-                ending(depth, made, value, Some(Event::Start(Unit::Adc0)), behind)
+                followed(Some(Event::Start(Unit::Adc0)), behind)
             } else {
-                ending(depth, made, value, None, words)
+                followed(None, words)
             }
         }
+    }
+}
+
+/// A step by its move, the value that it gave, and the words behind those.
+fn made_step(depth: u32, made: Move, value: u32, words: &[&[u8]]) -> Option<Line<'static>>
+    ensures { option_map line_of result ≡ spec.made_step depth made value (map (λ w. w.now) words.now) }
+{
+    match marked(words) {
+        Some((event, received)) => Some(Line::Makes(depth, made, value, received, event)),
+        None => None,
     }
 }
 
@@ -155,10 +167,10 @@ fn long_step(depth: u32, word: &[u8], words: &[&[u8]]) -> Option<Line<'static>>
     ensures { option_map line_of result ≡ spec.long_step depth word.now (map (λ w. w.now) words.now) }
 {
     match words {
-        [first, second, words @ ..] => {
-            let (made, value) = long_move(word, first, second)?;
-            marked(depth, made, value, words)
-        }
+        [first, second, words @ ..] => match long_move(word, first, second) {
+            Some((made, value)) => made_step(depth, made, value, words),
+            None => None,
+        },
         [] => None,
         [_] => None,
     }
@@ -169,94 +181,103 @@ fn moved(depth: u32, word: &[u8], words: &[&[u8]]) -> Option<Line<'static>>
     ensures { option_map line_of result ≡ spec.moved depth word.now (map (λ w. w.now) words.now) }
 {
     if is(word, "mask") {
-        marked(depth, Move::Mask, 0, words)
+        made_step(depth, Move::Mask, 0, words)
     } else if is(word, "unmask") {
-        marked(depth, Move::Unmask, 0, words)
+        made_step(depth, Move::Unmask, 0, words)
     } else {
         long_step(depth, word, words)
     }
 }
 
 /// A step.
-pub(crate) fn step(words: &[&[u8]]) -> Option<Line<'static>>
-    ensures { option_map line_of result ≡ spec.step (map (λ w. w.now) words.now) }
+fn step(depth: &[u8], word: &[u8], words: &[&[u8]]) -> Option<Line<'static>>
+    ensures { option_map line_of result ≡ spec.step depth.now word.now (map (λ w. w.now) words.now) }
 {
-    match words {
-        [depth, word, words @ ..] => {
-            let depth = number(depth)?;
-            moved(depth, word, words)
-        }
-        [] => None,
-        [_] => None,
+    match number(depth) {
+        Some(depth) => moved(depth, word, words),
+        None => None,
     }
 }
 
-/// A directive that was held.
-pub(crate) fn held(words: &[&[u8]]) -> Option<Line<'static>>
-    ensures { option_map line_of result ≡ spec.held (map (λ w. w.now) words.now) }
+/// A line of a word alone.
+fn alone(word: &[u8]) -> Option<Line<'static>>
+    ensures { option_map line_of result ≡ spec.alone word.now }
 {
-    match words {
-        [] => None,
-        [word] => Some(Line::Holds(cause_named(word)?)),
-        [_, _, ..] => None,
+    if is(word, "ok") {
+        Some(Line::Done)
+    } else {
+        None
     }
 }
 
-/// A notice.
-pub(crate) fn noted(words: &[&[u8]]) -> Option<Line<'static>>
-    ensures { option_map line_of result ≡ spec.noted (map (λ w. w.now) words.now) }
+/// A line with one word behind its first.
+fn with_one(word: &[u8], first: &[u8]) -> Option<Line<'static>>
+    ensures { option_map line_of result ≡ spec.with_one word.now first.now }
 {
-    match words {
-        [] => None,
-        [_] => None,
-        [kind, id] => Some(Line::Notes(notice(kind, id)?)),
-        [_, _, _, ..] => None,
-    }
-}
-
-/// A reported error.
-pub(crate) fn erred(runtime: bool, words: &[&[u8]]) -> Option<Line<'static>>
-    ensures { option_map line_of result ≡ spec.erred runtime (map (λ w. w.now) words.now) }
-{
-    match words {
-        [] => None,
-        [_] => None,
-        [service, error] => Some(Line::Errs(found(runtime, service, error)?)),
-        [_, _, _, ..] => None,
-    }
-}
-
-/// A handler that ended.
-pub(crate) fn left(words: &[&[u8]]) -> Option<Line<'static>>
-    ensures { option_map line_of result ≡ spec.left (map (λ w. w.now) words.now) }
-{
-    match words {
-        [line] => Some(Line::Leaves(number(line)?)),
-        _ => None,
+    if is(word, "left") {
+        Some(Line::Leaves(number(first)?))
+    } else if is(word, "held") {
+        Some(Line::Holds(cause_named(first)?))
+    } else {
+        None
     }
 }
 
 /// A reset.
-pub(crate) fn restart(words: &[&[u8]]) -> Option<Line<'static>>
-    ensures { option_map line_of result ≡ spec.restart (map (λ w. w.now) words.now) }
+fn restart(reason: &[u8], dropped: &[u8]) -> Option<Line<'static>>
+    ensures { option_map line_of result ≡ spec.restart reason.now dropped.now }
 {
-    match words {
-        [] => None,
-        [_] => None,
-        [reason, dropped] => {
-            let reason = reason_named(reason)?;
-            Some(Line::Restarts(reason, number(dropped)?))
-        }
-        [_, _, _, ..] => None,
+    let reason = reason_named(reason)?;
+    let dropped = number(dropped)?;
+    Some(Line::Restarts(reason, dropped))
+}
+
+/// A line with two words behind its first.
+fn with_two(word: &[u8], first: &[u8], second: &[u8]) -> Option<Line<'static>>
+    ensures { option_map line_of result ≡ spec.with_two word.now first.now second.now }
+{
+    if is(word, "note") {
+        Some(Line::Notes(notice(first, second)?))
+    } else if is(word, "error") {
+        Some(Line::Errs(found(false, first, second)?))
+    } else if is(word, "runtime") {
+        Some(Line::Errs(found(true, first, second)?))
+    } else if is(word, "reset") {
+        restart(first, second)
+    } else {
+        None
     }
 }
 
-/// Nothing else.
-pub(crate) fn done(words: &[&[u8]]) -> Option<Line<'static>>
-    ensures { option_map line_of result ≡ spec.done (map (λ w. w.now) words.now) }
+/// The same where no words are behind those.
+fn with_just_two(word: &[u8], first: &[u8], second: &[u8], words: &[&[u8]]) -> Option<Line<'static>>
+    ensures { option_map line_of result ≡ spec.with_just_two word.now first.now second.now (map (λ w. w.now) words.now) }
 {
     match words {
-        [] => Some(Line::Done),
-        _ => None,
+        [] => with_two(word, first, second),
+        [_, ..] => None,
+    }
+}
+
+/// A line with two words or more behind its first: a step may have more.
+#[tactic(auto, unfolding(crate::specs::Guess::with_more))]
+fn with_more(word: &[u8], first: &[u8], second: &[u8], words: &[&[u8]]) -> Option<Line<'static>>
+    ensures { option_map line_of result ≡ spec.with_more word.now first.now second.now (map (λ w. w.now) words.now) }
+{
+    if is(word, "step") {
+        step(first, second, words)
+    } else {
+        with_just_two(word, first, second, words)
+    }
+}
+
+/// A line that takes no memory, by its first word.
+pub(crate) fn plain(word: &[u8], words: &[&[u8]]) -> Option<Line<'static>>
+    ensures { option_map line_of result ≡ spec.plain word.now (map (λ w. w.now) words.now) }
+{
+    match words {
+        [] => alone(word),
+        [first] => with_one(word, first),
+        [first, second, behind @ ..] => with_more(word, first, second, behind),
     }
 }

@@ -1,14 +1,13 @@
 ghost use Rattle.std.specs.Prelude.{◌≡◌, ◌||◌, IfOk, bytes_eq, codes, map, option_map, Option, List, ℕ};
-ghost use Rattle.bench_report.specs.Lines as written;
 ghost use Rattle.trace_reader.specs.Guess as spec;
 ghost use Rattle.trace_reader.specs.Numbers as numbers;
 ghost use Rattle.trace_reader.specs.Read.{line_of};
 
-use crate::guess::{done, erred, held, is, left, noted, restart, step};
+use crate::guess::{is, plain};
 use crate::line::Read;
 use crate::names::answer_named;
 use crate::numbers::{number, place_of};
-use bench_report::{Line, RowName, Value};
+use bench_report::{RowName, Value};
 use bench_script::service_named;
 use mcal_base::{Head, Service};
 use std::alloc::{AllocError, Global};
@@ -227,31 +226,6 @@ fn row(alloc: Global, word: &[u8], words: &[&[u8]]) -> Result<Option<Read>, Allo
     match words {
         [first, behind @ ..] => shown(alloc, short_name(word, first), behind),
         [] => Ok(None),
-    }
-}
-
-/// A line that takes no memory, by its first word.
-fn plain(word: &[u8], words: &[&[u8]]) -> Option<Line<'static>>
-    ensures { option_map written.line_of result ≡ spec.plain word.now (map (λ w. w.now) words.now) }
-{
-    if is(word, "step") {
-        step(words)
-    } else if is(word, "ok") {
-        done(words)
-    } else if is(word, "left") {
-        left(words)
-    } else if is(word, "note") {
-        noted(words)
-    } else if is(word, "held") {
-        held(words)
-    } else if is(word, "error") {
-        erred(false, words)
-    } else if is(word, "runtime") {
-        erred(true, words)
-    } else if is(word, "reset") {
-        restart(words)
-    } else {
-        None
     }
 }
 

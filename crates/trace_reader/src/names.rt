@@ -1,4 +1,4 @@
-ghost use Rattle.std.specs.Prelude.{◌≡◌};
+ghost use Rattle.std.specs.Prelude.{◌≡◌, List, ℕ};
 ghost use Rattle.bench_report.specs.Lines as lines;
 ghost use Rattle.det_errors.specs.Spelling.{error_text};
 ghost use Rattle.irq_control.specs.Spelling.{held_text};
@@ -120,52 +120,96 @@ const ERRORS: [ErrorName; 45] = [
     ErrorName::SpiParamUnit,
 ];
 
+/// What a report prints as one word.
+trait Spelled: Copy {
+    ghost spelling: { Self → List ℕ };
+
+    /// The word.
+    fn spelled(self) -> &'static str
+        ensures { result.now ≡ spelling self };
+}
+
+impl Spelled for Held {
+    ghost spelling = { λ cause. held_text cause };
+
+    fn spelled(self) -> &'static str {
+        self.text()
+    }
+}
+
+impl Spelled for Reason {
+    ghost spelling = { λ reason. lines.reason_text reason };
+
+    fn spelled(self) -> &'static str {
+        reason_text(self)
+    }
+}
+
+impl Spelled for NoticeKind {
+    ghost spelling = { λ kind. names.notice_text kind };
+
+    fn spelled(self) -> &'static str {
+        self.text()
+    }
+}
+
+impl Spelled for AnswerName {
+    ghost spelling = { λ name. names.answer_text name };
+
+    fn spelled(self) -> &'static str {
+        self.text()
+    }
+}
+
+impl Spelled for ErrorName {
+    ghost spelling = { λ error. error_text error };
+
+    fn spelled(self) -> &'static str {
+        det_errors::text(self)
+    }
+}
+
+/// The first of the choices that a word spells.
+fn first_named<T: Spelled>(choices: &[T], word: &[u8]) -> Option<T>
+    ensures { result ≡ named T.spelling choices.now word.now }
+{
+    choices
+        .iter()
+        .copied()
+        .find(|choice| choice.spelled().as_bytes() == word)
+}
+
 /// The cause that a word spells.
 pub(crate) fn cause_named(word: &[u8]) -> Option<Held>
     ensures { result ≡ named held_text spec.all_causes word.now }
 {
-    CAUSES
-        .iter()
-        .copied()
-        .find(|cause| cause.text().as_bytes() == word)
+    first_named(&CAUSES, word)
 }
 
 /// The reason that a word spells.
 pub(crate) fn reason_named(word: &[u8]) -> Option<Reason>
     ensures { result ≡ named lines.reason_text spec.all_reasons word.now }
 {
-    REASONS
-        .iter()
-        .copied()
-        .find(|reason| reason_text(*reason).as_bytes() == word)
+    first_named(&REASONS, word)
 }
 
 /// The kind of notice that a word spells.
 pub(crate) fn notice_named(word: &[u8]) -> Option<NoticeKind>
     ensures { result ≡ named names.notice_text spec.all_notices word.now }
 {
-    NOTICES
-        .iter()
-        .copied()
-        .find(|kind| kind.text().as_bytes() == word)
+    first_named(&NOTICES, word)
 }
 
 /// The name of an answer that a word spells.
 pub(crate) fn answer_named(word: &[u8]) -> Option<AnswerName>
     ensures { result ≡ named names.answer_text spec.all_answers word.now }
 {
-    ANSWERS
-        .iter()
-        .copied()
-        .find(|name| name.text().as_bytes() == word)
+    first_named(&ANSWERS, word)
 }
 
 /// The error that a word spells.
 pub(crate) fn error_named(word: &[u8]) -> Option<ErrorName>
     ensures { result ≡ named error_text spec.all_errors word.now }
 {
-    ERRORS
-        .iter()
-        .copied()
-        .find(|error| det_errors::text(*error).as_bytes() == word)
+    first_named(&ERRORS, word)
 }

@@ -1,14 +1,13 @@
 -- Gpt_GetTimeElapsed and Gpt_GetTimeRemaining: their steps, what holds at each, and that they are right.
-use Rattle.std.proofs.Common.{◌≡◌, ℕ, ◌+◌, ◌*◌, ◌-◌, ◌/◌, ◌%◌, ◌<◌, ◌^◌, Option, Some, None, refl, sym, ◌∙◌, ap, subst, arith}
-use Rattle.gpt_driver.specs.laws.Base.{Chip, chip_after, stands-move, Timers, timer_at, counter, Move, World, Told, outcome, Origin, BodyTaken, goes, acts_on, ends, Nothing, Bodies, AreRight, Before, Is_before, After, Is_after, Gap, settled, TargetOf, GptAgrees, gpt_ground, GptState, channel_at, runs_at, elapsed, remaining, target_of, acts_by, answers_number, channel_of, target_word, GetTimeElapsed, GetTimeRemaining, Call, GptDriver, MayRun, AllGood, steady, steady_right, Shortens}
-use Rattle.mcal_base.specs.declared.moves.Move.TheVariants.{Read, Load}
-use Rattle.mcal_base.specs.declared.register.Reg.TheVariants.{TimerLow, TimerHigh}
+use Rattle.std.proofs.Common.{◌≡◌, ℕ, ◌+◌, ◌*◌, ◌-◌, ◌/◌, ◌%◌, ◌<◌, ◌^◌, true, Option, None, refl, sym, ◌∙◌, ap, subst, arith}
 use Rattle.service_outline.specs.Done.{number}
-use Rattle.gpt_driver.specs.declared.call.Call.TheVariants.{Channel}
+use Rattle.gpt_driver.specs.laws.Base.{OfChannel as Channel, lt-ltb, Chip, chip_after, Timers, timer_at, counter, Move, TimerLow, TimerHigh, World, Told, outcome, Origin, stands-move, Nothing, BodyTaken, goes, acts_on, ends, never_clean, Shortens, Bodies, AreRight, Before, Is_before, After, Is_after, Gap, settled, TargetOf, GptAgrees, gpt_ground, GptState, channel_at, elapsed, remaining, target_of, runs_at, answers_number, channel_of, target_word, Call, GetTimeElapsed, GetTimeRemaining, GptDriver, Load, Read, Plain, Seen, SeesTo, Starts, MayRun, steady, AllGood, all_right, acts_so}
+use Rattle.service_outline.specs.Seen.{HasRead}
+use Rattle.service_outline.specs.laws.Seen.{never_after}
 use Rattle.gpt_driver.specs.declared.service.count.CountBody.{CountBody}
 use Rattle.gpt_driver.specs.declared.service.count.CountBody.TheVariants.{ElapsedLow, ElapsedHigh, RemainingTarget, RemainingLow, RemainingHigh}
 use Rattle.gpt_driver.specs.laws.Courses.{elapsed_small}
-use Rattle.gpt_driver.specs.laws.Ground.{below_test, may_words}
+use Rattle.gpt_driver.specs.laws.Ground.{may_words}
 use Rattle.gpt_driver.specs.laws.Parts.{elapsed_here}
 
 -- ---- its steps
@@ -83,34 +82,32 @@ module _ (d : GptDriver) where
 
   steps : AllGood d (count_bodies d)
   steps chip w s (ElapsedLow c) o t m (h, (Is_before, i)) =
-      let n = counter (timer_at chip.timers c) chip.timers.time in (
-        below_test c i.lt,
-        record {
-          own = tt;
-          state = s;
-          told = answers_number (joined (n % 65536) (n / 65536));
-          is = λ times. ap (λ e. Some (acts_by d w s (elapsed_call c) e)) (i.pass (runs_at d w s c)) ∙ ap (λ x. Some (outcome s (answers_number x))) (sym (read_is chip w s c i.lt h));
-          acts = refl;
-          next = (latched chip w s c h, (Is_after, i.lt));
-        },
-      )
-  steps chip w s (ElapsedHigh c low) o t m (h, (Is_after, lt)) = (below_test c lt, (h, (refl, refl, refl)))
+      (lt-ltb c 8 i.lt, acts_so d w s (elapsed_call c) (i.pass (runs_at d w s c)) (ap (λ n. outcome s (answers_number n)) (sym (read_is chip w s c i.lt h))) refl (latched chip w s c h, (Is_after, i.lt)))
+  steps chip w s (ElapsedHigh c low) o t m (h, (Is_after, lt)) = (lt-ltb c 8 lt, (h, (refl, refl, refl)))
   steps chip w s (RemainingTarget c) o t m (h, (Is_before, i)) = (may_words (TargetOf c) i.lt, (h, (Is_before, i, h.words (TargetOf c) i.lt refl)))
   steps chip w s (RemainingLow c v) o t m (h, (Is_before, i, is)) =
       let n = counter (timer_at chip.timers c) chip.timers.time in
-      let x = joined (n % 65536) (n / 65536) in
-      let left : v - x ≡ remaining (channel_of d c) w.now (channel_at s c).course = ap (λ y. y - x) is ∙ ap (λ y. target_of (channel_at s c).course - y) (read_is chip w s c i.lt h) in (
-        below_test c i.lt,
-        record {
-          own = tt;
-          state = s;
-          told = answers_number (v - x);
-          is = λ times. ap (λ e. Some (acts_by d w s (remaining_call c) e)) (i.pass (runs_at d w s c)) ∙ ap (λ x. Some (outcome s (answers_number x))) (sym left);
-          acts = refl;
-          next = (latched chip w s c h, (Is_after, i.lt));
-        },
-      )
-  steps chip w s (RemainingHigh c v low) o t m (h, (Is_after, lt)) = (below_test c lt, (h, (refl, refl, refl)))
+      let left : v - joined (n % 65536) (n / 65536) ≡ remaining (channel_of d c) w.now (channel_at s c).course = ap (λ y. y - joined (n % 65536) (n / 65536)) is ∙ ap (λ y. target_of (channel_at s c).course - y) (read_is chip w s c i.lt h) in
+      (lt-ltb c 8 i.lt, acts_so d w s (remaining_call c) (i.pass (runs_at d w s c)) (ap (λ x. outcome s (answers_number x)) (sym left)) refl (latched chip w s c h, (Is_after, i.lt)))
+  steps chip w s (RemainingHigh c v low) o t m (h, (Is_after, lt)) = (lt-ltb c 8 lt, (h, (refl, refl, refl)))
 
   pub count_right : AreRight (gpt_ground d) (count_bodies d)
-  count_right = steady_right d count_work count_takes count_left count_gap (count_holds d) count_shortens steps
+  count_right = all_right d (count_bodies d) count_shortens (λ k x. never_clean (count_work k) k (count_takes k x)) (λ f w w1 s k o t le h. h) steps
+
+-- ---- its window: before it reads a high half it has read the low one, and where it begins it has read nothing
+
+abbrev pub count_seen : CountBody → Seen
+count_seen (ElapsedHigh c low) = HasRead (TimerLow c)
+count_seen (RemainingHigh c v low) = HasRead (TimerLow c)
+count_seen _ = Plain
+
+pub count_sees : (k : CountBody) (x : ℕ) → SeesTo count_seen true (count_work k) k (count_takes k x)
+count_sees (ElapsedLow c) x = (tt, refl)
+count_sees (RemainingTarget c) x = refl
+count_sees (RemainingLow c v) x = (tt, refl)
+count_sees _ x = ((refl, refl), λ e. absurd (cc))
+
+pub count_unseen : (d : GptDriver) (f : Timers) (s : GptState) (k : CountBody) (o : Origin Call) → count_holds d f s k o None → Starts (count_seen k)
+count_unseen d f s (ElapsedHigh c low) o h = never_after o None refl h.0
+count_unseen d f s (RemainingHigh c v low) o h = never_after o None refl h.0
+count_unseen d f s _ o h = tt

@@ -1,32 +1,26 @@
 -- What a channel is about, by times: its counter as the timer block has it, and what stays so from now on.
 use Rattle.std.proofs.Common.{◌≡◌, ℕ, ◌*◌, ◌<◌, ◌≤◌, ◌^◌, Bool, true, false, ◌||◌, nat_lt, Option, Some, None, refl, ◌∙◌, ap, arith}
 use Rattle.std.specs.Prelude.{if◌then◌else◌, is_some}
-use Rattle.std.proofs.lemmas.Bool.Decides.{nat_tests}
+use Rattle.gpt_driver.specs.laws.Base.{nat_tests, counter, counts_on, is_running, is_flagged, expired_between, Timer, IsSet, TimerAgrees, Timing, Course, Never, Running, Stopped, elapsed, prescaler_of, runs, is_marked, one_shot_of, bit, Channel}
 use Rattle.mcal_base.specs.Expiry.{expiries, runs_on}
 use Rattle.mcal_base.proofs.ExpiryLaws.{runs_on-later, expiries-one_shot, expiries-later, count_of-within}
-use Rattle.chip_timers.specs.Timers.{counter, is_running, is_flagged, count_at, counts_on, expired_between}
-use Rattle.chip_timers.specs.declared.timer.Timer.{Timer}
-use Rattle.gpt_driver.specs.Ground.{counts, IsSet, TimerAgrees}
-use Rattle.gpt_driver.specs.Machine.{Timing, Course, Never, Running, Stopped, elapsed, runs, expired, is_marked, prescaler_of}
-use Rattle.gpt_driver.specs.Table.{one_shot_of}
-use Rattle.gpt_driver.specs.declared.driver.Channel.{Channel}
+use Rattle.chip_timers.specs.Timers.{count_at}
+use Rattle.gpt_driver.specs.Ground.{counts}
+use Rattle.gpt_driver.specs.Machine.{expired}
 
 -- ---- the counter is the machine's
 
 counts_runs : (k : Option Channel) (x : Course) (now : ℕ) → counts_on (counts k x) now ≡ runs k now x
 counts_runs k Never now = refl
-counts_runs k (Running s v) now = refl
-counts_runs k (Stopped e v) now = refl
+counts_runs k _ now = refl
 
 counts_elapsed : (k : Option Channel) (x : Course) (now : ℕ) → count_at (counts k x) now ≡ elapsed k now x
 counts_elapsed k Never now = refl
-counts_elapsed k (Running s v) now = refl
-counts_elapsed k (Stopped e v) now = refl
+counts_elapsed k _ now = refl
 
 counts_expired : (k : Option Channel) (x : Course) (a b : ℕ) → expired_between (counts k x) a b ≡ expired k a b x
 counts_expired k Never a b = refl
-counts_expired k (Running s v) a b = refl
-counts_expired k (Stopped e v) a b = refl
+counts_expired k _ a b = refl
 
 module _ (k : Option Channel) (bit : Bool) (t : Timer) (x : Timing) (h : TimerAgrees k bit t x) where
   pub running_is : (now : ℕ) → is_running t now ≡ runs k now x.course
@@ -49,36 +43,32 @@ elapsed_small k bit (Stopped e v) now h = h
 -- a channel that isn't configured never expires
 pub marked_used : (k : Option Channel) (bit : Bool) (x : Course) (dropped now : ℕ) → IsSet k bit x → expired k dropped now x ≡ true → is_some k ≡ true
 marked_used (Some k) bit x dropped now h e = refl
-marked_used None bit Never dropped now h e = absurd (cc)
 marked_used None bit (Running s v) dropped now h e = absurd (let p = h.2 in omega (arith, p))
-marked_used None bit (Stopped a v) dropped now h e = absurd (cc)
+marked_used None bit _ dropped now h e = absurd (cc)
 
 -- ---- what stays so
 
 -- a channel that doesn't run doesn't run later
 pub rests_later : (k : Option Channel) (x : Course) (now time : ℕ) → now ≤ time → runs k now x ≡ false → runs k time x ≡ false
-rests_later k Never now time le e = refl
 rests_later k (Running s v) now time le e = runs_on-later (one_shot_of k) s v (prescaler_of k) now time le e
-rests_later k (Stopped a v) now time le e = refl
+rests_later k _ now time le e = refl
 
 positive : (v p : ℕ) → 0 < v → 0 < p → 0 < v * p
 positive v p a b = grind (arith)
 
-one_at_rest : (s v p now : ℕ) → 0 < v → 0 < p → runs_on true s v p now ≡ false → expiries true s v p now ≡ 1
-one_at_rest s v p now a b e = expiries-one_shot s v p now b (positive v p a b) ∙ ap (λ x. if x then 0 else 1) e
-
-no_more : (s v p a b : ℕ) → expiries true s v p a ≡ 1 → nat_lt (expiries true s v p a) (expiries true s v p b) ≡ false
-no_more s v p a b e = grind (arith, nat_tests)
+once : (s v p now : ℕ) → 0 < v → 0 < p → expiries true s v p now ≡ (if runs_on true s v p now then 0 else 1)
+once s v p now a b = expiries-one_shot s v p now b (positive v p a b)
 
 rests_by : (q : Bool) (s v p now a b : ℕ) → 0 < v → 0 < p → now ≤ a → runs_on q s v p now ≡ false → nat_lt (expiries q s v p a) (expiries q s v p b) ≡ false
-rests_by true s v p now a b pv pp le e = no_more s v p a b (one_at_rest s v p a pv pp (runs_on-later true s v p now a le e))
+rests_by true s v p now a b pv pp le e =
+    let one : expiries true s v p a ≡ 1 = once s v p a pv pp ∙ ap (λ x. if x then 0 else 1) (runs_on-later true s v p now a le e) in
+    grind (arith, nat_tests)
 rests_by false s v p now a b pv pp le e = absurd (cc)
 
 -- and no expiry comes after it
 pub quiet : (k : Option Channel) (bit : Bool) (x : Course) (now a b : ℕ) → IsSet k bit x → now ≤ a → runs k now x ≡ false → expired k a b x ≡ false
-quiet k bit Never now a b h le e = refl
 quiet k bit (Running s v) now a b h le e = rests_by (one_shot_of k) s v (prescaler_of k) now a b h.0 h.2 le e
-quiet k bit (Stopped u v) now a b h le e = refl
+quiet k bit _ now a b h le e = refl
 
 more : (a b c : ℕ) → b ≤ c → nat_lt a b ≡ true → nat_lt a c ≡ true
 more a b c h e = grind (arith, nat_tests)
@@ -88,28 +78,24 @@ pub marked_later : (k : Option Channel) (x : Timing) (now time : ℕ) → now �
 marked_later k x now time le e = by_course x.course e
   where
     by_course : (y : Course) → expired k x.dropped now y ≡ true → expired k x.dropped time y ≡ true
-    by_course Never e = absurd (cc)
     by_course (Running s v) e = more (expiries (one_shot_of k) s v (prescaler_of k) x.dropped) _ _ (expiries-later (one_shot_of k) s v (prescaler_of k) now time le) e
-    by_course (Stopped u v) e = absurd (cc)
+    by_course _ e = absurd (cc)
 
 unexpired_by : (q : Bool) (s v p after now : ℕ) → q ≡ true → 0 < v → 0 < p → runs_on q s v p now ≡ true → nat_lt (expiries q s v p after) (expiries q s v p now) ≡ false
 unexpired_by true s v p after now e a b h =
-    let none : expiries true s v p now ≡ 0 = expiries-one_shot s v p now b (positive v p a b) ∙ ap (λ x. if x then 0 else 1) h in
+    let none : expiries true s v p now ≡ 0 = once s v p now a b ∙ ap (λ x. if x then 0 else 1) h in
     grind (arith, nat_tests)
 unexpired_by false s v p after now e a b h = absurd (cc)
 
 -- a one-shot channel that runs has no mark
 pub unexpired : (k : Option Channel) (bit : Bool) (x : Course) (dropped now : ℕ) → IsSet k bit x → one_shot_of k ≡ true → runs k now x ≡ true → expired k dropped now x ≡ false
-unexpired k bit Never dropped now h e r = refl
 unexpired k bit (Running s v) dropped now h e r = unexpired_by (one_shot_of k) s v (prescaler_of k) dropped now e h.0 h.2 r
-unexpired k bit (Stopped a v) dropped now h e r = refl
+unexpired k bit _ dropped now h e r = refl
 
 always_runs : (q : Bool) (s v p now : ℕ) → q ≡ false → runs_on q s v p now ≡ false → ⊥
-always_runs true s v p now e h = cc
-always_runs false s v p now e h = cc
+always_runs q s v p now e h = grind arith
 
 -- a continuous channel that doesn't run has no expiries at all
 pub no_expiries : (k : Option Channel) (x : Course) (now a b : ℕ) → one_shot_of k ≡ false → runs k now x ≡ false → expired k a b x ≡ false
-no_expiries k Never now a b os r = refl
 no_expiries k (Running s v) now a b os r = absurd (always_runs (one_shot_of k) s v (prescaler_of k) now os r)
-no_expiries k (Stopped u v) now a b os r = refl
+no_expiries k _ now a b os r = refl

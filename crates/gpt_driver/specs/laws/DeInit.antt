@@ -1,21 +1,17 @@
 -- Gpt_DeInit: its steps, what holds at each, and that they are right.
-use Rattle.std.proofs.Common.{◌≡◌, ℕ, zero, suc, ◌+◌, ◌-◌, ◌<◌, ◌≤◌, ◌≢◌, Bool, true, false, ◌&&◌, ◌||◌, ◌==◌, not, nat_lt, Option, Some, None, refl, sym, ◌∙◌, ap, subst, arith}
+use Rattle.std.proofs.Common.{◌≡◌, ℕ, zero, suc, add-one, ◌+◌, ◌-◌, ◌<◌, ◌≤◌, ◌≢◌, Bool, true, false, ◌&&◌, ◌==◌, not, nat_lt, Option, Some, None, cond, refl, sym, ◌∙◌, ap, arith}
 use Rattle.std.specs.Prelude.{if◌then◌else◌}
-use Rattle.gpt_driver.specs.laws.Base.{nat_tests, Chip, chip_after, Timers, timer_at, timer_at-acted_on, counts_on, expired_between, is_running, running_of, has_bit-running_of, flag_clear, zero_count, Still, Since, Timer, has_bit, has_bit-zero, bits_of, Move, Act, GptBusy, World, Told, no_answer, tells_nothing, Origin, Called, missed_after, BodyTaken, goes, acts_on, ends, Owed, Nothing, Bodies, AreRight, StepsTo, TellsAs, Before, Is_before, After, Is_after, Gap, settled, none, TimerAgrees, Word, TheState, TargetOf, SwitchesOf, number_of, IsWord, value_in, GptAgrees, gpt_ground, gpt_machine, GptState, channel_at, first_state, untouched, is_off, is_asleep, runs, runs_at, all_channels, acts_by, error_by, channel_of, Call, DeInit, Channel, GptDriver, STATE, TARGETS, LAST_WORD, LINES, owed_error, tells_error, error_told, reporting, shortens_if, AllGood, Cleans, cleans_by, cleans_if, timed, timed_right, Shortens}
-use Rattle.std.proofs.Common.{add-one}
 use Rattle.std.specs.List.{list_any}
-use Rattle.chip_timers.specs.declared.timer.Act.TheVariants as turns
+use Rattle.gpt_driver.specs.laws.Base.{Store as Stores, eq-eqb, eqb-true, lt-ltb, true_from_ne_false, nat_tests, Chip, chip_after, Timers, timer_at, counts_on, is_running, expired_between, flag_clear, zero_count, running_of, Still, Since, Timer, timer_at-acted_on, has_bit-running_of, has_bit, bits_of, has_bit-zero, has_bit-without, GptBusy, Act, Move, EnableClear, TimerFlags, TimerZero, TimerRun, World, Told, no_answer, tells_nothing, Origin, Called, missed_after, Owed, Nothing, BodyTaken, Cleans, goes, acts_on, ends, owed_error, Shortens, Bodies, AreRight, StepsTo, Before, Is_before, After, Is_after, error_by, Gap, settled, none, TimerAgrees, Word, TheState, number_of, IsWord, GptAgrees, gpt_ground, GptState, channel_at, first_state, untouched, is_off, is_asleep, runs, runs_at, all_channels, reporting, gpt_machine, channel_of, bit, Call, DeInit, Channel, GptDriver, STATE, TARGETS, LAST_WORD, LINES, Unflags, Zeroes, Read, Write, either_way, on_later, timed, AllGood, all_right, acts_so, finds_busy}
 use Rattle.chip_timers.specs.declared.timer.Count.{Count}
-use Rattle.mcal_base.proofs.BitLaws.{bits_of-zero, bits_of-clear, has_bit-without}
-use Rattle.mcal_base.specs.declared.moves.Move.TheVariants.{Read, Write, Store as Stores}
+use Rattle.mcal_base.proofs.BitLaws.{bits_of-zero, bits_of-clear}
 use Rattle.mcal_base.specs.declared.service.Service.TheVariants.{GptDeInit}
-use Rattle.mcal_base.specs.declared.register.Reg.TheVariants.{EnableClear, TimerRun, TimerFlags, TimerZero}
 use Rattle.gpt_driver.specs.declared.service.deinit.DeInitBody.{DeInitBody}
 use Rattle.gpt_driver.specs.declared.service.deinit.DeInitBody.TheVariants as places
 use Rattle.gpt_driver.specs.laws.Courses.{running_is, rests_later}
 use Rattle.gpt_driver.specs.laws.Ground.{may_word}
 use Rattle.gpt_driver.specs.laws.Init.{all_lines}
-use Rattle.gpt_driver.specs.laws.Parts.{by_eight, block_acted, words_stored, moved, runs_here}
+use Rattle.gpt_driver.specs.laws.Parts.{by_eight, word_at, first_value, block_acted, words_stored, moved, runs_here}
 
 abbrev pub deinit_work : DeInitBody → Move
 deinit_work (places.Look busy) = Read TimerRun
@@ -46,7 +42,7 @@ deinit_next j true e = let k : j < LAST_WORD = grind (arith, nat_tests) in omega
 deinit_next j false e = omega arith
 
 deinit_shortens : (k : DeInitBody) (x : ℕ) → Shortens deinit_left k (deinit_takes k x)
-deinit_shortens (places.Look busy) x = shortens_if deinit_left (places.Look busy) (x == 0) _ _ (omega arith) (omega arith)
+deinit_shortens (places.Look busy) x = either_way (λ p. Shortens deinit_left (places.Look busy) p) (x == 0) _ _ (omega arith) (omega arith)
 deinit_shortens (places.Forget j) x = deinit_next j (nat_lt j LAST_WORD) refl
 deinit_shortens _ x = omega arith
 
@@ -56,9 +52,9 @@ deinit_clean (places.Look busy) = true
 deinit_clean _ = false
 
 deinit_cleans : (k : DeInitBody) (x : ℕ) → Cleans deinit_clean (deinit_work k) k (deinit_takes k x)
-deinit_cleans (places.Look busy) x = cleans_if deinit_clean (Read TimerRun) (places.Look busy) (x == 0) _ _ (cleans_by deinit_clean (Read TimerRun) (places.Look busy) (places.Store, goes) refl) tt
-deinit_cleans (places.Forget j) x = cleans_if deinit_clean (Stores j 0) (places.Forget j) (nat_lt j LAST_WORD) _ _ (cleans_by deinit_clean (Stores j 0) (places.Forget j) (places.Forget (j + 1), goes) refl) tt
-deinit_cleans k x = cleans_by deinit_clean (deinit_work k) k (deinit_takes k x) refl
+deinit_cleans (places.Look busy) x = either_way (λ p. Cleans deinit_clean (Read TimerRun) (places.Look busy) p) (x == 0) _ _ (λ e. absurd (cc)) tt
+deinit_cleans (places.Forget j) x = either_way (λ p. Cleans deinit_clean (Stores j 0) (places.Forget j) p) (nat_lt j LAST_WORD) _ _ (λ e. absurd (cc)) tt
+deinit_cleans _ x = λ e. absurd (cc)
 
 -- words from this number on
 abbrev pub from : ℕ → ℕ → Bool
@@ -77,8 +73,8 @@ pub data IsFirst : GptState → Type 0 where
   Is_first : IsFirst first_state
 
 abbrev pub deinit_holds : GptDriver → Timers → GptState → DeInitBody → Origin Call → Option Told → Type 0
-deinit_holds d f s (places.Look busy) o t = Before DeInit o t × ((b : Bool) → error_by d DeInit (is_off s.mode) (is_asleep s.mode) b ≡ (if b then Some GptBusy else None)) × (is_off s.mode ≡ false) × (busy ≡ owed_error (reporting d) GptDeInit GptBusy)
-deinit_holds d f s places.Store o t = Before DeInit o t × ((b : Bool) → error_by d DeInit (is_off s.mode) (is_asleep s.mode) b ≡ (if b then Some GptBusy else None)) × (is_off s.mode ≡ false)
+deinit_holds d f s (places.Look busy) o t = Before DeInit o t × ((b : Bool) → error_by d DeInit (is_off s.mode) (is_asleep s.mode) b ≡ cond b (Some GptBusy) None) × (is_off s.mode ≡ false) × (busy ≡ owed_error (reporting d) GptDeInit GptBusy)
+deinit_holds d f s places.Store o t = Before DeInit o t × ((b : Bool) → error_by d DeInit (is_off s.mode) (is_asleep s.mode) b ≡ cond b (Some GptBusy) None) × (is_off s.mode ≡ false)
 deinit_holds d f s places.Flags o t = After DeInit tells_nothing o t × IsFirst s × ((c : ℕ) → c < 8 → (timer_at f c).count ≡ Still 0)
 deinit_holds d f s (places.Forget j) o t = After DeInit tells_nothing o t × IsFirst s × (TARGETS ≤ j) × (j ≤ LAST_WORD)
 deinit_holds d f s _ o t = After DeInit tells_nothing o t × IsFirst s
@@ -104,23 +100,8 @@ bits_none test (suc n) h =
 any_none : (f : ℕ → Bool) → ((c : ℕ) → c < 8 → f c ≡ false) → list_any (λ c. f c) all_channels ≡ false
 any_none f h = rw (h 0 (omega arith), h 1 (omega arith), h 2 (omega arith), h 3 (omega arith), h 4 (omega arith), h 5 (omega arith), h 6 (omega arith), h 7 (omega arith)) refl
 
-or_parts : (a b : Bool) → a || b ≡ false → (a ≡ false) × (b ≡ false)
-or_parts true b e = absurd (cc)
-or_parts false b e = (refl, e)
-
 none_any : (f : ℕ → Bool) → list_any (λ c. f c) all_channels ≡ false → (c : ℕ) → c < 8 → f c ≡ false
-none_any f h c lt =
-    let a = or_parts (f 0) _ h in
-    let b = or_parts (f 1) _ a.1 in
-    let e = or_parts (f 2) _ b.1 in
-    let g = or_parts (f 3) _ e.1 in
-    let i = or_parts (f 4) _ g.1 in
-    let j = or_parts (f 5) _ i.1 in
-    let k = or_parts (f 6) _ j.1 in
-    by_eight (λ n. f n ≡ false) a.0 b.0 e.0 g.0 i.0 j.0 k.0 (or_parts (f 7) _ k.1).0 c lt
-
-zero_is : (n : ℕ) → (n == 0) ≡ true → n ≡ 0
-zero_is n e = grind (arith, nat_tests)
+none_any f h = by_eight (λ n. f n ≡ false) (grind arith) (grind arith) (grind arith) (grind arith) (grind arith) (grind arith) (grind arith) (grind arith)
 
 -- ---- timers and words
 
@@ -131,48 +112,27 @@ zero_still (Since r) now e = ap (λ q. if q then Since (record r { start = now }
 cleared : (k : Option Channel) (bit : Bool) (t : Timer) (time : ℕ) → t.count ≡ Still 0 → TimerAgrees k bit (flag_clear time t) untouched
 cleared k bit t time z = record { count = z; kept = refl; flag = λ n. ap (λ c. expired_between c time n) z ∙ sym (ap (λ c. expired_between c 0 n) z); set = tt }
 
-first_value : (x : Word) → 0 ≡ value_in first_state x
-first_value TheState = refl
-first_value (TargetOf c) = refl
-first_value (SwitchesOf c) = refl
-
 not_behind : (x : Word) → IsWord x → number_of x ≢ STATE → from TARGETS (number_of x) ≡ false → true ≡ false
 not_behind TheState there ne g = absurd (ne refl)
-not_behind (TargetOf c) there ne g = grind (arith, nat_tests)
-not_behind (SwitchesOf c) there ne g = grind (arith, nat_tests)
+not_behind _ there ne g = grind (arith, nat_tests)
 
 past : (x : Word) → IsWord x → from (LAST_WORD + 1) (number_of x) ≡ false
-past TheState there = refl
-past (TargetOf c) there = grind (arith, nat_tests)
-past (SwitchesOf c) there = grind (arith, nat_tests)
+past x there = let at = (word_at x there).1 in ap not (lt-ltb (number_of x) (LAST_WORD + 1) (omega (arith, at)))
 
 not_from : (j k : ℕ) → k ≢ j → from (j + 1) k ≡ false → from j k ≡ false
 not_from j k ne e = grind (arith, nat_tests)
 
 off_by : (b c : Bool) → c ≡ true → b && not c ≡ false
-off_by true c e = ap (λ x. not x) e
-off_by false c e = refl
+off_by b c e = grind arith
 
 module _ (d : GptDriver) where
-  some_runs : (chip : Chip) (w : World) (s : GptState) → GptAgrees d settled chip w s → (running_of chip.timers == 0) ≡ false → (q : Bool) → list_any (λ c. runs_at d w s c) all_channels ≡ q → list_any (λ c. runs_at d w s c) all_channels ≡ true
-  some_runs chip w s h i true e = e
-  some_runs chip w s h i false e =
-      let no : running_of chip.timers ≡ 0 = bits_none (λ c. is_running (timer_at chip.timers c) chip.timers.time) 8 (λ c lt. runs_here d chip w s settled h c lt refl ∙ none_any (λ c. runs_at d w s c) e c lt) in
-      let up : (running_of chip.timers == 0) ≡ true = ap (λ x. x == 0) no in
-      absurd (cc)
+  some_runs : (chip : Chip) (w : World) (s : GptState) → GptAgrees d settled chip w s → (running_of chip.timers == 0) ≡ false → list_any (λ c. runs_at d w s c) all_channels ≡ true
+  some_runs chip w s h i = true_from_ne_false _ (λ e. let no : (running_of chip.timers == 0) ≡ true = eq-eqb (running_of chip.timers) 0 (bits_none (λ c. is_running (timer_at chip.timers c) chip.timers.time) 8 (λ c lt. runs_here d chip w s settled h c lt refl ∙ none_any (λ c. runs_at d w s c) e c lt)) in cc)
 
-  look_by : (chip : Chip) (w : World) (s : GptState) (m : ℕ → Bool) (busy : Owed) → ((b : Bool) → error_by d DeInit (is_off s.mode) (is_asleep s.mode) b ≡ (if b then Some GptBusy else None)) → is_off s.mode ≡ false → busy ≡ owed_error (reporting d) GptDeInit GptBusy → GptAgrees d settled chip w s → (q : Bool) → (running_of chip.timers == 0) ≡ q → StepsTo (gpt_ground d) (deinit_bodies d) chip w s (Called DeInit) (Read TimerRun) true None m (if q then (places.Store, goes) else (places.Look busy, ends (Some Act) no_answer busy))
+  look_by : (chip : Chip) (w : World) (s : GptState) (m : ℕ → Bool) (busy : Owed) → ((b : Bool) → error_by d DeInit (is_off s.mode) (is_asleep s.mode) b ≡ cond b (Some GptBusy) None) → is_off s.mode ≡ false → busy ≡ owed_error (reporting d) GptDeInit GptBusy → GptAgrees d settled chip w s → (q : Bool) → (running_of chip.timers == 0) ≡ q → StepsTo (gpt_ground d) (deinit_bodies d) chip w s (Called DeInit) (Read TimerRun) true None m (if q then (places.Store, goes) else (places.Look busy, ends (Some Act) no_answer busy))
   look_by chip w s m busy u on e h true i =
-      (h, ((Is_before, u, on), λ time le c lt. rests_later (channel_of d c) (channel_at s c).course w.now time le (sym (runs_here d chip w s settled h c lt refl) ∙ (sym (has_bit-running_of chip.timers c lt) ∙ (ap (λ x. has_bit x c) (zero_is (running_of chip.timers) i) ∙ has_bit-zero c)))))
-  look_by chip w s m busy u on e h false i =
-      record {
-        own = tt;
-        state = s;
-        told = tells_error no_answer GptBusy;
-        is = λ times. ap (λ b. Some (acts_by d w s DeInit (error_by d DeInit (is_off s.mode) (is_asleep s.mode) b))) (some_runs chip w s h i (list_any (λ c. runs_at d w s c) all_channels) refl) ∙ ap (λ x. Some (acts_by d w s DeInit x)) (u true);
-        acts = (refl, refl);
-        next = (h, subst (λ x. TellsAs (gpt_machine d) (Called DeInit) (tells_error no_answer GptBusy) (record { answer = no_answer; owed = x })) (sym e) (error_told (gpt_machine d) DeInit no_answer GptBusy));
-      }
+      (h, ((Is_before, u, on), λ time le c lt. rests_later (channel_of d c) (channel_at s c).course w.now time le (sym (runs_here d chip w s settled h c lt refl) ∙ (sym (has_bit-running_of chip.timers c lt) ∙ (ap (λ x. has_bit x c) (eqb-true (running_of chip.timers) 0 i) ∙ has_bit-zero c)))))
+  look_by chip w s m busy u on e h false i = finds_busy d (deinit_bodies d) chip w s DeInit m (places.Look busy) busy refl (ap (λ b. error_by d DeInit (is_off s.mode) (is_asleep s.mode) b) (some_runs chip w s h i) ∙ u true) e h
 
   -- the state word says that the module is off
   switched_off : (chip : Chip) (w : World) (s : GptState) → is_off s.mode ≡ false → GptAgrees d settled chip w s → GptAgrees d (deinit_gap places.Zero) (chip_after chip (Stores STATE 0) 0) w first_state
@@ -190,21 +150,13 @@ module _ (d : GptDriver) where
 
   steps : AllGood d (deinit_bodies d)
   steps chip w s (places.Look busy) o t m (h, ((Is_before, u, on, e), stays)) = (refl, look_by chip w s (missed_after (gpt_machine d) w s m) busy u on e h (running_of chip.timers == 0) refl)
-  steps chip w s places.Store o t m (h, ((Is_before, u, on), stays)) = (
-    refl,
-    record {
-      own = tt;
-      state = first_state;
-      told = tells_nothing;
-      is = λ times. ap (λ b. Some (acts_by d w s DeInit (error_by d DeInit (is_off s.mode) (is_asleep s.mode) b))) (any_none (λ c. runs_at d w s c) (stays w.now (omega arith))) ∙ ap (λ x. Some (acts_by d w s DeInit x)) (u false);
-      acts = tt;
-      next = (switched_off chip w s on h, ((Is_after, Is_first), λ time le c lt. running_is (channel_of d c) _ _ _ (h.block c lt refl) time ∙ stays time le c lt));
-    },
-  )
-  steps chip w s places.Zero o t m (h, ((Is_after, Is_first), stays)) = (refl, (moved d (Write TimerZero LINES) chip w s s (deinit_gap places.Zero) (deinit_gap places.Zero) h (λ c lt closed. absurd (cc)) h.words h.lines h.clean, ((Is_after, Is_first, λ c lt. ap (λ y. y.count) (timer_at-acted_on turns.Zero chip.timers LINES c (record { all = h.outside.all.timers; within = lt }) (all_lines c lt)) ∙ zero_still (timer_at chip.timers c).count chip.timers.time (ap (λ n. is_running (timer_at chip.timers c) n) h.outside.now ∙ stays w.now (omega arith) c lt)), λ time le. tt)))
-  steps chip w s places.Flags o t m (h, ((Is_after, Is_first, zeros), stays)) = (refl, (moved d (Write TimerFlags LINES) chip w s s (deinit_gap places.Flags) (deinit_gap places.Disable) h (block_acted d turns.Clear chip.timers LINES none first_state h.outside.all.timers (λ c lt closed one. cleared (channel_of d c) _ (timer_at chip.timers c) chip.timers.time (zeros c lt)) (λ c lt closed no. absurd (let e = all_lines c lt in cc))) h.words h.lines h.clean, ((Is_after, Is_first), λ time le. tt)))
+  steps chip w s places.Store o t m (h, ((Is_before, u, on), stays)) =
+      let first = ap (λ b. error_by d DeInit (is_off s.mode) (is_asleep s.mode) b) (any_none (λ c. runs_at d w s c) (stays w.now (omega arith))) ∙ u false in
+      (refl, acts_so d w s DeInit first refl tt (switched_off chip w s on h, ((Is_after, Is_first), λ time le c lt. running_is (channel_of d c) _ _ _ (h.block c lt refl) time ∙ stays time le c lt)))
+  steps chip w s places.Zero o t m (h, ((Is_after, Is_first), stays)) = (refl, (moved d (Write TimerZero LINES) chip w s s (deinit_gap places.Zero) (deinit_gap places.Zero) h (λ c lt closed. absurd (cc)) h.words h.lines h.clean, ((Is_after, Is_first, λ c lt. ap (λ y. y.count) (timer_at-acted_on Zeroes chip.timers LINES c (record { all = h.outside.all.timers; within = lt }) (all_lines c lt)) ∙ zero_still (timer_at chip.timers c).count chip.timers.time (ap (λ n. is_running (timer_at chip.timers c) n) h.outside.now ∙ stays w.now (omega arith) c lt)), λ time le. tt)))
+  steps chip w s places.Flags o t m (h, ((Is_after, Is_first, zeros), stays)) = (refl, (moved d (Write TimerFlags LINES) chip w s s (deinit_gap places.Flags) (deinit_gap places.Disable) h (block_acted d Unflags chip.timers LINES none first_state h.outside.all.timers (λ c lt closed one. cleared (channel_of d c) _ (timer_at chip.timers c) chip.timers.time (zeros c lt)) (λ c lt closed no. absurd (let e = all_lines c lt in cc))) h.words h.lines h.clean, ((Is_after, Is_first), λ time le. tt)))
   steps chip w s places.Disable o t m (h, ((Is_after, Is_first), stays)) = (refl, (moved d (Write EnableClear LINES) chip w s s (deinit_gap places.Disable) (deinit_gap (places.Forget TARGETS)) h h.block h.words (λ c lt. let few : c < 32 = omega (arith, lt) in has_bit-without chip.control.enabled LINES c (omega arith) few ∙ off_by _ _ (all_lines c lt)) h.clean, ((Is_after, Is_first, omega arith, omega arith), λ time le. tt)))
   steps chip w s (places.Forget j) o t m (h, ((Is_after, Is_first, a, b), stays)) = (may_word j (omega (arith, a)) (omega (arith, b)), forget_by (chip_after chip (Stores j 0) 0) w (missed_after (gpt_machine d) w s m) j a b (forgotten chip w j a b h) (nat_lt j LAST_WORD) refl)
 
   pub deinit_right : AreRight (gpt_ground d) (deinit_bodies d)
-  deinit_right = timed_right d deinit_work deinit_takes deinit_left deinit_gap (deinit_holds d) deinit_shortens deinit_clean deinit_cleans (deinit_stays d) steps
+  deinit_right = all_right d (deinit_bodies d) deinit_shortens deinit_cleans (λ f w w1 s k o t le h. on_later w.now w1.now le h) steps

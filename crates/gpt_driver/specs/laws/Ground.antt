@@ -1,37 +1,25 @@
 -- The ground keeps what it owes: at the start, in time, under moves elsewhere and over a reset.
-use Rattle.std.proofs.Common.{◌≡◌, ℕ, ◌+◌, ◌/◌, ◌%◌, ◌<◌, ◌≤◌, ◌^◌, Bool, true, false, ◌&&◌, ◌||◌, ◌==◌, not, nat_lt, Option, Some, None, refl, sym, ◌∙◌, ap, subst, arith}
+use Rattle.std.proofs.Common.{◌≡◌, ℕ, ◌/◌, ◌%◌, ◌<◌, ◌≤◌, ◌^◌, Bool, true, false, ◌&&◌, ◌||◌, ◌==◌, not, nat_lt, Option, Some, None, refl, sym, ◌∙◌, ap, subst, arith}
 use Rattle.std.specs.Prelude.{is_some, IsSome, if◌then◌else◌}
-use Rattle.gpt_driver.specs.laws.Base.{nat_tests, Chip, chip_after, happened, word_of, level_leaves, rate-left, word-left, StandsIn, stands-move, stands-event, stands-reset, Timers, timer_at, flags_of, is_flagged, has_bit-flags_of, has_bit, has_bit-or, Order, Tick, Level, Move, World, world_after, tells_nothing, outcome, Called, EnableSet, EnableClear, TimerTarget, TimerPrescaler, TimerOneShot, TimerGateSet, TimerGateClear, TimerFlags, TimerZero, TimerLow, Gap, settled, TimerAgrees, Word, TheState, TargetOf, SwitchesOf, number_of, IsWord, value_in, GptAgrees, gpt_ground, gpt_may, gpt_owns, is_own_word, GptState, channel_at, first_state, untouched, Mode, Off, Normal, Sleep, is_off, is_marked, ready, channel_of, Call, Init, Channel, GptDriver}
-use Rattle.chip_model.specs.Chip.{after_read, reset_chip, is_masked, is_pending}
-use Rattle.chip_model.specs.Histories.{Made, LeavesWord, sets_rate}
+use Rattle.gpt_driver.specs.laws.Base.{lt-ltb, nat_tests, Chip, chip_after, happened, word_of, Made, level_leaves, rate-left, word-left, Timers, timer_at, is_flagged, flags_of, has_bit-flags_of, has_bit, has_bit-or, has_bit-zero, has_bit-above, has_bit-without, Order, Tick, Level, ErrorName, Move, EnableSet, EnableClear, TimerTarget, TimerLow, World, world_after, tells_nothing, outcome, Called, StandsIn, stands-move, stands-event, stands-reset, error_by, service_of, Gap, settled, TimerAgrees, Word, number_of, IsWord, GptAgrees, gpt_ground, gpt_may, gpt_owns, is_own_word, has_lines, is_for_lines, may_name, may_write, owns_written, GptState, channel_at, first_state, Mode, Off, Normal, Sleep, untouched, is_off, is_asleep, is_busy, is_marked, acts_by, ready, switches, channel_of, bit, Call, Init, SetMode, OfChannel, Changes, Channel, GptDriver, Notification, Wakeup, ToSleep, Load, Read, Store, Write, Reg}
+use Rattle.chip_model.specs.Chip.{reset_chip, is_masked, is_pending}
+use Rattle.chip_model.specs.Histories.{LeavesWord, sets_rate}
 use Rattle.chip_model.proofs.PinLaws.{line-timer}
 use Rattle.chip_model.proofs.WordLaws.{slice_index-blank}
 use Rattle.chip_timers.specs.Timers.{timers_fresh, idle}
-use Rattle.mcal_base.proofs.BitLaws.{has_bit-without, has_bit-above}
 use Rattle.mcal_base.specs.declared.directive.Reason.{Reason}
 use Rattle.mcal_base.specs.declared.directive.Reason.TheVariants.{PowerOn}
-use Rattle.mcal_base.specs.declared.layout.TheConstants.{SOURCES}
-use Rattle.mcal_base.specs.declared.moves.Move.TheVariants.{Read, Write, Load, Store}
-use Rattle.mcal_base.specs.declared.register.Reg.{Reg}
-use Rattle.mcal_base.specs.declared.register.Reg.TheVariants.{CaptureCountLow, CaptureTimeLow, ConverterAbort, SerialData, ClockPll, ClockRate, ResetRequest}
+use Rattle.mcal_base.specs.declared.register.Reg.TheVariants.{SerialData, ClockPll, ClockRate, ResetRequest}
 use Rattle.run_model.specs.Frame.{is_shared, resets_chip, begins_word, is_reset_service}
 use Rattle.service_outline.specs.Outline.{IsGround, Comes}
-use Rattle.gpt_driver.specs.Checks.{service_of, channel_service}
-use Rattle.service_outline.specs.There.{names_there}
 use Rattle.service_outline.specs.laws.There.{move_there}
 use Rattle.service_outline.specs.laws.Words.{word_later, fills_there}
-use Rattle.gpt_driver.specs.Ground.{gpt_setting, is_timer, owns_written, may_write, may_name, has_lines, is_for_lines}
-use Rattle.gpt_driver.specs.declared.call.Call.TheVariants as calls
-use Rattle.gpt_driver.specs.declared.call.ChannelCall.{ChannelCall}
-use Rattle.gpt_driver.specs.declared.call.ChannelCall.TheVariants as asks
-use Rattle.gpt_driver.specs.declared.call.Change.TheVariants.{Notification, Wakeup}
-use Rattle.gpt_driver.specs.declared.call.GptMode.TheVariants as modes
-use Rattle.gpt_driver.specs.Machine.{work, switches, acts_by, happens, is_busy, is_asleep}
-use Rattle.gpt_driver.specs.Checks.{error_by}
-use Rattle.mcal_base.specs.declared.error_name.ErrorName.{ErrorName}
+use Rattle.gpt_driver.specs.Ground.{gpt_setting}
+use Rattle.gpt_driver.specs.Machine.{work, happens}
 use Rattle.run_model.specs.Machine.{Acts, Outcome, ErrorLeaves}
 use Rattle.gpt_driver.specs.laws.Courses.{marked_used}
-use Rattle.gpt_driver.specs.laws.Parts.{by_eight, marked_here}
+use Rattle.gpt_driver.specs.laws.Parts.{by_eight, first_value, word_at, marked_here}
+use Rattle.std.proofs.lemmas.Bool.{and_parts, ltb-true, ltb-false}
 
 -- ---- after a reset, and in time
 
@@ -41,23 +29,15 @@ fresh_at time c lt = by_eight (λ i. timer_at (timers_fresh time) i ≡ idle) re
 idle_agrees : (k : Option Channel) (bit : Bool) → TimerAgrees k bit idle untouched
 idle_agrees k bit = record { count = refl; kept = refl; flag = λ n. refl; set = tt }
 
-reset_words : (chip : Chip) (reason : Reason) (x : Word) → word_of (reset_chip chip reason) (number_of x) ≡ 0
-reset_words chip reason x = slice_index-blank (number_of x)
-
 -- at power on and after each other reset
 reset_agrees : (d : GptDriver) (chip : Chip) (w : World) (reason : Reason) → StandsIn chip w → GptAgrees d settled (reset_chip chip reason) w first_state
 reset_agrees d chip w reason h = record {
   outside = stands-reset chip w reason h;
   block = λ c lt closed. subst (λ t. TimerAgrees (channel_of d c) (has_bit 0 c) t untouched) (sym (fresh_at chip.timers.time c lt)) (idle_agrees (channel_of d c) (has_bit 0 c));
-  words = words;
-  lines = λ c lt. by_eight (λ i. has_bit 0 i ≡ false) refl refl refl refl refl refl refl refl c lt;
+  words = λ x there closed. slice_index-blank (number_of x) ∙ first_value x;
+  lines = λ c lt. has_bit-zero c;
   clean = λ off c. refl;
 }
-  where
-    words : (x : Word) → IsWord x → false ≡ false → word_of (reset_chip chip reason) (number_of x) ≡ value_in first_state x
-    words TheState there closed = reset_words chip reason TheState
-    words (TargetOf c) there closed = reset_words chip reason (TargetOf c)
-    words (SwitchesOf c) there closed = reset_words chip reason (SwitchesOf c)
 
 -- a chip with the timers, the module's words and the enable bits of another one agrees with what that one does
 same_agrees : (d : GptDriver) (gap : Gap) (chip chip1 : Chip) (w w1 : World) (s : GptState) → StandsIn chip1 w1 → chip1.timers ≡ chip.timers → ((x : Word) → IsWord x → word_of chip1 (number_of x) ≡ word_of chip (number_of x)) → ((c : ℕ) → c < 8 → has_bit chip1.control.enabled c ≡ has_bit chip.control.enabled c) → GptAgrees d gap chip w s → GptAgrees d gap chip1 w1 s
@@ -69,14 +49,8 @@ same_agrees d gap chip chip1 w w1 s outside timers words enabled h = record {
   clean = h.clean;
 }
 
--- the module's words stand before the source arrays
-word_low : (x : Word) → IsWord x → number_of x < SOURCES
-word_low TheState there = omega arith
-word_low (TargetOf c) there = omega (arith, there)
-word_low (SwitchesOf c) there = omega (arith, there)
-
 later_agrees : (d : GptDriver) (gap : Gap) (chip : Chip) (w : World) (s : GptState) (order : Order) → Comes (gpt_setting d) chip w s order → GptAgrees d gap chip w s → GptAgrees d gap (happened chip order) (world_after w chip.clock.rate order) s
-later_agrees d gap chip w s order free h = by_order order (stands-event chip w order (fills_there (gpt_setting d) (is_masked chip) w s free.frames order free.free) h.outside) (λ x there. word_later chip order (number_of x) h.outside.all.words (word_low x there))
+later_agrees d gap chip w s order free h = by_order order (stands-event chip w order (fills_there (gpt_setting d) (is_masked chip) w s free.frames order free.free) h.outside) (λ x there. let at = (word_at x there).1 in word_later chip order (number_of x) h.outside.all.words (omega (arith, at)))
   where
     by_order : (order : Order) → StandsIn (happened chip order) (world_after w chip.clock.rate order) → ((x : Word) → IsWord x → word_of (happened chip order) (number_of x) ≡ word_of chip (number_of x)) → GptAgrees d gap (happened chip order) (world_after w chip.clock.rate order) s
     by_order (Tick n) outside words = record { outside = outside; block = h.block; words = h.words; lines = h.lines; clean = h.clean }
@@ -85,47 +59,20 @@ later_agrees d gap chip w s order free h = by_order order (stands-event chip w o
 
 -- ---- moves elsewhere
 
-read_apart : (chip : Chip) (r : Reg) → is_timer r ≡ false → (after_read chip r).timers ≡ chip.timers
-read_apart chip (TimerLow c) e = absurd (cc)
-read_apart chip _ e = refl
-
-written_apart : (chip : Chip) (r : Reg) (v received : ℕ) → owns_written r v ≡ false → (chip_after chip (Write r v) received).timers ≡ chip.timers
-written_apart chip (TimerTarget c) v received e = absurd (cc)
-written_apart chip (TimerPrescaler c) v received e = absurd (cc)
-written_apart chip TimerOneShot v received e = absurd (cc)
-written_apart chip TimerGateSet v received e = absurd (cc)
-written_apart chip TimerGateClear v received e = absurd (cc)
-written_apart chip TimerZero v received e = absurd (cc)
-written_apart chip TimerFlags v received e = absurd (cc)
-written_apart chip _ v received e = refl
-
 timers_apart : (chip : Chip) (made : Move) (received : ℕ) → gpt_owns made ≡ false → (chip_after chip made received).timers ≡ chip.timers
-timers_apart chip (Read r) received e = read_apart chip r e
-timers_apart chip (Write r v) received e = written_apart chip r v received e
-timers_apart chip _ received e = refl
-
-own_word : (j : ℕ) → 16384 ≤ j → j < 16448 → is_own_word j ≡ true
-own_word j a b = grind (arith, nat_tests)
-
-own_words : (x : Word) → IsWord x → is_own_word (number_of x) ≡ true
-own_words TheState there = refl
-own_words (TargetOf c) there = own_word (16392 + c) (omega arith) (omega (arith, there))
-own_words (SwitchesOf c) there = own_word (16400 + c) (omega arith) (omega (arith, there))
+timers_apart chip (Read (TimerLow c)) received e = cc
+timers_apart chip (Write (TimerTarget c) v) received e = cc
+timers_apart chip _ received e = cc
 
 -- a word of the module may be named
 pub may_word : (j : ℕ) → 16384 ≤ j → j < 16448 → is_own_word j && nat_lt j 147456 ≡ true
-may_word j a b = ap (λ q. q && nat_lt j 147456) (own_word j a b) ∙ there j b
-  where
-    there : (j : ℕ) → j < 16448 → nat_lt j 147456 ≡ true
-    there j b = grind (arith, nat_tests)
+may_word j a b = grind (arith, nat_tests)
 
 pub may_words : (x : Word) → IsWord x → is_own_word (number_of x) && nat_lt (number_of x) 147456 ≡ true
-may_words TheState there = refl
-may_words (TargetOf c) there = may_word (16392 + c) (omega arith) (omega (arith, there))
-may_words (SwitchesOf c) there = may_word (16400 + c) (omega arith) (omega (arith, there))
+may_words x there = let at = word_at x there in may_word (number_of x) at.0 (omega (arith, at))
 
 leaves_word : (made : Move) (received : ℕ) (x : Word) → IsWord x → gpt_owns made ≡ false → LeavesWord (number_of x) (Made made received)
-leaves_word (Store j v) received x there e = λ i. let f : is_own_word j ≡ true = subst (λ k. is_own_word k ≡ true) (sym i) (own_words x there) in cc
+leaves_word (Store j v) received x there e = λ i. let f : is_own_word j ≡ true = subst (λ k. is_own_word k ≡ true) (sym i) (and_parts (is_own_word (number_of x)) _ (may_words x there)).0 in cc
 leaves_word _ received x there e = tt
 
 -- a value without a bit of a timer line
@@ -135,35 +82,16 @@ no_line v c e lt = by_eight (λ i. has_bit v i ≡ false) (zero_bit (v / 1) (ome
     zero_bit : (n : ℕ) → n % 2 ≡ 0 → (n % 2 == 1) ≡ false
     zero_bit n z = ap (λ x. x == 1) z
 
-lines_none : (v : ℕ) → has_lines v ≡ false → v % 256 ≡ 0
-lines_none v e = grind (arith, nat_tests)
+lines_none : (v : ℕ) → has_lines v ≡ false → (v % 256 ≡ 0) × (v < 2 ^ 32)
+lines_none v e = (grind (arith, nat_tests), grind (arith, nat_tests))
 
-lines_fit : (v : ℕ) → has_lines v ≡ false → v < 2 ^ 32
-lines_fit v e = grind (arith, nat_tests)
-
-set_apart : (b f : Bool) → f ≡ false → (b || f) ≡ b
-set_apart true f e = refl
-set_apart false f e = e
-
-clear_apart : (b f : Bool) → f ≡ false → (b && not f) ≡ b
-clear_apart true f e = ap (λ x. not x) e
-clear_apart false f e = refl
-
-written_enabled : (chip : Chip) (r : Reg) (v received c : ℕ) → owns_written r v ≡ false → c < 8 → has_bit (chip_after chip (Write r v) received).control.enabled c ≡ has_bit chip.control.enabled c
-written_enabled chip EnableSet v received c e lt = has_bit-or chip.control.enabled v c ∙ set_apart (has_bit chip.control.enabled c) (has_bit v c) (no_line v c (lines_none v e) lt)
-written_enabled chip EnableClear v received c e lt = let few : c < 32 = omega (arith, lt) in has_bit-without chip.control.enabled v c (lines_fit v e) few ∙ clear_apart (has_bit chip.control.enabled c) (has_bit v c) (no_line v c (lines_none v e) lt)
-written_enabled chip _ v received c e lt = refl
-
-read_enabled : (chip : Chip) (r : Reg) → (after_read chip r).control ≡ chip.control
-read_enabled chip (TimerLow c) = refl
-read_enabled chip (CaptureCountLow c) = refl
-read_enabled chip (CaptureTimeLow c) = refl
-read_enabled chip (ConverterAbort u) = refl
-read_enabled chip _ = refl
+without_line : (a b : Bool) → b ≡ false → ((a || b) ≡ a) × ((a && not b) ≡ a)
+without_line a b e = (grind arith, grind arith)
 
 enabled_apart : (chip : Chip) (made : Move) (received c : ℕ) → gpt_owns made ≡ false → c < 8 → has_bit (chip_after chip made received).control.enabled c ≡ has_bit chip.control.enabled c
-enabled_apart chip (Read r) received c e lt = ap (λ k. has_bit k.enabled c) (read_enabled chip r)
-enabled_apart chip (Write r v) received c e lt = written_enabled chip r v received c e lt
+enabled_apart chip (Read (TimerLow k)) received c e lt = refl
+enabled_apart chip (Write EnableSet v) received c e lt = has_bit-or chip.control.enabled v c ∙ (without_line (has_bit chip.control.enabled c) (has_bit v c) (no_line v c (lines_none v e).0 lt)).0
+enabled_apart chip (Write EnableClear v) received c e lt = has_bit-without chip.control.enabled v c (lines_none v e).1 (omega (arith, lt)) ∙ (without_line (has_bit chip.control.enabled c) (has_bit v c) (no_line v c (lines_none v e).0 lt)).1
 enabled_apart chip _ received c e lt = refl
 
 apart_agrees : (d : GptDriver) (gap : Gap) (chip : Chip) (w : World) (s : GptState) (made : Move) (received : ℕ) → gpt_owns made ≡ false → GptAgrees d gap chip w s → GptAgrees d gap (chip_after chip made received) w s
@@ -172,15 +100,8 @@ apart_agrees d gap chip w s made received e h = same_agrees d gap chip (chip_aft
 -- ---- what a frame may do
 
 owned_plain : (made : Move) → gpt_owns made ≡ true → is_shared made ≡ false
-owned_plain (Read r) e = refl
-owned_plain (Write r v) e = refl
-owned_plain (Load k) e = refl
-owned_plain (Store k v) e = refl
-owned_plain _ e = absurd (cc)
-
-both_of : (a b : Bool) → a && b ≡ true → (a ≡ true) × (b ≡ true)
-both_of true b e = (refl, e)
-both_of false b e = absurd (cc)
+owned_plain (Load k) e = cc
+owned_plain _ e = cc
 
 lines_named : (v : ℕ) → is_for_lines v ≡ true → has_lines v ≡ true
 lines_named v e = grind (arith, nat_tests)
@@ -195,71 +116,42 @@ may_owned (Write r v) e = written_owned r v e
 may_owned _ e = e
 
 -- it resets nothing, begins no serial word and sets no rate
-abbrev IsPlain : Move → Type 0
-IsPlain made = (resets_chip made ≡ false) × (begins_word made ≡ false) × (sets_rate made ≡ false)
-
-written_plain : (r : Reg) (v : ℕ) → may_name (Write r v) ≡ true → IsPlain (Write r v)
-written_plain ResetRequest v e = absurd (cc)
-written_plain (SerialData u) v e = absurd (cc)
-written_plain ClockPll v e = absurd (cc)
-written_plain ClockRate v e = absurd (cc)
-written_plain _ v e = (refl, refl, refl)
-
-named_plain : (made : Move) → may_name made ≡ true → IsPlain made
-named_plain (Write r v) e = written_plain r v e
-named_plain _ e = (refl, refl, refl)
-
-plain : (made : Move) → gpt_may made ≡ true → IsPlain made
-plain made e = named_plain made (both_of (may_name made) (names_there made) e).0
+plain : (made : Move) → gpt_may made ≡ true → (resets_chip made ≡ false) × (begins_word made ≡ false) × (sets_rate made ≡ false)
+plain (Write ResetRequest v) e = absurd (cc)
+plain (Write (SerialData u) v) e = absurd (cc)
+plain (Write ClockPll v) e = absurd (cc)
+plain (Write ClockRate v) e = absurd (cc)
+plain _ e = (refl, refl, refl)
 
 -- and enables no other line
 lines_few : (v : ℕ) → is_for_lines v ≡ true → v < 2 ^ 8
 lines_few v e = grind (arith, nat_tests)
 
-other_line : (bits line : ℕ) → is_for_lines bits ≡ true → nat_lt line 8 ≡ false → has_bit bits line ≡ false
-other_line bits line e f =
-    let above : 8 ≤ line = grind (arith, nat_tests) in
-    has_bit-above bits 8 line (lines_few bits e) above
-
-channel_asks : (call : ChannelCall) → is_reset_service (channel_service call) ≡ false
-channel_asks (asks.Change (Notification true)) = refl
-channel_asks (asks.Change (Notification false)) = refl
-channel_asks (asks.Change (Wakeup true)) = refl
-channel_asks (asks.Change (Wakeup false)) = refl
-channel_asks _ = refl
-
 asks_none : (c : Call) → is_reset_service (service_of c) ≡ false
-asks_none (calls.Channel c call) = channel_asks call
+asks_none (OfChannel c (Changes (Notification true))) = refl
+asks_none (OfChannel c (Changes (Wakeup true))) = refl
 asks_none _ = refl
 
 -- ---- what is due
-
-below : (c : ℕ) → nat_lt c 8 ≡ true → c < 8
-below c e = grind (arith, nat_tests)
-
-pub below_test : (c : ℕ) → c < 8 → nat_lt c 8 ≡ true
-below_test c lt = grind (arith, nat_tests)
 
 -- a configured channel is one of the eight
 pub within : (d : GptDriver) (c : ℕ) → is_some (channel_of d c) ≡ true → c < 8
 within d c h = by_test (nat_lt c 8) _ refl h
   where
     by_test : (q : Bool) (k : Option Channel) → nat_lt c 8 ≡ q → is_some (if q then k else None) ≡ true → c < 8
-    by_test true k e h = below c e
+    by_test true k e h = ltb-true c 8 e
     by_test false k e h = absurd (cc)
 
 pub flag_bit : (d : GptDriver) (chip : Chip) (w : World) (s : GptState) (c : ℕ) → c < 8 → GptAgrees d settled chip w s → has_bit (flags_of chip.timers) c ≡ is_marked (channel_of d c) w.now (channel_at s c)
 flag_bit d chip w s c lt h = has_bit-flags_of chip.timers c lt ∙ marked_here d chip w s settled h c lt refl
 
 both_on : (f e m : Bool) → f ≡ m → (e ≡ false → m ≡ false) → (f && e) ≡ m
-both_on true true m a b = a
-both_on false true m a b = a
-both_on true false m a b = sym (b refl)
-both_on false false m a b = a
+both_on f true m a b = grind arith
+both_on f false m a b = grind (arith, b refl)
 
 pends : (d : GptDriver) (chip : Chip) (w : World) (s : GptState) (c : ℕ) → nat_lt c 8 ≡ true → GptAgrees d settled chip w s → is_pending chip c ≡ ready d w s c
 pends d chip w s c lt h =
-    let here = below c lt in
+    let here = ltb-true c 8 lt in
     line-timer chip c here
     ∙ (both_on (is_flagged (timer_at chip.timers c) chip.timers.time) (has_bit chip.control.enabled c) _ (marked_here d chip w s settled h c here refl) (λ e. unmarked_off (h.clean (off_by s.mode (sym (h.lines c here) ∙ e)) c))
     ∙ sym (ap (λ q. q && is_marked (channel_of d c) w.now (channel_at s c)) lt))
@@ -276,27 +168,20 @@ due_used : (d : GptDriver) (chip : Chip) (w : World) (s : GptState) (c : ℕ) �
 due_used d chip w s c h e = by_test (nat_lt c 8) refl e
   where
     by_test : (q : Bool) → nat_lt c 8 ≡ q → q && is_marked (channel_of d c) w.now (channel_at s c) ≡ true → is_some (channel_of d c) ≡ true
-    by_test true i e = marked_used (channel_of d c) _ (channel_at s c).course (channel_at s c).dropped w.now (h.block c (below c i) refl).set e
+    by_test true i e = marked_used (channel_of d c) _ (channel_at s c).course (channel_at s c).dropped w.now (h.block c (ltb-true c 8 i) refl).set e
     by_test false i e = absurd (cc)
 
 -- ---- errors
 
 -- what a call without an error does tells none
 work_tells : (d : GptDriver) (w : World) (s : GptState) (call : Call) → (work d w s call).told.error ≡ None
-work_tells d w s Init = refl
-work_tells d w s calls.DeInit = refl
-work_tells d w s (calls.SetMode None) = refl
-work_tells d w s (calls.SetMode (Some modes.Normal)) = refl
-work_tells d w s (calls.SetMode (Some modes.Sleep)) = refl
-work_tells d w s (calls.Channel c asks.GetTimeElapsed) = refl
-work_tells d w s (calls.Channel c asks.GetTimeRemaining) = refl
-work_tells d w s (calls.Channel c (asks.StartTimer v)) = refl
-work_tells d w s (calls.Channel c asks.StopTimer) = refl
-work_tells d w s (calls.Channel c (asks.Change by)) = switched (channel_of d c)
+work_tells d w s (SetMode (Some ToSleep)) = refl
+work_tells d w s (OfChannel c (Changes by)) = switched (channel_of d c)
   where
     switched : (k : Option Channel) → (switches k s c by).told.error ≡ None
     switched None = refl
     switched (Some k) = refl
+work_tells d w s _ = refl
 
 acts_leave : (d : GptDriver) (w : World) (s : GptState) (call : Call) (e : Option ErrorName) → ErrorLeaves s (acts_by d w s call e)
 acts_leave d w s call None some = absurd (let k = subst (λ x. IsSome x) (work_tells d w s call) some in cc)
@@ -315,16 +200,16 @@ ground_right d = record {
   resets = λ gap chip w s reason h. (outcome first_state tells_nothing, refl, reset_agrees d chip w reason h.outside);
   agrees_later = λ gap chip w s order free h. later_agrees d gap chip w s order free h;
   agrees_apart = λ gap chip w s made received e h. apart_agrees d gap chip w s made received (e (Called Init)) h;
-  may_owns = λ o made e. may_owned made (both_of (may_name made) (names_there made) e).0;
+  may_owns = λ o made e. may_owned made (and_parts (may_name made) _ e).0;
   owns_plain = λ o made e. owned_plain made e;
-  may_there = λ o made e. move_there made (both_of (may_name made) (names_there made) e).1;
-  enables = λ o bits line e other. other_line bits line (both_of (is_for_lines bits) true e).0 other;
+  may_there = λ o made e. move_there made (and_parts (may_name made) _ e).1;
+  enables = λ o bits line e other. has_bit-above bits 8 line (lines_few bits (and_parts (is_for_lines bits) true e).0) (ltb-false line 8 other);
   asks_none = λ c. asks_none c;
   polls_none = λ w s c. refl;
   resets_none = λ o made e. (plain made e).0;
   words_none = λ o made e. (plain made e).1;
   owns_called = λ line made e. (Init, e);
-  used_lines = λ line used. below_test line (within d line used);
+  used_lines = λ line used. lt-ltb line 8 (within d line used);
   due_used = λ chip w s line h e. due_used d chip w s line h e;
   pends = λ chip w s line lt h. pends d chip w s line lt h;
   rest = λ chip w s h. tt;

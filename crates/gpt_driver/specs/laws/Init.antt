@@ -1,9 +1,7 @@
 -- Gpt_Init: its steps, what holds at each, and that they are right.
-use Rattle.std.proofs.Common.{◌≡◌, ℕ, ◌<◌, Bool, true, false, ◌||◌, Option, Some, refl, ◌∙◌, ap, subst, arith}
-use Rattle.gpt_driver.specs.laws.Base.{has_bit, has_bit-or, Chip, word_of, Timers, timer_at, Move, Act, World, Told, no_answer, tells_nothing, Origin, BodyTaken, goes, ends, Nothing, Bodies, AreRight, Before, Is_before, Gap, settled, behind, TimerAgrees, Word, TheState, TargetOf, SwitchesOf, number_of, IsWord, value_in, GptAgrees, gpt_ground, GptState, fresh_state, Normal, target_of, is_off, is_asleep, is_busy, acts_by, error_by, channel_of, packed, Call, Init, GptDriver, STATE, LINES, AllGood, steady, steady_right, Shortens}
-use Rattle.std.proofs.lemmas.Bool.{agree_below_at}
-use Rattle.mcal_base.specs.declared.moves.Move.TheVariants.{Write, Store as Stores}
-use Rattle.mcal_base.specs.declared.register.Reg.TheVariants.{EnableSet}
+use Rattle.std.proofs.Common.{◌≡◌, ℕ, ◌<◌, true, false, Option, Some, None, refl, ◌∙◌, ap, subst, arith}
+use Rattle.std.proofs.lemmas.Bool.{agree_below_at, or_right}
+use Rattle.gpt_driver.specs.laws.Base.{Store as Stores, Chip, word_of, Timers, timer_at, has_bit, has_bit-or, Act, Move, EnableSet, World, Told, no_answer, Origin, Nothing, BodyTaken, goes, ends, never_clean, Shortens, Bodies, AreRight, Before, Is_before, error_by, Gap, settled, behind, TimerAgrees, Word, TheState, TargetOf, SwitchesOf, number_of, IsWord, value_in, GptAgrees, gpt_ground, GptState, fresh_state, Normal, is_off, is_asleep, target_of, is_busy, channel_of, packed, Call, Init, GptDriver, STATE, LINES, Write, steady, AllGood, all_right, acts_so}
 use Rattle.gpt_driver.specs.declared.service.init.InitBody.{InitBody}
 use Rattle.gpt_driver.specs.declared.service.init.InitBody.TheVariants.{Enable, Store}
 use Rattle.gpt_driver.specs.laws.Parts.{caught_up, moved, never_off}
@@ -41,10 +39,6 @@ init_bodies d = steady d init_work init_takes init_left init_gap init_holds
 pub all_lines : (c : ℕ) → c < 8 → has_bit LINES c ≡ true
 all_lines c lt = agree_below_at (λ i. has_bit LINES i) (λ i. true) 8 c refl lt
 
-or_second : (a b : Bool) → b ≡ true → a || b ≡ true
-or_second true b e = refl
-or_second false b e = e
-
 module _ (d : GptDriver) where
   turned_on : (chip : Chip) (w : World) (s : GptState) → is_off s.mode ≡ true → GptAgrees d armed chip w s → GptAgrees d (behind STATE) chip w (fresh_state Normal)
   turned_on chip w s off h = record {
@@ -61,18 +55,10 @@ module _ (d : GptDriver) where
       words (SwitchesOf c) there closed = h.words (SwitchesOf c) there refl ∙ ap (λ y. packed y.switches) (h.clean off c)
 
   steps : AllGood d (init_bodies d)
-  steps chip w s Enable o t m (h, (Is_before, off)) = (refl, (moved d (Write EnableSet LINES) chip w s s settled armed h h.block h.words (λ c lt. has_bit-or chip.control.enabled LINES c ∙ or_second _ _ (all_lines c lt)) h.clean, (Is_before, off)))
-  steps chip w s Store o t m (h, (Is_before, off)) = (
-    refl,
-    record {
-      own = tt;
-      state = fresh_state Normal;
-      told = tells_nothing;
-      is = λ times. ap (λ u. Some (acts_by d w s Init (error_by d Init u (is_asleep s.mode) (is_busy d w s Init)))) off;
-      acts = tt;
-      next = (caught_up d chip w (fresh_state Normal) TheState 1 tt refl (turned_on chip w s off h), (refl, refl, refl));
-    },
-  )
+  steps chip w s Enable o t m (h, (Is_before, off)) = (refl, (moved d (Write EnableSet LINES) chip w s s settled armed h h.block h.words (λ c lt. has_bit-or chip.control.enabled LINES c ∙ or_right _ _ (all_lines c lt)) h.clean, (Is_before, off)))
+  steps chip w s Store o t m (h, (Is_before, off)) =
+      let first : error_by d Init (is_off s.mode) (is_asleep s.mode) (is_busy d w s Init) ≡ None = ap (λ u. error_by d Init u (is_asleep s.mode) (is_busy d w s Init)) off in
+      (refl, acts_so d w s Init first refl tt (caught_up d chip w (fresh_state Normal) TheState 1 tt refl (turned_on chip w s off h), (refl, refl, refl)))
 
   pub init_right : AreRight (gpt_ground d) (init_bodies d)
-  init_right = steady_right d init_work init_takes init_left init_gap init_holds init_shortens steps
+  init_right = all_right d (init_bodies d) init_shortens (λ k x. never_clean (init_work k) k (init_takes k x)) (λ f w w1 s k o t le h. h) steps

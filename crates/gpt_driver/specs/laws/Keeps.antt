@@ -1,60 +1,31 @@
 -- The driver keeps to its module: registers, words and lines of others are nothing to it.
-use Rattle.std.proofs.Common.{◌≡◌, ℕ, ◌<◌, ◌≤◌, ◌^◌, ◌%◌, ◌==◌, ◌&&◌, ◌||◌, not, nat_lt, Bool, true, false, Option, Some, None, refl, sym, ap, subst, arith}
-use Rattle.std.specs.Prelude.{if◌then◌else◌, is_some}
-use Rattle.std.proofs.lemmas.Bool.Decides.{nat_tests}
-use Rattle.mcal_base.specs.Bits.{has_bit}
-use Rattle.mcal_base.proofs.BitLaws.{has_bit-above}
+use Rattle.std.proofs.Common.{◌≡◌, ℕ, ◌<◌, ◌≤◌, ◌^◌, ◌%◌, true, false, Option, Some, None, refl, arith}
+use Rattle.std.specs.Prelude.{is_some}
+use Rattle.gpt_driver.specs.laws.Base.{lt-ltb, le-ltb, nat_tests, has_bit, has_bit-above, Move, EnableSet, EnableClear, TimerTarget, gpt_owns, is_own_word, has_lines, is_for_lines, is_timer, may_name, may_write, owns_written, channel_of, Channel, GptDriver, Asked, Load, Read, Store, Write, Reg, driver_of, names_there}
 use Rattle.mcal_base.specs.declared.module_name.ModuleName.TheVariants.{Gpt}
-use Rattle.mcal_base.specs.declared.moves.Move.{Move}
-use Rattle.mcal_base.specs.declared.moves.Move.TheVariants.{Read, Write, Load, Store}
-use Rattle.mcal_base.specs.declared.register.Reg.{Reg}
-use Rattle.mcal_base.specs.declared.register.Reg.TheVariants.{EnableSet, EnableClear, TimerTarget, TimerPrescaler, TimerOneShot, TimerGateSet, TimerGateClear, TimerRun, TimerFlags, TimerZero, TimerLow, TimerHigh}
 use Rattle.service_outline.specs.Services.{entering}
-use Rattle.service_outline.specs.ShortServices.{driver_of}
-use Rattle.service_outline.specs.There.{names_there}
 use Rattle.step_runner.specs.Lifts.{and-left}
-use Rattle.step_runner.specs.Union.{has_handler}
 use Rattle.step_runner.specs.Whose.{only, is_of, module_of_register, module_of_line, module_of_word, EnablesWithin, WritesWithin, NamesWithin, EnablesOthers, WritesOthers, NamesOthers, KeepsTo}
 use Rattle.step_runner.proofs.Whose.{not-unless}
-use Rattle.gpt_driver.specs.Ground.{is_timer, has_lines, owns_written, is_own_word, gpt_owns, is_for_lines, may_write, may_name}
-use Rattle.gpt_driver.specs.Table.{channel_of}
-use Rattle.gpt_driver.specs.declared.asked.Asked.{Asked}
-use Rattle.gpt_driver.specs.declared.driver.Channel.{Channel}
-use Rattle.gpt_driver.specs.declared.driver.GptDriver.{GptDriver}
 use Rattle.gpt_driver.specs.laws.Ground.{within as within_eight}
 use Rattle.gpt_driver.specs.laws.Lawful.{gpt, body_by}
 
 own_register : (r : Reg) → is_timer r ≡ true → is_of (only Gpt) (module_of_register r) ≡ true
-own_register (TimerTarget c) e = refl
-own_register (TimerPrescaler c) e = refl
-own_register TimerOneShot e = refl
-own_register TimerGateSet e = refl
-own_register TimerGateClear e = refl
-own_register TimerRun e = refl
-own_register TimerFlags e = refl
-own_register TimerZero e = refl
-own_register (TimerLow c) e = refl
-own_register (TimerHigh c) e = refl
+own_register (TimerTarget c) e = cc
 own_register _ e = cc
 
 own_word : (k : ℕ) → is_own_word k ≡ true → is_of (only Gpt) (module_of_word k) ≡ true
 own_word k e =
-    let above : nat_lt k 8192 ≡ false = grind (arith, nat_tests) in
-    let high : nat_lt k 16384 ≡ false = grind (arith, nat_tests) in
-    let low : nat_lt k 24576 ≡ true = grind (arith, nat_tests) in
-    rw (above, high, low) refl
+    let at : (16384 ≤ k) × (k < 16448) = (grind (arith, nat_tests), grind (arith, nat_tests)) in
+    rw (le-ltb k 8192 (omega (arith, at)), le-ltb k 16384 at.0, lt-ltb k 24576 (omega (arith, at))) refl
 
 -- ---- lines
 
 own_line : (l : ℕ) → l < 8 → is_of (only Gpt) (module_of_line l) ≡ true
-own_line l lt = let low : nat_lt l 8 ≡ true = grind (arith, nat_tests) in rw low refl
+own_line l lt = rw (lt-ltb l 8 lt) refl
 
 own_bit : (v l : ℕ) → v < 2 ^ 8 → has_bit v l ≡ true → l < 8
-own_bit v l fits on = by (nat_lt l 8) refl
-  where
-    by : (q : Bool) → nat_lt l 8 ≡ q → l < 8
-    by true e = grind (arith, nat_tests)
-    by false e = let high : 8 ≤ l = grind (arith, nat_tests) in let off = has_bit-above v 8 l fits high in absurd (cc)
+own_bit v l fits on = grind (arith, has_bit-above v 8 l fits)
 
 enables : (v : ℕ) → is_for_lines v ≡ true → EnablesWithin (only Gpt) v
 enables v e =
@@ -107,8 +78,8 @@ others (Store k v) h = not-unless (is_own_word k) (is_of (only Gpt) (module_of_w
 others _ h = refl
 
 handled : (k : Option Channel) → is_some (entering {Asked = Asked} (body_by k)) ≡ true → is_some k ≡ true
-handled None h = cc
-handled (Some k) h = refl
+handled None h = h
+handled (Some k) h = h
 
 -- it is the timers' alone
 pub keeps_timers : (d : GptDriver) → KeepsTo (only Gpt) (driver_of (gpt d))

@@ -1,48 +1,40 @@
 -- The timer driver, as the outline and the runner see it, and that it owes nothing.
-use Rattle.std.proofs.Common.{◌≡◌, ℕ, ◌+◌, ◌<◌, ◌≤◌, ◌^◌, Bool, true, false, ◌&&◌, ◌==◌, not, nat_lt, Option, Some, None, refl, sym, ◌∙◌, ap, subst, arith}
+use Rattle.std.proofs.Common.{List, ◌≡◌, ℕ, ◌+◌, ◌<◌, ◌≤◌, ◌^◌, Bool, true, false, ◌&&◌, ◌==◌, not, nat_lt, Option, Some, None, refl, sym, ◌∙◌, ap, subst, arith}
 use Rattle.std.specs.Prelude.{is_some, if◌then◌else◌}
-use Rattle.gpt_driver.specs.laws.Base.{nat_tests, has_bit-zero, Chip, word_of, ErrorName, World, tells_nothing, tells_error, error_told, Called, Entered, Is_before, Is_serving, Bodies, AreRight, error_by, settled, TheState, GptAgrees, gpt_ground, gpt_machine, GptState, is_off, is_asleep, is_busy, prescaler_of, acts_by, channel_of, one_shot_of, FitsGpt, Call, Init, DeInit, SetMode, ChannelCall, GetTimeElapsed, GetTimeRemaining, StartTimer, StopTimer, Channel, GptDriver, STATE, Passed, MayRun}
 use Rattle.run_model.specs.Frame.{Open}
-use Rattle.service_outline.specs.declared.body.Looked.{Looked}
-use Rattle.service_outline.specs.declared.body.Looked.TheVariants.{Goes}
 use Rattle.service_outline.specs.declared.short.Short.{Short}
 use Rattle.service_outline.specs.Both.{either}
-use Rattle.service_outline.specs.Outline.{At, Outlined, IsOutlined, LooksRight, CanEnter}
-use Rattle.service_outline.specs.Seen.{Starts}
-use Rattle.service_outline.specs.declared.body.Or.TheVariants.{First, Second}
-use Rattle.service_outline.specs.ShortServices.{driver_of}
+use Rattle.service_outline.specs.Outline.{Outlined, IsOutlined, LooksRight, CanEnter}
+use Rattle.service_outline.specs.Seen.{is_windowed}
+use Rattle.service_outline.specs.laws.Seen.{plain_sees}
 use Rattle.service_outline.specs.laws.Either.{either_right}
 use Rattle.step_runner.specs.Driver.{Covers}
-use Rattle.std.specs.Prelude.{List}
-use Rattle.gpt_driver.specs.Checks.{has_value, has_notification, has_wakeup, answer_refused}
+use Rattle.gpt_driver.specs.laws.Base.{nat_tests, Chip, word_of, bits_of-zero, ErrorName, World, tells_nothing, Called, Entered, tells_error, error_told, Bodies, At, AreRight, Is_before, Is_serving, error_by, allows, answer_refused, has_value, settled, TheState, GptAgrees, gpt_ground, GptState, is_off, is_asleep, prescaler_of, is_busy, acts_by, gpt_machine, switches, channel_of, one_shot_of, FitsGpt, Call, Init, DeInit, SetMode, OfChannel, ChannelCall, GetTimeElapsed, GetTimeRemaining, StartTimer, StopTimer, Changes, Channel, GptDriver, STATE, Asked, Check, ToNormal, ToSleep, Plain, Seen, SeesTo, Starts, driver_of, Looked, Goes, First, Second, Passed, MayRun}
 use Rattle.gpt_driver.specs.Ground.{gpt_steps}
-use Rattle.gpt_driver.specs.Machine.{switches}
-use Rattle.gpt_driver.specs.declared.asked.Asked.{Asked}
-use Rattle.gpt_driver.specs.declared.call.Call.TheVariants as calls
-use Rattle.gpt_driver.specs.declared.call.ChannelCall.TheVariants as asks
-use Rattle.gpt_driver.specs.declared.call.Change.TheVariants.{Notification, Wakeup, Check}
-use Rattle.gpt_driver.specs.declared.call.GptMode.TheVariants as modes
 use Rattle.gpt_driver.specs.declared.service.serve.ServeBody.TheVariants.{Look}
-use Rattle.gpt_driver.specs.declared.service.stop.StopBody.TheVariants.{OneShot, Continuous}
-use Rattle.gpt_driver.specs.laws.Bodies.{GptBody, stop_body, serve_body}
-use Rattle.gpt_driver.specs.laws.Count.{count_bodies, count_right}
+use Rattle.gpt_driver.specs.laws.Bodies.{GptBody}
+use Rattle.gpt_driver.specs.laws.Count.{count_bodies, count_right, count_seen, count_sees, count_unseen}
 use Rattle.gpt_driver.specs.laws.DeInit.{deinit_bodies, deinit_right}
 use Rattle.gpt_driver.specs.laws.Ground.{ground_right, within}
 use Rattle.gpt_driver.specs.laws.Init.{init_bodies, init_right}
-use Rattle.gpt_driver.specs.laws.Look.{gpt_looked, looked_by, begins, begun_on, begun_with, off_of, on_of, mode_of, allowed, value_of, deinit_unhindered, start_unhindered, change_unhindered, early, asked_word}
+use Rattle.gpt_driver.specs.laws.Look.{ElapsedLow, DeInitLook, Enable, Wake, StartLook, OneShot, Continuous, SwitchLoad, gpt_looked, looked_by, begins, begun_on, off_of, on_of, mode_of, allowed, value_of, deinit_busy, start_busy, change_unhindered, early, asked_word}
 use Rattle.gpt_driver.specs.laws.Mode.{mode_bodies, mode_right, sleeps}
 use Rattle.gpt_driver.specs.laws.Serve.{serve_bodies, serve_right}
 use Rattle.gpt_driver.specs.laws.Start.{start_bodies, start_right}
 use Rattle.gpt_driver.specs.laws.Stop.{stop_bodies, stop_right}
 use Rattle.gpt_driver.specs.laws.Switch.{switch_bodies, switch_right}
-use Rattle.gpt_driver.specs.laws.Windows.{gpt_seen, gpt_sees, count_unseen}
 
 abbrev pub gpt_bodies : (d : GptDriver) → Bodies (gpt_ground d) GptBody
 gpt_bodies d = either (either (init_bodies d) (either (deinit_bodies d) (mode_bodies d))) (either (either (either (count_bodies d) (start_bodies d)) (either (stop_bodies d) (switch_bodies d))) (serve_bodies d))
 
+-- no family but one reads a high half
+abbrev pub gpt_seen : GptBody → Seen
+gpt_seen (Second (First (First (First k)))) = count_seen k
+gpt_seen k = Plain
+
 abbrev pub body_by : Option Channel → Option GptBody
 body_by None = None
-body_by (Some k) = Some (serve_body (Look k.number))
+body_by (Some k) = Some (Second (Second (Look k.number)))
 
 -- the driver; any call may be made, and its body has at most 21 steps
 abbrev pub gpt : GptDriver → Outlined GptState Call Asked GptBody
@@ -59,6 +51,21 @@ gpt d = record {
   body_of = λ line. body_by (channel_of d line);
 }
 
+plain : (d : GptDriver) (k : GptBody) → gpt_seen k ≡ Plain → is_windowed ((gpt_bodies d).work_of k) ≡ false
+plain d (First (First Enable)) e = cc
+plain d (First (Second (First (DeInitLook busy)))) e = cc
+plain d (First (Second (Second Wake))) e = cc
+plain d (Second (First (First (First (ElapsedLow c))))) e = cc
+plain d (Second (First (First (Second (StartLook r))))) e = cc
+plain d (Second (First (Second (First (OneShot c))))) e = cc
+plain d (Second (First (Second (Second (SwitchLoad c by))))) e = cc
+plain d (Second (Second (Look c))) e = cc
+plain d _ e = cc
+
+sees : (d : GptDriver) (k : GptBody) (x : ℕ) → SeesTo gpt_seen true ((gpt_bodies d).work_of k) k ((gpt_bodies d).takes k x)
+sees d (Second (First (First (First k)))) x = count_sees k x
+sees d k x = let p = (gpt_bodies d).takes k x in plain_sees true ((gpt_bodies d).work_of k) p.1.event p.1.done (plain d k refl)
+
 bodies_right : (d : GptDriver) → AreRight (gpt_ground d) (gpt_bodies d)
 bodies_right d = let g = gpt_ground d in either_right g _ _ (either_right g _ _ (init_right d) (either_right g _ _ (deinit_right d) (mode_right d))) (either_right g _ _ (either_right g _ _ (either_right g _ _ (count_right d) (start_right d)) (either_right g _ _ (stop_right d) (switch_right d))) (serve_right d))
 
@@ -72,12 +79,6 @@ unseen d chip w s _ call h = tt
 has_parts : (m v : ℕ) → not (v == 0) && not (nat_lt m v) ≡ true → (0 < v) × (v ≤ m)
 has_parts m v e = (grind (arith, nat_tests), grind (arith, nat_tests))
 
-none_below : (k : ℕ) → nat_lt k 0 ≡ false
-none_below k = grind (arith, nat_tests)
-
-not_none : (k : Option Channel) → k ≡ None → is_some k ≡ true → ⊥
-not_none k e i = let f : is_some k ≡ false = ap (λ x. is_some x) e in cc
-
 module _ (d : GptDriver) (fits : FitsGpt d) (chip : Chip) (w : World) (s : GptState) (h : GptAgrees d settled chip w s) where
   abbrev Looks : Call → Looked GptBody → Type 0
   Looks call l = LooksRight (gpt d) chip w s call l
@@ -86,49 +87,44 @@ module _ (d : GptDriver) (fits : FitsGpt d) (chip : Chip) (w : World) (s : GptSt
     here : c < 8
     here = within d c (ap (λ x. is_some x) e)
 
-    may : (call : ChannelCall) → is_off s.mode ≡ false → ((busy : Bool) → error_by d (calls.Channel c call) (is_off s.mode) (is_asleep s.mode) busy ≡ None) → MayRun d s c call
+    may : (call : ChannelCall) → is_off s.mode ≡ false → ((busy : Bool) → error_by d (OfChannel c call) (is_off s.mode) (is_asleep s.mode) busy ≡ None) → MayRun d s c call
     may call on pass = record { pass = pass; on = on; lt = here; channel = k; known = e }
 
-    stop_by : Passed d s (calls.Channel c StopTimer) → is_off s.mode ≡ false → (q : Bool) → one_shot_of (channel_of d c) ≡ q → Looks (calls.Channel c StopTimer) (Goes (stop_body (if q then OneShot c else Continuous c)))
+    stop_by : Passed d s (OfChannel c StopTimer) → is_off s.mode ≡ false → (q : Bool) → one_shot_of (channel_of d c) ≡ q → Looks (OfChannel c StopTimer) (Goes (Second (First (Second (First (if q then OneShot c else Continuous c))))))
     stop_by pass on true i = ((h, (Is_before, may StopTimer on (λ b. pass), i)), omega arith)
     stop_by pass on false i = ((h, (Is_before, may StopTimer on (λ b. pass), i)), omega arith)
 
     -- at the number of the channel
-    at_number : (call : ChannelCall) → Passed d s (calls.Channel c call) → is_off s.mode ≡ false → Looks (calls.Channel c call) (Goes (begun_with d (record k { number = c }) call))
+    at_number : (call : ChannelCall) → Passed d s (OfChannel c call) → is_off s.mode ≡ false → Looks (OfChannel c call) (begun_on d call (Some (record k { number = c })))
     at_number GetTimeElapsed pass on = ((h, (Is_before, may GetTimeElapsed on (λ b. pass))), omega arith)
     at_number GetTimeRemaining pass on = ((h, (Is_before, may GetTimeRemaining on (λ b. pass))), omega arith)
     at_number (StartTimer v) pass on =
         let value = has_parts k.tick_value_max v (sym (ap (λ x. has_value v x) e) ∙ value_of d s c v pass) in
         let less : k.tick_value_max < 2 ^ 32 = fits.small c k e in
         let most : v ≤ k.tick_value_max = value.1 in
-        ((h, ((Is_before, record { on = on; lt = here; checks = start_unhindered d c v (is_off s.mode) (is_asleep s.mode) pass; positive = value.0; small = omega arith; prescaler = ap (λ x. prescaler_of x) (sym e); divides = fits.prescaler c k e; bits = refl; busy = refl }), λ time le. tt)), omega arith)
+        ((h, ((Is_before, record { on = on; lt = here; checks = λ b. start_busy d c v (is_off s.mode) (is_asleep s.mode) b None pass; positive = value.0; small = omega arith; prescaler = ap (λ x. prescaler_of x) (sym e); divides = fits.prescaler c k e; bits = refl; busy = refl }), λ time le. tt)), omega arith)
     at_number StopTimer pass on = stop_by pass on k.one_shot (ap (λ x. one_shot_of x) e)
-    at_number (asks.Change by) pass on = ((h, (Is_before, may (asks.Change by) on (λ b. change_unhindered d c by (is_off s.mode) (is_asleep s.mode) b ∙ pass))), omega arith)
+    at_number (Changes by) pass on = ((h, (Is_before, may (Changes by) on (λ b. change_unhindered d c by (is_off s.mode) (is_asleep s.mode) b ∙ pass))), omega arith)
 
-    known : (call : ChannelCall) → Passed d s (calls.Channel c call) → Looks (calls.Channel c call) (Goes (begun_with d k call))
-    known call pass = subst (λ n. Looks (calls.Channel c call) (Goes (begun_with d (record k { number = n }) call))) (sym (fits.number c k e)) (at_number call pass (on_of d s (calls.Channel c call) (λ i. absurd (cc)) pass))
+    known : (call : ChannelCall) → Passed d s (OfChannel c call) → Looks (OfChannel c call) (begun_on d call (Some k))
+    known call pass = subst (λ n. Looks (OfChannel c call) (begun_on d call (Some (record k { number = n })))) (sym (fits.number c k e)) (at_number call pass (on_of d s (OfChannel c call) (λ i. absurd (cc)) pass))
 
   -- a channel that isn't configured: its wakeup source has no mark
-  unknown : (c : ℕ) (call : ChannelCall) → channel_of d c ≡ None → Passed d s (calls.Channel c call) → Looks (calls.Channel c call) (begun_on d call None)
-  unknown c (asks.Change Check) e pass = record { told = tells_nothing; is = λ times. ap (λ z. Some (acts_by d w s (calls.Channel c (asks.Change Check)) z)) pass ∙ ap (λ z. Some (switches z s c Check)) e; tells = (refl, refl, refl) }
-  unknown c (asks.Change (Notification on)) e pass = absurd (let f = sym (allowed d s c (asks.Change (Notification on)) pass) ∙ ap (λ k. has_notification k) e in cc)
-  unknown c (asks.Change (Wakeup on)) e pass = absurd (let f = sym (allowed d s c (asks.Change (Wakeup on)) pass) ∙ ap (λ k. has_wakeup k) e in cc)
-  unknown c (StartTimer v) e pass = absurd (not_none (channel_of d c) e (allowed d s c (StartTimer v) pass))
-  unknown c GetTimeElapsed e pass = absurd (not_none (channel_of d c) e (allowed d s c GetTimeElapsed pass))
-  unknown c GetTimeRemaining e pass = absurd (not_none (channel_of d c) e (allowed d s c GetTimeRemaining pass))
-  unknown c StopTimer e pass = absurd (not_none (channel_of d c) e (allowed d s c StopTimer pass))
+  unknown : (c : ℕ) (call : ChannelCall) → channel_of d c ≡ None → Passed d s (OfChannel c call) → Looks (OfChannel c call) (begun_on d call None)
+  unknown c (Changes Check) e pass = record { told = tells_nothing; is = λ times. ap (λ z. Some (acts_by d w s (OfChannel c (Changes Check)) z)) pass ∙ ap (λ z. Some (switches z s c Check)) e; tells = (refl, refl, refl) }
+  unknown c call e pass = absurd (let f = sym (allowed d s c call pass) ∙ ap (λ k. allows call k) e in cc)
 
-  on_channel : (c : ℕ) (call : ChannelCall) (k : Option Channel) → channel_of d c ≡ k → Passed d s (calls.Channel c call) → Looks (calls.Channel c call) (begun_on d call k)
+  on_channel : (c : ℕ) (call : ChannelCall) (k : Option Channel) → channel_of d c ≡ k → Passed d s (OfChannel c call) → Looks (OfChannel c call) (begun_on d call k)
   on_channel c call None e pass = unknown c call e pass
   on_channel c call (Some k) e pass = known c k e call pass
 
   goes_on : (call : Call) → Passed d s call → Looks call (begins d call)
   goes_on Init pass = ((h, (Is_before, off_of d s pass)), omega arith)
-  goes_on DeInit pass = ((h, ((Is_before, deinit_unhindered d (is_off s.mode) (is_asleep s.mode) pass, on_of d s DeInit (λ i. absurd (cc)) pass, refl), λ time le. tt)), omega arith)
+  goes_on DeInit pass = ((h, ((Is_before, λ b. deinit_busy d (is_off s.mode) (is_asleep s.mode) b None pass, on_of d s DeInit (λ i. absurd (cc)) pass, refl), λ time le. tt)), omega arith)
   goes_on (SetMode None) pass = absurd (mode_of d s pass)
-  goes_on (SetMode (Some modes.Normal)) pass = ((h, ((Is_before, pass, on_of d s (SetMode (Some modes.Normal)) (λ i. absurd (cc)) pass), λ time le. tt)), omega arith)
-  goes_on (SetMode (Some modes.Sleep)) pass = ((h, ((Is_before, pass, on_of d s (SetMode (Some modes.Sleep)) (λ i. absurd (cc)) pass, omega arith, λ k lt. has_bit-zero k ∙ sym (ap (λ q. q && sleeps s k) (none_below k))), λ time le. tt)), omega arith)
-  goes_on (calls.Channel c call) pass = on_channel c call (channel_of d c) refl pass
+  goes_on (SetMode (Some ToNormal)) pass = ((h, ((Is_before, pass, on_of d s (SetMode (Some ToNormal)) (λ i. absurd (cc)) pass), λ time le. tt)), omega arith)
+  goes_on (SetMode (Some ToSleep)) pass = ((h, ((Is_before, pass, on_of d s (SetMode (Some ToSleep)) (λ i. absurd (cc)) pass, omega arith, sym (bits_of-zero (sleeps s))), λ time le. tt)), omega arith)
+  goes_on (OfChannel c call) pass = on_channel c call (channel_of d c) refl pass
 
   look_by : (call : Call) (e : Option ErrorName) → error_by d call (is_off s.mode) (is_asleep s.mode) false ≡ e → Looks call (looked_by (record { call = call; driver = d }) e)
   look_by call None e = goes_on call e
@@ -145,14 +141,14 @@ handled_by (Some k) = refl
 
 module _ (d : GptDriver) (fits : FitsGpt d) where
   -- the body of a line's handler is the look at that line's flag
-  entered_by : (line : ℕ) (k : GptBody) (q : Option Channel) → channel_of d line ≡ q → body_by q ≡ Some k → (line < 8) × (serve_body (Look line) ≡ k)
+  entered_by : (line : ℕ) (k : GptBody) (q : Option Channel) → channel_of d line ≡ q → body_by q ≡ Some k → (line < 8) × (Second (Second (Look line)) ≡ k)
   entered_by line k None e is = absurd (cc)
-  entered_by line k (Some ch) e is = (within d line (ap (λ x. is_some x) e), ap (λ n. serve_body (Look n)) (sym (fits.number line ch e)) ∙ cc)
+  entered_by line k (Some ch) e is = (within d line (ap (λ x. is_some x) e), ap (λ n. Second (Second (Look n))) (sym (fits.number line ch e)) ∙ cc)
 
-  enter_by : (line : ℕ) (k : GptBody) → (line < 8) × (serve_body (Look line) ≡ k) → CanEnter (gpt d) k (Entered line)
+  enter_by : (line : ℕ) (k : GptBody) → (line < 8) × (Second (Second (Look line)) ≡ k) → CanEnter (gpt d) k (Entered line)
   enter_by line k a = subst (λ x. CanEnter (gpt d) x (Entered line)) a.1 (record { at = λ chip w s h. (h, ((Is_serving, a.0), λ time le. tt)); unseen = tt; room = omega arith })
 
-  steps_by : (line : ℕ) (k : GptBody) → (line < 8) × (serve_body (Look line) ≡ k) → 6 + (gpt d).bodies.fuel k ≤ 64
+  steps_by : (line : ℕ) (k : GptBody) → (line < 8) × (Second (Second (Look line)) ≡ k) → 6 + (gpt d).bodies.fuel k ≤ 64
   steps_by line k a = subst (λ x. 6 + (gpt d).bodies.fuel x ≤ 64) a.1 (omega arith)
 
   call_steps_by : (call : Call) → 7 + 21 ≤ gpt_steps d (Called call)
@@ -164,7 +160,7 @@ module _ (d : GptDriver) (fits : FitsGpt d) where
   lawful = record {
     basis = ground_right d;
     bodies = bodies_right d;
-    windows = λ chip w s k o t h. gpt_sees k _;
+    windows = λ chip w s k o t h. sees d k _;
     unseen = unseen d;
     looks = λ chip w s call can h. looks d fits chip w s h call;
     own_word = λ o. refl;

@@ -1,38 +1,21 @@
 -- The agreement by its parts: what a move leaves of the block, the words and the lines.
-use Rattle.std.proofs.Common.{◌≡◌, ℕ, zero, suc, ◌*◌, ◌%◌, ◌<◌, ◌≢◌, ◌^◌, Bool, true, false, ◌==◌, nat_lt, [], length, refl, sym, ◌∙◌, ap, subst, arith}
+use Rattle.std.proofs.Common.{◌≡◌, ℕ, zero, suc, ◌*◌, ◌%◌, ◌<◌, ◌≤◌, ◌≢◌, ◌^◌, Bool, true, false, ◌==◌, [], length, refl, sym, ◌∙◌, ap, subst, arith}
 use Rattle.std.specs.Prelude.{if◌then◌else◌, slice_index_or}
-use Rattle.gpt_driver.specs.laws.Base.{each_but, nat_tests, Chip, chip_after, word_of, HasAll, word-left, word-stored, StandsIn, stands-move, Timers, timer_at, with_timer, acted, acting, is_running, is_flagged, Timer, timer_at-acted_on, timer_at-acted_off, timer_at-with_timer_same, timer_at-with_timer_other, has_bit, World, Gap, settled, none, only, behind, TimerAgrees, BlockAgrees, Word, TheState, TargetOf, SwitchesOf, number_of, IsWord, value_in, WordsAgree, LinesAgree, GptAgrees, GptState, channel_at, table, Timing, Mode, is_off, untouched, target_of, runs, is_marked, elapsed, with_channel, channel_of, bit, packed, target_word, switches_word, switches_of, GptDriver, Switches}
-use Rattle.chip_model.specs.Histories.{Made}
-use Rattle.chip_timers.specs.Timers.{counter}
+use Rattle.gpt_driver.specs.laws.Base.{lt-ltb, Chip, chip_after, word_of, HasAll, Made, word-left, word-stored, Timers, timer_at, with_timer, acted, acting, counter, is_running, is_flagged, Timer, timer_at-acted_on, timer_at-acted_off, timer_at-with_timer_same, timer_at-with_timer_other, has_bit, Move, TimerGateSet, TimerGateClear, TimerFlags, TimerZero, World, StandsIn, stands-move, each_but, Gap, settled, none, only, behind, TimerAgrees, BlockAgrees, Word, TheState, TargetOf, SwitchesOf, number_of, IsWord, value_in, WordsAgree, LinesAgree, GptAgrees, GptState, channel_at, table, first_state, Timing, Mode, untouched, is_off, elapsed, target_of, runs, is_marked, with_channel, switches, channel_of, bit, target_word, switches_word, packed, switches_of, GptDriver, Switches, STATE, LAST_WORD, Unflags, Opens, Shuts, Zeroes, Store, Write}
+use Rattle.std.proofs.lemmas.Bool.{eq-eqb, ne_eqb}
 use Rattle.chip_timers.specs.declared.timer.Act.{Act}
-use Rattle.chip_timers.specs.declared.timer.Act.TheVariants as turns
 use Rattle.mcal_base.proofs.BitLaws.{has_bit-pow_same, has_bit-pow_other, one_shifted}
 use Rattle.mcal_base.specs.declared.TheConstants.{WORDS}
-use Rattle.mcal_base.specs.declared.moves.Move.{Move}
-use Rattle.mcal_base.specs.declared.moves.Move.TheVariants.{Write, Store}
-use Rattle.mcal_base.specs.declared.register.Reg.TheVariants.{TimerGateSet, TimerGateClear, TimerFlags, TimerZero}
 use Rattle.gpt_driver.specs.laws.Courses.{running_is, counter_is, flagged_is}
 
 -- ---- numbers
 
-pub equal_by : (k c : ℕ) → (k == c) ≡ true → k ≡ c
-equal_by k c e = grind (arith, nat_tests)
-
-pub differ_by : (k c : ℕ) → (k == c) ≡ false → k ≢ c
-differ_by k c e = grind (arith, nat_tests)
-
 pub same_yes : (c : ℕ) → (c == c) ≡ true
-same_yes c = grind (arith, nat_tests)
-
-pub other_no : (k c : ℕ) → k ≢ c → (k == c) ≡ false
-other_no k c ne = grind (arith, nat_tests)
+same_yes c = eq-eqb c c refl
 
 -- the bit of a channel is its alone
 bit_is : (c : ℕ) → c < 8 → bit c ≡ 2 ^ c
-bit_is c lt = ap (λ q. if q then 2 ^ c else 0) (few c lt)
-  where
-    few : (c : ℕ) → c < 8 → nat_lt c 32 ≡ true
-    few c lt = grind (arith, nat_tests)
+bit_is c lt = ap (λ q. if q then 2 ^ c else 0) (lt-ltb c 32 (omega (arith, lt)))
 
 pub bit_shifted : (c : ℕ) → c < 8 → bit c ≡ 1 * 2 ^ c % 2 ^ 32
 bit_shifted c lt = let few : c < 32 = omega (arith, lt) in bit_is c lt ∙ sym (one_shifted c few)
@@ -63,7 +46,7 @@ pub channel_same : (s : GptState) (c : ℕ) (x : Timing) → c < 8 → channel_a
 channel_same s c x lt = table_at (λ k. if k == c then x else channel_at s k) c lt ∙ ap (λ q. if q then x else channel_at s c) (same_yes c)
 
 pub channel_other : (s : GptState) (c k : ℕ) (x : Timing) → k < 8 → k ≢ c → channel_at (with_channel s c x) k ≡ channel_at s k
-channel_other s c k x lt ne = table_at (λ i. if i == c then x else channel_at s i) k lt ∙ ap (λ q. if q then x else channel_at s k) (other_no k c ne)
+channel_other s c k x lt ne = table_at (λ i. if i == c then x else channel_at s i) k lt ∙ ap (λ q. if q then x else channel_at s k) (ne_eqb k c ne)
 
 -- the switches that stand in a word
 pub unpacked : (x : Switches) → switches_of (packed x) ≡ x
@@ -71,32 +54,28 @@ unpacked x = unpack x.notification x.wakeup x.woken
   where
     unpack : (a b c : Bool) → switches_of (packed (record { notification = a; wakeup = b; woken = c })) ≡ record { notification = a; wakeup = b; woken = c }
     unpack true true true = refl
-    unpack true true false = refl
     unpack true false true = refl
-    unpack true false false = refl
     unpack false true true = refl
-    unpack false true false = refl
     unpack false false true = refl
-    unpack false false false = refl
+    unpack _ _ _ = refl
 
--- ---- the words' numbers
+-- ---- the words
 
-word_below : (x : Word) → IsWord x → number_of x < WORDS
-word_below TheState there = omega arith
-word_below (TargetOf c) there = omega (arith, there)
-word_below (SwitchesOf c) there = omega (arith, there)
+-- where they stand, and that they are 0 at first
+pub word_at : (x : Word) → IsWord x → (STATE ≤ number_of x) × (number_of x ≤ LAST_WORD)
+word_at TheState there = (omega arith, omega arith)
+word_at _ there = (omega (arith, there), omega (arith, there))
+
+pub first_value : (x : Word) → 0 ≡ value_in first_state x
+first_value TheState = refl
+first_value _ = refl
 
 -- words of one number are one word
 same_word : (s : GptState) (x y : Word) → IsWord x → IsWord y → number_of y ≡ number_of x → value_in s x ≡ value_in s y
 same_word s TheState TheState i j e = refl
-same_word s TheState (TargetOf c) i j e = absurd (omega (arith, e))
-same_word s TheState (SwitchesOf c) i j e = absurd (omega (arith, e))
-same_word s (TargetOf c) TheState i j e = absurd (omega (arith, e))
 same_word s (TargetOf c) (TargetOf k) i j e = let is : c ≡ k = omega (arith, e) in ap (λ n. target_of (channel_at s n).course) is
-same_word s (TargetOf c) (SwitchesOf k) i j e = absurd (omega (arith, e, i))
-same_word s (SwitchesOf c) TheState i j e = absurd (omega (arith, e))
-same_word s (SwitchesOf c) (TargetOf k) i j e = absurd (omega (arith, e, j))
 same_word s (SwitchesOf c) (SwitchesOf k) i j e = let is : c ≡ k = omega (arith, e) in ap (λ n. packed (channel_at s n).switches) is
+same_word s _ _ i j e = absurd (omega arith)
 
 -- a channel of an initialised module may be touched
 pub never_off : (m : Mode) {A : Type 0} → is_off m ≡ false → is_off m ≡ true → A
@@ -144,18 +123,17 @@ module _ (d : GptDriver) where
   -- ---- a word that is stored
 
   pub words_stored : (chip : Chip) (s : GptState) (before after : ℕ → Bool) (j v : ℕ) → j < WORDS → HasAll chip → WordsAgree before chip s → ((x : Word) → IsWord x → number_of x ≡ j → v ≡ value_in s x) → ((x : Word) → IsWord x → number_of x ≢ j → after (number_of x) ≡ false → before (number_of x) ≡ false) → WordsAgree after (chip_after chip (Store j v) 0) s
-  words_stored chip s before after j v lt all h hit miss x there closed = by_test (number_of x == j) refl
-    where
-      by_test : (q : Bool) → (number_of x == j) ≡ q → word_of (chip_after chip (Store j v) 0) (number_of x) ≡ value_in s x
-      by_test true e = let i = equal_by (number_of x) j e in ap (λ k. word_of (chip_after chip (Store j v) 0) k) i ∙ (word-stored chip j v 0 [] all lt tt ∙ hit x there i)
-      by_test false e = let ne = differ_by (number_of x) j e in word-left (number_of x) chip (Made (Store j v) 0) (λ i. ne (sym i)) ∙ h x there (miss x there ne closed)
+  words_stored chip s before after j v lt all h hit miss x there closed =
+      each_but (λ i. number_of x ≡ i → word_of (chip_after chip (Store j v) 0) i ≡ value_in s x) j
+      (λ e. word-stored chip j v 0 [] all lt tt ∙ hit x there e) (number_of x)
+      (λ ne e. word-left (number_of x) chip (Made (Store j v) 0) (λ i. ne (sym i)) ∙ h x there (miss x there ne closed)) refl
 
   -- the one word that is behind is stored
   pub caught_up : (chip : Chip) (w : World) (s : GptState) (x : Word) (v : ℕ) → IsWord x → v ≡ value_in s x → GptAgrees d (behind (number_of x)) chip w s → GptAgrees d settled (chip_after chip (Store (number_of x) v) 0) w s
   caught_up chip w s x v there is h = record {
     outside = stands-move chip w (Store (number_of x) v) 0 h.outside;
     block = h.block;
-    words = words_stored chip s (only (number_of x)) none (number_of x) v (word_below x there) h.outside.all h.words (λ y i e. is ∙ same_word s x y there i e) (λ y i ne closed. other_no (number_of y) (number_of x) ne);
+    words = words_stored chip s (only (number_of x)) none (number_of x) v (let at = (word_at x there).1 in omega (arith, at)) h.outside.all h.words (λ y i e. is ∙ same_word s x y there i e) (λ y i ne closed. ne_eqb (number_of y) (number_of x) ne);
     lines = h.lines;
     clean = h.clean;
   }
@@ -176,10 +154,10 @@ module _ (d : GptDriver) where
   -- ---- an act on one channel, in the whole agreement: the machine changes the channel too, or it doesn't
 
   pub stands_acted : (act : Act) (chip : Chip) (w : World) (bits : ℕ) → StandsIn chip w → StandsIn (record chip { timers = acted act chip.timers bits }) w
-  stands_acted turns.Start chip w bits h = stands-move chip w (Write TimerGateSet bits) 0 h
-  stands_acted turns.Stop chip w bits h = stands-move chip w (Write TimerGateClear bits) 0 h
-  stands_acted turns.Zero chip w bits h = stands-move chip w (Write TimerZero bits) 0 h
-  stands_acted turns.Clear chip w bits h = stands-move chip w (Write TimerFlags bits) 0 h
+  stands_acted Opens chip w bits h = stands-move chip w (Write TimerGateSet bits) 0 h
+  stands_acted Shuts chip w bits h = stands-move chip w (Write TimerGateClear bits) 0 h
+  stands_acted Zeroes chip w bits h = stands-move chip w (Write TimerZero bits) 0 h
+  stands_acted Unflags chip w bits h = stands-move chip w (Write TimerFlags bits) 0 h
 
   pub acted_with : (act : Act) (chip : Chip) (w : World) (s : GptState) (c : ℕ) (x : Timing) (before open1 after : ℕ → Bool) → c < 8 → is_off s.mode ≡ false → GptAgrees d (record settled { block = before }) chip w s → (open1 c ≡ false → TimerAgrees (channel_of d c) (has_bit chip.timers.one_shot c) (acting act (has_bit chip.timers.one_shot c) chip.timers.time (timer_at chip.timers c)) x) → ((k : ℕ) → k ≢ c → open1 k ≡ false → before k ≡ false) → (after (target_word c) ≡ false → target_of x.course ≡ target_of (channel_at s c).course) → (after (switches_word c) ≡ false → x.switches ≡ (channel_at s c).switches) → GptAgrees d (record settled { block = open1; words = after }) (record chip { timers = acted act chip.timers (bit c) }) w (with_channel s c x)
   acted_with act chip w s c x before open1 after lt on h new rest target switches = record {

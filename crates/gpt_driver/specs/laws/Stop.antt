@@ -1,15 +1,11 @@
 -- Gpt_StopTimer: its steps, what holds at each, and that they are right.
 use Rattle.std.proofs.Common.{◌≡◌, ℕ, ◌<◌, Bool, true, false, Option, Some, None, refl, sym, ◌∙◌, ap, subst, arith}
 use Rattle.std.specs.Prelude.{if◌then◌else◌}
-use Rattle.gpt_driver.specs.laws.Base.{Chip, Timers, timer_at, timer_at-acted_on, acted, acting, counter, is_flagged, expired_between, flag_clear, Still, Timer, has_bit, Move, Act, World, Told, no_answer, tells_nothing, Origin, BodyTaken, acts_on, ends, Nothing, Bodies, AreRight, Before, Is_before, After, Is_after, Gap, settled, open_at, only, none, TimerAgrees, GptAgrees, gpt_ground, GptState, channel_at, runs_at, Timing, Stopped, target_of, elapsed, runs, is_marked, stopped, with_channel, acts_by, channel_of, one_shot_of, bit, Call, StopTimer, Channel, GptDriver, MayRun, AllGood, steady, steady_right, Shortens}
-use Rattle.chip_timers.specs.declared.timer.Act.TheVariants as turns
-use Rattle.mcal_base.specs.declared.moves.Move.TheVariants.{Write}
-use Rattle.mcal_base.specs.declared.register.Reg.TheVariants.{TimerGateClear, TimerFlags}
-use Rattle.gpt_driver.specs.declared.call.Call.TheVariants as calls
+use Rattle.gpt_driver.specs.laws.Base.{ne_eqb, Chip, Timers, timer_at, acted, acting, counter, is_flagged, expired_between, flag_clear, Still, Timer, timer_at-acted_on, has_bit, Act, Move, TimerGateClear, TimerFlags, World, Told, no_answer, tells_nothing, Origin, Nothing, BodyTaken, acts_on, ends, never_clean, Shortens, Bodies, AreRight, Before, Is_before, After, Is_after, Gap, settled, none, only, open_at, TimerAgrees, GptAgrees, gpt_ground, GptState, channel_at, Timing, Stopped, elapsed, target_of, runs, runs_at, is_marked, stopped, with_channel, channel_of, one_shot_of, bit, Call, OfChannel, StopTimer, Channel, GptDriver, Unflags, Shuts, Write, MayRun, steady, AllGood, all_right, acts_so}
 use Rattle.gpt_driver.specs.declared.service.stop.StopBody.{StopBody}
 use Rattle.gpt_driver.specs.declared.service.stop.StopBody.TheVariants.{OneShot, Continuous, Flag}
 use Rattle.gpt_driver.specs.laws.Courses.{elapsed_small, unexpired, no_expiries, expired_is}
-use Rattle.gpt_driver.specs.laws.Parts.{acted_with, acted_here, channel_same, has_one, other_no, same_yes, runs_here, elapsed_here, marked_here}
+use Rattle.gpt_driver.specs.laws.Parts.{acted_with, acted_here, channel_same, has_one, same_yes, runs_here, elapsed_here, marked_here}
 
 abbrev pub stop_work : StopBody → Move
 stop_work (OneShot c) = Write TimerGateClear (bit c)
@@ -36,7 +32,7 @@ stop_gap (Continuous c) = settled
 stop_gap (Flag c) = open_at c
 
 abbrev pub stop_call : ℕ → Call
-stop_call c = calls.Channel c StopTimer
+stop_call c = OfChannel c StopTimer
 
 -- at the last step the channel is as the machine has it once its flag is cleared, whenever that is
 abbrev pub stop_holds : GptDriver → Timers → GptState → StopBody → Origin Call → Option Told → Type 0
@@ -63,32 +59,28 @@ pub stop_cleared : (k : Option Channel) (bit : Bool) (t : Timer) (x : Timing) (t
 stop_cleared k bit t x time now at dropped true h e f r = record { count = ap (λ n. Still n) e; kept = refl; flag = λ n. refl; set = elapsed_small k bit x.course now h.set }
 stop_cleared k bit t x time now at dropped false h e f r = record { count = h.count; kept = refl; flag = f r; set = h.set }
 
-pub ended_target : (k : Option Channel) (x : Timing) (now : ℕ) (q : Bool) → target_of (ended k x now q).course ≡ target_of x.course
-ended_target k x now true = refl
-ended_target k x now false = refl
-
-pub ended_switches : (k : Option Channel) (x : Timing) (now : ℕ) (q : Bool) → (ended k x now q).switches ≡ x.switches
-ended_switches k x now true = refl
-ended_switches k x now false = refl
+pub ended_keeps : (k : Option Channel) (x : Timing) (now : ℕ) (q : Bool) → (target_of (ended k x now q).course ≡ target_of x.course) × ((ended k x now q).switches ≡ x.switches)
+ended_keeps k x now true = (refl, refl)
+ended_keeps k x now false = (refl, refl)
 
 module _ (d : GptDriver) where
   -- the gate is closed
-  closed : (chip : Chip) (w : World) (s : GptState) (c : ℕ) (open1 : ℕ → Bool) → MayRun d s c StopTimer → GptAgrees d settled chip w s → (open1 c ≡ false → TimerAgrees (channel_of d c) (has_bit chip.timers.one_shot c) (acting turns.Stop (has_bit chip.timers.one_shot c) chip.timers.time (timer_at chip.timers c)) (stopped (channel_of d c) w.now (channel_at s c))) → GptAgrees d (record settled { block = open1 }) (record chip { timers = acted turns.Stop chip.timers (bit c) }) w (with_channel s c (stopped (channel_of d c) w.now (channel_at s c)))
+  closed : (chip : Chip) (w : World) (s : GptState) (c : ℕ) (open1 : ℕ → Bool) → MayRun d s c StopTimer → GptAgrees d settled chip w s → (open1 c ≡ false → TimerAgrees (channel_of d c) (has_bit chip.timers.one_shot c) (acting Shuts (has_bit chip.timers.one_shot c) chip.timers.time (timer_at chip.timers c)) (stopped (channel_of d c) w.now (channel_at s c))) → GptAgrees d (record settled { block = open1 }) (record chip { timers = acted Shuts chip.timers (bit c) }) w (with_channel s c (stopped (channel_of d c) w.now (channel_at s c)))
   closed chip w s c open1 i h new =
       let k = channel_of d c in
       let x = channel_at s c in
       let q = runs k w.now x.course in
-      acted_with d turns.Stop chip w s c (stopped k w.now x) none open1 none i.lt i.on h new (λ j ne g. refl) (λ g. ended_target k x w.now q) (λ g. ended_switches k x w.now q)
+      acted_with d Shuts chip w s c (stopped k w.now x) none open1 none i.lt i.on h new (λ j ne g. refl) (λ g. (ended_keeps k x w.now q).0) (λ g. (ended_keeps k x w.now q).1)
 
   -- after a continuous channel's gate is closed only its flag may stand too much
-  cleared : (chip : Chip) (w : World) (s : GptState) (c time : ℕ) → c < 8 → one_shot_of (channel_of d c) ≡ false → GptAgrees d settled chip w s → TimerAgrees (channel_of d c) (has_bit chip.timers.one_shot c) (flag_clear time (timer_at (acted turns.Stop chip.timers (bit c)) c)) (channel_at (with_channel s c (stopped (channel_of d c) w.now (channel_at s c))) c)
+  cleared : (chip : Chip) (w : World) (s : GptState) (c time : ℕ) → c < 8 → one_shot_of (channel_of d c) ≡ false → GptAgrees d settled chip w s → TimerAgrees (channel_of d c) (has_bit chip.timers.one_shot c) (flag_clear time (timer_at (acted Shuts chip.timers (bit c)) c)) (channel_at (with_channel s c (stopped (channel_of d c) w.now (channel_at s c))) c)
   cleared chip w s c time lt os h =
       let k = channel_of d c in
       let one = has_bit chip.timers.one_shot c in
       let x = channel_at s c in
       let y = timer_at chip.timers c in
       let q = runs k w.now x.course in
-      let shut = timer_at-acted_on turns.Stop chip.timers (bit c) c (record { all = h.outside.all.timers; within = lt }) (has_one c lt) ∙ ap (λ r. halted y chip.timers.time r) (runs_here d chip w s settled h c lt refl) in
+      let shut = timer_at-acted_on Shuts chip.timers (bit c) c (record { all = h.outside.all.timers; within = lt }) (has_one c lt) ∙ ap (λ r. halted y chip.timers.time r) (runs_here d chip w s settled h c lt refl) in
       let none_came = λ (r : runs k w.now x.course ≡ false) (after n : ℕ). expired_is k one y x (h.block c lt refl) after n ∙ no_expiries k x.course w.now after n os r in
       let a = stop_cleared k one y x chip.timers.time w.now time (ended k x w.now q).dropped q (h.block c lt refl) (elapsed_here d chip w s settled h c lt refl) (λ r n. none_came r time n ∙ sym (none_came r (ended k x w.now q).dropped n)) refl in
       subst (λ z. TimerAgrees k one (flag_clear time z) (channel_at (with_channel s c (ended k x w.now q)) c)) (sym shut) (subst (λ z. TimerAgrees k one (flag_clear time (halted y chip.timers.time q)) z) (sym (channel_same s c (ended k x w.now q) lt)) a)
@@ -100,34 +92,11 @@ module _ (d : GptDriver) where
       let x = channel_at s c in
       let y = timer_at chip.timers c in
       let q = runs k w.now x.course in
-      let a = stop_one_shot k bit y x chip.timers.time w.now q (h.block c i.lt refl) (elapsed_here d chip w s settled h c i.lt refl) (marked_here d chip w s settled h c i.lt refl) os refl in (
-        refl,
-        record {
-          own = tt;
-          state = with_channel s c (stopped k w.now x);
-          told = tells_nothing;
-          is = λ times. ap (λ e. Some (acts_by d w s (stop_call c) e)) (i.pass (runs_at d w s c));
-          acts = tt;
-          next = (closed chip w s c none i h (λ g. subst (λ r. TimerAgrees k bit (halted y chip.timers.time r) (stopped k w.now x)) (sym (runs_here d chip w s settled h c i.lt refl)) a), (refl, refl, refl));
-        },
-      )
-  steps chip w s (Continuous c) o t m (h, (Is_before, i, os)) =
-      let k = channel_of d c in
-      let bit = has_bit chip.timers.one_shot c in
-      let x = channel_at s c in
-      let y = timer_at chip.timers c in
-      let q = runs k w.now x.course in (
-        refl,
-        record {
-          own = tt;
-          state = with_channel s c (stopped k w.now x);
-          told = tells_nothing;
-          is = λ times. ap (λ e. Some (acts_by d w s (stop_call c) e)) (i.pass (runs_at d w s c));
-          acts = tt;
-          next = (closed chip w s c (only c) i h (λ g. let e = same_yes c in absurd (cc)), (Is_after, i.lt, λ time. cleared chip w s c time i.lt os h));
-        },
-      )
-  steps chip w s (Flag c) o t m (h, (Is_after, lt, a)) = (refl, (acted_here d turns.Clear chip w s c (only c) none lt h (λ g. a chip.timers.time) (λ k ne g. other_no k c ne), (refl, refl, refl)))
+      let a = stop_one_shot k bit y x chip.timers.time w.now q (h.block c i.lt refl) (elapsed_here d chip w s settled h c i.lt refl) (marked_here d chip w s settled h c i.lt refl) os refl in
+      let next = closed chip w s c none i h (λ g. subst (λ r. TimerAgrees k bit (halted y chip.timers.time r) (stopped k w.now x)) (sym (runs_here d chip w s settled h c i.lt refl)) a) in
+      (refl, acts_so d w s (stop_call c) (i.pass (runs_at d w s c)) refl tt (next, (refl, refl, refl)))
+  steps chip w s (Continuous c) o t m (h, (Is_before, i, os)) = (refl, acts_so d w s (stop_call c) (i.pass (runs_at d w s c)) refl tt (closed chip w s c (only c) i h (λ g. let e = same_yes c in absurd (cc)), (Is_after, i.lt, λ time. cleared chip w s c time i.lt os h)))
+  steps chip w s (Flag c) o t m (h, (Is_after, lt, a)) = (refl, (acted_here d Unflags chip w s c (only c) none lt h (λ g. a chip.timers.time) (λ k ne g. ne_eqb k c ne), (refl, refl, refl)))
 
   pub stop_right : AreRight (gpt_ground d) (stop_bodies d)
-  stop_right = steady_right d stop_work stop_takes stop_left stop_gap (stop_holds d) stop_shortens steps
+  stop_right = all_right d (stop_bodies d) stop_shortens (λ k x. never_clean (stop_work k) k (stop_takes k x)) (λ f w w1 s k o t le h. h) steps

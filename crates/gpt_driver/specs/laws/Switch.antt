@@ -1,13 +1,9 @@
 -- The services that change a channel's switches: their steps, what holds at each, and that they are right.
 use Rattle.std.proofs.Common.{◌≡◌, ℕ, ◌<◌, Bool, true, false, List, [], ◌∷◌, Option, Some, None, refl, sym, ◌∙◌, ap, subst, arith}
 use Rattle.std.specs.Prelude.{if◌then◌else◌}
-use Rattle.gpt_driver.specs.laws.Base.{each_but, Chip, Timers, timer_at, has_bit, Move, Act, Notice, DevError, World, Told, no_answer, Origin, BodyTaken, goes, ends, Owed, Nothing, One, error_in, notices_in, Bodies, AreRight, Before, Is_before, Gap, settled, behind, only, TimerAgrees, SwitchesOf, GptAgrees, gpt_ground, GptState, channel_at, runs_at, is_off, changed, notes, with_switches, acts_by, channel_of, switches_word, switches_of, packed, Call, GptDriver, Switches, MayRun, AllGood, steady, steady_right, Shortens}
-use Rattle.mcal_base.specs.declared.moves.Move.TheVariants.{Load as Loads, Store as Stores}
+use Rattle.gpt_driver.specs.laws.Base.{Load as Loads, Store as Stores, Chip, Timers, timer_at, has_bit, DevError, Act, Move, Notice, World, Told, no_answer, Origin, Owed, Nothing, One, BodyTaken, goes, ends, never_clean, each_but, Shortens, Bodies, AreRight, error_in, notices_in, Before, Is_before, Gap, settled, only, behind, TimerAgrees, SwitchesOf, GptAgrees, gpt_ground, GptState, channel_at, is_off, runs_at, changed, with_switches, switches, channel_of, switches_word, packed, switches_of, Call, OfChannel, Changes, GptDriver, Switches, Change, MayRun, steady, AllGood, all_right, acts_so}
 use Rattle.mcal_base.specs.declared.notice.NoticeKind.TheVariants.{EcuMSetWakeupEvent}
-use Rattle.gpt_driver.specs.Machine.{tells_event, switches}
-use Rattle.gpt_driver.specs.declared.call.Call.TheVariants as calls
-use Rattle.gpt_driver.specs.declared.call.ChannelCall.TheVariants as asks
-use Rattle.gpt_driver.specs.declared.call.Change.{Change}
+use Rattle.gpt_driver.specs.Machine.{tells_event}
 use Rattle.gpt_driver.specs.declared.service.switch.SwitchBody.{SwitchBody}
 use Rattle.gpt_driver.specs.declared.service.switch.SwitchBody.TheVariants.{Load, Store}
 use Rattle.gpt_driver.specs.laws.Ground.{may_words}
@@ -40,19 +36,15 @@ abbrev pub switch_gap : SwitchBody → Gap
 switch_gap k = settled
 
 abbrev pub switch_holds : GptDriver → Timers → GptState → SwitchBody → Origin Call → Option Told → Type 0
-switch_holds d f s (Load c by) o t = Before (calls.Channel c (asks.Change by)) o t × MayRun d s c (asks.Change by)
-switch_holds d f s (Store c by x) o t = Before (calls.Channel c (asks.Change by)) o t × MayRun d s c (asks.Change by) × (x ≡ (channel_at s c).switches)
+switch_holds d f s (Load c by) o t = Before (OfChannel c (Changes by)) o t × MayRun d s c (Changes by)
+switch_holds d f s (Store c by x) o t = Before (OfChannel c (Changes by)) o t × MayRun d s c (Changes by) × (x ≡ (channel_at s c).switches)
 
 abbrev pub switch_bodies : (d : GptDriver) → Bodies (gpt_ground d) SwitchBody
 switch_bodies d = steady d switch_work switch_takes switch_left switch_gap (switch_holds d)
 
-pub owes_notice : (q : Bool) (n : Notice) → ◌≡◌ {A = List Notice} (if q then n ∷ [] else []) (notices_in (owed_if q n))
-owes_notice true n = refl
-owes_notice false n = refl
-
-pub owes_no_error : (q : Bool) (n : Notice) → ◌≡◌ {A = Option DevError} None (error_in (owed_if q n))
-owes_no_error true n = refl
-owes_no_error false n = refl
+pub owes_if : (q : Bool) (n : Notice) → ◌≡◌ {A = List Notice} (if q then n ∷ [] else []) (notices_in (owed_if q n)) × ◌≡◌ {A = Option DevError} None (error_in (owed_if q n))
+owes_if true n = (refl, refl)
+owes_if false n = (refl, refl)
 
 module _ (d : GptDriver) where
   -- a channel's switches changed in the machine, before its word is stored
@@ -75,17 +67,9 @@ module _ (d : GptDriver) where
       let y = changed by old in
       let n : Notice = record { kind = EcuMSetWakeupEvent; id = c } in
       let q = tells_event by old in
-      let same = ap (λ z. owed_if (tells_event by z) n) (sym e) in (
-        may_words (SwitchesOf c) i.lt,
-        record {
-          own = tt;
-          state = with_switches s c y;
-          told = notes q EcuMSetWakeupEvent c;
-          is = λ times. ap (λ z. Some (acts_by d w s (calls.Channel c (asks.Change by)) z)) (i.pass (runs_at d w s c)) ∙ ap (λ z. Some (switches z s c by)) i.known;
-          acts = tt;
-          next = (caught_up d chip w (with_switches s c y) (SwitchesOf c) (packed (changed by x)) i.lt (ap (λ z. packed (changed by z)) e ∙ sym (ap (λ z. packed z.switches) (channel_same s c (record (channel_at s c) { switches = y }) i.lt))) (reswitched chip w s c y i.lt i.on h), (refl, owes_notice q n ∙ ap notices_in same, owes_no_error q n ∙ ap error_in same));
-        },
-      )
+      let same = ap (λ z. owed_if (tells_event by z) n) (sym e) in
+      let next = caught_up d chip w (with_switches s c y) (SwitchesOf c) (packed (changed by x)) i.lt (ap (λ z. packed (changed by z)) e ∙ sym (ap (λ z. packed z.switches) (channel_same s c (record (channel_at s c) { switches = y }) i.lt))) (reswitched chip w s c y i.lt i.on h) in
+      (may_words (SwitchesOf c) i.lt, acts_so d w s (OfChannel c (Changes by)) (i.pass (runs_at d w s c)) (ap (λ z. switches z s c by) i.known) tt (next, (refl, (owes_if q n).0 ∙ ap notices_in same, (owes_if q n).1 ∙ ap error_in same)))
 
   pub switch_right : AreRight (gpt_ground d) (switch_bodies d)
-  switch_right = steady_right d switch_work switch_takes switch_left switch_gap (switch_holds d) switch_shortens steps
+  switch_right = all_right d (switch_bodies d) switch_shortens (λ k x. never_clean (switch_work k) k (switch_takes k x)) (λ f w w1 s k o t le h. h) steps

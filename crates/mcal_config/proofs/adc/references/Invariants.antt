@@ -1,7 +1,7 @@
 use Rattle.std.proofs.Common.{◌≡◌, drop, take}
 use Rattle.config_facts.specs.Valid.{ReferToUnits}
 use Rattle.config_keys.specs.Checks.{first}
-use Rattle.mcal_config.specs.Adc as spec
+use Rattle.config_tables.specs.Adc as spec
 use Rattle.mcal_config.proofs.adc.references.Given as goal
 
 abbrev pub invariant-loop-number : goal.invariant-loop-number

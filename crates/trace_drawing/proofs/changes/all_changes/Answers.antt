@@ -1,7 +1,7 @@
 use Rattle.std.proofs.Common.{List, ◌++◌, ◌∙◌, string_bytes, ap, arith}
 use Rattle.std.specs.Prelude.{flat_map}
 use Rattle.std.proofs.lemmas.List.{take_all}
-use Rattle.trace_drawing.specs.Changes.{change}
+use Rattle.trace_drawing.specs.Changes.{change, sign_changes}
 use Rattle.trace_drawing.specs.declared.changes.TheConstants.{HEAD}
 use Rattle.trace_drawing.specs.declared.signs.Sign.{Sign}
 use Rattle.trace_drawing.proofs.Steps.{one_more}
@@ -12,4 +12,5 @@ loop-sign-preserved c =
     one_more change HEAD.now (string_bytes c.loop-sign.text) (string_bytes c.put_change.new.text) c.args.signs.now c.loop-sign.sign-index _ c.loop-sign-test.true c.loop-sign.invariant c.in_ok-put_change.ensures
 
 pub returns : goal.returns
+unfolding sign_changes
 returns c = c.loop-sign.invariant ∙ ap (λ (signs : List Sign). HEAD.now ++ flat_map change signs) (take_all c.loop-sign.sign-index c.args.signs.now (omega arith))

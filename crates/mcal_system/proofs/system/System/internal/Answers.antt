@@ -2,7 +2,7 @@ use Rattle.std.proofs.Common.{◌∙◌, ap, subst}
 use Rattle.chip_model.specs.Chip.{Chip}
 use Rattle.config_facts.specs.Valid.{IsSpi}
 use Rattle.mcal_system.specs.Runs.{SystemRun}
-use Rattle.mcal_system.specs.declared.drivers.Drivers.{Drivers}
+use Rattle.mcal_drivers.specs.declared.drivers.Drivers.{Drivers}
 use Rattle.spi_driver.specs.declared.driver.SpiDriver.{SpiDriver}
 use Rattle.mcal_system.proofs.Carried.{ToldInternal, internal_there}
 use Rattle.mcal_system.proofs.system.System.internal.Goals as goal

@@ -2,10 +2,10 @@ use Rattle.std.proofs.Common.{sym, subst}
 use Rattle.step_runner.specs.Driver.{Covers}
 use Rattle.script_runner.specs.Scripts.{words_given}
 use Rattle.chip_model.specs.Chip.{power_on, hung}
-use Rattle.mcal_system.specs.Drivers.{as_one}
-use Rattle.mcal_system.specs.declared.drivers.Drivers.{Drivers}
+use Rattle.mcal_drivers.specs.Drivers.{as_one}
+use Rattle.mcal_drivers.specs.declared.drivers.Drivers.{Drivers}
 use Rattle.mcal_system.proofs.Carried.{starts}
-use Rattle.mcal_system.proofs.Limits.{within_limits}
+use Rattle.mcal_drivers.proofs.Limits.{within_limits}
 use Rattle.mcal_system.proofs.system.System.new.Goals as goal
 
 pub new-requires-clause-config : goal.new-requires-clause-config

@@ -1,5 +1,5 @@
 use Rattle.std.proofs.Common.{refl, sym, ◌∙◌, ap}
-use Rattle.mcal_system.specs.Drivers.{drivers_of}
+use Rattle.mcal_drivers.specs.Drivers.{drivers_of}
 use Rattle.mcal_system.proofs.Carried.{adds, calls, devices_there, on_ok_map, seen}
 use Rattle.mcal_system.proofs.system.System.obey.Goals as goal
 

@@ -7,10 +7,10 @@ use Rattle.mcal_base.specs.declared.layout.Array.TheVariants.{Round}
 use Rattle.adc_driver.specs.declared.driver.AdcDriver.{AdcDriver}
 use Rattle.adc_machine.specs.Table.{table_of}
 use Rattle.adc_machine.specs.Words.{buffer_number, place_count}
-use Rattle.mcal_system.specs.declared.drivers.Drivers.{Drivers}
+use Rattle.mcal_drivers.specs.declared.drivers.Drivers.{Drivers}
 use Rattle.mcal_system.specs.Runs.{SystemRun, moment_of}
 use Rattle.mcal_system.proofs.Carried.{ToldChosen, chosen_there, converter_table_is}
-use Rattle.mcal_system.proofs.SoundConverters.{results_few}
+use Rattle.mcal_drivers.proofs.SoundConverters.{results_few}
 use Rattle.mcal_system.proofs.system.System.results.Goals as goal
 
 pub returns-clause-is : goal.returns-clause-is

@@ -2,8 +2,8 @@ use Rattle.std.proofs.Common.{◌∙◌, ap, subst, sym}
 use Rattle.config_facts.specs.Valid.{IsSpi}
 use Rattle.spi_machine.specs.Table.{channel_of, table_of}
 use Rattle.mcal_system.specs.Runs.{SystemRun}
-use Rattle.mcal_system.specs.declared.drivers.Drivers.{Drivers}
-use Rattle.mcal_system.proofs.SoundSerial.{channel_words}
+use Rattle.mcal_drivers.specs.declared.drivers.Drivers.{Drivers}
+use Rattle.mcal_drivers.proofs.SoundSerial.{channel_words}
 use Rattle.mcal_system.proofs.system.System.serial_channel.Goals as goal
 
 pub returns-clause-is : goal.returns-clause-is

@@ -5,7 +5,7 @@ use Rattle.mcal_base.specs.Layout.{length_of}
 use Rattle.mcal_base.specs.declared.layout.Array.TheVariants.{Stamps}
 use Rattle.icu_driver.specs.Ground.{settled, IcuAgrees}
 use Rattle.icu_driver.specs.declared.driver.IcuDriver.{IcuDriver}
-use Rattle.mcal_system.specs.declared.drivers.Drivers.{Drivers}
+use Rattle.mcal_drivers.specs.declared.drivers.Drivers.{Drivers}
 use Rattle.mcal_system.specs.Runs.{moment_of}
 use Rattle.mcal_system.proofs.Carried.{captures_there, size_there}
 use Rattle.mcal_system.proofs.system.System.stamps.Goals as goal

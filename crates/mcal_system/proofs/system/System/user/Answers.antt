@@ -4,7 +4,7 @@ use Rattle.mcal_base.specs.Layout.{WithinLimits, length_of, place_of}
 use Rattle.mcal_base.specs.declared.config.whole.Config.{Config}
 use Rattle.mcal_system.specs.Runs.{SystemRun}
 use Rattle.mcal_system.proofs.Carried.{user_there}
-use Rattle.mcal_system.proofs.Limits.{within_limits}
+use Rattle.mcal_drivers.proofs.Limits.{within_limits}
 use Rattle.mcal_system.proofs.system.System.user.Goals as goal
 
 pub place-word-requires-clause-limits : goal.place-word-requires-clause-limits

@@ -2,7 +2,7 @@ use Rattle.std.proofs.Common.{◌≡◌, ◌∙◌, ap}
 use Rattle.std.proofs.lemmas.Result.{IfOk-weaker}
 use Rattle.run_model.specs.Entry.{Written}
 use Rattle.mcal_system.specs.Runs.{moment_after, moment_of}
-use Rattle.mcal_system.specs.Shows.{wire_at}
+use Rattle.mcal_drivers.specs.Shows.{wire_at}
 use Rattle.mcal_system.specs.Wires.{pairs, told_by}
 use Rattle.mcal_system.proofs.WireTold.{words_told}
 use Rattle.mcal_system.proofs.system.System.wire.Goals as goal

@@ -1,7 +1,0 @@
-use Rattle.std.proofs.Common.{◌≡◌, take, map}
-use Rattle.bench_report.specs.declared.rows.Value.TheVariants.{Pair}
-use Rattle.mcal_system.specs.declared.wires.Exchange.{Exchange}
-use Rattle.bench_top.proofs.show.wire_words.Given as goal
-
-abbrev pub invariant-loop-place : goal.invariant-loop-place
-invariant-loop-place l = l.values.items ≡ map (λ (x : Exchange). Pair x.sent x.received) (take l.place l.words.items)

@@ -1,0 +1,69 @@
+ghost use Rattle.std.specs.Prelude.{IfOk, ◌≡◌, Some, ◌∷◌, []};
+ghost use Rattle.toml.specs.View.{table_view};
+ghost use Rattle.config_keys.specs.Checks.{Gives};
+ghost use Rattle.config_facts.specs.Ids.{IsList};
+ghost use Rattle.config_facts.specs.Valid as valid;
+ghost use Rattle.config_tables.specs.Spi as spec;
+
+use crate::spi_rules::{references, rules};
+use crate::spi_tables::{Channels, HERE, Jobs, Sequences};
+use config_keys::{ConfigFault, KeyName, numbers_or, truth_or, whole_or};
+use config_rows::{Module, elements};
+use mcal_base::{ModuleName, Short, SpiConfig};
+use toml::Table;
+
+/// The levels that the lines of the two units have where they are not given.
+pub fn both_at_one() -> Short<u32, 2>
+    ensures value { result ≡ 1 ∷ 1 ∷ [] }
+    ensures list { IsList 2 2 1 7 result }
+{
+    let mut levels = Short::new();
+    levels.push(1);
+    levels.push(1);
+    levels
+}
+
+/// The keys and arrays of the module.
+#[tactic(auto, unfolding(crate::specs::Spi::key_checks, crate::specs::Spi::value_of))]
+fn keys(table: &Table) -> Result<SpiConfig, ConfigFault>
+    ensures gives { Gives result (spec.key_checks (table_view table.now)) (spec.value_of (table_view table.now)) }
+    ensures tables { IfOk result valid.HasSpiTables }
+{
+    let dev_error_detect = truth_or(table, HERE, KeyName::SpiDevErrorDetect, true)?;
+    let classification = whole_or(table, HERE, KeyName::Classification, 1, 2, 1)?;
+    let levels = numbers_or(table, HERE, KeyName::Levels, 2, 1, 7, both_at_one())?;
+    let channels = elements::<Channels, 16>(table)?;
+    let jobs = elements::<Jobs, 16>(table)?;
+    let sequences = elements::<Sequences, 8>(table)?;
+    Ok(SpiConfig {
+        dev_error_detect,
+        classification,
+        levels,
+        channels,
+        jobs,
+        sequences,
+    })
+}
+
+/// The table `Spi`.
+pub struct Spi;
+
+impl Module for Spi {
+    type Value = SpiConfig;
+
+    ghost part = { spec.part };
+
+    ghost is_valid = { valid.IsSpi };
+
+    fn name() -> ModuleName {
+        ModuleName::Spi
+    }
+
+    #[tactic(auto, unfolding(crate::specs::Spi::checks, crate::specs::SpiRules::across))]
+    fn read(table: &Table) -> Result<SpiConfig, ConfigFault> {
+        let spi = keys(table)?;
+        references(&spi)?;
+        rules(&spi)?;
+        Ok(spi)
+    }
+}

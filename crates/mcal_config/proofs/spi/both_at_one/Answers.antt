@@ -1,6 +1,0 @@
-use Rattle.std.proofs.Common.{rules, ◌≡◌, ◌∷◌, []}
-use Rattle.mcal_config.proofs.Board.{ones}
-use Rattle.mcal_config.proofs.spi.both_at_one.Goals as goal
-
-pub returns-clause-list : goal.returns-clause-list
-returns-clause-list c = let e : c.push-2.new.self ≡ 1 ∷ 1 ∷ [] = search rules in rw e ones

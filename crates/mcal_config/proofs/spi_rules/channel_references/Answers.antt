@@ -1,6 +1,0 @@
-use Rattle.std.proofs.Common.{arith, ◌≡◌, take}
-use Rattle.std.proofs.lemmas.Grind.{common_steps}
-use Rattle.mcal_config.proofs.spi_rules.channel_references.Goals as goal
-
-pub returns-clause-refer : goal.returns-clause-refer
-returns-clause-refer c = let e : take c.loop-number.number c.args.jobs.now ≡ c.args.jobs.now = grind (arith, common_steps) in rw e at c.loop-number.invariant.refer

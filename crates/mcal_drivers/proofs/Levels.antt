@@ -1,0 +1,63 @@
+-- At rest the pins' levels and the RAM words of the chip are the machine's.
+use Rattle.std.proofs.Common.{◌≡◌, ℕ, ◌<◌, Bool, Option, Some, None, refl, ◌∙◌, ap, subst}
+use Rattle.std.specs.Prelude.{slice_index, option_map}
+use Rattle.chip_model.specs.Chip.{Chip, word_of, power_on, hung, channel_from, output_at, outside_at, pin_of}
+use Rattle.chip_model.specs.declared.wiring.Wiring.{Wiring}
+use Rattle.chip_pulses.specs.Pulses as outputs
+use Rattle.config_facts.specs.Valid.{IsAdc, IsPwm, IsIcu, IsSpi}
+use Rattle.mcal_base.specs.Layout.{length_of, place_of}
+use Rattle.mcal_base.specs.declared.config.pwm.PwmChannel.{PwmChannel}
+use Rattle.mcal_base.specs.declared.config.whole.Config.{Config}
+use Rattle.mcal_base.specs.declared.layout.Array.{Array}
+use Rattle.mcal_base.specs.declared.layout.Array.TheVariants.{Round, Stamps, Source, Destination}
+use Rattle.run_model.specs.Moment.{Moment}
+use Rattle.port_driver.specs.Machine as pins
+use Rattle.port_driver.specs.laws.Levels.{level_stands}
+use Rattle.pwm_driver.specs.Bounds.{OutputsAgree}
+use Rattle.pwm_driver.specs.Machine as pulses
+use Rattle.pwm_driver.specs.Table as pulse_table
+use Rattle.mcal_drivers.specs.Setting.{SystemState, SystemCall, system_setting}
+use Rattle.mcal_drivers.specs.Shows.{channel_on, pulse_at, level_at, ram_at, user_at}
+use Rattle.mcal_drivers.proofs.Named.{few, named}
+use Rattle.mcal_drivers.proofs.Stamps.{has_channel, stamps_few}
+use Rattle.mcal_drivers.proofs.Resting.{Rests}
+use Rattle.mcal_drivers.proofs.SoundConverters.{result_place}
+use Rattle.mcal_drivers.proofs.SoundSerial.{array_length}
+
+module _ (c : Config) (devices room : ℕ) (chip : Chip) (m : Moment SystemState SystemCall) (rests : Rests (system_setting c) (hung devices (power_on c room)) chip m) where
+  -- the outputs of all pulse units are the machine's
+  outputs_agree : OutputsAgree (pulse_table.driver_of c.pwm) m.chip.pulses m.world m.state.1.0.0
+  unfolding system_setting
+  outputs_agree = (rests.served.outputs rests.unmasked).1.0.0
+
+  abbrev level : ℕ → Bool
+  level k = outputs.level_at m.chip.pulses k
+
+  -- and so is the one that is seen at a pin
+  seen : (p : ℕ) → IsPwm c.pwm → output_at m.chip p ≡ pulse_at c m.world m.state p
+  seen p v =
+      ap (λ (w : Wiring). option_map level (channel_from 0 w.outputs p)) rests.wiring
+      ∙ (ap (λ o. option_map level o) (named c p v)
+      ∙ by (channel_on c p) (few c p v))
+    where
+      by : (q : Option PwmChannel) → ((x : PwmChannel) → q ≡ Some x → x.id < 8) → option_map level (option_map (λ (x : PwmChannel). x.id) q) ≡ option_map (λ (x : PwmChannel). pulses.level_at (pulse_table.driver_of c.pwm) m.world m.state.1.0.0 x.id) q
+      by None few = refl
+      by (Some x) few = ap (λ b. Some b) (outputs_agree x.id (few x refl))
+
+  pub pin_level : (p : ℕ) → p < 64 → IsPwm c.pwm → pin_of chip p ≡ level_at c m.world m.state p
+  unfolding system_setting
+  pin_level p lt v =
+      ap (λ (x : Chip). pin_of x p) rests.chip_is
+      ∙ (level_stands m.chip.pins m.world m.state.0.1.0 p (outside_at m.chip p) (output_at m.chip p) rests.quiet.rest.0.1.0 lt (rests.outside.levels p lt)
+      ∙ ap (λ o. pins.level_at m.world m.state.0.1.0 p o) (seen p v))
+
+  pub ram_word : (k : ℕ) → k < 512 → slice_index chip.ram k ≡ ram_at m.state k
+  unfolding system_setting
+  ram_word k lt = ap (λ (x : Chip). slice_index x.ram k) rests.chip_is ∙ rests.quiet.rest.0.0 k lt
+
+  pub user_word : (a : Array) (k : ℕ) → IsAdc c.adc → IsIcu c.icu → IsSpi c.spi → k < length_of c a → word_of chip (place_of a k) ≡ user_at m.state a k
+  unfolding system_setting
+  user_word (Round g b) k a v h lt = ap (λ (x : Chip). word_of x (place_of (Round g b) k)) rests.chip_is ∙ result_place c a g b k (word_of m.chip) m.state.1.1.0 (rests.quiet.rest.1.1.0 g) lt
+  user_word (Stamps i) k a v h lt = ap (λ (x : Chip). word_of x (place_of (Stamps i) k)) rests.chip_is ∙ rests.quiet.rest.1.0.1 i (has_channel c i k lt v) k (stamps_few c i k lt)
+  user_word (Source i) k a v h lt = ap (λ (x : Chip). word_of x (place_of (Source i) k)) rests.chip_is ∙ (rests.quiet.rest.1.1.1 i).source k (subst (λ n. k < n) (array_length c.spi h i) lt)
+  user_word (Destination i) k a v h lt = ap (λ (x : Chip). word_of x (place_of (Destination i) k)) rests.chip_is ∙ (rests.quiet.rest.1.1.1 i).destination k (subst (λ n. k < n) (array_length c.spi h i) lt)

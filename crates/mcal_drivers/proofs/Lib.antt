@@ -1,0 +1,12 @@
+pub mod Growing
+mod Joining
+pub mod Levels
+pub mod Limits
+mod Named
+pub mod Resting
+pub mod Sound
+pub mod SoundConverters
+pub mod SoundSerial
+mod Sources
+pub mod Stamps
+pub mod Wordless

@@ -1,0 +1,70 @@
+-- The drivers of all modules as one, as the runner sees them.
+use Rattle.mcal_base.specs.declared.config.whole.Config.{Config}
+use Rattle.service_outline.specs.Services.{services_driver}
+use Rattle.service_outline.specs.ShortServices as short
+use Rattle.step_runner.specs.Driver.{Driver}
+use Rattle.step_runner.specs.Union.{union_of}
+use Rattle.mcu_driver.specs.Machine.{McuState}
+use Rattle.mcu_driver.specs.Table as clock_table
+use Rattle.mcu_driver.specs.declared.call.Call as clock_calls
+use Rattle.mcu_driver.specs.laws.Lawful.{mcu}
+use Rattle.port_driver.specs.Machine.{PortState}
+use Rattle.port_driver.specs.Table as pin_table
+use Rattle.port_driver.specs.declared.call.Call as pin_calls
+use Rattle.port_driver.specs.laws.Lawful.{port}
+use Rattle.gpt_driver.specs.Machine.{GptState}
+use Rattle.gpt_driver.specs.Table as timer_table
+use Rattle.gpt_driver.specs.declared.call.Call as timer_calls
+use Rattle.gpt_driver.specs.laws.Lawful.{gpt}
+use Rattle.pwm_driver.specs.Machine.{PwmState}
+use Rattle.pwm_driver.specs.Table as pulse_table
+use Rattle.pwm_driver.specs.declared.call.Call as pulse_calls
+use Rattle.pwm_driver.specs.laws.Lawful.{pwm}
+use Rattle.icu_driver.specs.Machine.{IcuState}
+use Rattle.icu_driver.specs.Table as capture_table
+use Rattle.icu_driver.specs.declared.call.Call as capture_calls
+use Rattle.icu_driver.specs.laws.Lawful.{icu}
+use Rattle.adc_driver.specs.laws.Joined.{joined as converters_of}
+use Rattle.adc_machine.specs.Table as converter_table
+use Rattle.adc_machine.specs.Turns.{AdcState}
+use Rattle.adc_machine.specs.declared.call.Call as converter_calls
+use Rattle.spi_driver.specs.laws.Joined.{joined}
+use Rattle.spi_machine.specs.State.{SpiState}
+use Rattle.spi_machine.specs.Table as serial_table
+use Rattle.spi_machine.specs.declared.call.Call as serial_calls
+use Rattle.mcal_drivers.specs.Frames.{ClockFrame, PinFrame, TimerFrame, PulseFrame, CaptureFrame, ConverterFrame, SerialFrame, SystemFrame}
+use Rattle.mcal_drivers.specs.Setting.{SystemState, SystemCall}
+use Rattle.mcal_drivers.specs.declared.drivers.Drivers.{Drivers}
+
+-- what the code keeps of a configuration
+abbrev pub drivers_of : Config → Drivers
+drivers_of c = record { clock = clock_table.driver_of c.mcu; pins = pin_table.driver_of c.port; timers = timer_table.driver_of c.gpt; pulses = pulse_table.driver_of c.pwm; captures = capture_table.driver_of c.icu; converters = record { table = converter_table.table_of c.adc }; serial = record { table = serial_table.table_of c.spi } }
+
+-- each module's driver
+abbrev pub clock : Config → Driver McuState clock_calls.Call ClockFrame
+clock c = services_driver (mcu (clock_table.driver_of c.mcu))
+
+abbrev pub pins : Config → Driver PortState pin_calls.Call PinFrame
+pins c = services_driver (port (pin_table.driver_of c.port))
+
+abbrev pub timers : Config → Driver GptState timer_calls.Call TimerFrame
+timers c = short.driver_of (gpt (timer_table.driver_of c.gpt))
+
+abbrev pub pulses : Config → Driver PwmState pulse_calls.Call PulseFrame
+pulses c = services_driver (pwm (pulse_table.driver_of c.pwm))
+
+abbrev pub captures : Config → Driver IcuState capture_calls.Call CaptureFrame
+captures c = short.driver_of (icu (capture_table.driver_of c.icu))
+
+abbrev pub converters : Config → Driver AdcState converter_calls.Call ConverterFrame
+converters c = services_driver (converters_of (converter_table.table_of c.adc))
+
+abbrev pub serial : Config → Driver SpiState serial_calls.Call SerialFrame
+serial c = services_driver (joined (serial_table.table_of c.spi))
+
+-- all as one, in the order of the configuration; what is in it stays closed where no proof asks for it
+unfoldable pub as_one : Drivers → Driver SystemState SystemCall SystemFrame
+as_one u = union_of (union_of (services_driver (mcu u.clock)) (union_of (services_driver (port u.pins)) (short.driver_of (gpt u.timers)))) (union_of (union_of (services_driver (pwm u.pulses)) (short.driver_of (icu u.captures))) (union_of (services_driver (converters_of u.converters.table)) (services_driver (joined u.serial.table))))
+
+abbrev pub system : Config → Driver SystemState SystemCall SystemFrame
+system c = as_one (drivers_of c)

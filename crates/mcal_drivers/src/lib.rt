@@ -1,0 +1,8 @@
+//! The drivers of all modules as one.
+#![tactic(auto)]
+
+mod drivers;
+mod frame;
+
+pub use drivers::Drivers;
+pub use frame::Frame;

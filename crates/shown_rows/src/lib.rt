@@ -1,0 +1,15 @@
+//! The rows that a show prints of a run: its pins, RAM sections, buffers and wires.
+#![tactic(auto)]
+
+mod buffers;
+mod objects;
+mod pins;
+mod run;
+mod sections;
+mod text;
+mod wires;
+mod words;
+
+pub use run::ShownRun;
+pub use text::shown_text;
+pub use words::Words;

@@ -1,0 +1,74 @@
+ghost use Rattle.std.specs.Prelude.{◌≡◌, ◌<◌, ◌++◌, [], OnOk, string_bytes};
+ghost use Rattle.bench_report.specs.Shown.{rows_text};
+ghost use Rattle.mcal_system.specs.Runs.{moment_of};
+ghost use Rattle.shown_rows.specs.Objects as spec;
+
+use crate::buffers::{write_capture, write_group, write_serial};
+use crate::pins::write_pin;
+use crate::run::ShownRun;
+use std::alloc::{AllocError, Global};
+
+/// Objects that are shown in the order of their numbers.
+#[derive(Clone, Copy)]
+pub(crate) enum Objects {
+    /// The pins.
+    Pins,
+    /// The capture channels.
+    Captures,
+    /// The converter groups.
+    Groups,
+    /// The serial channels.
+    Serials,
+}
+
+/// How many numbers there are.
+fn count(objects: Objects) -> u32
+    ensures { result ≡ spec.count objects }
+{
+    match objects {
+        Objects::Pins => 64,
+        Objects::Captures => 8,
+        Objects::Groups => 16,
+        Objects::Serials => 16,
+    }
+}
+
+/// Writes the rows of the object of a number.
+fn write_object<R: ShownRun>(
+    alloc: Global,
+    text: &mut String,
+    run: &R,
+    line: u32,
+    objects: Objects,
+    number: u32,
+) -> Result<(), AllocError>
+    requires rest { (moment_of (R.system run.now)).opens ≡ [] }
+    requires there { number < spec.count objects }
+    ensures { let m = moment_of (R.system run.now) in
+        OnOk result (string_bytes text.new ≡ string_bytes text.old ++ rows_text line (spec.object_rows (R.system run.now).config m.world m.state objects number)) }
+{
+    match objects {
+        Objects::Pins => write_pin(text, run, line, number),
+        Objects::Captures => write_capture(alloc, text, run, line, number),
+        Objects::Groups => write_group(alloc, text, run, line, number),
+        Objects::Serials => write_serial(alloc, text, run, line, number),
+    }
+}
+
+/// Writes the rows of all objects.
+pub(crate) fn write_objects<R: ShownRun>(
+    alloc: Global,
+    text: &mut String,
+    run: &R,
+    line: u32,
+    objects: Objects,
+) -> Result<(), AllocError>
+    requires rest { (moment_of (R.system run.now)).opens ≡ [] }
+    ensures { let m = moment_of (R.system run.now) in
+        OnOk result (string_bytes text.new ≡ string_bytes text.old ++ rows_text line (spec.all_rows (R.system run.now).config m.world m.state objects)) }
+{
+    for number in 0..count(objects) {
+        write_object(alloc, text, run, line, objects, number)?;
+    }
+    Ok(())
+}

@@ -1,0 +1,61 @@
+ghost use Rattle.std.specs.Prelude.{◌≡◌, ◌+◌, ◌≤◌, ◌++◌, ◌∷◌, [], IfOk, OnOk, string_bytes};
+ghost use Rattle.bench_report.specs.Shown.{rows_text};
+ghost use Rattle.mcal_system.specs.Runs.{moment_of};
+ghost use Rattle.shown_rows.specs.Words as spec;
+
+use crate::run::ShownRun;
+use bench_report::{RowName, Value, write_row};
+use mcal_base::Array;
+use std::alloc::{AllocError, Global};
+
+/// What is shown word by word.
+#[derive(Clone, Copy)]
+pub enum Words {
+    /// The RAM.
+    Ram,
+    /// An array of the users.
+    User(Array),
+    /// The words that an internal serial channel sends.
+    Sent(u32),
+    /// The words that may be read of an internal serial channel.
+    Received(u32),
+}
+
+/// So many words from a first place on.
+pub(crate) fn words_of<R: ShownRun>(
+    alloc: Global,
+    run: &R,
+    words: Words,
+    first: u32,
+    size: u32,
+) -> Result<Vec<Value>, AllocError>
+    requires rest { (moment_of (R.system run.now)).opens ≡ [] }
+    requires inside { spec.HasPlaces (R.system run.now).config words (first + size) }
+    requires few { first + size ≤ 4294967295 }
+    ensures { IfOk result (λ values. values.items ≡ spec.words (moment_of (R.system run.now)).state words first size) }
+{
+    let mut values = Vec::new(alloc);
+    for number in 0..size {
+        values.push(Value::One(run.word(words, first + number)))?;
+    }
+    Ok(values)
+}
+
+/// Writes the row of so many words from the first place on.
+#[tactic(auto, using(crate::proofs::Rows::row_alone))]
+pub(crate) fn write_words<R: ShownRun>(
+    alloc: Global,
+    text: &mut String,
+    run: &R,
+    line: u32,
+    name: RowName,
+    words: Words,
+    size: u32,
+) -> Result<(), AllocError>
+    requires rest { (moment_of (R.system run.now)).opens ≡ [] }
+    requires inside { spec.HasPlaces (R.system run.now).config words size }
+    ensures { OnOk result (string_bytes text.new ≡ string_bytes text.old ++ rows_text line (spec.words_row (moment_of (R.system run.now)).state name words size ∷ [])) }
+{
+    let values = words_of(alloc, run, words, 0, size)?;
+    write_row(text, line, name, &values)
+}

@@ -1,7 +1,0 @@
-use Rattle.std.proofs.Common.{refl, arith}
-use Rattle.trace_reader.specs.Guess as spec
-use Rattle.trace_reader.proofs.Lengths.{one_none}
-use Rattle.trace_reader.proofs.guess.step.Goals as goal
-
-pub returns-in-len1 : goal.returns-in-len1
-returns-in-len1 c = one_none c.args.words.now (λ w. w.now) spec.step (λ a. refl) (omega arith) (omega arith)
