@@ -1,5 +1,5 @@
 -- How the registers of the chip are spelled.
-use Rattle.std.specs.Prelude.{ℕ, List, ◌++◌, codes, decimal}
+use Rattle.std.specs.Prelude.{ℕ, List, ◌++◌, codes, decimal, encode_utf8}
 use Rattle.mcal_base.specs.declared.register.Reg.{Reg}
 use Rattle.mcal_base.specs.declared.register.Reg.TheVariants as regs
 use Rattle.bench_report.specs.declared.registers.Parts.{Parts}
@@ -12,8 +12,9 @@ numbered_register letter n name = letter ++ (decimal n ++ name)
 -- the parts of a name, as the code has them
 abbrev pub parts_text : Parts → List ℕ
 parts_text (parts.Plain name) = name.now
-parts_text (parts.Numbered letters n name) = numbered_register letters.now n name.now
-parts_text (parts.Placed letters n name k) = numbered_register letters.now n (numbered_register name.now k (codes ""))
+parts_text (parts.Ending letters n) = numbered_register letters.now n (codes "")
+parts_text (parts.Numbered letter n name) = numbered_register (encode_utf8 letter) n name.now
+parts_text (parts.Placed letter n name k) = numbered_register (encode_utf8 letter) n (numbered_register name.now k (codes ""))
 
 -- a register, as the chip names it
 abbrev pub register_text : Reg → List ℕ

@@ -1,11 +1,12 @@
--- The services that a word may name, by its first letter and its length.
-use Rattle.std.proofs.Common.{◌≡◌, ℕ, ◌+◌, ◌≤◌, ◌==◌, List, [], ◌∷◌, Bool, true, false, not, ap, length, refl, sym, ◌∙◌, arith, eq-eqb, get_or}
+-- The services that a word may name, by its first letter and its length, and the keywords, by their first letter.
+use Rattle.std.proofs.Common.{◌≡◌, ℕ, ◌+◌, ◌≤◌, ◌==◌, List, [], ◌∷◌, None, Bool, true, false, not, ap, length, refl, sym, ◌∙◌, arith, eq-eqb, get_or}
 use Rattle.std.specs.Prelude.{◌&&◌}
 use Rattle.std.specs.List.{filter}
 use Rattle.mcal_base.specs.Names.{service_text}
 use Rattle.mcal_base.specs.declared.service.Service.{Service}
 use Rattle.bench_script.specs.Scanned.{begins}
-use Rattle.bench_script.specs.Words.{named, all_services}
+use Rattle.bench_script.specs.Words.{named, all_services, keyword_text, all_keywords}
+use Rattle.bench_script.specs.declared.words.Keyword.{Keyword}
 use Rattle.bench_script.proofs.Keywords.{alike}
 use Rattle.bench_script.proofs.Table.{first_holds, second_holds}
 
@@ -53,3 +54,14 @@ none_begin letter none rest = none_named (filter (λ s. begins (λ b. letter == 
 pub by_front : (some : List Service) (word : List ℕ) → 1 ≤ length word → ((rest : List ℕ) → length rest + 1 ≡ length word → named service_text some (get_or word 0 0 ∷ rest) ≡ named service_text all_services (get_or word 0 0 ∷ rest)) → named service_text some word ≡ named service_text all_services word
 by_front some [] n h = absurd (omega (arith, n))
 by_front some (b ∷ bs) n h = h bs (omega arith)
+
+-- the keywords that begin as a word does
+pub keyword_under : (letter : ℕ) (word : List ℕ) → begins (λ b. letter == b) word ≡ true → named keyword_text (filter (λ k. begins (λ b. letter == b) (keyword_text k)) all_keywords) word ≡ named keyword_text all_keywords word
+keyword_under letter word t = sym (alike keyword_text (begins (λ b. letter == b)) all_keywords word t)
+
+pub no_keyword : (letter : ℕ) (word : List ℕ) → none_pass (λ k. begins (λ b. letter == b) (keyword_text k)) all_keywords ≡ true → begins (λ b. letter == b) word ≡ true → None ≡ named keyword_text all_keywords word
+no_keyword letter word none t = ap (λ (ks : List Keyword). named keyword_text ks word) (sym (none_left (λ k. begins (λ b. letter == b) (keyword_text k)) all_keywords none)) ∙ keyword_under letter word t
+
+pub begins_so : (word : List ℕ) → 1 ≤ length word → begins (λ b. get_or word 0 0 == b) word ≡ true
+begins_so [] n = absurd (omega (arith, n))
+begins_so (b ∷ bs) n = eq-eqb b b refl

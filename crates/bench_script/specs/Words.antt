@@ -39,7 +39,10 @@ keyword_text keywords.Show = codes "show"
 
 -- each keyword
 abbrev pub all_keywords : List Keyword
-all_keywords = keywords.Call ∷ keywords.Do ∷ keywords.Enter ∷ keywords.Serve ∷ keywords.Run ∷ keywords.Upto ∷ keywords.Finish ∷ keywords.Tick ∷ keywords.Level ∷ keywords.Analog ∷ keywords.Trigger ∷ keywords.Miso ∷ keywords.SpiFault ∷ keywords.Detach ∷ keywords.Fill ∷ keywords.Reset ∷ keywords.Show ∷ []
+all_keywords =
+    keywords.Call ∷ keywords.Do ∷ keywords.Enter ∷ keywords.Serve ∷ keywords.Run ∷ keywords.Upto ∷
+    keywords.Finish ∷ keywords.Tick ∷ keywords.Level ∷ keywords.Analog ∷ keywords.Trigger ∷ keywords.Miso ∷
+    keywords.SpiFault ∷ keywords.Detach ∷ keywords.Fill ∷ keywords.Reset ∷ keywords.Show ∷ []
 
 -- where `upto` may stop
 abbrev pub stop_text : Stop → List ℕ
@@ -70,9 +73,36 @@ reason_text reasons.Software = codes "software"
 abbrev pub all_reasons : List Reason
 all_reasons = reasons.PowerOn ∷ reasons.Watchdog ∷ []
 
--- the services that a script may name
+-- the services that a script may name, module by module
 abbrev pub all_services : List Service
-all_services = services.McuInit ∷ services.McuInitRamSection ∷ services.McuInitClock ∷ services.McuDistributePllClock ∷ services.McuGetPllStatus ∷ services.McuGetResetReason ∷ services.McuPerformReset ∷ services.McuSetMode ∷ services.PortInit ∷ services.PortSetPinDirection ∷ services.PortRefreshPortDirection ∷ services.PortSetPinMode ∷ services.GptInit ∷ services.GptDeInit ∷ services.GptGetTimeElapsed ∷ services.GptGetTimeRemaining ∷ services.GptStartTimer ∷ services.GptStopTimer ∷ services.GptEnableNotification ∷ services.GptDisableNotification ∷ services.GptSetMode ∷ services.GptEnableWakeup ∷ services.GptDisableWakeup ∷ services.GptCheckWakeup ∷ services.PwmInit ∷ services.PwmDeInit ∷ services.PwmSetDutyCycle ∷ services.PwmSetPeriodAndDuty ∷ services.PwmSetOutputToIdle ∷ services.PwmGetOutputState ∷ services.PwmEnableNotification ∷ services.PwmDisableNotification ∷ services.IcuInit ∷ services.IcuDeInit ∷ services.IcuSetActivationCondition ∷ services.IcuEnableNotification ∷ services.IcuDisableNotification ∷ services.IcuGetInputState ∷ services.IcuEnableEdgeDetection ∷ services.IcuDisableEdgeDetection ∷ services.IcuResetEdgeCount ∷ services.IcuEnableEdgeCount ∷ services.IcuDisableEdgeCount ∷ services.IcuGetEdgeNumbers ∷ services.IcuStartTimestamp ∷ services.IcuStopTimestamp ∷ services.IcuGetTimestampIndex ∷ services.IcuStartSignalMeasurement ∷ services.IcuStopSignalMeasurement ∷ services.IcuGetTimeElapsed ∷ services.IcuGetDutyCycleValues ∷ services.AdcInit ∷ services.AdcDeInit ∷ services.AdcSetupResultBuffer ∷ services.AdcStartGroupConversion ∷ services.AdcStopGroupConversion ∷ services.AdcReadGroup ∷ services.AdcEnableHardwareTrigger ∷ services.AdcDisableHardwareTrigger ∷ services.AdcEnableGroupNotification ∷ services.AdcDisableGroupNotification ∷ services.AdcGetGroupStatus ∷ services.AdcGetStreamLastPointer ∷ services.SpiInit ∷ services.SpiDeInit ∷ services.SpiWriteIb ∷ services.SpiReadIb ∷ services.SpiSetupEb ∷ services.SpiAsyncTransmit ∷ services.SpiCancel ∷ services.SpiGetStatus ∷ services.SpiGetJobResult ∷ services.SpiGetSequenceResult ∷ services.SpiGetHwUnitStatus ∷ services.SpiSetAsyncMode ∷ services.SpiMainFunctionHandling ∷ []
+all_services =
+    services.McuInit ∷ services.McuInitRamSection ∷ services.McuInitClock ∷ services.McuDistributePllClock ∷
+    services.McuGetPllStatus ∷ services.McuGetResetReason ∷ services.McuPerformReset ∷ services.McuSetMode ∷
+    services.PortInit ∷ services.PortSetPinDirection ∷ services.PortRefreshPortDirection ∷
+    services.PortSetPinMode ∷
+    services.GptInit ∷ services.GptDeInit ∷ services.GptGetTimeElapsed ∷ services.GptGetTimeRemaining ∷
+    services.GptStartTimer ∷ services.GptStopTimer ∷ services.GptEnableNotification ∷
+    services.GptDisableNotification ∷ services.GptSetMode ∷ services.GptEnableWakeup ∷
+    services.GptDisableWakeup ∷ services.GptCheckWakeup ∷
+    services.PwmInit ∷ services.PwmDeInit ∷ services.PwmSetDutyCycle ∷ services.PwmSetPeriodAndDuty ∷
+    services.PwmSetOutputToIdle ∷ services.PwmGetOutputState ∷ services.PwmEnableNotification ∷
+    services.PwmDisableNotification ∷
+    services.IcuInit ∷ services.IcuDeInit ∷ services.IcuSetActivationCondition ∷
+    services.IcuEnableNotification ∷ services.IcuDisableNotification ∷ services.IcuGetInputState ∷
+    services.IcuEnableEdgeDetection ∷ services.IcuDisableEdgeDetection ∷ services.IcuResetEdgeCount ∷
+    services.IcuEnableEdgeCount ∷ services.IcuDisableEdgeCount ∷ services.IcuGetEdgeNumbers ∷
+    services.IcuStartTimestamp ∷ services.IcuStopTimestamp ∷ services.IcuGetTimestampIndex ∷
+    services.IcuStartSignalMeasurement ∷ services.IcuStopSignalMeasurement ∷ services.IcuGetTimeElapsed ∷
+    services.IcuGetDutyCycleValues ∷
+    services.AdcInit ∷ services.AdcDeInit ∷ services.AdcSetupResultBuffer ∷ services.AdcStartGroupConversion ∷
+    services.AdcStopGroupConversion ∷ services.AdcReadGroup ∷ services.AdcEnableHardwareTrigger ∷
+    services.AdcDisableHardwareTrigger ∷ services.AdcEnableGroupNotification ∷
+    services.AdcDisableGroupNotification ∷ services.AdcGetGroupStatus ∷ services.AdcGetStreamLastPointer ∷
+    services.SpiInit ∷ services.SpiDeInit ∷ services.SpiWriteIb ∷ services.SpiReadIb ∷ services.SpiSetupEb ∷
+    services.SpiAsyncTransmit ∷ services.SpiCancel ∷ services.SpiGetStatus ∷ services.SpiGetJobResult ∷
+    services.SpiGetSequenceResult ∷ services.SpiGetHwUnitStatus ∷ services.SpiSetAsyncMode ∷
+    services.SpiMainFunctionHandling ∷
+    []
 
 -- among these is each service that a word of so many letters may name, by its first letter
 abbrev pub FindsAll : List Service → ℕ → ℕ → Type 0

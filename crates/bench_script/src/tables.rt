@@ -83,86 +83,86 @@ pub(crate) fn arguments_of(service: Service) -> &'static [Kind]
     ensures few { length result.now ≤ 4 }
 {
     match service {
-        Service::McuInit => &[],
-        Service::McuInitRamSection => &[ANY],
-        Service::McuInitClock => &[ANY],
-        Service::McuDistributePllClock => &[],
-        Service::McuGetPllStatus => &[],
-        Service::McuGetResetReason => &[],
-        Service::McuPerformReset => &[],
-        Service::McuSetMode => &[ANY],
-        Service::PortInit => &[],
+        Service::McuInit
+        | Service::McuDistributePllClock
+        | Service::McuGetPllStatus
+        | Service::McuGetResetReason
+        | Service::McuPerformReset
+        | Service::PortInit
+        | Service::PortRefreshPortDirection
+        | Service::GptInit
+        | Service::GptDeInit
+        | Service::PwmInit
+        | Service::PwmDeInit
+        | Service::IcuInit
+        | Service::IcuDeInit
+        | Service::AdcInit
+        | Service::AdcDeInit
+        | Service::SpiInit
+        | Service::SpiDeInit
+        | Service::SpiGetStatus
+        | Service::SpiMainFunctionHandling => &[],
+        Service::McuInitRamSection
+        | Service::McuInitClock
+        | Service::McuSetMode
+        | Service::GptGetTimeElapsed
+        | Service::GptGetTimeRemaining
+        | Service::GptStopTimer
+        | Service::GptEnableNotification
+        | Service::GptDisableNotification
+        | Service::GptEnableWakeup
+        | Service::GptDisableWakeup
+        | Service::GptCheckWakeup
+        | Service::PwmSetOutputToIdle
+        | Service::PwmGetOutputState
+        | Service::PwmDisableNotification
+        | Service::IcuEnableNotification
+        | Service::IcuDisableNotification
+        | Service::IcuGetInputState
+        | Service::IcuEnableEdgeDetection
+        | Service::IcuDisableEdgeDetection
+        | Service::IcuResetEdgeCount
+        | Service::IcuEnableEdgeCount
+        | Service::IcuDisableEdgeCount
+        | Service::IcuGetEdgeNumbers
+        | Service::IcuStopTimestamp
+        | Service::IcuGetTimestampIndex
+        | Service::IcuStartSignalMeasurement
+        | Service::IcuStopSignalMeasurement
+        | Service::IcuGetTimeElapsed
+        | Service::IcuGetDutyCycleValues
+        | Service::AdcStartGroupConversion
+        | Service::AdcStopGroupConversion
+        | Service::AdcReadGroup
+        | Service::AdcEnableHardwareTrigger
+        | Service::AdcDisableHardwareTrigger
+        | Service::AdcEnableGroupNotification
+        | Service::AdcDisableGroupNotification
+        | Service::AdcGetGroupStatus
+        | Service::AdcGetStreamLastPointer
+        | Service::SpiReadIb
+        | Service::SpiAsyncTransmit
+        | Service::SpiCancel
+        | Service::SpiGetJobResult
+        | Service::SpiGetSequenceResult
+        | Service::SpiGetHwUnitStatus => &[ANY],
         Service::PortSetPinDirection => &[ANY, Kind::Name(NameSet::Direction)],
-        Service::PortRefreshPortDirection => &[],
         Service::PortSetPinMode => &[ANY, Kind::Name(NameSet::PinMode)],
-        Service::GptInit => &[],
-        Service::GptDeInit => &[],
-        Service::GptGetTimeElapsed => &[ANY],
-        Service::GptGetTimeRemaining => &[ANY],
         Service::GptStartTimer => &[ANY, ANY],
-        Service::GptStopTimer => &[ANY],
-        Service::GptEnableNotification => &[ANY],
-        Service::GptDisableNotification => &[ANY],
         Service::GptSetMode => &[Kind::Name(NameSet::GptMode)],
-        Service::GptEnableWakeup => &[ANY],
-        Service::GptDisableWakeup => &[ANY],
-        Service::GptCheckWakeup => &[ANY],
-        Service::PwmInit => &[],
-        Service::PwmDeInit => &[],
         Service::PwmSetDutyCycle => &[ANY, HALF],
         Service::PwmSetPeriodAndDuty => &[ANY, HALF, HALF],
-        Service::PwmSetOutputToIdle => &[ANY],
-        Service::PwmGetOutputState => &[ANY],
         Service::PwmEnableNotification => &[ANY, Kind::Name(NameSet::PwmEdge)],
-        Service::PwmDisableNotification => &[ANY],
-        Service::IcuInit => &[],
-        Service::IcuDeInit => &[],
         Service::IcuSetActivationCondition => &[ANY, Kind::Name(NameSet::IcuEdge)],
-        Service::IcuEnableNotification => &[ANY],
-        Service::IcuDisableNotification => &[ANY],
-        Service::IcuGetInputState => &[ANY],
-        Service::IcuEnableEdgeDetection => &[ANY],
-        Service::IcuDisableEdgeDetection => &[ANY],
-        Service::IcuResetEdgeCount => &[ANY],
-        Service::IcuEnableEdgeCount => &[ANY],
-        Service::IcuDisableEdgeCount => &[ANY],
-        Service::IcuGetEdgeNumbers => &[ANY],
         Service::IcuStartTimestamp => &[ANY, ANY, ANY],
-        Service::IcuStopTimestamp => &[ANY],
-        Service::IcuGetTimestampIndex => &[ANY],
-        Service::IcuStartSignalMeasurement => &[ANY],
-        Service::IcuStopSignalMeasurement => &[ANY],
-        Service::IcuGetTimeElapsed => &[ANY],
-        Service::IcuGetDutyCycleValues => &[ANY],
-        Service::AdcInit => &[],
-        Service::AdcDeInit => &[],
         Service::AdcSetupResultBuffer => &[ANY, Kind::Buffer],
-        Service::AdcStartGroupConversion => &[ANY],
-        Service::AdcStopGroupConversion => &[ANY],
-        Service::AdcReadGroup => &[ANY],
-        Service::AdcEnableHardwareTrigger => &[ANY],
-        Service::AdcDisableHardwareTrigger => &[ANY],
-        Service::AdcEnableGroupNotification => &[ANY],
-        Service::AdcDisableGroupNotification => &[ANY],
-        Service::AdcGetGroupStatus => &[ANY],
-        Service::AdcGetStreamLastPointer => &[ANY],
-        Service::SpiInit => &[],
-        Service::SpiDeInit => &[],
         Service::SpiWriteIb => &[ANY, Kind::Name(NameSet::Source)],
-        Service::SpiReadIb => &[ANY],
         Service::SpiSetupEb => &[
             ANY,
             Kind::Name(NameSet::Source),
             Kind::Name(NameSet::Destination),
             ANY,
         ],
-        Service::SpiAsyncTransmit => &[ANY],
-        Service::SpiCancel => &[ANY],
-        Service::SpiGetStatus => &[],
-        Service::SpiGetJobResult => &[ANY],
-        Service::SpiGetSequenceResult => &[ANY],
-        Service::SpiGetHwUnitStatus => &[ANY],
         Service::SpiSetAsyncMode => &[Kind::Name(NameSet::AsyncMode)],
-        Service::SpiMainFunctionHandling => &[],
     }
 }

@@ -1,5 +1,6 @@
-ghost use Rattle.std.specs.Prelude.{◌≡◌};
+ghost use Rattle.std.specs.Prelude.{◌≡◌, ◌==◌, Some, true, bytes_eq, cond};
 ghost use Rattle.bench_script.specs.Orders.{choice};
+ghost use Rattle.bench_script.specs.Scanned.{begins};
 ghost use Rattle.bench_script.specs.Words as spec;
 
 use crate::fault::LineFault;
@@ -44,29 +45,69 @@ pub(crate) enum Keyword {
     Show,
 }
 
+/// A keyword where a word is its text, else another. Inlined, and with a text of a constant length, so that the letters
+/// are compared at once.
+#[inline(always)]
+fn keyword_or<const N: usize>(
+    word: &[u8],
+    text: &[u8; N],
+    keyword: Keyword,
+    other: Option<Keyword>,
+) -> Option<Keyword>
+    ensures { result ≡ cond (bytes_eq text.now word.now) (Some keyword) other }
+{
+    match word.as_array::<N>() {
+        Some(letters) if text == letters => Some(keyword),
+        _ => other,
+    }
+}
+
+/// The keyword that a word with such a first letter is.
+fn keyword_of(letter: u8, word: &[u8]) -> Option<Keyword>
+    ensures { begins (λ b. letter == b) word.now ≡ true → result ≡ spec.named spec.keyword_text spec.all_keywords word.now }
+{
+    match letter {
+        b'a' => keyword_or(word, b"analog", Keyword::Analog, None),
+        b'c' => keyword_or(word, b"call", Keyword::Call, None),
+        b'd' => {
+            let detach = keyword_or(word, b"detach", Keyword::Detach, None);
+            keyword_or(word, b"do", Keyword::Do, detach)
+        }
+        b'e' => keyword_or(word, b"enter", Keyword::Enter, None),
+        b'f' => {
+            let fill = keyword_or(word, b"fill", Keyword::Fill, None);
+            keyword_or(word, b"finish", Keyword::Finish, fill)
+        }
+        b'l' => keyword_or(word, b"level", Keyword::Level, None),
+        b'm' => keyword_or(word, b"miso", Keyword::Miso, None),
+        b'r' => {
+            let reset = keyword_or(word, b"reset", Keyword::Reset, None);
+            keyword_or(word, b"run", Keyword::Run, reset)
+        }
+        b's' => {
+            let show = keyword_or(word, b"show", Keyword::Show, None);
+            let fault_or_show = keyword_or(word, b"spifault", Keyword::SpiFault, show);
+            keyword_or(word, b"serve", Keyword::Serve, fault_or_show)
+        }
+        b't' => {
+            let trigger = keyword_or(word, b"trigger", Keyword::Trigger, None);
+            keyword_or(word, b"tick", Keyword::Tick, trigger)
+        }
+        b'u' => keyword_or(word, b"upto", Keyword::Upto, None),
+        _ => None,
+    }
+}
+
 /// The keyword that a word must be.
 pub(crate) fn keyword_named(word: &[u8]) -> Result<Keyword, LineFault>
     ensures { result ≡ choice spec.keyword_text spec.all_keywords word.now }
 {
     match word {
-        b"call" => Ok(Keyword::Call),
-        b"do" => Ok(Keyword::Do),
-        b"enter" => Ok(Keyword::Enter),
-        b"serve" => Ok(Keyword::Serve),
-        b"run" => Ok(Keyword::Run),
-        b"upto" => Ok(Keyword::Upto),
-        b"finish" => Ok(Keyword::Finish),
-        b"tick" => Ok(Keyword::Tick),
-        b"level" => Ok(Keyword::Level),
-        b"analog" => Ok(Keyword::Analog),
-        b"trigger" => Ok(Keyword::Trigger),
-        b"miso" => Ok(Keyword::Miso),
-        b"spifault" => Ok(Keyword::SpiFault),
-        b"detach" => Ok(Keyword::Detach),
-        b"fill" => Ok(Keyword::Fill),
-        b"reset" => Ok(Keyword::Reset),
-        b"show" => Ok(Keyword::Show),
-        _ => Err(LineFault::Word),
+        [] => Err(LineFault::Word),
+        [letter, ..] => match keyword_of(*letter, word) {
+            Some(keyword) => Ok(keyword),
+            None => Err(LineFault::Word),
+        },
     }
 }
 

@@ -61,13 +61,13 @@ fn keep_shown(
     let Some(what) = shown_by(&directive.order) else {
         return Ok(());
     };
-    if !system.is_at_rest() {
+    let Some(rest) = system.at_rest() else {
         return Ok(());
-    }
+    };
     if shown.is_full() {
         return Ok(());
     }
-    shown.push(shown_text(alloc, system, directive.line, what)?)
+    shown.push(shown_text(alloc, &rest, directive.line, what)?)
 }
 
 /// Runs a script over all modules of a configuration: to its end, or until one more step than the most would be taken.

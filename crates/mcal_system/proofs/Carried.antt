@@ -1,82 +1,50 @@
 -- What an engine over the drivers of a configuration says, said of the modules' setting.
-use Rattle.std.proofs.Common.{◌≡◌, ℕ, ◌<◌, ◌≤◌, Bool, true, false, List, [], length, take, Option, Some, None, refl, sym, ◌∙◌, ap, subst}
-use Rattle.std.specs.Prelude.{◌||◌, Result, Ok, Err, OnOk, is_some, slice_index}
-use Rattle.std.specs.Option.{IfSome}
+use Rattle.std.proofs.Common.{◌≡◌, ℕ, ◌<◌, Bool, true, false, List, [], length, take, Option, Some, None, refl, sym, ◌∙◌, ap, subst}
+use Rattle.std.specs.Prelude.{◌||◌, Result, Ok, Err, OnOk, is_some}
 use Rattle.std.specs.Bool.{OnTrue, OnFalse}
 use Rattle.std.proofs.Math.Path.{fun_ext}
-use Rattle.chip_model.specs.Chip.{Chip, pin_of, word_of}
-use Rattle.config_facts.specs.Valid.{IsAdc, IsPwm, IsSpi, IsValid}
-use Rattle.mcal_base.specs.Layout.{length_of, place_of}
+use Rattle.chip_model.specs.Chip.{Chip}
+use Rattle.config_facts.specs.Valid.{IsValid}
 use Rattle.mcal_base.specs.declared.config.whole.Config.{Config}
 use Rattle.mcal_base.specs.declared.directive.Directive.{Directive}
-use Rattle.mcal_base.specs.declared.layout.Array.{Array}
-use Rattle.mcal_base.specs.declared.layout.Array.TheVariants.{Stamps, Source}
 use Rattle.run_model.specs.Devices.{AllCalls}
-use Rattle.run_model.specs.Entry.{Entry}
+use Rattle.run_model.specs.Entry.{Entry, Written}
 use Rattle.run_model.specs.Follows.{Gives, Follows}
 use Rattle.run_model.specs.Legal.{IsLegal}
 use Rattle.run_model.specs.Moment.{Setting, Moment, Deed, start_moment, after_all}
 use Rattle.run_model.specs.Script.{deeds_of}
 use Rattle.run_model.specs.Stops.{FollowsToStop}
-use Rattle.run_model.specs.World.{World}
 use Rattle.run_model.proofs.ToldLaws.{are_told}
 use Rattle.script_runner.specs.Runs as engine
-use Rattle.script_runner.specs.Scripts.{IsRun, IsStopped, chip_for, script_bound, words_given}
+use Rattle.script_runner.specs.Scripts.{IsRun, IsStopped, chip_for, script_bound}
 use Rattle.serial_devices.specs.Lines.{Line}
-use Rattle.service_outline.specs.Services.{entering, services_driver}
-use Rattle.service_outline.specs.ShortServices as short
+use Rattle.service_outline.specs.Services.{entering}
 use Rattle.step_runner.specs.Driver.{Driver}
 use Rattle.step_runner.specs.Union.{either_handler, has_handler, union_setting, union_of}
 use Rattle.gpt_driver.specs.Table as timer_table
 use Rattle.gpt_driver.specs.declared.asked.Asked as timer_asked
 use Rattle.gpt_driver.specs.declared.driver.Channel as timer_channels
 use Rattle.gpt_driver.specs.laws.Lawful as timer_laws
-use Rattle.gpt_driver.specs.laws.Lawful.{gpt}
-use Rattle.mcu_driver.specs.laws.Lawful.{mcu}
-use Rattle.port_driver.specs.laws.Lawful.{port}
-use Rattle.pwm_driver.specs.laws.Lawful.{pwm}
 use Rattle.icu_driver.specs.Table as capture_table
 use Rattle.icu_driver.specs.declared.asked.Asked as capture_asked
 use Rattle.icu_driver.specs.declared.driver.Channel as capture_channels
 use Rattle.icu_driver.specs.laws.Handler as capture_laws
-use Rattle.icu_driver.specs.laws.Lawful.{icu}
 use Rattle.pwm_driver.specs.Table as pulse_table
 use Rattle.pwm_driver.specs.declared.asked.Asked as pulse_asked
 use Rattle.pwm_driver.specs.declared.driver.Channel as pulse_channels
 use Rattle.pwm_driver.specs.laws.Lawful as pulse_laws
-use Rattle.icu_driver.specs.Ground.{settled, IcuAgrees}
 use Rattle.adc_driver.specs.Handlers.{handled_by as handled_converter}
-use Rattle.adc_driver.specs.laws.Fits as converter_fits
-use Rattle.adc_driver.specs.laws.Joined.{joined as converters_of}
-use Rattle.adc_driver.specs.declared.driver.AdcDriver.{AdcDriver}
-use Rattle.adc_groups.specs.Ground.{AdcAgrees, FitsAdc}
 use Rattle.adc_groups.specs.declared.asked.Asked as converter_asked
 use Rattle.adc_machine.specs.Bounds.{is_used as uses_line}
-use Rattle.adc_machine.specs.Machine.{chosen_buffer}
 use Rattle.adc_machine.specs.Table as converter_table
-use Rattle.adc_machine.specs.Turns.{AdcState}
-use Rattle.adc_machine.specs.declared.call.ResultBuffer.{ResultBuffer}
 use Rattle.adc_machine.specs.declared.table.AdcTable.{AdcTable}
-use Rattle.spi_driver.specs.laws.Joined.{joined as serial_of}
-use Rattle.spi_driver.specs.laws.Fits as serial_fits
-use Rattle.spi_driver.specs.declared.driver.SpiDriver.{SpiDriver}
-use Rattle.spi_jobs.specs.declared.channel.Channel.{Channel}
-use Rattle.spi_machine.specs.Fits.{FitsSpi}
-use Rattle.spi_machine.specs.State.{SpiState, internal_word}
-use Rattle.spi_machine.specs.Table as serial_table
-use Rattle.spi_machine.specs.Table.{channel_of, is_internal_channel, length_by}
-use Rattle.spi_sequences.specs.Ground.{SpiAgrees}
 use Rattle.mcal_drivers.specs.Drivers.{clock, pins, timers, pulses, captures, converters, serial, drivers_of, as_one}
 use Rattle.mcal_drivers.specs.Frames.{SystemFrame}
+use Rattle.mcal_system.specs.laws.Resting.{IsResting}
 use Rattle.mcal_system.specs.Runs.{SystemRun, most_steps, bound_of, run_start, moment_of, AddsItems, CallsDevices}
 use Rattle.mcal_drivers.specs.Setting.{SystemState, SystemCall, clock_setting, pin_setting, timer_setting, pulse_setting, capture_setting, converter_setting, serial_setting, joined, system_setting, call_of}
-use Rattle.mcal_drivers.specs.Shows.{internal_at, level_at, ram_at, serial_channel, size_at, user_at}
 use Rattle.mcal_drivers.specs.declared.drivers.Drivers.{Drivers}
-use Rattle.mcal_drivers.proofs.SoundConverters.{sound_converters}
-use Rattle.mcal_drivers.proofs.SoundSerial.{array_length, sound_serial}
-use Rattle.mcal_drivers.proofs.Stamps.{size_few}
-use Rattle.mcal_drivers.proofs.Levels.{pin_level, ram_word, user_word}
-use Rattle.mcal_drivers.proofs.Resting.{Rests, rests, related, first_of, last_of, middle_of, opens-some, second_of}
+use Rattle.mcal_drivers.proofs.Resting.{Rests, rests, related, opens-some}
 
 abbrev pub Inner : Type 0
 Inner = engine.Run Drivers SystemFrame
@@ -149,43 +117,11 @@ same_setting c =
 pub carry : (P : Setting SystemState SystemCall → Type 0) (c : Config) (u : Drivers) → u ≡ drivers_of c → P (as_one u).setting → P (system_setting c)
 carry P c u e h = subst P (same_setting c) (subst (λ x. P (as_one x).setting) e h)
 
--- where no frame is under way the capture driver agrees with its machine
-captures_related : (u : Drivers) (chip : Chip) (w : World) (s : SystemState) → (as_one u).relates chip w [] s → IcuAgrees u.captures settled chip w s.1.0.1
-unfolding as_one
-captures_related u chip w s h = middle_of (union_of (services_driver (mcu u.clock)) (union_of (services_driver (port u.pins)) (short.driver_of (gpt u.timers)))) (services_driver (pwm u.pulses)) (short.driver_of (icu u.captures)) (union_of (services_driver (converters_of u.converters.table)) (services_driver (serial_of u.serial.table))) chip w s h
-
--- and so do the converter driver and the serial driver
-lasts_related : (u : Drivers) (chip : Chip) (w : World) (s : SystemState) → (as_one u).relates chip w [] s → (union_of (services_driver (converters_of u.converters.table)) (services_driver (serial_of u.serial.table))).relates chip w [] s.1.1
-unfolding as_one
-lasts_related u chip w s h = last_of (union_of (services_driver (mcu u.clock)) (union_of (services_driver (port u.pins)) (short.driver_of (gpt u.timers)))) (union_of (services_driver (pwm u.pulses)) (short.driver_of (icu u.captures))) (union_of (services_driver (converters_of u.converters.table)) (services_driver (serial_of u.serial.table))) chip w s h
-
-converters_related : (u : Drivers) (chip : Chip) (w : World) (s : SystemState) → (as_one u).relates chip w [] s → AdcAgrees u.converters.table [] None chip w s.1.1.0
-converters_related u chip w s h = first_of (services_driver (converters_of u.converters.table)) (services_driver (serial_of u.serial.table)) chip w s.1.1 (lasts_related u chip w s h)
-
-serial_related : (u : Drivers) (chip : Chip) (w : World) (s : SystemState) → (as_one u).relates chip w [] s → SpiAgrees u.serial.table [] chip w s.1.1.1
-serial_related u chip w s h = second_of (services_driver (converters_of u.converters.table)) (services_driver (serial_of u.serial.table)) chip w s.1.1 (lasts_related u chip w s h)
-
--- what the converter driver says of the buffer that was chosen for a group
-abbrev pub ToldChosen : AdcDriver → Chip → (group : ℕ) → Option ResultBuffer → Type 0
-ToldChosen d chip g result = (w : World) (s : AdcState) → FitsAdc d.table → AdcAgrees d.table [] None chip w s → result ≡ chosen_buffer s g
-
--- what the serial driver says of a word of an internal channel
-abbrev pub ToldInternal : SpiDriver → Chip → (channel : ℕ) → (received : Bool) → (index result : ℕ) → Type 0
-ToldInternal d chip c received i result = (w : World) (s : SpiState) (k : Channel) → FitsSpi d.table → channel_of d.table c ≡ Some k → k.internal ≡ true → i < k.length → SpiAgrees d.table [] chip w s → result ≡ internal_word s c received i
-
 -- ---- answers
 
 pub on_ok_map : {A E P Q : Type 0} (r : Result A E) → (P → Q) → OnOk r P → OnOk r Q
 on_ok_map (Ok a) f h = f h
 on_ok_map (Err e) f h = tt
-
-pub on_true_map : {P Q : Type 0} (b : Bool) → (P → Q) → OnTrue b P → OnTrue b Q
-on_true_map true f h = f h
-on_true_map false f h = tt
-
-pub on_false_map : {P Q : Type 0} (b : Bool) → (P → Q) → OnFalse b P → OnFalse b Q
-on_false_map true f h = tt
-on_false_map false f h = f h
 
 -- before the first directive
 pub starts : (c : Config) (script : List Directive) (devices : ℕ) (u : Drivers) (e : Inner) → u ≡ drivers_of c → e ≡ engine.run_start u (as_one u).setting call_of c script 1000000 devices → seen e ≡ run_start c script devices
@@ -221,8 +157,8 @@ module _ (e : Inner) (made : e.driver ≡ drivers_of e.config) (r : SystemRun) (
   pub within : e.limit ≡ most_steps → OnTrue e.too_long (e.limit < script_bound (as_one e.driver).setting call_of e.script) → OnTrue r.too_long (most_steps < bound_of r.config r.script)
   within limited h = subst (λ n. OnTrue r.too_long (n < bound_of r.config r.script)) limited (there (λ g x. OnTrue x.too_long (e.limit < script_bound g call_of x.script)) h)
 
-  pub alone : (result : Bool) → OnTrue result (engine.IsAtRest (as_one e.driver) call_of e) → OnTrue result ((moment_of r).opens ≡ [])
-  alone result h = there (λ g x. OnTrue result ((Comes g x).opens ≡ [])) (on_true_map result (λ k. k.alone) h)
+  pub alone : engine.IsAtRest (as_one e.driver) call_of e → (moment_of r).opens ≡ []
+  alone h = there (λ g x. (Comes g x).opens ≡ []) h.alone
 
   pub adds : (directive : Directive) (e1 : Inner) → engine.AddsItems (as_one e.driver) call_of directive e e1 → AddsItems directive r (seen e1)
   adds directive e1 h = subst (λ (x : SystemRun). AddsItems directive x (seen e1)) is (record {
@@ -249,65 +185,30 @@ module _ (e : Inner) (made : e.driver ≡ drivers_of e.config) (r : SystemRun) (
     pub devices_there : e.chip.devices ≡ (moment_of r).world.devices
     devices_there = there (λ g x. e.chip.devices ≡ (Comes g x).world.devices) (ap (λ (c : Chip). c.devices) stands.matches.chip_is ∙ stands.matches.hung)
 
-    pub some : (result : Bool) → OnFalse result (0 < length e.frames) → OnFalse result (0 < length (moment_of r).opens)
-    some result h = there (λ g x. OnFalse result (0 < length (Comes g x).opens)) (on_false_map result (λ k. opens-some (as_one e.driver) (chip_for e.devices e.config e.script) e.chip e.frames Deeds stands k) h)
+    pub some : 0 < length e.frames → 0 < length (moment_of r).opens
+    some h = there (λ g x. 0 < length (Comes g x).opens) (opens-some (as_one e.driver) (chip_for e.devices e.config e.script) e.chip e.frames Deeds stands h)
 
     at_rest : (moment_of r).opens ≡ [] → Rests (system_setting r.config) (chip_for r.devices r.config r.script) e.chip (moment_of r)
     at_rest = there (λ g x. (Comes g x).opens ≡ [] → Rests g (chip_for x.devices x.config x.script) e.chip (Comes g x)) (rests (as_one e.driver) (chip_for e.devices e.config e.script) e.chip e.frames Deeds stands)
 
-    pub pin_there : (p : ℕ) → p < 64 → (moment_of r).opens ≡ [] → IsPwm e.config.pwm → pin_of e.chip p ≡ level_at r.config (moment_of r).world (moment_of r).state p
-    pin_there p lt rest valid = pin_level r.config r.devices (words_given r.script) e.chip (moment_of r) (at_rest rest) p lt (subst (λ (x : SystemRun). IsPwm x.config.pwm) is valid)
+    -- so what stands there is a run at rest
+    pub resting_there : (moment_of r).opens ≡ [] → IsValid e.config → (es : List Entry) → es ≡ r.journal.entries → IsLegal (system_setting r.config) (Starts (system_setting r.config) r) (deeds_of call_of r.script es) → IsResting r.config r.script r.devices r.journal.entries e.chip
+    resting_there none valid es so_far legal =
+        let relates = there (λ g x. (Comes g x).opens ≡ [] → (as_one e.driver).relates e.chip (Comes g x).world [] (Comes g x).state) (related (as_one e.driver) (chip_for e.devices e.config e.script) e.chip e.frames Deeds stands) none in
+        let made_so = made ∙ ap (λ (x : SystemRun). drivers_of x.config) is in
+        record {
+          valid = subst (λ (x : SystemRun). IsValid x.config) is valid;
+          alone = none;
+          legal = subst (λ (xs : List Entry). IsLegal (system_setting r.config) (Starts (system_setting r.config) r) (deeds_of call_of r.script xs)) so_far legal;
+          rests = at_rest none;
+          relates = subst (λ (u : Drivers). (as_one u).relates e.chip (moment_of r).world [] (moment_of r).state) made_so relates;
+        }
 
-    pub ram_there : (k : ℕ) → k < 512 → (moment_of r).opens ≡ [] → slice_index e.chip.ram k ≡ ram_at (moment_of r).state k
-    ram_there k lt rest = ram_word r.config r.devices (words_given r.script) e.chip (moment_of r) (at_rest rest) k lt
-
-    pub user_there : (a : Array) (i : ℕ) → i < length_of r.config a → (moment_of r).opens ≡ [] → IsValid e.config → word_of e.chip (place_of a i) ≡ user_at (moment_of r).state a i
-    user_there a i lt rest valid =
-        let there = subst (λ (x : SystemRun). IsValid x.config) is valid in
-        user_word r.config r.devices (words_given r.script) e.chip (moment_of r) (at_rest rest) a i there.adc there.icu there.spi lt
-
-    -- the capture driver's words and registers agree with its machine
-    pub captures_there : (moment_of r).opens ≡ [] → IcuAgrees e.driver.captures settled e.chip (moment_of r).world (moment_of r).state.1.0.1
-    captures_there = there (λ g x. (Comes g x).opens ≡ [] → IcuAgrees e.driver.captures settled e.chip (Comes g x).world (Comes g x).state.1.0.1) (λ none. captures_related e.driver e.chip (Comes (as_one e.driver).setting (seen e)).world (Comes (as_one e.driver).setting (seen e)).state (related (as_one e.driver) (chip_for e.devices e.config e.script) e.chip e.frames Deeds stands none))
-
-    -- and so do the converter driver's
-    converters_there : (moment_of r).opens ≡ [] → AdcAgrees e.driver.converters.table [] None e.chip (moment_of r).world (moment_of r).state.1.1.0
-    converters_there = there (λ g x. (Comes g x).opens ≡ [] → AdcAgrees e.driver.converters.table [] None e.chip (Comes g x).world (Comes g x).state.1.1.0) (λ none. converters_related e.driver e.chip (Comes (as_one e.driver).setting (seen e)).world (Comes (as_one e.driver).setting (seen e)).state (related (as_one e.driver) (chip_for e.devices e.config e.script) e.chip e.frames Deeds stands none))
-
-    -- and so do the serial driver's
-    pub serial_there : (moment_of r).opens ≡ [] → SpiAgrees e.driver.serial.table [] e.chip (moment_of r).world (moment_of r).state.1.1.1
-    serial_there = there (λ g x. (Comes g x).opens ≡ [] → SpiAgrees e.driver.serial.table [] e.chip (Comes g x).world (Comes g x).state.1.1.1) (λ none. serial_related e.driver e.chip (Comes (as_one e.driver).setting (seen e)).world (Comes (as_one e.driver).setting (seen e)).state (related (as_one e.driver) (chip_for e.devices e.config e.script) e.chip e.frames Deeds stands none))
-
-    pub size_there : (c : ℕ) → c < 8 → (moment_of r).opens ≡ [] → IfSome (size_at (moment_of r).state c) (λ n. n ≤ length_of r.config (Stamps c))
-    size_there c lt rest = subst (λ (x : SystemRun). IfSome (size_at (moment_of r).state c) (λ n. n ≤ length_of x.config (Stamps c))) is (size_few e.driver.captures e.chip (moment_of r).world (moment_of r).state.1.0.1 (captures_there rest) c lt e.config (ap (λ (u : Drivers). u.captures) made))
-
-    pub converter_table_is : e.driver.converters.table ≡ converter_table.table_of r.config.adc
-    converter_table_is = ap (λ (u : Drivers). u.converters.table) made ∙ ap (λ (x : SystemRun). converter_table.table_of x.config.adc) is
-
-    -- so the chosen buffer of a converter group is the machine's
-    pub chosen_there : (g : ℕ) → (moment_of r).opens ≡ [] → IsAdc r.config.adc → (result : Option ResultBuffer) → ToldChosen e.driver.converters e.chip g result → result ≡ chosen_buffer (moment_of r).state.1.1.0 g
-    chosen_there g rest valid result told =
-        told (moment_of r).world (moment_of r).state.1.1.0
-        (subst (λ d. FitsAdc d) (sym converter_table_is) (converter_fits.fits_of r.config.adc (sound_converters r.config.adc valid)))
-        (converters_there rest)
-
-    -- so a word of an internal channel is the machine's
-    pub internal_there : (c i : ℕ) (received : Bool) → i < length_of r.config (Source c) → is_internal_channel (serial_channel r.config c) ≡ true → (moment_of r).opens ≡ [] → IsSpi r.config.spi
-        → (result : ℕ) → ToldInternal e.driver.serial e.chip c received i result → result ≡ internal_at (moment_of r).state c received i
-    internal_there c i received lt internal rest valid result told = by (serial_channel r.config c) refl internal
-      where
-        table_is : e.driver.serial.table ≡ serial_table.table_of r.config.spi
-        table_is = ap (λ (u : Drivers). u.serial.table) made ∙ ap (λ (x : SystemRun). serial_table.table_of x.config.spi) is
-
-        some : (k : Channel) → is_internal_channel (Some k) ≡ true → k.internal ≡ true
-        some k f = f
-
-        by : (o : Option Channel) → serial_channel r.config c ≡ o → is_internal_channel o ≡ true → result ≡ internal_at (moment_of r).state c received i
-        by None f g = absurd (cc)
-        by (Some k) f g =
-            told (moment_of r).world (moment_of r).state.1.1.1 k
-            (subst (λ d. FitsSpi d) (sym table_is) (serial_fits.fits_of r.config.spi (sound_serial r.config.spi valid)))
-            (ap (λ d. channel_of d c) table_is ∙ f)
-            (some k g)
-            (subst (λ n. i < n) (array_length r.config.spi valid c ∙ ap length_by f) lt)
-            (serial_there rest)
+-- what is so of an engine's parts is so of those that are its
+module _ (e : Inner) {c : Config} {ds : List Directive} {n : ℕ} {w : Written} (c-is : c ≡ e.config) (ds-are : ds ≡ e.script) (n-is : n ≡ e.devices) (w-is : w ≡ e.journal) where
+  pub parts_of : (P : Config → List Directive → ℕ → Written → Type 0) → P e.config e.script e.devices e.journal → P c ds n w
+  parts_of P h =
+      subst (λ (x : Config). P x ds n w) (sym c-is)
+      (subst (λ (x : List Directive). P e.config x n w) (sym ds-are)
+      (subst (λ (x : ℕ). P e.config e.script x w) (sym n-is)
+      (subst (λ (x : Written). P e.config e.script e.devices x) (sym w-is) h)))

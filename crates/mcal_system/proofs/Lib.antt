@@ -1,4 +1,5 @@
 mod Carried
+mod Resting
 mod WireTold
 pub use Rattle.mcal_drivers.proofs.Limits
 pub use Rattle.mcal_drivers.proofs.Sound

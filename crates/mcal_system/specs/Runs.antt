@@ -9,8 +9,10 @@ use Rattle.run_model.specs.Follows.{Gives}
 use Rattle.run_model.specs.Moment.{Moment, start_moment, after_all}
 use Rattle.run_model.specs.Script.{deeds_of}
 use Rattle.serial_devices.specs.Lines.{Line}
+use Rattle.script_runner.specs.Runs.{Run}
 use Rattle.script_runner.specs.Scripts.{chip_for, script_bound}
 use Rattle.mcal_drivers.specs.Drivers.{drivers_of}
+use Rattle.mcal_drivers.specs.Frames.{SystemFrame}
 use Rattle.mcal_drivers.specs.declared.drivers.Drivers.{Drivers}
 use Rattle.mcal_drivers.specs.Setting.{SystemState, SystemCall, system_setting, call_of}
 
@@ -50,6 +52,21 @@ moment_after devices config script entries = after_all (system_setting config) (
 abbrev pub moment_of : SystemRun → Moment SystemState SystemCall
 moment_of r = moment_after r.devices r.config r.script r.journal.entries
 
+-- A run while no frame is under way: its configuration and script, how many serial devices there were at power on, and what was done.
+pub record RestingRun : Type 0 where
+  pub config : Config
+  pub script : List Directive
+  pub devices : ℕ
+  pub entries : List Entry
+
+-- what a run is, while it rests
+abbrev pub resting : SystemRun → RestingRun
+resting r = record { config = r.config; script = r.script; devices = r.devices; entries = r.journal.entries }
+
+-- the moment to which it has come
+abbrev pub moment_at : RestingRun → Moment SystemState SystemCall
+moment_at r = moment_after r.devices r.config r.script r.entries
+
 -- a directive leaves the configuration, the script and the number of devices
 pub record IsSameRun (before after : SystemRun) : Type 0 where
   pub config : after.config ≡ before.config
@@ -70,8 +87,10 @@ pub record CallsDevices (before after : SystemRun) (old new : List Line) : Type 
   -- so the pairs and faults of each that is still there are those before, and the ones of those steps
   pub told : AreTold (system_setting before.config) (moment_of before) (deeds_of call_of before.script items) old new
 
--- a run is over the drivers of its sound configuration, in at most so many steps
-pub record IsOver (config : Config) (drivers : Drivers) (limit : ℕ) : Type 0 where
-  pub valid : IsValid config
-  pub made : drivers ≡ drivers_of config
-  pub limited : limit ≡ most_steps
+-- an engine is over the drivers of its sound configuration, runs this script with so many devices, and makes at most so many steps
+pub record IsOver (engine : Run Drivers SystemFrame) (script : List Directive) (devices : ℕ) : Type 0 where
+  pub valid : IsValid engine.config
+  pub made : engine.driver ≡ drivers_of engine.config
+  pub limited : engine.limit ≡ most_steps
+  pub runs : script ≡ engine.script
+  pub hung : devices ≡ engine.devices

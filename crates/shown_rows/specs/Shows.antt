@@ -15,7 +15,7 @@ use Rattle.mcal_system.specs.Setting.{SystemState}
 use Rattle.mcal_system.specs.Shows.{level_at, results_at, serial_channel, size_at, wire_at}
 use Rattle.spi_jobs.specs.declared.channel.Channel.{Channel}
 use Rattle.shown_rows.specs.Words.{words, words_row}
-use Rattle.shown_rows.specs.declared.words.Words.TheVariants as kinds
+use Rattle.mcal_system.specs.declared.shown.Words.TheVariants as kinds
 
 -- a level as it is printed
 abbrev pub level_value : Bool → ℕ

@@ -1,15 +1,15 @@
-ghost use Rattle.std.specs.Prelude.{◌≡◌, ◌<◌, ◌++◌, [], OnOk, Some, string_bytes};
+ghost use Rattle.std.specs.Prelude.{◌≡◌, ◌<◌, ◌++◌, OnOk, Some, string_bytes};
 ghost use Rattle.mcal_base.specs.Layout.{length_of};
 ghost use Rattle.mcal_base.specs.declared.layout.Array.TheVariants.{Source};
 ghost use Rattle.bench_report.specs.Shown.{rows_text};
-ghost use Rattle.mcal_system.specs.Runs.{moment_of};
+ghost use Rattle.mcal_system.specs.Runs.{moment_at};
 ghost use Rattle.mcal_system.specs.Shows.{results_at, serial_channel, size_at};
 ghost use Rattle.shown_rows.specs.Shows as spec;
 
-use crate::run::ShownRun;
-use crate::words::{Words, write_words};
+use crate::words::write_words;
 use bench_report::RowName;
 use mcal_base::Array;
+use mcal_system::{ShownRun, Words};
 use spi_jobs::Channel;
 use std::alloc::{AllocError, Global};
 
@@ -22,9 +22,8 @@ pub(crate) fn write_capture<R: ShownRun>(
     line: u32,
     channel: u32,
 ) -> Result<(), AllocError>
-    requires rest { (moment_of (R.system run.now)).opens ≡ [] }
     requires there { channel < 8 }
-    ensures { let s = (moment_of (R.system run.now)).state in
+    ensures { let s = (moment_at (R.resting run.now)).state in
         OnOk result (string_bytes text.new ≡ string_bytes text.old ++ rows_text line (spec.stamps_row s channel (size_at s channel))) }
 {
     let Some(size) = run.stamps(channel) else {
@@ -44,9 +43,8 @@ pub(crate) fn write_group<R: ShownRun>(
     line: u32,
     group: u32,
 ) -> Result<(), AllocError>
-    requires rest { (moment_of (R.system run.now)).opens ≡ [] }
-    ensures { let s = (moment_of (R.system run.now)).state in
-        OnOk result (string_bytes text.new ≡ string_bytes text.old ++ rows_text line (spec.results_row s group (results_at (R.system run.now).config s group))) }
+    ensures { let s = (moment_at (R.resting run.now)).state in
+        OnOk result (string_bytes text.new ≡ string_bytes text.old ++ rows_text line (spec.results_row s group (results_at (R.resting run.now).config s group))) }
 {
     let Some((buffer, size)) = run.results(group) else {
         return Ok(());
@@ -67,10 +65,9 @@ fn write_channel<R: ShownRun>(
     number: u32,
     channel: Channel,
 ) -> Result<(), AllocError>
-    requires rest { (moment_of (R.system run.now)).opens ≡ [] }
-    requires known { serial_channel (R.system run.now).config number ≡ Some channel }
-    requires words { channel.length ≡ length_of (R.system run.now).config (Source number) }
-    ensures { OnOk result (string_bytes text.new ≡ string_bytes text.old ++ rows_text line (spec.channel_rows (moment_of (R.system run.now)).state number (Some channel))) }
+    requires known { serial_channel (R.resting run.now).config number ≡ Some channel }
+    requires words { channel.length ≡ length_of (R.resting run.now).config (Source number) }
+    ensures { OnOk result (string_bytes text.new ≡ string_bytes text.old ++ rows_text line (spec.channel_rows (moment_at (R.resting run.now)).state number (Some channel))) }
 {
     let size = u32::from(channel.length);
     let name = RowName::Source(number);
@@ -97,9 +94,8 @@ pub(crate) fn write_serial<R: ShownRun>(
     line: u32,
     number: u32,
 ) -> Result<(), AllocError>
-    requires rest { (moment_of (R.system run.now)).opens ≡ [] }
-    ensures { let m = moment_of (R.system run.now) in
-        OnOk result (string_bytes text.new ≡ string_bytes text.old ++ rows_text line (spec.channel_rows m.state number (serial_channel (R.system run.now).config number))) }
+    ensures { let m = moment_at (R.resting run.now) in
+        OnOk result (string_bytes text.new ≡ string_bytes text.old ++ rows_text line (spec.channel_rows m.state number (serial_channel (R.resting run.now).config number))) }
 {
     match run.serial_channel(number) {
         Some(channel) => write_channel(alloc, text, run, line, number, channel),

@@ -4,12 +4,9 @@
 mod buffers;
 mod objects;
 mod pins;
-mod run;
 mod sections;
 mod text;
 mod wires;
 mod words;
 
-pub use run::ShownRun;
 pub use text::shown_text;
-pub use words::Words;

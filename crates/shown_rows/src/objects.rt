@@ -1,11 +1,11 @@
-ghost use Rattle.std.specs.Prelude.{◌≡◌, ◌<◌, ◌++◌, [], OnOk, string_bytes};
+ghost use Rattle.std.specs.Prelude.{◌≡◌, ◌<◌, ◌++◌, OnOk, string_bytes};
 ghost use Rattle.bench_report.specs.Shown.{rows_text};
-ghost use Rattle.mcal_system.specs.Runs.{moment_of};
+ghost use Rattle.mcal_system.specs.Runs.{moment_at};
 ghost use Rattle.shown_rows.specs.Objects as spec;
 
 use crate::buffers::{write_capture, write_group, write_serial};
 use crate::pins::write_pin;
-use crate::run::ShownRun;
+use mcal_system::ShownRun;
 use std::alloc::{AllocError, Global};
 
 /// Objects that are shown in the order of their numbers.
@@ -42,10 +42,9 @@ fn write_object<R: ShownRun>(
     objects: Objects,
     number: u32,
 ) -> Result<(), AllocError>
-    requires rest { (moment_of (R.system run.now)).opens ≡ [] }
     requires there { number < spec.count objects }
-    ensures { let m = moment_of (R.system run.now) in
-        OnOk result (string_bytes text.new ≡ string_bytes text.old ++ rows_text line (spec.object_rows (R.system run.now).config m.world m.state objects number)) }
+    ensures { let m = moment_at (R.resting run.now) in
+        OnOk result (string_bytes text.new ≡ string_bytes text.old ++ rows_text line (spec.object_rows (R.resting run.now).config m.world m.state objects number)) }
 {
     match objects {
         Objects::Pins => write_pin(text, run, line, number),
@@ -63,9 +62,8 @@ pub(crate) fn write_objects<R: ShownRun>(
     line: u32,
     objects: Objects,
 ) -> Result<(), AllocError>
-    requires rest { (moment_of (R.system run.now)).opens ≡ [] }
-    ensures { let m = moment_of (R.system run.now) in
-        OnOk result (string_bytes text.new ≡ string_bytes text.old ++ rows_text line (spec.all_rows (R.system run.now).config m.world m.state objects)) }
+    ensures { let m = moment_at (R.resting run.now) in
+        OnOk result (string_bytes text.new ≡ string_bytes text.old ++ rows_text line (spec.all_rows (R.resting run.now).config m.world m.state objects)) }
 {
     for number in 0..count(objects) {
         write_object(alloc, text, run, line, objects, number)?;

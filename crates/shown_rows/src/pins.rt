@@ -2,12 +2,12 @@ ghost use Rattle.std.specs.Prelude.{◌≡◌, ◌<◌, ◌++◌, ◌∷◌, [],
 ghost use Rattle.bench_report.specs.Shown.{rows_text};
 ghost use Rattle.bench_report.specs.declared.rows.RowName.TheVariants as names;
 ghost use Rattle.bench_report.specs.declared.rows.Value.TheVariants as values;
-ghost use Rattle.mcal_system.specs.Runs.{moment_of};
+ghost use Rattle.mcal_system.specs.Runs.{moment_at};
 ghost use Rattle.shown_rows.specs.Shows as spec;
 
-use crate::run::ShownRun;
 use bench_report::{RowName, Value, write_row};
 use mcal_base::Config;
+use mcal_system::ShownRun;
 use std::alloc::AllocError;
 
 /// Whether a pin is configured.
@@ -46,10 +46,9 @@ pub(crate) fn write_pin<R: ShownRun>(
     line: u32,
     pin: u32,
 ) -> Result<(), AllocError>
-    requires rest { (moment_of (R.system run.now)).opens ≡ [] }
     requires there { pin < 64 }
-    ensures { let m = moment_of (R.system run.now) in
-        OnOk result (string_bytes text.new ≡ string_bytes text.old ++ rows_text line (spec.pin_row (R.system run.now).config m.world m.state pin)) }
+    ensures { let m = moment_at (R.resting run.now) in
+        OnOk result (string_bytes text.new ≡ string_bytes text.old ++ rows_text line (spec.pin_row (R.resting run.now).config m.world m.state pin)) }
 {
     if has_pin(run.config(), pin) {
         write_level(text, line, pin, run.pin(pin))

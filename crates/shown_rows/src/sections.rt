@@ -1,12 +1,12 @@
 ghost use Rattle.std.specs.Prelude.{◌≡◌, ◌+◌, ◌<◌, ◌≤◌, ◌++◌, ◌∷◌, [], OnOk, Some, length, slice_get, string_bytes};
 ghost use Rattle.bench_report.specs.Shown.{rows_text};
-ghost use Rattle.mcal_system.specs.Runs.{moment_of};
+ghost use Rattle.mcal_system.specs.Runs.{moment_at};
 ghost use Rattle.shown_rows.specs.Shows as spec;
 
-use crate::run::ShownRun;
-use crate::words::{Words, words_of};
+use crate::words::words_of;
 use bench_report::{RowName, write_row};
 use mcal_base::McuRamSection;
+use mcal_system::{ShownRun, Words};
 use std::alloc::{AllocError, Global};
 
 /// Writes the row of a RAM section.
@@ -19,9 +19,8 @@ fn write_section<R: ShownRun>(
     number: u32,
     section: &McuRamSection,
 ) -> Result<(), AllocError>
-    requires rest { (moment_of (R.system run.now)).opens ≡ [] }
     requires inside { section.now.base_address + section.now.size ≤ 512 }
-    ensures { OnOk result (string_bytes text.new ≡ string_bytes text.old ++ rows_text line (spec.section_row (moment_of (R.system run.now)).state number section.now ∷ [])) }
+    ensures { OnOk result (string_bytes text.new ≡ string_bytes text.old ++ rows_text line (spec.section_row (moment_at (R.resting run.now)).state number section.now ∷ [])) }
 {
     let values = words_of(alloc, run, Words::Ram, section.base_address, section.size)?;
     write_row(text, line, RowName::Ram(number), &values)
@@ -45,10 +44,9 @@ pub(crate) fn write_sections<R: ShownRun>(
     line: u32,
     sections: &[McuRamSection],
 ) -> Result<(), AllocError>
-    requires rest { (moment_of (R.system run.now)).opens ≡ [] }
     requires inside { spec.AreInside sections.now }
     requires few { length sections.now ≤ 8 }
-    ensures { OnOk result (string_bytes text.new ≡ string_bytes text.old ++ rows_text line (spec.section_rows (moment_of (R.system run.now)).state 0 sections.now)) }
+    ensures { OnOk result (string_bytes text.new ≡ string_bytes text.old ++ rows_text line (spec.section_rows (moment_at (R.resting run.now)).state 0 sections.now)) }
 {
     for number in 0..sections.len() as u32 {
         let section = section_at(sections, number);

@@ -1,14 +1,14 @@
-ghost use Rattle.std.specs.Prelude.{◌≡◌, ◌++◌, [], IfOk, OnOk, string_bytes};
+ghost use Rattle.std.specs.Prelude.{◌≡◌, ◌++◌, IfOk, OnOk, string_bytes};
 ghost use Rattle.config_facts.specs.Valid.{IsValid};
 ghost use Rattle.bench_report.specs.Shown.{rows_text};
-ghost use Rattle.mcal_system.specs.Runs.{moment_of};
+ghost use Rattle.mcal_system.specs.Runs.{moment_at};
 ghost use Rattle.shown_rows.specs.Shows as spec;
 
 use crate::objects::{Objects, write_objects};
-use crate::run::ShownRun;
 use crate::sections::write_sections;
 use crate::wires::write_wires;
 use mcal_base::Shown;
+use mcal_system::ShownRun;
 use std::alloc::{AllocError, Global};
 
 /// Writes the rows of the buffers: the capture channels' stamps, the converter groups, and the serial channels.
@@ -19,8 +19,7 @@ fn write_buffers<R: ShownRun>(
     run: &R,
     line: u32,
 ) -> Result<(), AllocError>
-    requires rest { (moment_of (R.system run.now)).opens ≡ [] }
-    ensures { OnOk result (string_bytes text.new ≡ string_bytes text.old ++ rows_text line (spec.buffer_rows (R.system run.now).config (moment_of (R.system run.now)).state)) }
+    ensures { OnOk result (string_bytes text.new ≡ string_bytes text.old ++ rows_text line (spec.buffer_rows (R.resting run.now).config (moment_at (R.resting run.now)).state)) }
 {
     write_objects(alloc, text, run, line, Objects::Captures)?;
     write_objects(alloc, text, run, line, Objects::Groups)?;
@@ -35,10 +34,9 @@ fn write_shown<R: ShownRun>(
     line: u32,
     shown: Shown,
 ) -> Result<(), AllocError>
-    requires rest { (moment_of (R.system run.now)).opens ≡ [] }
-    requires valid { IsValid (R.system run.now).config }
-    ensures { let m = moment_of (R.system run.now) in
-        OnOk result (string_bytes text.new ≡ string_bytes text.old ++ rows_text line (spec.show_rows (R.system run.now).config m.world m.state shown)) }
+    requires valid { IsValid (R.resting run.now).config }
+    ensures { let m = moment_at (R.resting run.now) in
+        OnOk result (string_bytes text.new ≡ string_bytes text.old ++ rows_text line (spec.show_rows (R.resting run.now).config m.world m.state shown)) }
 {
     match shown {
         Shown::Pins => write_objects(alloc, text, run, line, Objects::Pins),
@@ -58,10 +56,9 @@ pub fn shown_text<R: ShownRun>(
     line: u32,
     shown: Shown,
 ) -> Result<String, AllocError>
-    requires rest { (moment_of (R.system run.now)).opens ≡ [] }
-    requires valid { IsValid (R.system run.now).config }
-    ensures { let m = moment_of (R.system run.now) in
-        IfOk result (λ text. string_bytes text ≡ rows_text line (spec.show_rows (R.system run.now).config m.world m.state shown)) }
+    requires valid { IsValid (R.resting run.now).config }
+    ensures { let m = moment_at (R.resting run.now) in
+        IfOk result (λ text. string_bytes text ≡ rows_text line (spec.show_rows (R.resting run.now).config m.world m.state shown)) }
 {
     let mut text = String::new(alloc);
     write_shown(alloc, &mut text, run, line, shown)?;

@@ -1,16 +1,16 @@
 ghost use Rattle.std.specs.Prelude.{◌≡◌, ◌<◌, ◌++◌, ◌∷◌, [], IfOk, OnOk, string_bytes};
 ghost use Rattle.bench_report.specs.Shown.{rows_text};
-ghost use Rattle.mcal_system.specs.Runs.{moment_of};
+ghost use Rattle.mcal_system.specs.Runs.{moment_at};
 ghost use Rattle.shown_rows.specs.Shows as spec;
 
-use crate::run::ShownRun;
 use bench_report::{RowName, Value, write_row};
+use mcal_system::ShownRun;
 use std::alloc::{AllocError, Global};
 
 /// The words on the wire of a serial unit.
 fn wire_words<R: ShownRun>(alloc: Global, run: &R, unit: u32) -> Result<Vec<Value>, AllocError>
     requires there { unit < 2 }
-    ensures { IfOk result (λ values. values.items ≡ spec.wire_words (moment_of (R.system run.now)).state unit) }
+    ensures { IfOk result (λ values. values.items ≡ spec.wire_words (moment_at (R.resting run.now)).state unit) }
 {
     let words = run.wire(alloc, unit)?;
     let mut values = Vec::new(alloc);
@@ -31,7 +31,7 @@ fn write_wire<R: ShownRun>(
     unit: u32,
 ) -> Result<(), AllocError>
     requires there { unit < 2 }
-    ensures { OnOk result (string_bytes text.new ≡ string_bytes text.old ++ rows_text line (spec.wire_row (moment_of (R.system run.now)).state unit ∷ [])) }
+    ensures { OnOk result (string_bytes text.new ≡ string_bytes text.old ++ rows_text line (spec.wire_row (moment_at (R.resting run.now)).state unit ∷ [])) }
 {
     let values = wire_words(alloc, run, unit)?;
     write_row(text, line, RowName::Wire(unit), &values)
@@ -45,7 +45,7 @@ pub(crate) fn write_wires<R: ShownRun>(
     run: &R,
     line: u32,
 ) -> Result<(), AllocError>
-    ensures { OnOk result (string_bytes text.new ≡ string_bytes text.old ++ rows_text line (spec.wire_rows (moment_of (R.system run.now)).state)) }
+    ensures { OnOk result (string_bytes text.new ≡ string_bytes text.old ++ rows_text line (spec.wire_rows (moment_at (R.resting run.now)).state)) }
 {
     write_wire(alloc, text, run, line, 0)?;
     write_wire(alloc, text, run, line, 1)

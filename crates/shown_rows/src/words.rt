@@ -1,25 +1,12 @@
 ghost use Rattle.std.specs.Prelude.{◌≡◌, ◌+◌, ◌≤◌, ◌++◌, ◌∷◌, [], IfOk, OnOk, string_bytes};
 ghost use Rattle.bench_report.specs.Shown.{rows_text};
-ghost use Rattle.mcal_system.specs.Runs.{moment_of};
+ghost use Rattle.mcal_system.specs.Runs.{moment_at};
+ghost use Rattle.mcal_system.specs.Words.{HasPlaces};
 ghost use Rattle.shown_rows.specs.Words as spec;
 
-use crate::run::ShownRun;
 use bench_report::{RowName, Value, write_row};
-use mcal_base::Array;
+use mcal_system::{ShownRun, Words};
 use std::alloc::{AllocError, Global};
-
-/// What is shown word by word.
-#[derive(Clone, Copy)]
-pub enum Words {
-    /// The RAM.
-    Ram,
-    /// An array of the users.
-    User(Array),
-    /// The words that an internal serial channel sends.
-    Sent(u32),
-    /// The words that may be read of an internal serial channel.
-    Received(u32),
-}
 
 /// So many words from a first place on.
 pub(crate) fn words_of<R: ShownRun>(
@@ -29,10 +16,9 @@ pub(crate) fn words_of<R: ShownRun>(
     first: u32,
     size: u32,
 ) -> Result<Vec<Value>, AllocError>
-    requires rest { (moment_of (R.system run.now)).opens ≡ [] }
-    requires inside { spec.HasPlaces (R.system run.now).config words (first + size) }
+    requires inside { HasPlaces (R.resting run.now).config words (first + size) }
     requires few { first + size ≤ 4294967295 }
-    ensures { IfOk result (λ values. values.items ≡ spec.words (moment_of (R.system run.now)).state words first size) }
+    ensures { IfOk result (λ values. values.items ≡ spec.words (moment_at (R.resting run.now)).state words first size) }
 {
     let mut values = Vec::new(alloc);
     for number in 0..size {
@@ -52,9 +38,8 @@ pub(crate) fn write_words<R: ShownRun>(
     words: Words,
     size: u32,
 ) -> Result<(), AllocError>
-    requires rest { (moment_of (R.system run.now)).opens ≡ [] }
-    requires inside { spec.HasPlaces (R.system run.now).config words size }
-    ensures { OnOk result (string_bytes text.new ≡ string_bytes text.old ++ rows_text line (spec.words_row (moment_of (R.system run.now)).state name words size ∷ [])) }
+    requires inside { HasPlaces (R.resting run.now).config words size }
+    ensures { OnOk result (string_bytes text.new ≡ string_bytes text.old ++ rows_text line (spec.words_row (moment_at (R.resting run.now)).state name words size ∷ [])) }
 {
     let values = words_of(alloc, run, words, 0, size)?;
     write_row(text, line, name, &values)

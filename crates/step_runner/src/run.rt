@@ -102,6 +102,7 @@ pub fn step<M: Module>(
 }
 
 /// As `step`, with the step written to a place that holds no answer.
+#[inline(always)]
 pub fn step_into<M: Module>(
     stack: &mut Stack<M>,
     bus: &mut Bus,

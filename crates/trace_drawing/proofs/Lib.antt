@@ -1,10 +1,4 @@
-pub mod Balance
-pub mod EscapeLaws
 pub mod Judging
 pub mod Known
 pub mod Marks
-pub mod MomentLaws
 pub mod Parts
-pub mod Seen
-pub mod Shows
-pub mod Steps

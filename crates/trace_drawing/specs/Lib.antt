@@ -1,11 +1,3 @@
-pub mod Changes
-pub mod Drawing
-pub mod Escapes
 pub mod Judged
-pub mod Laws
-pub mod Moments
 pub mod Outcomes
-pub mod Pages
 pub mod Program
-pub mod Rows
-pub mod Sentences

@@ -8,16 +8,13 @@ ghost use Rattle.trace_drawing.specs.Judged as judged;
 ghost use Rattle.trace_drawing.specs.Outcomes.{Concludes, EndsOnSome, FrontOf, IsEnded};
 ghost use Rattle.trace_drawing.specs.Program as spec;
 
-use crate::changes::changes_of;
-use crate::course::{Drawing, drawing_of};
 use crate::input::{Given, InputEnd, parts_of};
-use crate::moments::moments_of;
-use crate::page::page_of;
-use crate::rows::rows_of;
 use crate::transfer::{ReadEnd, read_all, write_all};
 use mcal_base::{Directive, Sink, Source};
 use std::alloc::{AllocError, Global};
+use trace_forms::{changes_of, page_of, rows_of};
 use trace_reader::{TraceFault, read_trace};
+use trace_signs::{Drawing, drawing_of, moments_of};
 
 /// What is printed where the words are of no form.
 const USAGE: &str = "usage: trace_view vcd | svg | text\n";
@@ -61,7 +58,7 @@ fn printed(alloc: Global, form: Form, drawing: &Drawing) -> Result<String, Alloc
 {
     match form {
         Form::Changes => changes_of(alloc, drawing.steps(), drawing.signs()),
-        Form::Page => page_of(alloc, drawing),
+        Form::Page => { page_of(alloc, drawing.steps(), drawing.deepest(), drawing.signs()) }
         Form::Rows => rows_of(alloc, drawing.signs()),
     }
 }

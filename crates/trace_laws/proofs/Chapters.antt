@@ -1,34 +1,29 @@
 -- The lines of a directive's items may follow a drawing that stands for the frames before it.
-use Rattle.std.proofs.Common.{◌≡◌, ℕ, zero, suc, ◌+◌, ◌-◌, ◌<◌, ◌≤◌, Bool, true, false, List, [], ◌∷◌, ◌++◌, length, Option, Some, None, refl, ◌∙◌, ap, sym, subst, arith, cond, append-nil}
-use Rattle.std.specs.Prelude.{◌==◌, ◌||◌, nat_lt, is_some, option_to_list, MatchBool}
+use Rattle.std.proofs.Common.{◌≡◌, ℕ, ◌+◌, ◌-◌, ◌<◌, Bool, true, false, List, [], ◌∷◌, ◌++◌, length, Option, Some, None, refl, ◌∙◌, ap, sym, subst, arith, cond}
+use Rattle.std.specs.Prelude.{◌||◌, is_some, MatchBool}
 use Rattle.std.proofs.lemmas.List.Sums.{sum_by-cons}
 use Rattle.irq_control.specs.declared.held.Held.{Held}
-use Rattle.irq_control.specs.declared.held.Held.TheVariants.{Empty, Frames}
 use Rattle.mcal_base.specs.declared.directive.Order.{Order}
-use Rattle.mcal_base.specs.declared.directive.Order.TheVariants as orders
-use Rattle.mcal_base.specs.declared.directive.Reason.TheVariants.{PowerOn, Watchdog, Software}
+use Rattle.mcal_base.specs.declared.directive.Reason.TheVariants.{Software}
 use Rattle.mcal_base.specs.declared.directive.Request.{Request}
 use Rattle.run_model.specs.Entry as entry
 use Rattle.run_model.specs.Entry.{Entry, Said}
-use Rattle.run_model.specs.Follows.{IsOne, Ticks, ticks_left, ticks_through, ThenComes, IsStep, GoesOn, Goes, BeginsOnly, BeginsAndGoes, BeginsWhole, Shows, HappensOnly, Gives, deeds_in, call_held, line_held, is_reached}
-use Rattle.run_model.specs.Frame.{Open, resets_chip}
-use Rattle.run_model.specs.Legal.{IsLegal, hardware_held}
-use Rattle.run_model.specs.Moment.{Setting, Moment, Deed, Begins, Enters, Steps, after, after_all}
-use Rattle.run_model.specs.Script.{deed_of}
+use Rattle.run_model.specs.Follows.{IsOne, ThenComes, IsStep, GoesOn, deeds_in, is_reached}
+use Rattle.run_model.specs.Frame.{resets_chip}
+use Rattle.run_model.specs.Legal.{IsLegal}
+use Rattle.run_model.specs.Moment.{Setting, Moment, Deed, Begins, Steps, after, after_all}
 use Rattle.run_model.specs.Stops.{is_step, steps_in}
 use Rattle.run_model.specs.declared.item.Stepped.{Stepped}
 use Rattle.run_model.specs.declared.reach.Reach.{Reach}
-use Rattle.run_model.specs.declared.reach.Reach.TheVariants.{Count, Until, Whole}
-use Rattle.bench_report.specs.Lines.{Line, Holds, Restarts}
-use Rattle.bench_report.specs.Report.{frames_after, frames_after_end, said_lines, step_lines, chapter_lines, chapter_frames}
+use Rattle.bench_report.specs.Report.{frames_after_end, said_lines, chapter_lines, chapter_frames}
 use Rattle.bench_report.specs.Rows.{Row}
-use Rattle.bench_report.specs.Shown.{next_rows, shows_after}
+use Rattle.bench_report.specs.Shown.{next_rows}
 use Rattle.bench_report.specs.declared.frames.Purpose.{Purpose}
 use Rattle.trace_reader.specs.declared.told.Told.TheVariants as tells
-use Rattle.trace_drawing.specs.Drawing.{Drawing}
+use Rattle.trace_signs.specs.Drawing.{Drawing}
 use Rattle.trace_laws.specs.Lines.{HasLines}
 use Rattle.trace_laws.proofs.Opens.{OnChip, StepIs, step_is}
-use Rattle.trace_laws.proofs.Telling.{Tells, tells-append, tells_more, Stands, stands_less, end_count, fits_by, shown_told, step_told, reset_told}
+use Rattle.trace_laws.proofs.Telling.{Tells, tells-append, tells_more, Stands, stands_less, end_count, fits_by, step_told, reset_told}
 
 pub counted : (e : Entry) (es : List Entry) → steps_in (e ∷ es) ≡ cond (is_step e.said) 1 0 + steps_in es
 counted e es = sum_by-cons (λ (x : Entry). cond (is_step x.said) 1 0) e es

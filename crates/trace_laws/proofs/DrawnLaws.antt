@@ -1,11 +1,10 @@
 -- The trace of a legal run is drawn.
-use Rattle.std.proofs.Common.{◌≡◌, ℕ, suc, ◌+◌, ◌<◌, ◌≤◌, Bool, true, false, List, [], ◌∷◌, ◌++◌, length, map, Some, refl, ◌∙◌, ap, sym, subst, arith, cond}
-use Rattle.std.specs.Prelude.{Result, Ok, Err, if◌then◌else◌}
+use Rattle.std.proofs.Common.{◌≡◌, ℕ, ◌+◌, ◌<◌, Bool, true, false, List, [], ◌∷◌, ◌++◌, length, map, refl, ◌∙◌, ap, sym, subst, arith, cond}
+use Rattle.std.specs.Prelude.{Ok}
 use Rattle.std.specs.List.{list_all}
 use Rattle.std.proofs.lemmas.List.Sums.{sum_by-append}
 use Rattle.chip_model.specs.Chip.{Chip}
 use Rattle.mcal_base.specs.declared.directive.Directive.{Directive}
-use Rattle.mcal_base.specs.declared.directive.Order.{Order}
 use Rattle.mcal_base.specs.declared.directive.Request.{Request}
 use Rattle.run_model.specs.Entry.{Entry}
 use Rattle.run_model.specs.Follows.{Follows, deeds_in}
@@ -21,13 +20,11 @@ use Rattle.bench_report.specs.Rows.{Row}
 use Rattle.bench_report.specs.declared.frames.Purpose.{Purpose}
 use Rattle.bench_report.proofs.Items.{any, is_show, Each, lines_of}
 use Rattle.trace_reader.specs.Told.{told, told_line}
-use Rattle.trace_reader.specs.declared.told.TraceLine.{TraceLine}
 use Rattle.trace_reader.specs.declared.told.Told.TheVariants as tells
-use Rattle.trace_drawing.specs.Drawing as drawing
-use Rattle.trace_drawing.specs.Drawing.{Drawing, blank, put, entered, fits, drawn, completed, completed_of, drawing_of}
-use Rattle.trace_drawing.specs.Moments.{first_of, later_of, moments_of}
-use Rattle.trace_drawing.specs.declared.moments.Moment as belonging
-use Rattle.trace_drawing.specs.declared.signs.What.TheVariants as whats
+use Rattle.trace_forms.specs.declared.signs.What.TheVariants as whats
+use Rattle.trace_signs.specs.Drawing as drawing
+use Rattle.trace_signs.specs.Drawing.{Drawing, blank, put, entered, fits, drawn, completed, completed_of}
+use Rattle.trace_signs.specs.declared.moments.Moment as belonging
 use Rattle.trace_laws.specs.Drawn.{HasDrawing}
 use Rattle.trace_laws.specs.Lines.{HasLines}
 use Rattle.trace_laws.proofs.Entering.{first_said, first_at}
@@ -35,7 +32,7 @@ use Rattle.trace_laws.proofs.Giving.{gives_chapter}
 use Rattle.trace_laws.proofs.Opens.{OnChip, all_chip, legal_behind}
 use Rattle.trace_laws.proofs.Runs.{AllAbove, all_above, own_are, later_are, Finds, finds, deeds_split}
 use Rattle.trace_laws.proofs.Telling.{Tells, tells-append, tells_more, Stands, fits_by}
-use Rattle.trace_laws.proofs.Turns.{line_at, later_moments, chapter_moments, script_moments, moments_are}
+use Rattle.trace_laws.proofs.Turns.{later_moments, chapter_moments, script_moments, moments_are}
 
 -- ---- moments that may follow a drawing
 

@@ -1,7 +1,6 @@
 -- How a drawing stands once the first line of a directive has shown what the directive began.
-use Rattle.std.proofs.Common.{◌≡◌, ℕ, suc, ◌+◌, ◌<◌, ◌≤◌, Bool, true, false, List, [], ◌∷◌, ◌++◌, length, Option, Some, None, refl, ◌∙◌, ap, sym, subst, arith, cond}
+use Rattle.std.proofs.Common.{◌≡◌, ℕ, suc, ◌<◌, Bool, true, false, List, [], ◌∷◌, length, Option, Some, None, refl, ◌∙◌, ap, arith}
 use Rattle.std.specs.Prelude.{◌==◌, if◌then◌else◌}
-use Rattle.mcal_base.specs.declared.directive.Directive.{Directive}
 use Rattle.mcal_base.specs.declared.directive.Order.{Order}
 use Rattle.bench_report.specs.Lines.{Line, Done}
 use Rattle.bench_report.specs.Report.{purpose_of}
@@ -9,10 +8,11 @@ use Rattle.bench_report.specs.declared.frames.Purpose.{Purpose}
 use Rattle.trace_reader.specs.Told.{told, told_line}
 use Rattle.trace_reader.specs.declared.told.Told.{Told}
 use Rattle.trace_reader.specs.declared.told.Told.TheVariants as tells
-use Rattle.trace_drawing.specs.Drawing.{Drawing, put, turned, ticked, begun, entered, sum_up}
-use Rattle.trace_drawing.specs.Moments.{ticks_of, begins_of, first_of}
-use Rattle.trace_drawing.specs.declared.moments.Moment.{Moment}
-use Rattle.trace_drawing.specs.declared.signs.What.TheVariants as whats
+use Rattle.trace_forms.specs.Sums.{sum_up}
+use Rattle.trace_forms.specs.declared.signs.What.TheVariants as whats
+use Rattle.trace_signs.specs.Drawing.{Drawing, put, turned, ticked, begun, entered}
+use Rattle.trace_signs.specs.Moments.{ticks_of, begins_of, first_of}
+use Rattle.trace_signs.specs.declared.moments.Moment.{Moment}
 use Rattle.trace_laws.proofs.Telling.{Stands, purposes_of}
 
 -- the first line that a directive prints

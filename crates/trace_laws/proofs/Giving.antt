@@ -1,6 +1,6 @@
 -- The lines of a directive follow a drawing that stands for the frames before it: by what each directive gives.
-use Rattle.std.proofs.Common.{◌≡◌, ℕ, zero, suc, ◌+◌, ◌-◌, ◌<◌, ◌≤◌, Bool, true, false, List, [], ◌∷◌, ◌++◌, append-nil, length, map, Option, Some, None, refl, ◌∙◌, ap, sym, subst, arith, cond}
-use Rattle.std.specs.Prelude.{◌==◌, nat_lt, option_to_list, MatchBool}
+use Rattle.std.proofs.Common.{◌≡◌, ℕ, zero, suc, ◌+◌, ◌-◌, ◌<◌, Bool, true, false, List, [], ◌∷◌, ◌++◌, append-nil, length, map, Option, Some, None, refl, ◌∙◌, ap, sym, subst, arith}
+use Rattle.std.specs.Prelude.{nat_lt, option_to_list, MatchBool}
 use Rattle.irq_control.specs.declared.held.Held.{Held}
 use Rattle.irq_control.specs.declared.held.Held.TheVariants.{Empty, Frames}
 use Rattle.mcal_base.specs.declared.directive.Order.{Order}
@@ -11,9 +11,9 @@ use Rattle.mcal_base.specs.declared.directive.Request.{Request}
 use Rattle.mcal_base.specs.declared.directive.Shown.{Shown}
 use Rattle.run_model.specs.Entry as entry
 use Rattle.run_model.specs.Entry.{Entry, Said}
-use Rattle.run_model.specs.Follows.{IsOne, Ticks, ticks_left, ticks_through, IsStep, GoesOn, Goes, BeginsOnly, BeginsWhole, Shows, HappensOnly, Gives, deeds_in, call_held, line_held}
+use Rattle.run_model.specs.Follows.{IsOne, Ticks, ticks_through, IsStep, GoesOn, Goes, BeginsOnly, BeginsWhole, Shows, HappensOnly, Gives, deeds_in, call_held, line_held}
 use Rattle.run_model.specs.Frame.{Open}
-use Rattle.run_model.specs.Legal.{IsLegal, hardware_held}
+use Rattle.run_model.specs.Legal.{IsLegal}
 use Rattle.run_model.specs.Moment.{Setting, Moment, Deed, Begins, Enters, after, after_all}
 use Rattle.run_model.specs.Script.{deed_of}
 use Rattle.run_model.specs.Stops.{steps_in}
@@ -27,8 +27,8 @@ use Rattle.bench_report.specs.Shown.{next_rows}
 use Rattle.bench_report.specs.declared.frames.Purpose.{Purpose}
 use Rattle.bench_report.specs.declared.frames.Purpose.TheVariants as purposes
 use Rattle.trace_reader.specs.Told.{told}
-use Rattle.trace_drawing.specs.Drawing.{Drawing, entered}
-use Rattle.trace_drawing.specs.Moments.{begins_of}
+use Rattle.trace_signs.specs.Drawing.{Drawing, entered}
+use Rattle.trace_signs.specs.Moments.{begins_of}
 use Rattle.trace_laws.specs.Lines.{HasLines}
 use Rattle.trace_laws.proofs.Chapters.{counted, Follow, same_follows, stays_follow, steps_follow}
 use Rattle.trace_laws.proofs.Entering.{first_said, first_at, quiet_entered, begun_entered, begins_none}

@@ -1,19 +1,18 @@
 -- The frames under way of a legal run: how many there are after a deed, and that each serves a line of the chip.
-use Rattle.std.proofs.Common.{◌≡◌, ℕ, suc, ◌+◌, ◌-◌, ◌<◌, ◌≤◌, Bool, true, false, List, [], ◌∷◌, ◌++◌, length, Option, Some, None, refl, ◌∙◌, ap, sym, subst, arith, cond}
+use Rattle.std.proofs.Common.{◌≡◌, ℕ, suc, ◌+◌, ◌-◌, ◌<◌, Bool, true, false, List, [], ◌∷◌, ◌++◌, length, Option, Some, None, refl, ◌∙◌, ap, sym, subst, arith}
 use Rattle.std.specs.Prelude.{not, nat_lt, option_map}
 use Rattle.std.proofs.lemmas.Bool.Decides.{nat_tests}
 use Rattle.chip_model.specs.Chip.{is_pending, is_masked}
-use Rattle.irq_control.specs.declared.held.Held.{Held}
 use Rattle.mcal_base.specs.declared.answer.Answer.{Answer}
 use Rattle.mcal_base.specs.declared.moves.Event.{Event}
 use Rattle.mcal_base.specs.declared.moves.Event.TheVariants as events
 use Rattle.run_model.specs.Causes.{first_cause, call_cause, line_cause, is_full, tags_of, call_level_allows, line_level_allows, may_reenter, top_noted}
 use Rattle.run_model.specs.Frame.{Origin, Called, Entered, Open, open_after, top_after, resets_chip}
-use Rattle.run_model.specs.Legal.{IsOwnEvent, EventRight, IsLegalStep, LegalStep, IsLegalDeed, IsServed, UnusedIsIdle, IsLegal}
+use Rattle.run_model.specs.Legal.{IsOwnEvent, EventRight, LegalStep, IsLegalDeed, IsServed, UnusedIsIdle, IsLegal}
 use Rattle.run_model.specs.Moment.{Setting, Moment, Deed, Begins, Enters, Steps, Happens, Resets, after, after_step, after_all}
 use Rattle.run_model.specs.declared.item.Stepped.{Stepped}
 use Rattle.trace_reader.specs.Told.{mark_of}
-use Rattle.trace_drawing.specs.Drawing.{is_on_chip}
+use Rattle.trace_signs.specs.Drawing.{is_on_chip}
 use Rattle.trace_laws.specs.Lines.{HasLines}
 use Rattle.trace_laws.proofs.Telling.{end_count}
 

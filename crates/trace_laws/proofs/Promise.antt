@@ -1,6 +1,5 @@
 -- The trace of a legal run is read and drawn.
-use Rattle.std.proofs.Common.{◌≡◌, ◌<◌, ◌≤◌, List, [], true, length, map, ◌∙◌, ap}
-use Rattle.std.specs.Prelude.{Ok}
+use Rattle.std.proofs.Common.{◌<◌, ◌≤◌, List, [], true, length, map, ◌∙◌, ap}
 use Rattle.chip_model.specs.Chip.{Chip}
 use Rattle.mcal_base.specs.declared.directive.Directive.{Directive}
 use Rattle.mcal_base.specs.declared.directive.Request.{Request}
@@ -13,10 +12,10 @@ use Rattle.bench_report.specs.Report.{report, report_lines}
 use Rattle.bench_report.specs.Rows.{Row}
 use Rattle.trace_reader.specs.Told.{told_line}
 use Rattle.trace_reader.specs.Trace.{Each}
-use Rattle.trace_drawing.specs.Drawing.{drawing_of}
-use Rattle.trace_drawing.specs.Moments.{moments_of}
+use Rattle.trace_signs.specs.Drawing.{drawing_of}
+use Rattle.trace_signs.specs.Moments.{moments_of}
+use Rattle.trace_signs.proofs.Balance.{is_drawing}
 use Rattle.trace_drawing.specs.Program.{◌>>=◌}
-use Rattle.trace_drawing.proofs.Balance.{is_drawing}
 use Rattle.trace_laws.specs.Drawn.{IsDrawn}
 use Rattle.trace_laws.specs.Lines.{HasLines}
 use Rattle.trace_laws.specs.Numbers.{DirectiveFits, EntryFits, RowsFit}

@@ -1,7 +1,6 @@
 -- What lines may tell of a drawing that stands for the frames of a run, and how it stands behind them.
-use Rattle.std.proofs.Common.{◌≡◌, ℕ, suc, ◌+◌, ◌-◌, ◌<◌, ◌≤◌, Bool, true, false, List, [], ◌∷◌, ◌++◌, length, map, drop, Option, Some, None, refl, ◌∙◌, ap, sym, subst, arith, cond}
-use Rattle.std.specs.Prelude.{◌==◌, ◌&&◌, nat_lt, nat_le, min, option_map, if◌then◌else◌}
-use Rattle.std.specs.List.{list_all}
+use Rattle.std.proofs.Common.{◌≡◌, ℕ, suc, ◌+◌, ◌-◌, ◌<◌, ◌≤◌, Bool, true, List, [], ◌∷◌, ◌++◌, length, map, drop, Option, Some, None, refl, ◌∙◌, ap, sym, subst, arith}
+use Rattle.std.specs.Prelude.{◌==◌, nat_lt, nat_le, min, option_map, if◌then◌else◌}
 use Rattle.std.proofs.lemmas.Bool.Decides.{nat_tests}
 use Rattle.std.proofs.lemmas.Slice.Eq.{bytes_eq-Decides}
 use Rattle.mcal_base.specs.Names.{service_text}
@@ -9,9 +8,8 @@ use Rattle.mcal_base.specs.declared.answer.Answer.{Answer}
 use Rattle.mcal_base.specs.declared.directive.Reason.{Reason}
 use Rattle.mcal_base.specs.declared.moves.Move.{Move}
 use Rattle.mcal_base.specs.declared.moves.Move.TheVariants as moves
-use Rattle.mcal_base.specs.declared.service.Service.{Service}
 use Rattle.run_model.specs.declared.item.Stepped.{Stepped}
-use Rattle.bench_report.specs.Lines.{Line, Holds, Makes, Notes, Errs, Returns, Leaves, Restarts, Shows, Done}
+use Rattle.bench_report.specs.Lines.{Line, Restarts, Shows}
 use Rattle.bench_report.specs.Report.{frames_after_end, step_lines, move_lines, end_lines}
 use Rattle.bench_report.specs.Rows.{Row}
 use Rattle.bench_report.specs.declared.frames.Purpose.{Purpose}
@@ -20,12 +18,13 @@ use Rattle.trace_reader.specs.Told.{told, mark_of, given, incoming}
 use Rattle.trace_reader.specs.declared.told.Step.{Step}
 use Rattle.trace_reader.specs.declared.told.Told.{Told}
 use Rattle.trace_reader.specs.declared.told.Told.TheVariants as tells
-use Rattle.trace_drawing.specs.Drawing as drawing
-use Rattle.trace_drawing.specs.Drawing.{Drawing, put, sum_up, shut_at, all_ended_of, ended_of, before_step, behind_step, counted, stepped, freshly, is_on_chip, is_call_of, is_handler_of, top_of, is_of, fits_frames, fits}
-use Rattle.trace_drawing.specs.declared.signs.Ending.{Ending}
-use Rattle.trace_drawing.specs.declared.signs.Ending.TheVariants as endings
-use Rattle.trace_drawing.specs.declared.signs.Frame.{Frame}
-use Rattle.trace_drawing.specs.declared.signs.What.TheVariants as whats
+use Rattle.trace_forms.specs.Sums.{sum_up}
+use Rattle.trace_forms.specs.declared.signs.Ending.{Ending}
+use Rattle.trace_forms.specs.declared.signs.Ending.TheVariants as endings
+use Rattle.trace_forms.specs.declared.signs.Frame.{Frame}
+use Rattle.trace_forms.specs.declared.signs.What.TheVariants as whats
+use Rattle.trace_signs.specs.Drawing as drawing
+use Rattle.trace_signs.specs.Drawing.{Drawing, put, shut_at, all_ended_of, ended_of, before_step, behind_step, counted, stepped, freshly, is_on_chip, is_call_of, is_handler_of, top_of, is_of, fits_frames, fits}
 
 -- lines of a directive may follow a drawing, and lead to one that is as told
 abbrev pub Tells : ℕ → Drawing → List Line → (Drawing → Type 0) → Type 0

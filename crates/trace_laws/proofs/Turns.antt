@@ -1,9 +1,8 @@
 -- The lines of a report belong to the directives of its script: each has at least one, and those behind are of others.
-use Rattle.std.proofs.Common.{◌≡◌, ℕ, ◌+◌, ◌<◌, Bool, true, false, List, [], ◌∷◌, ◌++◌, length, map, refl, ◌∙◌, ap, sym, subst, arith, cond, append_assoc, append-nil, length-append}
+use Rattle.std.proofs.Common.{◌≡◌, ℕ, ◌+◌, ◌<◌, Bool, true, false, List, [], ◌∷◌, ◌++◌, length, map, refl, ◌∙◌, ap, sym, arith, cond, append_assoc, append-nil, length-append}
 use Rattle.std.specs.Prelude.{◌==◌, Ok}
 use Rattle.std.specs.List.{list_all}
 use Rattle.std.proofs.lemmas.Bool.Decides.{nat_tests}
-use Rattle.std.proofs.lemmas.List.{map-append}
 use Rattle.mcal_base.specs.declared.directive.Directive.{Directive}
 use Rattle.run_model.specs.Entry.{Entry}
 use Rattle.script_runner.specs.Scripts.{LinesRise}
@@ -13,8 +12,8 @@ use Rattle.bench_report.specs.Rows.{Row}
 use Rattle.bench_report.specs.declared.frames.Purpose.{Purpose}
 use Rattle.trace_reader.specs.Told.{told_line}
 use Rattle.trace_reader.specs.declared.told.TraceLine.{TraceLine}
-use Rattle.trace_drawing.specs.Moments.{first_of, later_of, own_lines, lines_behind, moments_from, moments_of}
-use Rattle.trace_drawing.specs.declared.moments.Moment.{Moment}
+use Rattle.trace_signs.specs.Moments.{first_of, later_of, own_lines, lines_behind, moments_from}
+use Rattle.trace_signs.specs.declared.moments.Moment.{Moment}
 
 -- a line with its number, as it is told
 abbrev pub line_at : ℕ → Line → TraceLine

@@ -7,11 +7,11 @@ use Rattle.bench_report.specs.Rows.{Row}
 use Rattle.trace_reader.specs.Reading.{read_trace}
 use Rattle.trace_reader.specs.Told.{told_line}
 use Rattle.trace_reader.specs.declared.told.TraceLine.{TraceLine}
-use Rattle.trace_drawing.specs.Drawing.{Drawing, drawing_of}
-use Rattle.trace_drawing.specs.Laws.{IsDrawingOf}
-use Rattle.trace_drawing.specs.Moments.{moments_of}
+use Rattle.trace_signs.specs.Drawing.{Drawing, drawing_of}
+use Rattle.trace_signs.specs.Laws.{IsDrawingOf}
+use Rattle.trace_signs.specs.Moments.{moments_of}
+use Rattle.trace_signs.specs.declared.moments.Moment.{Moment}
 use Rattle.trace_drawing.specs.Program.{drawing_under}
-use Rattle.trace_drawing.specs.declared.moments.Moment.{Moment}
 
 -- The trace is drawn: its lines belong to the directives of the script, and its signs are these.
 pub record HasDrawing (script : List Directive) (lines : List TraceLine) : Type 0 where

@@ -18,7 +18,7 @@ use Rattle.bench_top.specs.Tail.{is_traced}
 use Rattle.bench_top.specs.declared.words.Task.TheVariants.{Run}
 use Rattle.bench_top.specs.declared.words.Printing.{Printing}
 use Rattle.bench_top.specs.declared.words.Printing.TheVariants.{Traced}
-use Rattle.trace_drawing.specs.Drawing.{Drawing}
+use Rattle.trace_signs.specs.Drawing.{Drawing}
 use Rattle.trace_drawing.specs.Judged.{judged}
 use Rattle.trace_drawing.specs.Program.{◌>>=◌, drawing_under, text_under, printed}
 use Rattle.trace_drawing.specs.declared.program.Form.{Form}

@@ -1,7 +1,7 @@
 use Rattle.std.proofs.Common.{◌≡◌, ℕ, List, string_bytes, subst}
 use Rattle.std.specs.Prelude.{IfOk}
-use Rattle.trace_drawing.specs.Changes.{changes}
-use Rattle.trace_drawing.specs.declared.signs.Sign.{Sign}
+use Rattle.trace_forms.specs.Changes.{changes}
+use Rattle.trace_forms.specs.declared.signs.Sign.{Sign}
 use Rattle.trace_drawing.proofs.program.printed.Goals as goal
 
 pub returns-in-Changes : goal.returns-in-Changes
