@@ -43,3 +43,7 @@ pub mod Told
 pub mod Turns
 pub mod TurnsMaking
 pub mod TurnsShut
+pub mod Waits
+pub mod WaitsLooking
+pub mod WaitsMaking
+pub mod WaitsPlaces

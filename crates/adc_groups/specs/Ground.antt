@@ -13,7 +13,7 @@ use Rattle.mcal_base.specs.declared.moves.Move.{Move}
 use Rattle.mcal_base.specs.declared.moves.Move.TheVariants as moves
 use Rattle.mcal_base.specs.declared.register.Reg.{Reg}
 use Rattle.mcal_base.specs.declared.register.Reg.TheVariants.{EnableSet, EnableClear}
-use Rattle.run_model.specs.Frame.{Called, Entered}
+use Rattle.run_model.specs.Frame.{Origin, Called, Entered}
 use Rattle.run_model.specs.Outside.{StandsIn}
 use Rattle.run_model.specs.World.{World, Sample, sample_at}
 use Rattle.service_outline.specs.Done.{named_with}
@@ -85,6 +85,20 @@ starts_on u _ = false
 abbrev pub yields_on : ℕ → Hold → Bool
 yields_on u (Yields v) = u == v
 yields_on u _ = false
+
+-- it is the handler of the unit's own line that has promised its starts
+abbrev pub is_handler : (unit : ℕ) → Origin Call → Bool
+is_handler u (Called c) = false
+is_handler u (Entered l) = is_unit_line l && l == 24 + u
+
+abbrev pub starts_own : ℕ → Held Call Hold → Bool
+starts_own u h = starts_on u h.what && is_handler u h.by
+
+-- Some frame has promised the yielding on a unit, above any handler of the unit's own line that has promised its starts. Such a
+-- handler has found a finished round, and whatever starts after that is what waits first: no request below outranks it.
+abbrev pub will_yield : ℕ → Holds → Bool
+will_yield u [] = false
+will_yield u (h ∷ hs) = yields_on u h.what || (not (starts_own u h) && will_yield u hs)
 
 -- it is clearing words
 abbrev pub is_clearing : Hold → Bool
@@ -389,10 +403,10 @@ PlacesAgree d held word s = (g : ℕ) (b : ResultBuffer) (p : ℕ) → p < place
 
 -- ---- no unit waits
 
--- where a unit may start something some frame has promised that, and where a round is outranked some frame has promised that it yields
+-- where a unit may start something some frame has promised that, and where a round is outranked some frame has promised that it yields, above any handler that serves the unit
 pub record Promised (d : AdcTable) (held : Holds) (w : World) (s : AdcState) (u : ℕ) : Type 0 where
   pub starts : is_some (starts d s u) ≡ true → some_hold (starts_on u) held ≡ true
-  pub yields : is_some (aborts d w s u) ≡ true → some_hold (yields_on u) held ≡ true
+  pub yields : is_some (aborts d w s u) ≡ true → will_yield u held ≡ true
 
 -- a frame that claims a unit has promised its starts, below that
 abbrev pub Backed : Holds → Type 0
@@ -470,6 +484,7 @@ bare d = record {
   setting = adc_setting d;
   wired = λ chip. Unit {0};
   lines = λ l. is_unit_line l || is_trigger_line l;
+  watches = false;
   owns = λ o made. adc_owns d made;
   count = λ s. s.requests;
   later = λ w s order. moved d s order;

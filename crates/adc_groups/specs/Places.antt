@@ -33,7 +33,7 @@ use Rattle.adc_stream.specs.declared.copying.Copying.{Copying}
 use Rattle.adc_stream.specs.declared.rounds.Bank.TheVariants.{Zero}
 use Rattle.adc_groups.specs.Ground.{Hold, Starts, Yields, Fills, Full, Keeps, Whole, Claims, Copies, Reads, Holds, Foot, bare, some_hold, claims_on, phase_of, kept_in, take_of, first_held, IsOrder}
 use Rattle.adc_machine.specs.Groups.{Status, Idle, Busy, Completed, StreamCompleted, Round, inputs_of, samples_of, is_finished, is_full, status_read, ends_with_stream, place_in}
-use Rattle.adc_machine.specs.Machine.{is_done, is_under_way, is_start_busy, is_busy, takes_one}
+use Rattle.adc_machine.specs.Machine.{is_done, is_under_way, is_start_busy, is_busy, takes_one, is_unit_line}
 use Rattle.adc_groups.specs.Owed.{Owed, owed_of, making_owed}
 use Rattle.adc_machine.specs.Configured.{unit_of, four_from, ranks_of, is_of}
 use Rattle.adc_groups.specs.Stored.{word_number, phase_number, order_of, rounds_of}
@@ -94,9 +94,14 @@ acted = record nothing_yet { acted = Some no_answer }
 abbrev pub has_served : ℕ → Past
 has_served l = record nothing_yet { served = l ∷ [] }
 
-pub data HasDone (o : Origin Call) (p : Past) : Type 0 where
-  Has_acted : (c : Call) → Being (Called c) acted o p → HasDone o p
-  Has_served : (l : ℕ) → Being (Entered l) (has_served l) o p → HasDone o p
+-- a handler of a unit's line serves this unit alone, which no frame below claims
+abbrev pub MayTurn : (unit line : ℕ) → Holds → Type 0
+MayTurn u l below = is_unit_line l ≡ true → (l ≡ 24 + u) × (some_hold (claims_on u) below ≡ false)
+
+-- what it has done leaves it this unit to start
+pub data HasDone (u : ℕ) (below : Holds) (o : Origin Call) (p : Past) : Type 0 where
+  Has_acted : (c : Call) → Being (Called c) acted o p → HasDone u below o p
+  Has_served : (l : ℕ) → MayTurn u l below → Being (Entered l) (has_served l) o p → HasDone u below o p
 
 -- the calls that stop a group
 abbrev pub IsStop : GroupCall → Type 0
@@ -116,6 +121,10 @@ owes_note l g = record (has_served l) { owed = record { notice = record { kind =
 abbrev pub IsAlone : (line : ℕ) → Holds → Type 0
 IsAlone l [] = Unit {0}
 IsAlone l (h ∷ hs) = (h.by ≢ Entered l) × IsAlone l hs
+
+-- and none claims the unit either
+abbrev pub IsAtUnit : (unit : ℕ) → Holds → Type 0
+IsAtUnit u below = IsAlone (24 + u) below × (some_hold (claims_on u) below ≡ false)
 
 -- no frame below reads a bank of this group
 abbrev pub IsOnlyReader : (group : ℕ) → Holds → Type 0
@@ -162,12 +171,12 @@ InWindow d (windows.Read g) below w s o p = IsCalling d s g ReadGroup o p × IsO
 InWindow d (windows.Start g) below w s o p = IsCalling d s g StartGroupConversion o p
 InWindow d (windows.Enable g) below w s o p = IsCalling d s g EnableHardwareTrigger o p
 InWindow d (windows.Stop u g) below w s o p = (is_on u (group_of d g) ≡ true) × ((call : GroupCall) × IsStop call × IsCalling d s g call o p)
-InWindow d (windows.Yield u) below w s o p = HasDone o p × (u < 2) × (s.initialised ≡ true)
-InWindow d (windows.Suspend u g) below w s o p = HasDone o p × (u < 2) × (s.initialised ≡ true) × (some_hold (claims_on u) below ≡ false) × IsOutranked d s u g × (is_outranked d s u g ≡ true)
-InWindow d (windows.Keep r) below w s o p = HasDone o p × (r.unit < 2) × (s.initialised ≡ true)
-InWindow d (windows.Begin u) below w s o p = HasDone o p × (u < 2) × (s.initialised ≡ true)
+InWindow d (windows.Yield u) below w s o p = HasDone u below o p × (u < 2) × (s.initialised ≡ true)
+InWindow d (windows.Suspend u g) below w s o p = HasDone u below o p × (u < 2) × (s.initialised ≡ true) × (some_hold (claims_on u) below ≡ false) × IsOutranked d s u g × (is_outranked d s u g ≡ true)
+InWindow d (windows.Keep r) below w s o p = HasDone r.unit below o p × (r.unit < 2) × (s.initialised ≡ true)
+InWindow d (windows.Begin u) below w s o p = HasDone u below o p × (u < 2) × (s.initialised ≡ true)
 InWindow d (windows.Leave u) below w s o p = IsServing (24 + u) o p × (u < 2) × (s.initialised ≡ true) × IsAlone (24 + u) below × (round_at s u ≡ None)
-InWindow d (windows.Convert u g false) below w s o p = HasDone o p × (u < 2) × (s.initialised ≡ true) × (some_hold (claims_on u) below ≡ false) × IsFirst d s u g
+InWindow d (windows.Convert u g false) below w s o p = HasDone u below o p × (u < 2) × (s.initialised ≡ true) × (some_hold (claims_on u) below ≡ false) × IsFirst d s u g
 InWindow d (windows.Convert u g true) below w s o p = IsServing (24 + u) o p × (u < 2) × (s.initialised ≡ true) × IsAlone (24 + u) below × IsFirst d s u g
 InWindow d (windows.Take u) below w s o p = IsServing (24 + u) o p × (u < 2) × IsAlone (24 + u) below × (is_done d w (round_at s u) ≡ true)
 InWindow d (windows.Claim t) below w s o p = IsServing (24 + t.unit) o p × (t.unit < 2) × IsAlone (24 + t.unit) below × IsTaken d w s t.unit t.group
@@ -209,8 +218,8 @@ IsSeeking d f w r = (n : ℕ) × (xs : List Entry) × (n ≤ 3) × HoldsOrder (o
 
 -- what it knows of the unit
 abbrev pub MaySeek : AdcTable → Window → Holds → World → AdcState → Origin Call → Past → Type 0
-MaySeek d (windows.Suspend u g) below w s o p = HasDone o p × (u < 2) × (s.initialised ≡ true) × (some_hold (claims_on u) below ≡ false) × IsOutranked d s u g
-MaySeek d (windows.Begin u) below w s o p = HasDone o p × (u < 2) × (s.initialised ≡ true) × (some_hold (claims_on u) below ≡ false) × (round_at s u ≡ None)
+MaySeek d (windows.Suspend u g) below w s o p = HasDone u below o p × (u < 2) × (s.initialised ≡ true) × (some_hold (claims_on u) below ≡ false) × IsOutranked d s u g
+MaySeek d (windows.Begin u) below w s o p = HasDone u below o p × (u < 2) × (s.initialised ≡ true) × (some_hold (claims_on u) below ≡ false) × (round_at s u ≡ None)
 MaySeek d (windows.Leave u) below w s o p = IsServing (24 + u) o p × (u < 2) × (s.initialised ≡ true) × IsAlone (24 + u) below × (round_at s u ≡ None)
 MaySeek d w below wd s o p = ⊥
 
@@ -256,31 +265,30 @@ IsCopy d c a = ⊥
 -- what a frame is that copies, and where it goes on
 abbrev pub MayCopy : AdcTable → Holds → Copied → Origin Call → Past → Type 0
 MayCopy d below (Serves t) o p = IsServing (24 + t.unit) o p × IsAlone (24 + t.unit) below × (t.unit < 2) × (is_on t.unit (group_of d t.group) ≡ true)
-MayCopy d below (Tells u g true) o p = Being (Entered (24 + u)) (owes_note (24 + u) g) o p × IsAlone (24 + u) below × (u < 2) × (is_on u (group_of d g) ≡ true)
-MayCopy d below (Tells u g false) o p = Being (Entered (24 + u)) (has_served (24 + u)) o p × IsAlone (24 + u) below × (u < 2) × (is_on u (group_of d g) ≡ true)
-MayCopy d below (KeepsThem r) o p = HasDone o p × (r.unit < 2) × (is_on r.unit (group_of d r.group) ≡ true)
+MayCopy d below (Tells u g true) o p = Being (Entered (24 + u)) (owes_note (24 + u) g) o p × IsAtUnit u below × (u < 2) × (is_on u (group_of d g) ≡ true)
+MayCopy d below (Tells u g false) o p = Being (Entered (24 + u)) (has_served (24 + u)) o p × IsAtUnit u below × (u < 2) × (is_on u (group_of d g) ≡ true)
+MayCopy d below (KeepsThem r) o p = HasDone r.unit below o p × (r.unit < 2) × (is_on r.unit (group_of d r.group) ≡ true)
 
 -- what is known with the mask open before a window
 abbrev pub MayClose : AdcTable → Window → Holds → Origin Call → Past → Type 0
-MayClose d (windows.Yield u) below o p = HasDone o p × (u < 2)
-MayClose d (windows.Begin u) below o p = HasDone o p × (u < 2)
-MayClose d (windows.Keep r) below o p = HasDone o p × (r.unit < 2) × (is_on r.unit (group_of d r.group) ≡ true)
+MayClose d (windows.Yield u) below o p = HasDone u below o p × (u < 2)
+MayClose d (windows.Begin u) below o p = HasDone u below o p × (u < 2)
+MayClose d (windows.Keep r) below o p = HasDone r.unit below o p × (r.unit < 2) × (is_on r.unit (group_of d r.group) ≡ true)
 MayClose d (windows.Serve t) below o p = IsServing (24 + t.unit) o p × IsAlone (24 + t.unit) below × (t.unit < 2) × (is_on t.unit (group_of d t.group) ≡ true)
 MayClose d w below o p = ⊥
 
 abbrev pub place_out : AdcTable → OutPlace → Holds → Origin Call → Past → Type 0
 place_out d (outsides.Copies c a) below o p = IsCopy d c.what a × (c.done < count_of c.what) × MayCopy d below a o p
-place_out d (outsides.Counts r) below o p = HasDone o p × (r.unit < 2) × (is_on r.unit (group_of d r.group) ≡ true) × (r.kept ≤ length (inputs_of (group_of d r.group)))
+place_out d (outsides.Counts r) below o p = HasDone r.unit below o p × (r.unit < 2) × (is_on r.unit (group_of d r.group) ≡ true) × (r.kept ≤ length (inputs_of (group_of d r.group)))
 place_out d (outsides.Reads g b) below o p = IsOnlyReader g below × ((whole : List ℕ) × Being (Called (calls.Group g ReadGroup)) (record nothing_yet { acted = Some (named_with EOk whole) }) o p)
-place_out d (outsides.Notes g u) below o p = Being (Entered (24 + u)) (owes_note (24 + u) g) o p × IsAlone (24 + u) below × (u < 2) × (is_on u (group_of d g) ≡ true)
+place_out d (outsides.Notes g u) below o p = Being (Entered (24 + u)) (owes_note (24 + u) g) o p × IsAtUnit u below × (u < 2) × (is_on u (group_of d g) ≡ true)
 place_out d (outsides.Closes w) below o p = MayClose d w below o p
 
 -- ---- what comes after the moves of a window
 
--- a frame that ends with this has acted or served, and owes nothing
+-- a frame that ends with this has acted, and owes nothing
 pub data MayLeave (o : Origin Call) (p : Past) (n : Done) : Type 0 where
   Leaves_acted : (c : Call) → Being (Called c) (record nothing_yet { acted = Some n.answer }) o p → n.owed ≡ Nothing → MayLeave o p n
-  Leaves_served : (l : ℕ) → Being (Entered l) (has_served l) o p → n.answer ≡ no_answer → n.owed ≡ Nothing → MayLeave o p n
 
 abbrev pub hold_then : Then → List Hold
 hold_then (thens.Ends n) = []

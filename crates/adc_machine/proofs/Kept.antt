@@ -107,7 +107,7 @@ pub makes_none : (d : AdcTable) (w : World) (s : AdcState) (h : Happening Call) 
 makes_none d w s (Acts call times) out e isnt = state_is (acts d s call) out s.requests e (act_kept d s call (error_by d call (circumstances d s call)) isnt)
 makes_none d w s (Serves l received) out e isnt =
     serving_kept d w s l s.initialised (is_unit_line l) (is_trigger_line l) (mark_at s (l - 28)) (round_at s (l - 24)) (served_trigger d s (l - 28)) out isnt e
-makes_none d w s (Starts u received) out e isnt = starts_kept d w s (number_of u) out e
+makes_none d w s (Starts u made_by received) out e isnt = starts_kept d w s (number_of u) out e
 makes_none d w s (Aborts u) out e isnt = aborts_kept d w s (number_of u) out e
 makes_none d w s (Moves order) out e isnt = state_is (outcome (moved d s order) tells_nothing) out s.requests e (moved_kept d s order)
 makes_none d w s (Restarts reason) out e isnt = absurd isnt

@@ -215,7 +215,7 @@ aborts_to d w s (Some u) out h e = abort_to d w s u (aborts d w s u) out h (λ r
 happens_to : (d : AdcTable) (w : World) (s : AdcState) (x : Happening Call) (out : Outcome AdcState) → Fine s → happens d w s x ≡ Some out → Fine out.state
 happens_to d w s (Acts call times) out h e = came Fine (acts d s call) out e (act_to d s call (error_by d call (circumstances d s call)) h)
 happens_to d w s (Serves l received) out h e = allowed Fine (ready d w s l) (served d w s l) out e (served_to d w s l h)
-happens_to d w s (Starts u received) out h e = starts_to d w s (number_of u) out h e
+happens_to d w s (Starts u made_by received) out h e = starts_to d w s (number_of u) out h e
 happens_to d w s (Aborts u) out h e = aborts_to d w s (number_of u) out h e
 happens_to d w s (Moves order) out h e = came Fine (outcome (moved d s order) tells_nothing) out e (moved_to d s order h)
 happens_to d w s (Restarts reason) out h e = came Fine (outcome first_state tells_nothing) out e (nothing_to 0 first_state refl refl)

@@ -186,7 +186,7 @@ serving_results d w s l received out line e =
 pub leaves_results : (d : AdcTable) (w : World) (s : AdcState) (h : Happening Call) (out : Outcome AdcState) → happens d w s h ≡ Some out → StoresNothing h → out.state.results ≡ s.results
 leaves_results d w s (Acts call times) out e isnt = state_is (acts d s call) out s.results e (act_results d s call (error_by d call (circumstances d s call)))
 leaves_results d w s (Serves l received) out e isnt = serving_results d w s l received out isnt e
-leaves_results d w s (Starts u received) out e isnt = starts_results d w s (number_of u) out e
+leaves_results d w s (Starts u made_by received) out e isnt = starts_results d w s (number_of u) out e
 leaves_results d w s (Aborts u) out e isnt = aborts_results d w s (number_of u) out e
 leaves_results d w s (Moves order) out e isnt = state_is (outcome (moved d s order) tells_nothing) out s.results e (moved_results d s order)
 leaves_results d w s (Restarts reason) out e isnt = absurd isnt

@@ -154,7 +154,7 @@ moved_grows d n s _ h = h
 pub requests_grow : (d : AdcTable) (w : World) (s : AdcState) (x : Happening Call) (out : Outcome AdcState) → happens d w s x ≡ Some out → IsNoReset x → s.requests ≤ out.state.requests
 requests_grow d w s (Acts call times) out e kind = came (Grown s.requests) (acts d s call) out e (act_grows d s.requests s call (error_by d call (circumstances d s call)) (omega arith))
 requests_grow d w s (Serves l received) out e kind = allowed (Grown s.requests) (ready d w s l) (served d w s l) out e (served_grows d w s.requests s l (omega arith))
-requests_grow d w s (Starts u received) out e kind = starts_grows d w s.requests s (number_of u) out (omega arith) e
+requests_grow d w s (Starts u made_by received) out e kind = starts_grows d w s.requests s (number_of u) out (omega arith) e
 requests_grow d w s (Aborts u) out e kind = aborts_grows d w s.requests s (number_of u) out (omega arith) e
 requests_grow d w s (Moves order) out e kind = came (Grown s.requests) (outcome (moved d s order) tells_nothing) out e (moved_grows d s.requests s order (omega arith))
 requests_grow d w s (Restarts reason) out e kind = absurd kind

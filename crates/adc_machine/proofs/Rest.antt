@@ -187,7 +187,7 @@ first_rests = record { waiting = λ g. refl; triggers = λ g. refl; rounds = λ 
 happens_rests : (d : AdcTable) (w : World) (s : AdcState) (x : Happening Call) (out : Outcome AdcState) → Rests s → happens d w s x ≡ Some out → Rests out.state
 happens_rests d w s (Acts call times) out rests e = came Rests (acts d s call) out e (act_rests d s call rests)
 happens_rests d w s (Serves l received) out rests e = serve_rests d w s l s.initialised _ out refl e
-happens_rests d w s (Starts u received) out rests e = starts_rests d w s (number_of u) out rests e
+happens_rests d w s (Starts u made_by received) out rests e = starts_rests d w s (number_of u) out rests e
 happens_rests d w s (Aborts u) out rests e = aborts_rests d w s (number_of u) out rests e
 happens_rests d w s (Moves order) out rests e = came Rests (outcome (moved d s order) tells_nothing) out e (moved_rests d s order rests)
 happens_rests d w s (Restarts reason) out rests e = came Rests (outcome first_state tells_nothing) out e (λ off. first_rests)

@@ -115,6 +115,7 @@ adc_setting d = record {
   window_of = window_of;
   may = λ o made. may d made;
   halves = λ call. None;
+  must = λ call. [];
   fills = λ c. false;
   in_use = λ w s c. false;
   rest = λ chip w s. (g : ℕ) → HoldsResults (word_of chip) d s g;

@@ -202,6 +202,10 @@ abbrev pub startable_on : AdcTable → World → AdcState → Option ℕ → Boo
 startable_on d w s None = false
 startable_on d w s (Some u) = is_some (starts d s u) || is_some (aborts d w s u)
 
+-- a line is a unit's that may start or abort
+abbrev pub line_waits : AdcTable → World → AdcState → (line : ℕ) → Bool
+line_waits d w s l = is_unit_line l && startable_on d w s (Some (l - 24))
+
 -- a pulse on a trigger input, and nothing else that the hardware does
 abbrev pub moved : AdcTable → AdcState → Order → AdcState
 moved d s (orders.Trigger i) = pulsed d s i
@@ -211,7 +215,7 @@ moved d s _ = s
 abbrev pub happens : AdcTable → World → AdcState → Happening Call → Option (Outcome AdcState)
 happens d w s (Acts call times) = Some (acts d s call)
 happens d w s (Serves l received) = cond (ready d w s l) (Some (served d w s l)) None
-happens d w s (Starts u received) = starts_on d w s (number_of u)
+happens d w s (Starts u made_by received) = starts_on d w s (number_of u)
 happens d w s (Aborts u) = aborts_on d w s (number_of u)
 happens d w s (Moves order) = Some (outcome (moved d s order) tells_nothing)
 happens d w s (Restarts reason) = Some (outcome first_state tells_nothing)
@@ -227,6 +231,7 @@ adc_machine d = record {
   ready = ready d;
   due = ready d;
   startable = λ w s u. startable_on d w s (number_of u);
+  line_waits = line_waits d;
   rate = λ s. 1;
   service_of = service_of;
   expires = λ w s. None;

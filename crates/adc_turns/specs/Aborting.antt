@@ -36,7 +36,7 @@ use Rattle.adc_machine.specs.declared.call.Call.{Call}
 use Rattle.adc_machine.specs.declared.call.ResultBuffer.{ResultBuffer}
 use Rattle.adc_machine.specs.declared.table.AdcTable.{AdcTable}
 use Rattle.adc_machine.proofs.Parts.{group_same, round_same}
-use Rattle.adc_groups.specs.Ground.{FitsAdc, Holds, some_hold, starts_on, yields_on, claims_on, claim_right, SoundGroup, IsSoundGroup, IsSoundRequest, kept_in, kept_of_round, kept_by, number_at, number_by, phase_of, chosen_of, running_of, GroupAgrees, UnitAgrees, IsOrder, IsOver, IsRound, RoundAgrees, put_of, take_of, first_held, is_owed, Backed, IsBlock, TriggersAgree, BanksAgree, result_of, KeepsRight, AllRight, Promised, Agrees}
+use Rattle.adc_groups.specs.Ground.{FitsAdc, Holds, some_hold, starts_on, is_handler, will_yield, claims_on, claim_right, SoundGroup, IsSoundGroup, IsSoundRequest, kept_in, kept_of_round, kept_by, number_at, number_by, phase_of, chosen_of, running_of, GroupAgrees, UnitAgrees, IsOrder, IsOver, IsRound, RoundAgrees, put_of, take_of, first_held, is_owed, Backed, IsBlock, TriggersAgree, BanksAgree, result_of, KeepsRight, AllRight, Promised, Agrees}
 use Rattle.adc_groups.specs.Owed.{making_owed, owed_of, owed_own}
 use Rattle.adc_groups.specs.Places.{hold_in, hold_then}
 use Rattle.adc_groups.specs.Stored.{word_number, group_word, order_of, rounds_of, entry}
@@ -435,9 +435,9 @@ module _ (d : AdcTable) (fits : FitsAdc d) (below : Holds) (chip : Chip) (w : Wo
           starts_more true f = f
           starts_more false f = f
 
-          yields_more : (z : Bool) → some_hold (yields_on v) before ≡ true → some_hold (yields_on v) (with_holds o p.acted (hold_then (then_of u x.group (length x.request.kept) z)) below) ≡ true
-          yields_more true f = sym (ap (λ q. q || some_hold (yields_on v) below) (unlike v u ne)) ∙ f
-          yields_more false f = sym (ap (λ q. q || some_hold (yields_on v) below) (unlike v u ne)) ∙ f
+          yields_more : (z : Bool) → will_yield v before ≡ true → will_yield v (with_holds o p.acted (hold_then (then_of u x.group (length x.request.kept) z)) below) ≡ true
+          yields_more true f = sym (ap (λ q. q || (not ((v == u) && is_handler v o) && will_yield v below)) (unlike v u ne)) ∙ f
+          yields_more false f = sym (ap (λ q. q || (not ((v == u) && is_handler v o) && will_yield v below)) (unlike v u ne)) ∙ f
 
       banks : BanksAgree d after (word_of b) t g
       banks = let k = h.banks x.group there in record {

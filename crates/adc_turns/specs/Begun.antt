@@ -35,7 +35,7 @@ use Rattle.adc_machine.specs.declared.table.AdcTable.{AdcTable}
 use Rattle.adc_machine.specs.declared.table.Group as configured
 use Rattle.adc_machine.proofs.Next.{next_is}
 use Rattle.adc_machine.proofs.Parts.{group_same, round_same}
-use Rattle.adc_groups.specs.Ground.{FitsAdc, Holds, some_hold, starts_on, yields_on, claims_on, SoundGroup, IsSoundGroup, IsSoundRequest, kept_in, kept_of_round, kept_by, number_at, number_by, phase_of, chosen_of, running_of, GroupAgrees, IsOrder, claim_right, IsOver, IsRound, RoundAgrees, IsBlock, put_of, take_of, first_held, is_owed, BanksAgree, AllRight, Promised, Backed, Agrees, is_ahead}
+use Rattle.adc_groups.specs.Ground.{FitsAdc, Holds, some_hold, starts_on, is_handler, will_yield, claims_on, SoundGroup, IsSoundGroup, IsSoundRequest, IsSound, kept_in, kept_of_round, kept_by, number_at, number_by, phase_of, chosen_of, running_of, GroupAgrees, IsOrder, claim_right, IsOver, IsRound, RoundAgrees, IsBlock, put_of, take_of, first_held, is_owed, BanksAgree, AllRight, Promised, Backed, Agrees, is_ahead}
 use Rattle.adc_groups.specs.Places.{hold_in}
 use Rattle.adc_groups.specs.Stored.{word_number, group_word, order_of, rounds_of}
 use Rattle.adc_groups.specs.declared.window.Window.TheVariants as windows
@@ -48,7 +48,7 @@ use Rattle.adc_groups.specs.laws.Choosing.{any_off}
 use Rattle.adc_groups.specs.laws.Onward.{now_here}
 use Rattle.adc_groups.specs.laws.Orders.{order_waiting}
 use Rattle.adc_groups.specs.laws.Own.{on_there, unit_is, within, few_inputs}
-use Rattle.adc_groups.specs.laws.Promising.{promised_same, waits_other}
+use Rattle.adc_groups.specs.laws.Promising.{promised_same, waits_other, yields_below}
 use Rattle.adc_groups.specs.laws.Requesting.{sound_past, other_at, listener_as}
 use Rattle.adc_groups.specs.laws.Yielding.{unclaimed}
 use Rattle.adc_turns.specs.Listed.{listed_inputs}
@@ -81,6 +81,50 @@ not_ahead u k h = by (is_ahead u k) refl
         let high = both.1 in
         absurd (h (k - (STATE + 8 + 8 * u)) (omega (arith, low, high)) (omega (arith, low)))
     by false e = refl
+
+-- a unit that starts what waits first on it has nothing more to start, and nothing to abort
+module _ (d : AdcTable) (w : World) (s : AdcState) (u g : ℕ) (few : u < 2) (sound : IsSound d w s) (free : round_at s u ≡ None) (at : is_on u (group_of d g) ≡ true) (q : Request) (asks : (group_at s g).waiting ≡ Some q) (next : starts d s u ≡ Some g) where
+  abbrev begins : Round
+  begins = record { group = g; request = q; start = w.now }
+
+  abbrev goes : AdcState
+  goes = started w s u g
+
+  goes_other : (k : ℕ) → k ≢ g → group_at goes k ≡ group_at s k
+  goes_other k ne = other_at s g (record (group_at s g) { waiting = None }) (sound_past d s sound.groups) k ne
+
+  pub goes_round : round_at (started w s u g) u ≡ Some (record { group = g; request = q; start = w.now })
+  goes_round = round_same (with_waiting s g None) u (begun w g (group_at s g).waiting) few ∙ ap (λ r. begun w g r) asks
+
+  none_higher : is_outranked d goes u g ≡ false
+  none_higher = any_off (λ k. waits_for d goes u k && nat_lt (rank_of d g) (rank_of d k)) (λ k less. off (waits_for d goes u k) (nat_lt (rank_of d g) (rank_of d k)) (λ f. not_less (rank_of d g) (rank_of d k) ((first k (before_it k f)).0)))
+    where
+      off : (i j : Bool) → (i ≡ true → j ≡ false) → i && j ≡ false
+      off true j f = f refl
+      off false j f = refl
+
+      not_less : (m n : ℕ) → n ≤ m → nat_lt m n ≡ false
+      not_less m n le = grind (arith, nat_tests)
+
+      first : (k : ℕ) → waits_for d s u k ≡ true → IsBefore d s g k
+      first = (next_is d s u g (sym (ap (λ r. starts_by r (next_group d s u)) free) ∙ next)).first
+
+      before_it : (k : ℕ) → waits_for d goes u k ≡ true → waits_for d s u k ≡ true
+      before_it k f = by (same_or k g)
+        where
+          by : (k ≡ g) ⊎ (k ≢ g) → waits_for d s u k ≡ true
+          by (inl i) = subst (λ n. waits_for d s u n ≡ true) (sym i) (ap (λ r. r && is_some (group_at s g).waiting) at ∙ ap (λ r. is_some r) asks)
+          by (inr ne) = sym (ap (λ (v : GroupState). is_on u (group_of d k) && is_some v.waiting) (goes_other k ne)) ∙ f
+
+  pub none_starts : is_some (starts d (started w s u g) u) ≡ false
+  none_starts = ap (λ r. is_some (starts_by r (next_group d goes u))) goes_round
+
+  pub none_aborts : is_some (aborts d w (started w s u g) u) ≡ false
+  none_aborts = ap (λ r. is_some (aborts_by d w goes u r)) goes_round ∙ (ap (λ r. is_some (cond (not (is_finished w (group_of d g) begins) && r) (Some begins) None)) none_higher ∙ and_off (not (is_finished w (group_of d g) begins)))
+    where
+      and_off : (r : Bool) → is_some (cond (r && false) (Some begins) None) ≡ false
+      and_off true = refl
+      and_off false = refl
 
 -- the round of a free unit starts
 module _ (d : AdcTable) (fits : FitsAdc d) (below : Holds) (z : Chip) (ws : List ℕ) (w : World) (s : AdcState) (u g left y : ℕ) (c : Bool) (o : Origin Call) (p : Past) (few : u < 2) (on : s.initialised ≡ true) (free : round_at s u ≡ None) (at : is_on u (group_of d g) ≡ true) (q : Request) (asks : (group_at s g).waiting ≡ Some q) (next : starts d s u ≡ Some g)
@@ -132,7 +176,7 @@ module _ (d : AdcTable) (fits : FitsAdc d) (below : Holds) (z : Chip) (ws : List
   is_other k ne = other_at s g runs_now (sound_past d s h.sound.groups) k ne
 
   round_now : round_at t u ≡ Some x
-  round_now = round_same (with_waiting s g None) u (begun w g (group_at s g).waiting) few ∙ ap (λ r. begun w g r) asks
+  round_now = goes_round d w s u g few h.sound free at q asks next
 
   rounds_as : (v : ℕ) → v ≢ u → round_at t v ≡ round_at s v
   rounds_as v ne = round_other (with_waiting s g None) u (begun w g (group_at s g).waiting) (none_past d w s h.sound) v ne
@@ -194,27 +238,6 @@ module _ (d : AdcTable) (fits : FitsAdc d) (below : Holds) (z : Chip) (ws : List
       by : (k : ℕ) → (k ≡ g) ⊎ (k ≢ g) → (group_at t k).trigger ≡ (group_at s k).trigger
       by k (inl i) = subst (λ n. (group_at t n).trigger ≡ (group_at s n).trigger) (sym i) (ap (λ (v : GroupState). v.trigger) is_group)
       by k (inr ne) = ap (λ (v : GroupState). v.trigger) (is_other k ne)
-
-  -- nothing that waits outranks it
-  none_higher : is_outranked d t u g ≡ false
-  none_higher = any_off (λ k. waits_for d t u k && nat_lt (rank_of d g) (rank_of d k)) (λ k less. off (waits_for d t u k) (nat_lt (rank_of d g) (rank_of d k)) (λ f. not_less (rank_of d g) (rank_of d k) ((first k (before_it k f)).0)))
-    where
-      off : (i j : Bool) → (i ≡ true → j ≡ false) → i && j ≡ false
-      off true j f = f refl
-      off false j f = refl
-
-      not_less : (m n : ℕ) → n ≤ m → nat_lt m n ≡ false
-      not_less m n le = grind (arith, nat_tests)
-
-      first : (k : ℕ) → waits_for d s u k ≡ true → IsBefore d s g k
-      first = (next_is d s u g (sym (ap (λ r. starts_by r (next_group d s u)) free) ∙ next)).first
-
-      before_it : (k : ℕ) → waits_for d t u k ≡ true → waits_for d s u k ≡ true
-      before_it k f = by (same_or k g)
-        where
-          by : (k ≡ g) ⊎ (k ≢ g) → waits_for d s u k ≡ true
-          by (inl i) = subst (λ n. waits_for d s u n ≡ true) (sym i) (ap (λ r. r && is_some (group_at s g).waiting) at ∙ ap (λ r. is_some r) asks)
-          by (inr ne) = sym (ap (λ (v : GroupState). is_on u (group_of d k) && is_some v.waiting) (is_other k ne)) ∙ f
 
   -- ---- claims before
 
@@ -362,22 +385,18 @@ module _ (d : AdcTable) (fits : FitsAdc d) (below : Holds) (z : Chip) (ws : List
 
   promised : (v : ℕ) → (v ≡ u) ⊎ (v ≢ u) → Promised d below w t v
   promised v (inl i) = subst (λ n. Promised d below w t n) (sym i) (record {
-    starts = λ f. absurd (let none : is_some (starts d t u) ≡ false = ap (λ r. is_some (starts_by r (next_group d t u))) round_now in cc);
-    yields = λ f. absurd (let none : is_some (aborts d w t u) ≡ false = ap (λ r. is_some (aborts_by d w t u r)) round_now ∙ (ap (λ r. is_some (cond (not (is_finished w (group_of d g) x) && r) (Some x) None)) none_higher ∙ and_off (not (is_finished w (group_of d g) x))) in cc);
+    starts = λ f. absurd (let none = none_starts d w s u g few h.sound free at q asks next in cc);
+    yields = λ f. absurd (let none = none_aborts d w s u g few h.sound free at q asks next in cc);
   })
-    where
-      and_off : (r : Bool) → is_some (cond (r && false) (Some x) None) ≡ false
-      and_off true = refl
-      and_off false = refl
   promised v (inr ne) = promised_same d w s t v (rounds_as v ne) (waits_other d s t g v (off_unit d fits g u v at ne) (λ k nk. ap (λ (r : GroupState). is_some r.waiting) (is_other k nk))) before below (starts_less c) (yields_less c) ((h.settled on).promised v)
     where
       starts_less : (r : Bool) → some_hold (starts_on v) (with_holds o p.acted (hold_in (windows.Convert u g r)) below) ≡ true → some_hold (starts_on v) below ≡ true
       starts_less true f = sym (ap (λ k. k || some_hold (starts_on v) below) (unlike v u ne)) ∙ f
       starts_less false f = sym (ap (λ k. k || some_hold (starts_on v) below) (unlike v u ne)) ∙ f
 
-      yields_less : (r : Bool) → some_hold (yields_on v) (with_holds o p.acted (hold_in (windows.Convert u g r)) below) ≡ true → some_hold (yields_on v) below ≡ true
-      yields_less true f = f
-      yields_less false f = f
+      yields_less : (r : Bool) → will_yield v (with_holds o p.acted (hold_in (windows.Convert u g r)) below) ≡ true → will_yield v below ≡ true
+      yields_less true f = yields_below ((v == u) && is_handler v o) (will_yield v below) f
+      yields_less false f = yields_below ((v == u) && is_handler v o) (will_yield v below) f
 
   claims : (v : ℕ) → v < 2 → (v ≡ u) ⊎ (v ≢ u) → claim_right below v (word_of b (word_number d (words.Claim v))) ≡ true
   claims v less (inl i) = subst (λ n. claim_right below n (word_of b (word_number d (words.Claim n))) ≡ true) (sym i) (subst (λ n. claim_right below u n ≡ true) (sym unclaims) (claim_none u below claim_before.1))

@@ -64,7 +64,7 @@ hold_same u g true = refl
 hold_same u g false = refl
 
 -- a group that waits has a request
-asks_for : (s : AdcState) (g : ℕ) → is_some (group_at s g).waiting ≡ true → (q : Request) × ((group_at s g).waiting ≡ Some q)
+pub asks_for : (s : AdcState) (g : ℕ) → is_some (group_at s g).waiting ≡ true → (q : Request) × ((group_at s g).waiting ≡ Some q)
 asks_for s g e = by (group_at s g).waiting refl e
   where
     by : (o : Option Request) → (group_at s g).waiting ≡ o → is_some o ≡ true → (q : Request) × ((group_at s g).waiting ≡ Some q)
@@ -98,9 +98,9 @@ go_makes d f r below chip w s m y u g left false _ _ clean v j (Has_acted a Is_b
   sends = tt;
   acts = tt;
   reset = refl;
-  next = (h, may_end d (Called a) acted (missed_after (adc_machine d) w s m) (Has_acted a Is_being));
+  next = (h, may_end d u below (Called a) acted (missed_after (adc_machine d) w s m) (Has_acted a Is_being));
 }
-go_makes d f r below chip w s m y u g left false _ _ clean v j (Has_served l Is_being, few, on, none, first) h = record {
+go_makes d f r below chip w s m y u g left false _ _ clean v j (Has_served l own Is_being, few, on, none, first) h = record {
   may = refl;
   stands = (named_converter u few, named_number u few);
   state = started w s u g;
@@ -110,7 +110,7 @@ go_makes d f r below chip w s m y u g left false _ _ clean v j (Has_served l Is_
   sends = tt;
   acts = tt;
   reset = refl;
-  next = (h, may_end d (Entered l) (has_served l) (missed_after (adc_machine d) w s m) (Has_served l Is_being));
+  next = (h, may_end d u below (Entered l) (has_served l) (missed_after (adc_machine d) w s m) (Has_served l own Is_being));
 }
 
 module _ (d : AdcTable) (fits : FitsAdc d) (f r : AdcBody → ℕ) (below : Holds) (chip : Chip) (w : World) (s : AdcState) (m : ℕ → Bool) (y : ℕ) (o : Origin Call) (p : Past) (u : ℕ) (few : u < 2) where

@@ -67,7 +67,7 @@ unlike x y ne = grind (arith, nat_tests, ne)
 of_group : (v k g : ℕ) → v ≡ 2 + k → (v == 2 + g) || (v == 1) ≡ true → k ≡ g
 of_group v k g e f = grind (arith, nat_tests)
 
-module _ (d : AdcTable) (fits : FitsAdc d) (f r : AdcBody → ℕ) (below : Holds) (chip : Chip) (w : World) (s : AdcState) (m : ℕ → Bool) (y u g n : ℕ) (few : u < 2) (on : s.initialised ≡ true) (o : Origin Call) (p : Past) (has : HasDone o p) (h : Agrees d (with_holds o p.acted (hold_in (windows.Keep (record { unit = u; group = g; kept = n }))) below) chip w s) where
+module _ (d : AdcTable) (fits : FitsAdc d) (f r : AdcBody → ℕ) (below : Holds) (chip : Chip) (w : World) (s : AdcState) (m : ℕ → Bool) (y u g n : ℕ) (few : u < 2) (on : s.initialised ≡ true) (o : Origin Call) (p : Past) (has : HasDone u below o p) (h : Agrees d (with_holds o p.acted (hold_in (windows.Keep (record { unit = u; group = g; kept = n }))) below) chip w s) where
   abbrev before : Holds
   before = with_holds o p.acted (hold_in (windows.Keep (record { unit = u; group = g; kept = n }))) below
 

@@ -129,7 +129,7 @@ module _ (d : AdcTable) (fits : FitsAdc d) (f r : AdcBody → ℕ) (below : Hold
       kept_least : (k n : ℕ) → k < n → k ≤ n
       kept_least k n lt = omega (arith, lt)
 
-      aborted_so : (c : Bool) → suspends (group_of d x.group) ≡ c → (o : Origin Call) (p : Past) → HasDone o p → Agrees d (with_holds o p.acted (hold_in (windows.Suspend u x.group)) below) chip w s
+      aborted_so : (c : Bool) → suspends (group_of d x.group) ≡ c → (o : Origin Call) (p : Past) → HasDone u below o p → Agrees d (with_holds o p.acted (hold_in (windows.Suspend u x.group)) below) chip w s
           → MakesTo (AdcGround d) (adc_bodies d f r) below chip (chip_after chip (Read (ConverterAbort u)) y) w s o (Read (ConverterAbort u)) false 1 y p (missed_after (adc_machine d) w s m) (record { table = d; place = Makes (aborted_by q c) }, step (Some (events.Abort (unit_named u))))
       aborted_so true sus _ _ (Has_acted a Is_being) h = record {
         may = refl;
@@ -155,7 +155,7 @@ module _ (d : AdcTable) (fits : FitsAdc d) (f r : AdcBody → ℕ) (below : Hold
         reset = refl;
         next = (abort_settles d fits below chip w s u x is on none_claims (Called a) acted h unfinished run false sus, (refl, (Has_acted a Is_being, few)));
       }
-      aborted_so true sus _ _ (Has_served l Is_being) h = record {
+      aborted_so true sus _ _ (Has_served l own Is_being) h = record {
         may = refl;
         stands = (named_converter u few, named_number u few, refl);
         state = aborted d w s u x;
@@ -165,9 +165,9 @@ module _ (d : AdcTable) (fits : FitsAdc d) (f r : AdcBody → ℕ) (below : Hold
         sends = tt;
         acts = tt;
         reset = refl;
-        next = (abort_settles d fits below chip w s u x is on none_claims (Entered l) (has_served l) h unfinished run true sus, (refl, (Has_served l Is_being, few, at, kept_least (length x.request.kept) (length (inputs_of (group_of d x.group))) (h.sound.runs u x is).4.2)));
+        next = (abort_settles d fits below chip w s u x is on none_claims (Entered l) (has_served l) h unfinished run true sus, (refl, (Has_served l own Is_being, few, at, kept_least (length x.request.kept) (length (inputs_of (group_of d x.group))) (h.sound.runs u x is).4.2)));
       }
-      aborted_so false sus _ _ (Has_served l Is_being) h = record {
+      aborted_so false sus _ _ (Has_served l own Is_being) h = record {
         may = refl;
         stands = (named_converter u few, named_number u few, refl);
         state = aborted d w s u x;
@@ -177,10 +177,10 @@ module _ (d : AdcTable) (fits : FitsAdc d) (f r : AdcBody → ℕ) (below : Hold
         sends = tt;
         acts = tt;
         reset = refl;
-        next = (abort_settles d fits below chip w s u x is on none_claims (Entered l) (has_served l) h unfinished run false sus, (refl, (Has_served l Is_being, few)));
+        next = (abort_settles d fits below chip w s u x is on none_claims (Entered l) (has_served l) h unfinished run false sus, (refl, (Has_served l own Is_being, few)));
       }
 
-    pub round_right : (o : Origin Call) (p : Past) → HasDone o p → Agrees d (with_holds o p.acted (hold_in (windows.Suspend u x.group)) below) chip w s → StepRight q o p
+    pub round_right : (o : Origin Call) (p : Past) → HasDone u below o p → Agrees d (with_holds o p.acted (hold_in (windows.Suspend u x.group)) below) chip w s → StepRight q o p
     round_right o p has h = by runs refl
       where
         run_was : (u < 2) × (is_on u (group_of d x.group) ≡ true)

@@ -14,6 +14,8 @@ pub enum Line {
     Rate(u32),
     /// The level of a pin, where its outside level and its pulse output are so.
     Pin(u32, bool, Option<bool>, bool),
+    /// A pin is inverted.
+    Flip(u32),
     /// A RAM word is this.
     Ram(u32, u32),
     /// The device that is selected on a serial unit.
@@ -90,6 +92,10 @@ impl Blocks {
             Line::Selected(unit, device) => self.serials.selected(unit) == device,
             Line::Write(reg, value) => {
                 self.write(reg, value);
+                true
+            }
+            Line::Flip(pin) => {
+                self.pins.flip(pin);
                 true
             }
             Line::Tick(ticks) => {

@@ -1,4 +1,4 @@
-use crate::other_table::Line::{Pin, Ram, Rate, Read, Reset, Selected, Tick, Write};
+use crate::other_table::Line::{Flip, Pin, Ram, Rate, Read, Reset, Selected, Tick, Write};
 use crate::other_table::first_wrong;
 use mcal_base::{Reason, Reg};
 
@@ -70,6 +70,39 @@ fn the_levels_of_pins(rt: HostRuntime) {
         Pin(62, false, None, true),
         Reset(Reason::PowerOn),
         Pin(62, false, None, false),
+    ];
+    assert_eq!(rt; first_wrong(&lines), 0);
+}
+
+#[test]
+fn words_put_to_ports_and_flips(rt: HostRuntime) {
+    let lines = [
+        Write(Reg::PinDirectionSet(0), 0x0000_8500),
+        Write(Reg::PortPut(1), 0xffff),
+        Pin(8, false, None, true),
+        Pin(9, false, None, false),
+        Pin(10, false, None, true),
+        Pin(15, false, None, true),
+        Write(Reg::PortPut(1), 0x8001),
+        Pin(8, false, None, true),
+        Pin(15, false, None, false),
+        Write(Reg::PortPut(0), 0xff00),
+        Write(Reg::PortPut(8), 0xff00),
+        Pin(8, false, None, true),
+        Flip(8),
+        Pin(8, true, None, false),
+        Flip(8),
+        Pin(8, false, None, true),
+        Flip(9),
+        Flip(64),
+        Write(Reg::PinDirectionSet(0), 0x200),
+        Pin(9, true, None, false),
+        Write(Reg::PortPut(1), 0x1_ff00),
+        Pin(10, true, None, false),
+        Read(Reg::PortPut(1), 0),
+        Read(Reg::PortLevels(1), 0),
+        Read(Reg::PinFlip(8), 0),
+        Pin(8, true, None, false),
     ];
     assert_eq!(rt; first_wrong(&lines), 0);
 }

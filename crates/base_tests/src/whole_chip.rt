@@ -98,6 +98,30 @@ fn an_output_is_seen_in_its_mode_alone(rt: HostRuntime) {
 }
 
 #[test]
+fn a_port_has_the_levels_of_its_pins(rt: HostRuntime) {
+    let Ok(mut bus) = Bus::new(rt.alloc(), &wired(), 0) else {
+        panic!(rt; "no memory");
+    };
+    let bus = &mut bus;
+    let rack = &mut Vec::new(rt.alloc());
+    write(bus, rack, Reg::PulseIdle(3), 1);
+    write(bus, rack, Reg::PinDirectionSet(1), 0x300);
+    write(bus, rack, Reg::PinMode(40), 3);
+    level(bus, 47, true);
+    assert_eq!(rt; read(bus, rack, Reg::PortLevels(5)), 0x81);
+    assert_eq!(rt; read(bus, rack, Reg::PinFlip(41)), 1);
+    assert_eq!(rt; read(bus, rack, Reg::PortLevels(5)), 0x83);
+    assert_eq!(rt; read(bus, rack, Reg::PinFlip(40)), 1);
+    assert_eq!(rt; read(bus, rack, Reg::PinFlip(47)), 1);
+    write(bus, rack, Reg::PinMode(40), 1);
+    assert_eq!(rt; read(bus, rack, Reg::PortLevels(5)), 0x83);
+    write(bus, rack, Reg::PortPut(5), 0xff00);
+    assert_eq!(rt; read(bus, rack, Reg::PortLevels(5)), 0x80);
+    assert_eq!(rt; bus.replay(&Move::Read(Reg::PinFlip(41)), 0), 1);
+    assert_eq!(rt; bus.replay(&Move::Read(Reg::PortLevels(5)), 0), 0x82);
+}
+
+#[test]
 fn a_line_is_pending_by_its_own_bit(rt: HostRuntime) {
     let Ok(mut bus) = Bus::new(rt.alloc(), &wired(), 0) else {
         panic!(rt; "no memory");

@@ -3,7 +3,7 @@ use Rattle.std.proofs.Common.{◌≡◌, ℕ, ◌+◌, Bool, List, [], ◌∷◌
 use Rattle.std.proofs.lemmas.List.Sums.{sum_by-cons}
 use Rattle.std.specs.Prelude.{count_by}
 use Rattle.bench_report.specs.declared.tally.Tally.{Tally}
-use Rattle.bench_report.specs.Lines.{Line, Holds, Makes, Notes, Errs, Returns, Leaves, Restarts, Shows, Done}
+use Rattle.bench_report.specs.Lines.{Line, Holds, Makes, Waits, Notes, Errs, Returns, Leaves, Restarts, Shows, Done}
 use Rattle.bench_report.specs.Report.{Numbered, is_return, is_leave, is_hold, is_error, is_note}
 use Rattle.bench_report.specs.Pages.{Page, counted, with_line, with_lines}
 
@@ -16,6 +16,7 @@ count_after is count one page (l ∷ ls) = count_after is count one (with_line p
 calls_one : (t : Tally) (l : Line) (n : ℕ) → (counted t l).calls + n ≡ t.calls + (cond (is_return l) 1 0 + n)
 calls_one t (Holds cause) n = omega arith
 calls_one t (Makes depth made value received event) n = omega arith
+calls_one t (Waits ticks) n = omega arith
 calls_one t (Notes notice) n = omega arith
 calls_one t (Errs found) n = omega arith
 calls_one t (Returns service head words) n = omega arith
@@ -31,6 +32,7 @@ calls_after = count_after is_return (λ (t : Tally). t.calls) calls_one
 handlers_one : (t : Tally) (l : Line) (n : ℕ) → (counted t l).handlers + n ≡ t.handlers + (cond (is_leave l) 1 0 + n)
 handlers_one t (Holds cause) n = omega arith
 handlers_one t (Makes depth made value received event) n = omega arith
+handlers_one t (Waits ticks) n = omega arith
 handlers_one t (Notes notice) n = omega arith
 handlers_one t (Errs found) n = omega arith
 handlers_one t (Returns service head words) n = omega arith
@@ -46,6 +48,7 @@ handlers_after = count_after is_leave (λ (t : Tally). t.handlers) handlers_one
 held_one : (t : Tally) (l : Line) (n : ℕ) → (counted t l).held + n ≡ t.held + (cond (is_hold l) 1 0 + n)
 held_one t (Holds cause) n = omega arith
 held_one t (Makes depth made value received event) n = omega arith
+held_one t (Waits ticks) n = omega arith
 held_one t (Notes notice) n = omega arith
 held_one t (Errs found) n = omega arith
 held_one t (Returns service head words) n = omega arith
@@ -61,6 +64,7 @@ held_after = count_after is_hold (λ (t : Tally). t.held) held_one
 errors_one : (t : Tally) (l : Line) (n : ℕ) → (counted t l).errors + n ≡ t.errors + (cond (is_error l) 1 0 + n)
 errors_one t (Holds cause) n = omega arith
 errors_one t (Makes depth made value received event) n = omega arith
+errors_one t (Waits ticks) n = omega arith
 errors_one t (Notes notice) n = omega arith
 errors_one t (Errs found) n = omega arith
 errors_one t (Returns service head words) n = omega arith
@@ -76,6 +80,7 @@ errors_after = count_after is_error (λ (t : Tally). t.errors) errors_one
 notes_one : (t : Tally) (l : Line) (n : ℕ) → (counted t l).notes + n ≡ t.notes + (cond (is_note l) 1 0 + n)
 notes_one t (Holds cause) n = omega arith
 notes_one t (Makes depth made value received event) n = omega arith
+notes_one t (Waits ticks) n = omega arith
 notes_one t (Notes notice) n = omega arith
 notes_one t (Errs found) n = omega arith
 notes_one t (Returns service head words) n = omega arith

@@ -1,6 +1,7 @@
 -- What the items of a directive are like: they have its line, and none shows anything where the directive doesn't.
 use Rattle.std.proofs.Common.{◌≡◌, ℕ, zero, suc, ◌+◌, ◌-◌, Bool, true, false, List, [], ◌∷◌, refl, sym, subst, Option, Some, None, length}
 use Rattle.std.specs.Prelude.{◌||◌, nat_lt, is_some, MatchBool}
+use Rattle.chip_model.specs.Chip.{wait_on}
 use Rattle.irq_control.specs.declared.held.Held.{Held}
 use Rattle.irq_control.specs.declared.held.Held.TheVariants.{Empty}
 use Rattle.mcal_base.specs.declared.directive.Order.{Order}
@@ -12,8 +13,8 @@ use Rattle.run_model.specs.declared.reach.Reach.TheVariants.{Count, Until, Whole
 use Rattle.run_model.specs.Entry as entry
 use Rattle.run_model.specs.Entry.{Entry, Said}
 use Rattle.run_model.specs.Frame.{Open, resets_chip}
-use Rattle.run_model.specs.Follows.{IsOne, Ticks, ticks_left, IsStep, GoesOn, Goes, BeginsOnly, BeginsWhole, HappensOnly, Shows, Gives, is_reached}
-use Rattle.run_model.specs.Moment.{Setting, Moment, Deed, Steps, after}
+use Rattle.run_model.specs.Follows.{IsOne, Ticks, ticks_left, IsStep, GoesOn, Goes, BeginsOnly, BeginsWhole, HappensOnly, Shows, Gives, ends_within, is_reached}
+use Rattle.run_model.specs.Moment.{Setting, Moment, Deed, Steps, Happens, after}
 
 -- the order shows something
 abbrev pub is_show : Order → Bool
@@ -56,6 +57,13 @@ step_each g line reach made m e es More (entry.Steps s) is more h = (
   match_each (resets_chip s.made) h.2
       (λ reset. one_each (after g m (Steps s)) line shows_nothing (entry.Resets Software (length (after g m (Steps s)).opens)) es tt reset)
       (λ goes. match_each (is_some s.ended || is_reached reach (made + 1) s) goes (λ none. none_each line shows_nothing es none) (more (made + 1) (Steps s))),
+)
+step_each g line reach made m e es More (entry.Happens (orders.Tick n)) is more h = (
+  h.0,
+  subst shows_nothing (sym is) refl,
+  match_each (ends_within (wait_on m.chip h.2.unit) (g.machine.expires m.world m.state)) h.2.goes
+      (λ over. one_each m line shows_nothing (entry.Resets Watchdog (length m.opens)) es tt over.1)
+      (λ on. more made (Happens (orders.Tick n)) on.2),
 )
 step_each g line reach made m e es More (entry.Happens o) is more h = absurd h
 step_each g line reach made m e es More entry.Begins is more h = absurd h

@@ -1,6 +1,6 @@
 -- The lines of a report hold all texts that were shown.
 use Rattle.std.proofs.Common.{◌≡◌, ℕ, ◌+◌, ◌≤◌, Bool, true, false, List, [], ◌∷◌, ◌++◌, refl, ap, sym, subst, ◌∙◌, cond, arith, map, length}
-use Rattle.std.specs.Prelude.{◌==◌, flat_map}
+use Rattle.std.specs.Prelude.{◌==◌, ◌&&◌, flat_map}
 use Rattle.std.specs.List.{list_all}
 use Rattle.std.proofs.lemmas.Bool.{eqb-true}
 use Rattle.std.proofs.lemmas.Grind.{flat_map-append}
@@ -13,7 +13,7 @@ use Rattle.bench_report.specs.declared.frames.Purpose.{Purpose}
 use Rattle.bench_report.specs.Lines.{Line, Shows, Done, numbered}
 use Rattle.bench_report.specs.Rows.{Row}
 use Rattle.bench_report.specs.Shown.{joined, rows_text, next_rows, order_texts, said_texts, shows_after, texts_of}
-use Rattle.bench_report.specs.Report.{Numbered, order_lines, said_lines, frames_after, is_step, chapter_lines, chapter_frames, chapter_shows, with_done, own_entries, later_entries, left_over, report_lines, report, all_numbered, end_of}
+use Rattle.bench_report.specs.Report.{Numbered, order_lines, said_lines, frames_after, steps_next, is_traced, chapter_lines, chapter_frames, chapter_shows, with_done, own_entries, later_entries, left_over, report_lines, report, all_numbered, end_of}
 
 -- the bytes of lines, and of texts
 bytes_of : List Numbered → ℕ
@@ -47,13 +47,13 @@ no_size : size_of [] ≡ 0
 unfolding size_of
 no_size = refl
 
-order_size : (n : ℕ) (shows : List (List Row)) (o : Order) → size_of (order_texts n shows o) ≤ bytes_of (all_numbered n (order_lines (next_rows shows) o))
-order_size n shows (orders.Show what) = let a = one_size (rows_text n (next_rows shows)) in let b = rows_bytes n (next_rows shows) in omega (arith, a, b)
-order_size n shows _ = let a = no_size in omega (arith, a)
+order_size : (waited : Bool) (n : ℕ) (shows : List (List Row)) (o : Order) → size_of (order_texts n shows o) ≤ bytes_of (all_numbered n (order_lines waited (next_rows shows) o))
+order_size waited n shows (orders.Show what) = let a = one_size (rows_text n (next_rows shows)) in let b = rows_bytes n (next_rows shows) in omega (arith, a, b)
+order_size waited n shows _ = let a = no_size in omega (arith, a)
 
-said_size : (traced : Bool) (depth : ℕ) (frames : List Purpose) (n : ℕ) (shows : List (List Row)) (said : Said) → size_of (said_texts n shows said) ≤ bytes_of (all_numbered n (said_lines traced depth frames (next_rows shows) said))
-said_size traced depth frames n shows (Happens o) = order_size n shows o
-said_size traced depth frames n shows _ = let a = no_size in omega (arith, a)
+said_size : (traced : Bool) (depth : ℕ) (frames : List Purpose) (n : ℕ) (shows : List (List Row)) (next : Bool) (said : Said) → size_of (said_texts n shows said) ≤ bytes_of (all_numbered n (said_lines traced depth frames (next_rows shows) next said))
+said_size traced depth frames n shows next (Happens o) = order_size (traced && next) n shows o
+said_size traced depth frames n shows next _ = let a = no_size in omega (arith, a)
 
 -- the items of a directive
 parts_by : (b : Bool) (line : ℕ) (e : Entry) (es : List Entry) (shows : List (List Row)) →
@@ -74,10 +74,11 @@ own_by : (b : Bool) (traced : Bool) (d : Directive) (frames : List Purpose) (sho
     size_of (texts_of (cond b (e ∷ own_entries d.line es) []) shows) ≤ bytes_of (all_numbered d.line (chapter_lines traced d.order frames shows (cond b (e ∷ own_entries d.line es) [])))
 own_by true traced d frames shows e es is h =
     let same : e.line ≡ d.line = eqb-true e.line d.line is in
-    let one = said_size traced e.depth frames e.line shows e.said in
+    let next = steps_next (own_entries d.line es) in
+    let one = said_size traced e.depth frames e.line shows next e.said in
     let x = size-append (said_texts e.line shows e.said) (texts_of (own_entries d.line es) (shows_after shows e.said)) in
-    let y = numbered-append d.line (said_lines traced e.depth frames (next_rows shows) e.said) (chapter_lines traced d.order (frames_after d.order frames e.said) (shows_after shows e.said) (own_entries d.line es)) in
-    let z : size_of (said_texts e.line shows e.said) ≤ bytes_of (all_numbered d.line (said_lines traced e.depth frames (next_rows shows) e.said)) = subst (λ (n : ℕ). size_of (said_texts e.line shows e.said) ≤ bytes_of (all_numbered n (said_lines traced e.depth frames (next_rows shows) e.said))) same one in
+    let y = numbered-append d.line (said_lines traced e.depth frames (next_rows shows) next e.said) (chapter_lines traced d.order (frames_after d.order frames e.said) (shows_after shows e.said) (own_entries d.line es)) in
+    let z : size_of (said_texts e.line shows e.said) ≤ bytes_of (all_numbered d.line (said_lines traced e.depth frames (next_rows shows) next e.said)) = subst (λ (n : ℕ). size_of (said_texts e.line shows e.said) ≤ bytes_of (all_numbered n (said_lines traced e.depth frames (next_rows shows) next e.said))) same one in
     omega (arith, h, x, y, z)
 own_by false traced d frames shows e es is h = let a = no_size in omega (arith, a)
 
@@ -98,7 +99,7 @@ lines_size traced (d ∷ ds) frames shows es none =
     let rest = report_lines traced (chapter_frames d.order frames own) (chapter_shows shows own) ds (later_entries d.line es) in
     let a = parts d.line es shows in
     let b = own_size traced d frames shows es in
-    let c = done_size (list_all is_step lines) d.line lines in
+    let c = done_size (list_all is_traced lines) d.line lines in
     let x = bytes-append (all_numbered d.line (with_done lines)) rest in
     let y = lines_size traced ds (chapter_frames d.order frames own) (chapter_shows shows own) (later_entries d.line es) none in
     omega (arith, a, b, c, x, y)

@@ -1,5 +1,6 @@
 pub mod Limit
 pub mod Lines
+pub mod Numbers
 pub mod Pages
 pub mod Registers
 pub mod Report

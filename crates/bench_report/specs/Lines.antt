@@ -28,6 +28,8 @@ pub data Line : Type 0 where
   Holds : Held → Line
   -- a step: the frames there, its move, the value that this gave, the word that came in, and its event
   Makes : ℕ → Move → ℕ → ℕ → Option Event → Line
+  -- the next step waited for a word in transfer so many ticks
+  Waits : ℕ → Line
   -- a callback was called
   Notes : Notice → Line
   -- an error was reported
@@ -47,6 +49,7 @@ pub data Line : Type 0 where
 abbrev pub line_of : written.Line → Line
 line_of (lines.Holds cause) = Holds cause
 line_of (lines.Makes depth made value received event) = Makes depth made value received event
+line_of (lines.Waits ticks) = Waits ticks
 line_of (lines.Notes notice) = Notes notice
 line_of (lines.Errs error) = Errs error
 line_of (lines.Returns service head words) = Returns service head words.now
@@ -108,6 +111,7 @@ abbrev pub line_text : Line → List ℕ
 line_text (Holds cause) = codes "held " ++ held_text cause
 line_text (Makes depth made value received event) =
     codes "step " ++ (decimal depth ++ (codes " " ++ (move_text made value ++ (event_text event ++ incoming_text made received))))
+line_text (Waits ticks) = codes "stall " ++ decimal ticks
 line_text (Notes notice) = codes "note " ++ note_text notice
 line_text (Errs found) = report_text (codes "error") found
 line_text (Returns service head words) = codes "return " ++ (service_text service ++ (head_text head ++ words_text words))

@@ -9,13 +9,14 @@ use Rattle.run_model.specs.declared.item.Stepped.{Stepped}
 use Rattle.bench_report.specs.declared.frames.Purpose.{Purpose}
 use Rattle.bench_report.specs.declared.tally.Tally.{Tally}
 use Rattle.bench_report.specs.Limit.{is_too_long}
-use Rattle.bench_report.specs.Lines.{Line, Holds, Makes, Notes, Errs, Returns, Leaves, Restarts, Shows, Done, numbered, end_text}
-use Rattle.bench_report.specs.Report.{Numbered, frames_after, frames_after_end, step_lines, move_lines, end_lines, is_step, own_entries, later_entries}
+use Rattle.bench_report.specs.Lines.{Line, Holds, Makes, Waits, Notes, Errs, Returns, Leaves, Restarts, Shows, Done, numbered, end_text}
+use Rattle.bench_report.specs.Report.{Numbered, frames_after, frames_after_end, step_lines, wait_lines, move_lines, end_lines, steps_next, is_traced, own_entries, later_entries}
 
 -- one more line is counted
 abbrev pub counted : Tally → Line → Tally
 counted tally (Holds cause) = record tally { held = tally.held + 1 }
 counted tally (Makes depth made value received event) = tally
+counted tally (Waits ticks) = tally
 counted tally (Notes notice) = record tally { notes = tally.notes + 1 }
 counted tally (Errs found) = record tally { errors = tally.errors + 1 }
 counted tally (Returns service head words) = record tally { calls = tally.calls + 1 }
@@ -57,7 +58,7 @@ abbrev pub ended : Option Page → Option (List ℕ)
 ended None = None
 ended (Some page) = fitting_text (page.text ++ end_text page.tally)
 
--- the page, what the frames were begun for, whether the directive printed nothing but steps yet, and the texts of the shows to come
+-- the page, what the frames were begun for, whether the directive printed nothing but steps and waits yet, and the texts of the shows to come
 pub record Course : Type 0 where
   pub page : Option Page
   pub frames : List Purpose
@@ -73,7 +74,7 @@ beginning shows = record { page = Some blank; frames = []; silent = true; shows 
 
 -- after one more line, and after lines
 abbrev pub say : Course → ℕ → Line → Course
-say c number line = record c { page = put c.page number line; silent = c.silent && is_step line }
+say c number line = record c { page = put c.page number line; silent = c.silent && is_traced line }
 
 abbrev pub say_all : Course → ℕ → List Line → Course
 say_all c number [] = c
@@ -92,24 +93,26 @@ abbrev pub text_put : Course → List (List ℕ) → Course
 text_put c [] = c
 text_put c (text ∷ texts) = record c { page = paste c.page text; silent = c.silent && (length text == 0); shows = texts }
 
-abbrev pub order_put : Course → Order → Course
-order_put c (orders.Show what) = text_put c c.shows
-order_put c _ = c
+-- after the lines of what happened
+abbrev pub order_put : (waited : Bool) → Course → ℕ → Order → Course
+order_put waited c number (orders.Show what) = text_put c c.shows
+order_put waited c number (orders.Tick ticks) = say_all c number (wait_lines waited ticks)
+order_put waited c number _ = c
 
--- after an item of a directive, and after items
-abbrev pub said_put : Bool → Directive → Course → ℕ → Said → Course
-said_put traced directive c depth (Happens what) = order_put c what
-said_put traced directive c depth Begins = record c { frames = frames_after directive.order c.frames Begins }
-said_put traced directive c depth (Stays cause) = say c directive.line (Holds cause)
-said_put traced directive c depth (Steps step) = step_put traced c directive.line depth step
-said_put traced directive c depth (Resets reason dropped) = record (say c directive.line (Restarts reason dropped)) { frames = [] }
+-- after an item of a directive, by whether a step comes next, and after items
+abbrev pub said_put : Bool → Directive → Course → ℕ → (next : Bool) → Said → Course
+said_put traced directive c depth next (Happens what) = order_put (traced && next) c directive.line what
+said_put traced directive c depth next Begins = record c { frames = frames_after directive.order c.frames Begins }
+said_put traced directive c depth next (Stays cause) = say c directive.line (Holds cause)
+said_put traced directive c depth next (Steps step) = step_put traced c directive.line depth step
+said_put traced directive c depth next (Resets reason dropped) = record (say c directive.line (Restarts reason dropped)) { frames = [] }
 
-abbrev pub entry_put : Bool → Directive → Course → Entry → Course
-entry_put traced directive c entry = said_put traced directive c entry.depth entry.said
+abbrev pub entry_put : Bool → Directive → Course → (next : Bool) → Entry → Course
+entry_put traced directive c next entry = said_put traced directive c entry.depth next entry.said
 
 abbrev pub entries_put : Bool → Directive → Course → List Entry → Course
 entries_put traced directive c [] = c
-entries_put traced directive c (entry ∷ entries) = entries_put traced directive (entry_put traced directive c entry) entries
+entries_put traced directive c (entry ∷ entries) = entries_put traced directive (entry_put traced directive c (steps_next entries) entry) entries
 
 -- after a directive's last item
 abbrev pub closed : ℕ → Course → Course

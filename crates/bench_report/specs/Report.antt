@@ -1,5 +1,5 @@
 -- The report of a script, of what its journal says, and of the rows that each of its shows printed.
-use Rattle.std.specs.Prelude.{ℕ, ◌==◌, List, [], ◌∷◌, ◌++◌, Bool, true, false, Option, Some, None, map, drop, flat_map, count_by, option_to_list, if◌then◌else◌}
+use Rattle.std.specs.Prelude.{ℕ, ◌==◌, ◌&&◌, List, [], ◌∷◌, ◌++◌, Bool, true, false, Option, Some, None, map, drop, flat_map, count_by, option_to_list, if◌then◌else◌}
 use Rattle.std.specs.List.{list_all}
 use Rattle.mcal_base.specs.declared.answer.Answer.{Answer}
 use Rattle.mcal_base.specs.declared.directive.Directive.{Directive}
@@ -11,7 +11,7 @@ use Rattle.run_model.specs.Entry.{Entry, Said, Happens, Begins, Stays, Steps, Re
 use Rattle.run_model.specs.declared.item.Stepped.{Stepped}
 use Rattle.bench_report.specs.declared.frames.Purpose.{Purpose}
 use Rattle.bench_report.specs.declared.frames.Purpose.TheVariants as purposes
-use Rattle.bench_report.specs.Lines.{Line, Holds, Makes, Notes, Errs, Returns, Leaves, Restarts, Shows, Done, numbered, end_text}
+use Rattle.bench_report.specs.Lines.{Line, Holds, Makes, Waits, Notes, Errs, Returns, Leaves, Restarts, Shows, Done, numbered, end_text}
 use Rattle.bench_report.specs.Rows.{Row}
 use Rattle.bench_report.specs.Shown.{next_rows, shows_after}
 
@@ -54,24 +54,39 @@ end_lines [] (Some answer) = []
 end_lines (purposes.Call service ∷ frames) (Some answer) = Returns service answer.head answer.words ∷ []
 end_lines (purposes.Handler line ∷ frames) (Some answer) = Leaves line ∷ []
 
--- the lines of what happened: a show prints its rows
-abbrev pub order_lines : List Row → Order → List Line
-order_lines rows (orders.Show what) = map (λ row. Shows row) rows
-order_lines rows _ = []
+-- a step comes next
+abbrev pub is_stepped : Said → Bool
+is_stepped (Steps step) = true
+is_stepped _ = false
 
--- the lines of an item, with what the frames before it were begun for, and the rows of the show that comes next
-abbrev pub said_lines : Bool → ℕ → List Purpose → List Row → Said → List Line
-said_lines traced depth frames rows (Happens what) = order_lines rows what
-said_lines traced depth frames rows Begins = []
-said_lines traced depth frames rows (Stays cause) = Holds cause ∷ []
-said_lines traced depth frames rows (Steps step) = step_lines traced depth step ++ (move_lines step.made ++ end_lines frames step.ended)
-said_lines traced depth frames rows (Resets reason dropped) = Restarts reason dropped ∷ []
+abbrev pub steps_next : List Entry → Bool
+steps_next [] = false
+steps_next (entry ∷ entries) = is_stepped entry.said
+
+-- the line of ticks, where a step waited for them
+abbrev pub wait_lines : (waited : Bool) → ℕ → List Line
+wait_lines false ticks = []
+wait_lines true ticks = Waits ticks ∷ []
+
+-- the lines of what happened: a show prints its rows, and ticks those that a step waited
+abbrev pub order_lines : (waited : Bool) → List Row → Order → List Line
+order_lines waited rows (orders.Show what) = map (λ row. Shows row) rows
+order_lines waited rows (orders.Tick ticks) = wait_lines waited ticks
+order_lines waited rows _ = []
+
+-- the lines of an item, with what the frames before it were begun for, the rows of the show that comes next, and whether a step does
+abbrev pub said_lines : Bool → ℕ → List Purpose → List Row → (next : Bool) → Said → List Line
+said_lines traced depth frames rows next (Happens what) = order_lines (traced && next) rows what
+said_lines traced depth frames rows next Begins = []
+said_lines traced depth frames rows next (Stays cause) = Holds cause ∷ []
+said_lines traced depth frames rows next (Steps step) = step_lines traced depth step ++ (move_lines step.made ++ end_lines frames step.ended)
+said_lines traced depth frames rows next (Resets reason dropped) = Restarts reason dropped ∷ []
 
 -- the lines of the items of a directive, what the frames after them were begun for, and the shows that are left
 abbrev pub chapter_lines : Bool → Order → List Purpose → List (List Row) → List Entry → List Line
 chapter_lines traced order frames shows [] = []
 chapter_lines traced order frames shows (entry ∷ entries) =
-    said_lines traced entry.depth frames (next_rows shows) entry.said ++ chapter_lines traced order (frames_after order frames entry.said) (shows_after shows entry.said) entries
+    said_lines traced entry.depth frames (next_rows shows) (steps_next entries) entry.said ++ chapter_lines traced order (frames_after order frames entry.said) (shows_after shows entry.said) entries
 
 abbrev pub chapter_frames : Order → List Purpose → List Entry → List Purpose
 chapter_frames order frames [] = frames
@@ -81,14 +96,15 @@ abbrev pub chapter_shows : List (List Row) → List Entry → List (List Row)
 chapter_shows shows [] = shows
 chapter_shows shows (entry ∷ entries) = chapter_shows (shows_after shows entry.said) entries
 
--- the line of a step itself, beside which a directive may print ok
-abbrev pub is_step : Line → Bool
-is_step (Makes depth made value received event) = true
-is_step _ = false
+-- the lines that only a traced report has, of a step itself and of its wait: beside them a directive may print ok
+abbrev pub is_traced : Line → Bool
+is_traced (Makes depth made value received event) = true
+is_traced (Waits ticks) = true
+is_traced _ = false
 
 -- a directive that prints nothing else prints ok
 abbrev pub with_done : List Line → List Line
-with_done lines = if list_all is_step lines then lines ++ Done ∷ [] else lines
+with_done lines = if list_all is_traced lines then lines ++ Done ∷ [] else lines
 
 -- the items that come next with a script line, and those behind them
 abbrev pub own_entries : ℕ → List Entry → List Entry

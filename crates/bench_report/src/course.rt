@@ -23,6 +23,16 @@ fn stretch(words: &[u32], span: Span) -> &[u32]
     &rest[..rest.len().min(span.count as usize)]
 }
 
+/// Whether the next item is a step of a directive at this line.
+fn steps_next(line: u32, items: &[Item]) -> bool
+    ensures { (words : List ℕ) → result ≡ spec.steps_next (spec.own_entries line (entries words items.now)) }
+{
+    match items {
+        [item, ..] => item.line == line && matches!(item.what, What::Stepped(_)),
+        [] => false,
+    }
+}
+
 /// Whether a step prints nothing where steps aren't traced.
 fn is_silent(logged: &Logged) -> bool
     ensures { (c : pages.Course) (number depth : ℕ) (words : List ℕ) → OnTrue result (pages.step_put false c number depth (step_at words logged.now) ≡ c) }
@@ -30,8 +40,8 @@ fn is_silent(logged: &Logged) -> bool
     logged.ended.is_none() && !matches!(logged.made, Move::Note(_) | Move::Report(_))
 }
 
-/// A report under way: its lines, what the frames were begun for, whether the directive printed nothing but steps yet,
-/// and the lines of the shows to come.
+/// A report under way: its lines, what the frames were begun for, whether the directive printed nothing but steps and waits
+/// yet, and the lines of the shows to come.
 #[derive(Drop)]
 pub(crate) struct Course<'a> {
     page: Page,
@@ -66,7 +76,7 @@ impl<'a> Course<'a> {
     fn say(&mut self, number: u32, line: Line<'_>) -> Result<(), AllocError>
         ensures { OnOk result (self.new ≡ pages.say self.old number (line_of line.entry)) }
     {
-        self.silent = self.silent && matches!(line, Line::Makes(..));
+        self.silent = self.silent && matches!(line, Line::Makes(..) | Line::Waits(_));
         self.page.put(number, line)
     }
 
@@ -168,18 +178,33 @@ impl<'a> Course<'a> {
         self.page.paste(text.as_str())
     }
 
-    /// Prints the lines of an item that is no step.
+    /// Prints the line of ticks, where a step waited for them.
+    fn waited(&mut self, waited: bool, number: u32, ticks: u32) -> Result<(), AllocError>
+        ensures { OnOk result (self.new ≡ pages.say_all self.old number (spec.wait_lines waited ticks)) }
+    {
+        if waited {
+            self.say(number, Line::Waits(ticks))?;
+        }
+        Ok(())
+    }
+
+    /// Prints the lines of an item that is no step, with those behind it.
     fn other(
         &mut self,
         traced: bool,
         directive: &Directive,
         words: &[u32],
         item: &Item,
+        after: &[Item],
     ) -> Result<(), AllocError>
-        ensures { OnOk result (self.new ≡ pages.entry_put traced directive.now self.old (entry_at words.now item.now)) }
+        ensures { OnOk result (self.new ≡ pages.entry_put traced directive.now self.old (spec.steps_next (spec.own_entries directive.now.line (entries words.now after.now))) (entry_at words.now item.now)) }
     {
         match &item.what {
             What::Happened(Hardware::Show(_)) => self.show(),
+            What::Happened(Hardware::Tick(ticks)) => {
+                let waited = traced && steps_next(directive.line, after);
+                self.waited(waited, directive.line, *ticks)
+            }
             What::Happened(_) => Ok(()),
             What::Begun => self.frames.begin(purpose_of(&directive.order)),
             What::Held(cause) => self.say(directive.line, Line::Holds(*cause)),
@@ -191,19 +216,20 @@ impl<'a> Course<'a> {
         }
     }
 
-    /// Prints the lines of an item of a directive.
+    /// Prints the lines of an item of a directive, with those behind it.
     fn entry(
         &mut self,
         traced: bool,
         directive: &Directive,
         words: &[u32],
         item: &Item,
+        after: &[Item],
     ) -> Result<(), AllocError>
-        ensures { OnOk result (self.new ≡ pages.entry_put traced directive.now self.old (entry_at words.now item.now)) }
+        ensures { OnOk result (self.new ≡ pages.entry_put traced directive.now self.old (spec.steps_next (spec.own_entries directive.now.line (entries words.now after.now))) (entry_at words.now item.now)) }
     {
         match &item.what {
             What::Stepped(logged) => self.step(traced, directive.line, item.depth, words, logged),
-            _ => self.other(traced, directive, words, item),
+            _ => self.other(traced, directive, words, item, after),
         }
     }
 
@@ -223,13 +249,13 @@ impl<'a> Course<'a> {
             if item.line != directive.line {
                 break;
             }
-            self.entry(traced, directive, words, item)?;
+            self.entry(traced, directive, words, item, after)?;
             rest = after;
         }
         Ok(rest)
     }
 
-    /// Prints `ok` where the directive printed nothing but steps.
+    /// Prints `ok` where the directive printed nothing but steps and waits.
     fn close(&mut self, number: u32) -> Result<(), AllocError>
         ensures { OnOk result (self.new ≡ pages.closed number self.old) }
     {

@@ -13,6 +13,8 @@ pub enum Line<'a> {
     Holds(Held),
     /// A step: the frames there, its move, the value that this gave, the word that came in, and its event.
     Makes(u32, Move, u32, u32, Option<Event>),
+    /// The next step waited for a word in transfer so many ticks.
+    Waits(u32),
     /// A callback was called.
     Notes(Notice),
     /// An error was reported.
@@ -42,6 +44,7 @@ impl fmt::Display for Line<'_> {
                 let incoming = Incoming { made, received };
                 write!(f, "step {depth} {moved}{event}{incoming}")
             }
+            Line::Waits(ticks) => write!(f, "stall {ticks}"),
             Line::Notes(notice) => {
                 let noticed = Noticed(notice);
                 write!(f, "note {noticed}")

@@ -56,7 +56,7 @@ impl Page {
             Line::Errs(_) => self.tally.errors += 1,
             Line::Returns(..) => self.tally.calls += 1,
             Line::Leaves(_) => self.tally.handlers += 1,
-            Line::Makes(..) | Line::Restarts(..) | Line::Done => {}
+            Line::Makes(..) | Line::Waits(_) | Line::Restarts(..) | Line::Done => {}
         }
         Ok(())
     }

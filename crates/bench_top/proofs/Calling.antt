@@ -71,7 +71,7 @@ same_pairs (Some ps) = ap (λ (qs : List (ℕ × ℕ)). Some qs) (sym (append-ni
 
 same_faults : (o : Option Line) → HasRisen o 0 o
 same_faults None = tt
-same_faults (Some l) = omega arith
+same_faults (Some l) = (omega arith, λ none. refl)
 
 told_still : (devices : ℕ) (lines : List Line) → length lines ≡ devices → AreToldBy devices [] lines lines
 told_still devices lines there = record { count = omega (arith, there); pairs = λ k lt. same_pairs (pairs_at lines k); faults = λ k. same_faults (slice_get lines k) }

@@ -23,7 +23,8 @@ use Rattle.bench_top.specs.declared.words.Printing.{Printing}
 use Rattle.bench_top.specs.declared.words.Task.{Task}
 use Rattle.bench_top.specs.declared.words.Task.TheVariants.{Check, Run}
 use Rattle.bench_top.specs.Judged.{Ending, Judgement, Prints, Runs, Generates, ending_of, judged, judged_bytes, judged_whole, judged_script, configuration_of, judged_parts, judged_file, too_many_bytes, too_many_steps, usage, read_fault, checked, fault_or_record}
-use Rattle.bench_top.specs.Outcomes.{Concludes, Ends, IsCutOff, IsEnded, EndsOnSome, FrontOnSome, LeavesOnSome, LeavesRun, reported}
+use Rattle.bench_top.proofs.Promised.{empty_keeps}
+use Rattle.bench_top.specs.Outcomes.{Concludes, Ends, Keeps, IsCutOff, IsEnded, EndsOnSome, FrontOnSome, LeavesOnSome, LeavesRun, reported}
 use Rattle.script_runner.specs.Scripts.{IsScript}
 use Rattle.bench_top.specs.Runs.{IsWholeRun, IsStoppedRun, report_of}
 use Rattle.bench_top.specs.Statuses.{HasParts, HasConfig, HasScript, is_long, IsTooLong, IsConfigRefused, IsScriptRefused, IsChecked, IsRunnable, IsRunTooLong, IsRunDone, IsDecided}
@@ -259,7 +260,7 @@ module _ (devices : ℕ) where
 
   ends_on : (words : Option Form) (bytes : List ℕ) (j : Judgement) (status : ℕ) (entries : List Entry) (before after : Option (List ℕ)) (faults now : ℕ) → judged words bytes ≡ j → Concludes devices j status entries before after faults now →
       status ≢ 3 → status ≢ 4 → EndsOnSome devices words status entries before after
-  ends_on words bytes j status entries before after faults now is c s m = record { bytes = bytes; ended = subst (λ (k : Judgement). IsEnded devices k status entries before after) (sym is) (c.ends s m) }
+  ends_on words bytes j status entries before after faults now is c s m = record { bytes = bytes; ended = subst (λ (k : Judgement). IsEnded devices k status entries before after) (sym is) (c.ends s m); keeps = subst (λ (k : Judgement). Keeps devices k entries) (sym is) c.keeps }
 
   pub usage_ends_on : (words : Option Form) (status : ℕ) (entries : List Entry) (before after : Option (List ℕ)) (faults now : ℕ) → words ≡ None → Concludes devices (Prints usage) status entries before after faults now →
       status ≢ 3 → status ≢ 4 → EndsOnSome devices words status entries before after
@@ -277,7 +278,7 @@ module _ (devices : ℕ) where
   front_on : (words : Option Form) (bytes : List ℕ) (j : Judgement) (failed : Type 0) (status : ℕ) (entries : List Entry) (before after : Option (List ℕ)) (faults now : ℕ) → judged words bytes ≡ j →
       Concludes devices j status entries before after faults now → status ≡ 3 → FrontOnSome devices words failed entries before after
   front_on words bytes j failed status entries before after faults now is c s =
-      record { bytes = bytes; front = inl (subst (λ (k : Judgement). IsCutOff devices k entries before after) (sym is) (c.front s)) }
+      record { bytes = bytes; front = inl (subst (λ (k : Judgement). IsCutOff devices k entries before after) (sym is) (c.front s)); keeps = subst (λ (k : Judgement). Keeps devices k entries) (sym is) c.keeps }
 
   pub usage_front_on : (words : Option Form) (failed : Type 0) (status : ℕ) (entries : List Entry) (before after : Option (List ℕ)) (faults now : ℕ) → words ≡ None → Concludes devices (Prints usage) status entries before after faults now →
       status ≡ 3 → FrontOnSome devices words failed entries before after
@@ -293,7 +294,7 @@ module _ (devices : ℕ) where
 
   pub fault_front_on : (words : Option Form) (failed : Type 0) (status : ℕ) (entries : List Entry) (before after : Option (List ℕ)) (faults now : ℕ) → failed → Concludes devices (Prints read_fault) status entries before after faults now →
       status ≡ 3 → FrontOnSome devices words failed entries before after
-  fault_front_on words failed status entries before after faults now h c s = record { bytes = []; front = inr (h, c.front s) }
+  fault_front_on words failed status entries before after faults now h c s = record { bytes = []; front = inr (h, c.front s); keeps = empty_keeps devices (judged words []) entries (c.front s).ends.1 }
 
   -- a generated bench, and the journal where memory was wanting
   pub generated_ends_on : (words : Option Form) (seed count status : ℕ) (entries : List Entry) (before after : Option (List ℕ)) (faults now : ℕ) → words ≡ Some (Gen seed count) → Concludes devices (Generates seed count) status entries before after faults now →
@@ -306,7 +307,7 @@ module _ (devices : ℕ) where
 
   memory_on : (words : Option Form) (bytes : List ℕ) (j : Judgement) (status : ℕ) (entries : List Entry) (before after : Option (List ℕ)) (faults now : ℕ) → judged words bytes ≡ j → Concludes devices j status entries before after faults now →
       status ≡ 4 → LeavesOnSome devices words entries
-  memory_on words bytes j status entries before after faults now is c m = record { bytes = bytes; leaves = subst (λ (k : Judgement). LeavesRun devices k entries) (sym is) (c.memory m) }
+  memory_on words bytes j status entries before after faults now is c m = record { bytes = bytes; leaves = subst (λ (k : Judgement). LeavesRun devices k entries) (sym is) (c.memory m); keeps = subst (λ (k : Judgement). Keeps devices k entries) (sym is) c.keeps }
 
   pub file_memory_on : (words : Option Form) (task : Task) (bytes : List ℕ) (status : ℕ) (entries : List Entry) (before after : Option (List ℕ)) (faults now : ℕ) → words ≡ Some (File task) → length bytes ≤ 1048576 →
       Concludes devices (judged_file task (file bytes)) status entries before after faults now → status ≡ 4 → LeavesOnSome devices words entries

@@ -1,23 +1,13 @@
 -- The directives of a text may be run: each of them can be, and each service that they ask for is had.
 use Rattle.std.proofs.Common.{◌≡◌, ℕ, ◌+◌, ◌<◌, true, List, [], ◌∷◌, inl, inr, refl, sym, subst, arith}
-use Rattle.std.specs.Prelude.{◌||◌}
 use Rattle.std.proofs.lemmas.Bool.Decides.{nat_tests}
 use Rattle.std.specs.Str.Lines.{lines}
 use Rattle.mcal_base.specs.declared.directive.Directive.{Directive}
 use Rattle.mcal_base.specs.declared.directive.Order.{Order}
 use Rattle.mcal_base.specs.declared.directive.Order.TheVariants.{Call, Do, Tick, Miso, Reset}
-use Rattle.mcal_base.specs.Names.{module_of}
-use Rattle.mcal_base.specs.declared.module_name.ModuleName.{ModuleName}
-use Rattle.mcal_base.specs.declared.module_name.ModuleName.TheVariants.{Mcu, Port, Gpt, Pwm, Icu, Adc, Spi}
 use Rattle.mcal_base.specs.declared.service.Service.{Service}
+use Rattle.mcal_base.specs.declared.service.Service.TheVariants.{McuInit}
 use Rattle.mcal_base.specs.declared.directive.Reason.TheVariants as reasons
-use Rattle.mcu_driver.specs.Requests.{is_mcu}
-use Rattle.port_driver.specs.Requests.{is_port}
-use Rattle.gpt_driver.specs.Requests.{is_gpt}
-use Rattle.pwm_driver.specs.Requests.{is_pwm}
-use Rattle.icu_driver.specs.Requests.{is_icu}
-use Rattle.adc_machine.specs.Requests.{is_adc}
-use Rattle.spi_machine.specs.Requests.{is_spi}
 use Rattle.mcal_system.specs.Setting.{has_service}
 use Rattle.bench_script.specs.Productions.{HoldsOrder, HoldDirectives}
 use Rattle.bench_script.proofs.Whole.{script_is}
@@ -53,18 +43,10 @@ may_run ds read =
     record { lines = rises 0 1 (lines read.text) ds (omega arith) s.hold; built = all_obeyed 1 (lines read.text) ds s.hold; few = omega (arith, s.few) }
 
 -- each service is one that a driver has
-has_one : (m : ModuleName) → is_mcu m || (is_port m || (is_gpt m || (is_pwm m || (is_icu m || (is_adc m || is_spi m))))) ≡ true
-has_one Mcu = refl
-has_one Port = refl
-has_one Gpt = refl
-has_one Pwm = refl
-has_one Icu = refl
-has_one Adc = refl
-has_one Spi = refl
-
 served : (s : Service) → has_service s ≡ true
 unfolding has_service
-served s = has_one (module_of s)
+served McuInit = refl
+served _ = refl
 
 offered : (order : Order) → is_offered has_service order ≡ true
 offered (Call level r) = served r.service

@@ -1,20 +1,23 @@
 -- No journal is both that of a whole run and that of one which stopped.
 use Rattle.std.proofs.Common.{◌≡◌, ℕ, zero, suc, ◌+◌, Bool, true, false, List, [], ◌∷◌, ◌++◌, append-nil, refl, ap, sym, subst, ◌∙◌, arith, Option, Some, None, drop, inl, inr}
-use Rattle.std.specs.Prelude.{◌||◌, is_some, MatchBool}
+use Rattle.std.specs.Prelude.{◌||◌, is_some, nat_le, length, MatchBool}
+use Rattle.std.proofs.lemmas.Bool.Decides.{nat_tests}
+use Rattle.chip_model.specs.Chip.{wait_on}
 use Rattle.irq_control.specs.declared.held.Held.{Held}
 use Rattle.mcal_base.specs.declared.config.whole.Config.{Config}
 use Rattle.mcal_base.specs.declared.directive.Directive.{Directive}
 use Rattle.mcal_base.specs.declared.directive.Order.{Order}
 use Rattle.mcal_base.specs.declared.directive.Order.TheVariants as orders
+use Rattle.mcal_base.specs.declared.directive.Reason.TheVariants.{Watchdog}
 use Rattle.mcal_base.specs.declared.directive.Request.{Request}
 use Rattle.run_model.specs.declared.reach.Reach.{Reach}
 use Rattle.run_model.specs.declared.reach.Reach.TheVariants.{Count, Until, Whole}
 use Rattle.run_model.specs.Entry as entry
 use Rattle.run_model.specs.Entry.{Entry, Said}
-use Rattle.run_model.specs.Follows.{call_held, line_held, deeds_in, is_reached, BeginsWhole, Follows, Gives, Goes, GoesOn, IsStep}
+use Rattle.run_model.specs.Follows.{call_held, line_held, deeds_in, is_reached, BeginsWhole, Follows, Gives, Goes, GoesOn, IsOne, IsStep, ComesAwaited, Waits, ends_within}
 use Rattle.run_model.specs.Frame.{Open, resets_chip}
-use Rattle.run_model.specs.Moment.{Setting, Moment, Deed, Begins, Enters, Steps, after, after_all, start_moment}
-use Rattle.run_model.specs.Stops.{BeginsToStop, FollowsToStop, GivesToStop, GoesToStop, IsStepBefore, StopsWithin}
+use Rattle.run_model.specs.Moment.{Setting, Moment, Deed, Begins, Enters, Steps, Happens, after, after_all, start_moment}
+use Rattle.run_model.specs.Stops.{BeginsToStop, FollowsToStop, GivesToStop, GoesToStop, IsStepBefore, StopsWithin, WaitsBefore}
 use Rattle.script_runner.specs.Scripts.{LinesRise, IsScript, chip_for}
 use Rattle.mcal_system.specs.Setting.{system_setting, call_of}
 use Rattle.bench_report.specs.Report.{later_entries, own_entries}
@@ -29,11 +32,23 @@ goes_by X Y true ends e h = cc
 goes_by X Y false true e h = cc
 goes_by X Y false false e h = h
 
+-- ticks that a frame waits are no other's, and the watchdog's time doesn't end in those before a step
+within_self : (n : ℕ) → nat_le n n ≡ false → ⊥
+within_self n e = grind (arith, nat_tests)
+
+waits_not : {State Call : Type 0} (g : Setting State Call) (line : ℕ) (m : Moment State Call) (n : ℕ) (es : List Entry) (More : Type 0) → Waits g line m n es More → WaitsBefore g m n es → (More → ⊥) → ⊥
+waits_not g line m n es More h k more = by (ends_within (wait_on m.chip h.unit) (g.machine.expires m.world m.state)) h.goes
+  where
+    by : (q : Bool) → MatchBool q ((g.machine.expires m.world m.state ≡ Some n) × IsOne m line (entry.Resets Watchdog (length m.opens)) es) ((n ≡ wait_on m.chip h.unit) × ComesAwaited h.unit es × More) → ⊥
+    by true over = within_self n (subst (λ t. ends_within n t ≡ false) over.0 k.in_time)
+    by false on = more on.2
+
 step_not : {State Call : Type 0} (g : Setting State Call) (line : ℕ) (reach : Reach) (made : ℕ) (m : Moment State Call) (e : Entry) (es : List Entry) (said : Said) →
     ((n : ℕ) (deed : Deed Call) → GoesOn g line reach n (after g m deed) es → GoesToStop g line reach n (after g m deed) es → ⊥) → IsStep g line reach made m e es said (λ n deed. GoesOn g line reach n (after g m deed) es) →
-    IsStepBefore line reach made m e said (λ n deed. GoesToStop g line reach n (after g m deed) es) → ⊥
+    IsStepBefore g line reach made m e es said (λ n deed. GoesToStop g line reach n (after g m deed) es) → ⊥
 step_not g line reach made m e es (entry.Steps s) more h k =
     more (made + 1) (Steps s) (goes_by _ _ (resets_chip s.made) (is_some s.ended || is_reached reach (made + 1) s) k.2 h.2) k.3
+step_not g line reach made m e es (entry.Happens (orders.Tick n)) more h k = waits_not g line m n es _ h.2 k.2 (λ goes. more made (Happens (orders.Tick n)) goes k.3)
 step_not g line reach made m e es (entry.Happens o) more h k = k
 step_not g line reach made m e es entry.Begins more h k = k
 step_not g line reach made m e es (entry.Stays c) more h k = k
@@ -67,18 +82,19 @@ gives_not g call_of m line _ items h k = k
 
 -- ---- the items up to a stop have the directive's line
 
-before_each : {State Call : Type 0} (line : ℕ) (reach : Reach) (made : ℕ) (m : Moment State Call) (e : Entry) (es : List Entry) (said : Said) (More : (made : ℕ) → Deed Call → Type 0) →
-    ((n : ℕ) (deed : Deed Call) → More n deed → Each line any es) → IsStepBefore line reach made m e said More → Each line any (e ∷ es)
-before_each line reach made m e es (entry.Steps s) More more h = (h.0, tt, more (made + 1) (Steps s) h.3)
-before_each line reach made m e es (entry.Happens o) More more h = absurd h
-before_each line reach made m e es entry.Begins More more h = absurd h
-before_each line reach made m e es (entry.Stays c) More more h = absurd h
-before_each line reach made m e es (entry.Resets r n) More more h = absurd h
+before_each : {State Call : Type 0} (g : Setting State Call) (line : ℕ) (reach : Reach) (made : ℕ) (m : Moment State Call) (e : Entry) (es : List Entry) (said : Said) (More : (made : ℕ) → Deed Call → Type 0) →
+    ((n : ℕ) (deed : Deed Call) → More n deed → Each line any es) → IsStepBefore g line reach made m e es said More → Each line any (e ∷ es)
+before_each g line reach made m e es (entry.Steps s) More more h = (h.0, tt, more (made + 1) (Steps s) h.3)
+before_each g line reach made m e es (entry.Happens (orders.Tick n)) More more h = (h.0, tt, more made (Happens (orders.Tick n)) h.3)
+before_each g line reach made m e es (entry.Happens o) More more h = absurd h
+before_each g line reach made m e es entry.Begins More more h = absurd h
+before_each g line reach made m e es (entry.Stays c) More more h = absurd h
+before_each g line reach made m e es (entry.Resets r n) More more h = absurd h
 
 stop_each : {State Call : Type 0} (g : Setting State Call) (line : ℕ) (reach : Reach) (es : List Entry) (made : ℕ) (m : Moment State Call) → GoesToStop g line reach made m es → Each line any es
 stop_each g line reach [] made m h = tt
 stop_each g line reach (e ∷ es) made m h =
-    before_each line reach made m e es e.said (λ n deed. GoesToStop g line reach n (after g m deed) es) (λ n deed k. stop_each g line reach es n (after g m deed) k) h
+    before_each g line reach made m e es e.said (λ n deed. GoesToStop g line reach n (after g m deed) es) (λ n deed k. stop_each g line reach es n (after g m deed) k) h
 
 within_each : {State Call : Type 0} (g : Setting State Call) (line : ℕ) (reach : Reach) (m : Moment State Call) (os : List (Open Call)) (items : List Entry) → StopsWithin g line reach m os items → Each line any items
 within_each g line reach m [] items h = absurd h

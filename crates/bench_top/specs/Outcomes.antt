@@ -42,10 +42,11 @@ pub record IsEnded (devices : ℕ) (judgement : Judgement) (status : ℕ) (entri
   pub status_is : status ≡ ending.status
   pub written : Appends before after ending.text
 
--- The call ended as it is to end on some bytes, whatever is known of those that came.
+-- The call ended as it is to end on some bytes, whatever is known of those that came, and the journal keeps what is promised of their run.
 pub record EndsOnSome (devices : ℕ) (form : Option Form) (status : ℕ) (entries : List Entry) (before after : Option (List ℕ)) : Type 0 where
   pub bytes : List ℕ
   pub ended : IsEnded devices (judged form bytes) status entries before after
+  pub keeps : Keeps devices (judged form bytes) entries
 
 -- a front of a text was written
 pub record WritesFront (before after : Option (List ℕ)) (text : List ℕ) : Type 0 where
@@ -67,6 +68,7 @@ FrontOf devices judgement failed entries before after = IsCutOff devices judgeme
 pub record FrontOnSome (devices : ℕ) (form : Option Form) (failed : Type 0) (entries : List Entry) (before after : Option (List ℕ)) : Type 0 where
   pub bytes : List ℕ
   pub front : FrontOf devices (judged form bytes) failed entries before after
+  pub keeps : Keeps devices (judged form bytes) entries
 
 -- the journal where memory was wanting: none, or that of the run, which is whole or stopped at the limit of steps
 abbrev pub LeavesRun : (devices : ℕ) → Judgement → List Entry → Type 0
@@ -78,6 +80,7 @@ LeavesRun devices (Generates seed count) entries = (entries ≡ []) ⊎ IsWholeR
 pub record LeavesOnSome (devices : ℕ) (form : Option Form) (entries : List Entry) : Type 0 where
   pub bytes : List ℕ
   pub leaves : LeavesRun devices (judged form bytes) entries
+  pub keeps : Keeps devices (judged form bytes) entries
 
 -- How a call ends: its status, the items of its journal, what the sink had and has taken, and the count of the sink's faults before and after.
 pub record Concludes (devices : ℕ) (judgement : Judgement) (status : ℕ) (entries : List Entry) (before after : Option (List ℕ)) (faults now : ℕ) : Type 0 where

@@ -6,7 +6,7 @@ mod generated;
 mod input;
 mod output;
 mod refusal;
-mod run;
+pub mod run;
 mod tail;
 mod top;
 mod words;

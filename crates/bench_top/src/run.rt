@@ -19,15 +19,15 @@ use std::alloc::{AllocError, Global};
 
 /// How a run ended.
 #[derive(Drop)]
-pub(crate) struct Ran {
+pub struct Ran {
     /// All that was done.
-    pub(crate) journal: Journal,
+    pub journal: Journal,
     /// What was shown.
-    pub(crate) shown: ShownTexts,
+    pub shown: ShownTexts,
     /// Whether the run stopped, since one more step than the most would have been taken.
-    pub(crate) too_long: bool,
+    pub too_long: bool,
     /// Whether memory was not found for what was shown.
-    pub(crate) lost: bool,
+    pub lost: bool,
 }
 
 /// The directive at a place of a script.
@@ -72,7 +72,7 @@ fn keep_shown(
 
 /// Runs a script over all modules of a configuration: to its end, or until one more step than the most would be taken.
 /// Memory that is wanting for what is shown doesn't stop the run, for the journal is to tell of all that the devices were sent.
-pub(crate) fn run(
+pub fn run(
     alloc: Global,
     config: Config,
     script: &[Directive],

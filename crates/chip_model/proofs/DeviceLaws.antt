@@ -9,7 +9,7 @@ use Rattle.mcal_base.specs.declared.directive.Order.TheVariants.{Level, Detach}
 use Rattle.mcal_base.specs.declared.moves.Move.{Move}
 use Rattle.mcal_base.specs.declared.moves.Move.TheVariants.{Read, Write, Load, Store, Mask, Unmask, Note, Report}
 use Rattle.mcal_base.specs.declared.register.Reg.{Reg}
-use Rattle.mcal_base.specs.declared.register.Reg.TheVariants.{EnableSet, EnableClear, TimerRun, TimerFlags, TimerLow, TimerHigh, PulseOut, PulseFlags, CaptureCountLow, CaptureCountHigh, CaptureTimeLow, CaptureTimeHigh, CaptureInfo, ConverterState, ConverterResult, ConverterDone, ConverterAbort, TriggerFlags, SerialData, SerialReceived, SerialState, ClockLock, ResetReason, Ram}
+use Rattle.mcal_base.specs.declared.register.Reg.TheVariants.{EnableSet, EnableClear, TimerRun, TimerFlags, TimerLow, TimerHigh, PulseOut, PulseFlags, CaptureCountLow, CaptureCountHigh, CaptureTimeLow, CaptureTimeHigh, CaptureInfo, ConverterState, ConverterResult, ConverterDone, ConverterAbort, TriggerFlags, SerialData, SerialReceived, SerialState, PortLevels, PinFlip, ClockLock, ResetReason, Ram}
 use Rattle.serial_devices.specs.Lines.{Line}
 use Rattle.chip_model.specs.Devices.{ComesIn, CallsRight}
 use Rattle.chip_model.specs.Chip.{Chip, hung, register_of, value_of, has_device, waiting_after, after_read, after_write, chip_after, happened}
@@ -63,6 +63,7 @@ devices-read c (TimerLow k) = refl
 devices-read c (CaptureCountLow k) = refl
 devices-read c (CaptureTimeLow k) = refl
 devices-read c (ConverterAbort u) = refl
+devices-read c (PinFlip p) = refl
 devices-read c _ = refl
 
 devices-write : (c : Chip) (r : Reg) (v received : ℕ) → (after_write c r v received).devices ≡ c.devices
@@ -138,6 +139,8 @@ register-hung n c (ConverterDone u) = refl
 register-hung n c (ConverterAbort u) = refl
 register-hung n c (SerialReceived u) = refl
 register-hung n c (SerialState u) = refl
+register-hung n c (PortLevels q) = refl
+register-hung n c (PinFlip p) = refl
 register-hung n c TriggerFlags = refl
 register-hung n c ClockLock = refl
 register-hung n c ResetReason = refl

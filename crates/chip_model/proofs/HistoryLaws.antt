@@ -11,7 +11,7 @@ use Rattle.mcal_base.specs.declared.directive.Reason.{Reason}
 use Rattle.mcal_base.specs.declared.moves.Move.{Move}
 use Rattle.mcal_base.specs.declared.moves.Move.TheVariants.{Read, Write, Load, Store, Mask, Unmask, Note, Report}
 use Rattle.mcal_base.specs.declared.register.Reg.{Reg}
-use Rattle.mcal_base.specs.declared.register.Reg.TheVariants.{EnableSet, EnableClear, TimerLow, CaptureCountLow, CaptureTimeLow, ConverterList, ConverterGo, ConverterAbort, ConverterAck, TriggerSet, TriggerClear, TriggerFlags, SerialData, ClockPll, ClockRate, Ram}
+use Rattle.mcal_base.specs.declared.register.Reg.TheVariants.{EnableSet, EnableClear, TimerLow, CaptureCountLow, CaptureTimeLow, ConverterList, ConverterGo, ConverterAbort, ConverterAck, TriggerSet, TriggerClear, TriggerFlags, SerialData, PinFlip, ClockPll, ClockRate, Ram}
 use Rattle.chip_timers.proofs.TimerLaws as timer_laws
 use Rattle.chip_captures.specs.Captures as captures
 use Rattle.chip_converter.specs.Converters as converters
@@ -60,6 +60,7 @@ words-read c (TimerLow k) = refl
 words-read c (CaptureCountLow k) = refl
 words-read c (CaptureTimeLow k) = refl
 words-read c (ConverterAbort u) = refl
+words-read c (PinFlip p) = refl
 words-read c _ = refl
 
 pub words-write : (c : Chip) (r : Reg) (value received : ℕ) → (after_write c r value received).words ≡ c.words
@@ -114,6 +115,7 @@ ram_read c (TimerLow k) = refl
 ram_read c (CaptureCountLow k) = refl
 ram_read c (CaptureTimeLow k) = refl
 ram_read c (ConverterAbort u) = refl
+ram_read c (PinFlip p) = refl
 ram_read c _ = refl
 
 ram_write : (k : ℕ) (c : Chip) (r : Reg) (value received : ℕ) → LeavesRam k (histories.Made (Write r value) received) → slice_index (after_write c r value received).ram k ≡ slice_index c.ram k
@@ -172,6 +174,7 @@ mask_read c (TimerLow k) = refl
 mask_read c (CaptureCountLow k) = refl
 mask_read c (CaptureTimeLow k) = refl
 mask_read c (ConverterAbort u) = refl
+mask_read c (PinFlip p) = refl
 mask_read c _ = refl
 
 mask_write : (c : Chip) (r : Reg) (value received : ℕ) → is_masked (after_write c r value received) ≡ is_masked c
@@ -217,6 +220,7 @@ outside_read c (TimerLow k) = refl
 outside_read c (CaptureCountLow k) = refl
 outside_read c (CaptureTimeLow k) = refl
 outside_read c (ConverterAbort u) = refl
+outside_read c (PinFlip p) = refl
 outside_read c _ = refl
 
 outside_write : (c : Chip) (r : Reg) (value received : ℕ) → (after_write c r value received).outside ≡ c.outside
@@ -309,6 +313,7 @@ levels_read c (TimerLow k) = refl
 levels_read c (CaptureCountLow k) = refl
 levels_read c (CaptureTimeLow k) = refl
 levels_read c (ConverterAbort u) = refl
+levels_read c (PinFlip p) = refl
 levels_read c _ = refl
 
 levels_write : (c : Chip) (r : Reg) (value received : ℕ) → (after_write c r value received).converters.levels ≡ c.converters.levels
@@ -335,6 +340,7 @@ clock_read c (TimerLow k) = refl
 clock_read c (CaptureCountLow k) = refl
 clock_read c (CaptureTimeLow k) = refl
 clock_read c (ConverterAbort u) = refl
+clock_read c (PinFlip p) = refl
 clock_read c _ = refl
 
 clock_write : (c : Chip) (r : Reg) (value received : ℕ) → sets_rate (Write r value) ≡ false → (after_write c r value received).clock ≡ c.clock
@@ -405,6 +411,7 @@ now_read c (TimerLow k) = refl
 now_read c (CaptureCountLow k) = refl
 now_read c (CaptureTimeLow k) = refl
 now_read c (ConverterAbort u) = refl
+now_read c (PinFlip p) = refl
 now_read c _ = refl
 
 now_write : (c : Chip) (r : Reg) (value received : ℕ) → now_of (after_write c r value received) ≡ now_of c
@@ -431,6 +438,7 @@ wiring_read c (TimerLow k) = refl
 wiring_read c (CaptureCountLow k) = refl
 wiring_read c (CaptureTimeLow k) = refl
 wiring_read c (ConverterAbort u) = refl
+wiring_read c (PinFlip p) = refl
 wiring_read c _ = refl
 
 wiring_write : (c : Chip) (r : Reg) (value received : ℕ) → (after_write c r value received).wiring ≡ c.wiring

@@ -8,7 +8,7 @@ use Rattle.mcal_base.specs.declared.directive.Order.TheVariants.{Tick, Level, An
 use Rattle.mcal_base.specs.declared.moves.Move.{Move}
 use Rattle.mcal_base.specs.declared.moves.Move.TheVariants.{Read, Write, Load, Store, Mask, Unmask, Note, Report}
 use Rattle.mcal_base.specs.declared.register.Reg.{Reg}
-use Rattle.mcal_base.specs.declared.register.Reg.TheVariants.{EnableSet, EnableClear, TimerLow, CaptureCountLow, CaptureTimeLow, ConverterAbort, SerialData}
+use Rattle.mcal_base.specs.declared.register.Reg.TheVariants.{EnableSet, EnableClear, TimerLow, CaptureCountLow, CaptureTimeLow, ConverterAbort, SerialData, PinFlip}
 use Rattle.chip_model.specs.Waiting.{Waiting}
 use Rattle.chip_model.specs.Chip.{Chip, after_read, after_write, chip_after, happened, levelled, incoming_at, has_device}
 use Rattle.chip_model.specs.Histories.{Happening, chip_step, chip_after_all, given_by, taken_by, given_to, taken_from}
@@ -61,6 +61,7 @@ in_read c (TimerLow k) = refl
 in_read c (CaptureCountLow k) = refl
 in_read c (CaptureTimeLow k) = refl
 in_read c (ConverterAbort u) = refl
+in_read c (PinFlip p) = refl
 in_read c _ = refl
 
 abbrev Balanced : ℕ → Chip → Happening → Type 0

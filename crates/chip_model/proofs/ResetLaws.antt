@@ -12,19 +12,21 @@ use Rattle.chip_units.specs.Serials as serials
 use Rattle.chip_units.specs.Pins as pins
 use Rattle.chip_units.specs.Ram as ram
 use Rattle.chip_model.specs.declared.wiring.Wiring.{Wiring}
+use Rattle.chip_units.specs.Watchdogs as watchdogs
+use Rattle.chip_units.specs.declared.watchdog.WatchdogBlock.{WatchdogBlock}
 use Rattle.chip_model.specs.Wiring.{wiring_of}
 use Rattle.chip_model.specs.Waiting.{Waiting}
 use Rattle.chip_model.specs.Words.{blank}
 use Rattle.chip_model.specs.Chip.{Chip, power_on}
 
 pub is_power_on : (config : Config) (room : ℕ)
-    (k : clock.Clock) (t : timers.Timers) (p : pulses.Pulses) (x : captures.Captures) (a : converters.Converters) (s : serials.Serials) (d : pins.Pins) (r : List ℕ) (i : Control) (words : List ℕ) (first second : Waiting) (w : Wiring)
+    (k : clock.Clock) (t : timers.Timers) (p : pulses.Pulses) (x : captures.Captures) (a : converters.Converters) (s : serials.Serials) (d : pins.Pins) (r : List ℕ) (i : Control) (words : List ℕ) (first second : Waiting) (w : Wiring) (g : WatchdogBlock)
     → k ≡ clock.fresh 0 PowerOn → t ≡ timers.timers_fresh 0 → p ≡ pulses.pulses_fresh 0 → x ≡ captures.captures_fresh (captures.pins_in config.icu.channels) 0
     → a ≡ converters.fresh 0 converters.silent → s ≡ serials.fresh 0 → d ≡ pins.fresh → r ≡ ram.blank → i ≡ control_fresh → words ≡ blank
-    → first ≡ record { waiting = []; room = room } → second ≡ record { waiting = []; room = room } → w ≡ wiring_of config
-    → ◌≡◌ {A = Chip} (record { clock = k; timers = t; pulses = p; captures = x; converters = a; serials = s; pins = d; ram = r; control = i; words = words; outside = replicate 64 false; incoming = first ∷ second ∷ []; wiring = w; devices = 0 }) (power_on config room)
-is_power_on config room k t p x a s d r i words first second w e1 e2 e3 e4 e5 e6 e7 e8 e9 e10 e11 e12 e13 =
-    rw (e1, e2, e3, e4, e5, e6, e7, e8, e9, e10, e11, e12, e13) refl
+    → first ≡ record { waiting = []; room = room } → second ≡ record { waiting = []; room = room } → w ≡ wiring_of config → g ≡ watchdogs.fresh
+    → ◌≡◌ {A = Chip} (record { clock = k; timers = t; pulses = p; captures = x; converters = a; serials = s; pins = d; ram = r; control = i; watchdog = g; words = words; outside = replicate 64 false; incoming = first ∷ second ∷ []; wiring = w; devices = 0 }) (power_on config room)
+is_power_on config room k t p x a s d r i words first second w g e1 e2 e3 e4 e5 e6 e7 e8 e9 e10 e11 e12 e13 e14 =
+    rw (e1, e2, e3, e4, e5, e6, e7, e8, e9, e10, e11, e12, e13, e14) refl
 
 pub wires : (config : Config) (w : Wiring) → w ≡ wiring_of config → (length w.outputs ≡ 8) × (length w.sources ≡ 16)
 unfolding wiring_of

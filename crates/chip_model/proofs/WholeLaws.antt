@@ -12,7 +12,7 @@ use Rattle.mcal_base.specs.declared.layout.Array.TheVariants.{Source}
 use Rattle.mcal_base.specs.declared.moves.Move.{Move}
 use Rattle.mcal_base.specs.declared.moves.Move.TheVariants.{Read, Write, Load, Store, Mask, Unmask, Note, Report}
 use Rattle.mcal_base.specs.declared.register.Reg.{Reg}
-use Rattle.mcal_base.specs.declared.register.Reg.TheVariants.{EnableSet, EnableClear, TimerLow, CaptureCondition, CaptureMode, CaptureGateSet, CaptureGateClear, CaptureCountLow, CaptureZero, CaptureTimeLow, CapturePop, CaptureFlush, ConverterList, ConverterGo, ConverterAbort, ConverterAck, TriggerSet, TriggerClear, TriggerFlags, SerialSelect, SerialWidth, SerialData, SerialAck, Ram}
+use Rattle.mcal_base.specs.declared.register.Reg.TheVariants.{EnableSet, EnableClear, TimerLow, CaptureCondition, CaptureMode, CaptureGateSet, CaptureGateClear, CaptureCountLow, CaptureZero, CaptureTimeLow, CapturePop, CaptureFlush, ConverterList, ConverterGo, ConverterAbort, ConverterAck, TriggerSet, TriggerClear, TriggerFlags, SerialSelect, SerialWidth, SerialData, SerialAck, PinFlip, Ram}
 use Rattle.chip_timers.proofs.TimerLaws as timer_laws
 use Rattle.chip_pulses.proofs.PulseLaws as pulse_laws
 use Rattle.chip_captures.specs.Captures as captures
@@ -76,6 +76,7 @@ all_read c (TimerLow k) h = kept c _ refl refl refl refl refl refl refl h
 all_read c (CaptureCountLow k) h = kept c _ refl refl refl refl refl refl refl h
 all_read c (CaptureTimeLow k) h = kept c _ refl refl refl refl refl refl refl h
 all_read c (ConverterAbort u) h = kept c _ refl refl refl refl refl refl refl h
+all_read c (PinFlip p) h = kept c _ refl refl refl refl refl refl refl h
 all_read c _ h = h
 
 all_write : (c : Chip) (r : Reg) (value received : ℕ) → HasAll c → HasAll (after_write c r value received)
@@ -189,6 +190,7 @@ time_read c (TimerLow k) h = timed c _ refl refl refl refl refl h
 time_read c (CaptureCountLow k) h = timed c _ refl refl refl refl refl h
 time_read c (CaptureTimeLow k) h = timed c _ refl refl refl refl refl h
 time_read c (ConverterAbort u) h = timed c _ refl refl refl refl refl h
+time_read c (PinFlip p) h = timed c _ refl refl refl refl refl h
 time_read c _ h = h
 
 time_write : (c : Chip) (r : Reg) (value received : ℕ) → IsAtOneTime c → IsAtOneTime (after_write c r value received)

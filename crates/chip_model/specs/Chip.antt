@@ -1,6 +1,6 @@
 -- The chip: what each move, each hardware event and a reset leave, and what each move gives.
-use Rattle.std.specs.Prelude.{ℕ, ◌+◌, ◌*◌, ◌-◌, ◌<◌, ◌≤◌, ◌^◌, ◌++◌, nat_lt, nat_le, Bool, true, false, not, ◌&&◌, if◌then◌else◌, List, [], ◌∷◌, length, take, drop, replicate, Option, Some, None, option_map, slice_index, slice_index_or, slice_set}
-use Rattle.mcal_base.specs.Bits.{has_bit}
+use Rattle.std.specs.Prelude.{ℕ, ◌+◌, ◌*◌, ◌/◌, ◌-◌, ◌<◌, ◌≤◌, ◌^◌, max, ◌++◌, nat_lt, nat_le, Bool, true, false, not, ◌&&◌, if◌then◌else◌, List, [], ◌∷◌, length, take, drop, replicate, Option, Some, None, option_map, slice_index, slice_index_or, slice_set}
+use Rattle.mcal_base.specs.Bits.{has_bit, bit_of, bits_of}
 use Rattle.mcal_base.specs.Layout.{place_of}
 use Rattle.mcal_base.specs.declared.config.whole.Config.{Config}
 use Rattle.mcal_base.specs.declared.directive.Order.{Order}
@@ -11,7 +11,7 @@ use Rattle.mcal_base.specs.declared.layout.Array.TheVariants.{Source}
 use Rattle.mcal_base.specs.declared.moves.Move.{Move}
 use Rattle.mcal_base.specs.declared.moves.Move.TheVariants.{Read, Write, Load, Store, Mask, Unmask, Note, Report}
 use Rattle.mcal_base.specs.declared.register.Reg.{Reg}
-use Rattle.mcal_base.specs.declared.register.Reg.TheVariants.{EnableSet, EnableClear, TimerRun, TimerFlags, TimerLow, TimerHigh, PulseOut, PulseFlags, CaptureCountLow, CaptureCountHigh, CaptureTimeLow, CaptureTimeHigh, CaptureInfo, ConverterState, ConverterResult, ConverterDone, ConverterAbort, TriggerFlags, SerialData, SerialReceived, SerialState, ClockLock, ResetReason, Ram}
+use Rattle.mcal_base.specs.declared.register.Reg.TheVariants.{EnableSet, EnableClear, TimerRun, TimerFlags, TimerLow, TimerHigh, PulseOut, PulseFlags, CaptureCountLow, CaptureCountHigh, CaptureTimeLow, CaptureTimeHigh, CaptureInfo, ConverterState, ConverterResult, ConverterDone, ConverterAbort, TriggerFlags, SerialData, SerialReceived, SerialState, SerialWait, PortLevels, PinFlip, ClockLock, ResetReason, Ram}
 use Rattle.irq_control.specs.Control.{Control, control_fresh, enabling, disabling, masking}
 use Rattle.chip_timers.specs.Timers as timers
 use Rattle.chip_pulses.specs.Pulses as pulses
@@ -22,6 +22,8 @@ use Rattle.chip_converter.specs.Rounds as rounds
 use Rattle.chip_units.specs.Serials as serials
 use Rattle.chip_units.specs.Pins as pins
 use Rattle.chip_units.specs.Ram as ram
+use Rattle.chip_units.specs.Watchdogs as watchdogs
+use Rattle.chip_units.specs.declared.watchdog.WatchdogBlock.{WatchdogBlock}
 use Rattle.chip_model.specs.declared.wiring.Wiring.{Wiring}
 use Rattle.chip_model.specs.Wiring.{wiring_of}
 use Rattle.chip_model.specs.Words.{blank}
@@ -40,6 +42,7 @@ pub record Chip : Type 0 where
   pub pins : pins.Pins
   pub ram : List ℕ
   pub control : Control
+  pub watchdog : WatchdogBlock
   pub words : List ℕ
   pub outside : List Bool
   pub incoming : List Waiting
@@ -54,6 +57,7 @@ now_of c = c.timers.time
 abbrev pub power_on : Config → (room : ℕ) → Chip
 power_on config room = record {
   clock = clock.fresh 0 PowerOn;
+  watchdog = watchdogs.fresh;
   timers = timers.timers_fresh 0;
   pulses = pulses.pulses_fresh 0;
   captures = captures.captures_fresh (captures.pins_in config.icu.channels) 0;
@@ -72,6 +76,33 @@ power_on config room = record {
 -- so many devices hang on the serial units
 abbrev pub hung : (devices : ℕ) → Chip → Chip
 hung devices c = record c { devices = devices }
+
+-- ---- pins
+
+-- the outside level of a pin
+abbrev pub outside_at : Chip → ℕ → Bool
+outside_at c p = slice_index_or c.outside p false
+
+-- the pulse channel whose output is seen at a pin, from this number on
+abbrev pub channel_from : ℕ → List (Option ℕ) → ℕ → Option ℕ
+channel_from k [] p = None
+channel_from k (x ∷ xs) p = if captures.is_pin x p then Some k else channel_from (k + 1) xs p
+
+-- the output that is seen at a pin, where a pulse channel names it
+abbrev pub output_at : Chip → ℕ → Option Bool
+output_at c p = option_map (λ k. pulses.level_at c.pulses k) (channel_from 0 c.wiring.outputs p)
+
+-- the level of a pin
+abbrev pub pin_of : Chip → ℕ → Bool
+pin_of c p = pins.level c.pins p (outside_at c p) (output_at c p)
+
+-- the levels of a port's eight pins, the first one in bit 0
+abbrev pub port_of : Chip → (q : ℕ) → ℕ
+port_of c q = bits_of (λ k. pin_of c (8 * q + k)) 8
+
+-- the latch of a pin that is out becomes the other level
+abbrev pub flipped : Chip → (p : ℕ) → Chip
+flipped c p = record c { pins = pins.flip c.pins p }
 
 -- ---- moves
 
@@ -95,17 +126,21 @@ register_of c (ConverterAbort u) = converters.read_of c.converters (ConverterAbo
 register_of c TriggerFlags = converters.read_of c.converters TriggerFlags
 register_of c (SerialReceived u) = serials.read_of c.serials (SerialReceived u)
 register_of c (SerialState u) = serials.read_of c.serials (SerialState u)
+register_of c (SerialWait u) = serials.read_of c.serials (SerialWait u)
+register_of c (PortLevels q) = port_of c q
+register_of c (PinFlip p) = bit_of (pin_of (flipped c p) p)
 register_of c ClockLock = clock.read_of c.clock ClockLock
 register_of c ResetReason = clock.read_of c.clock ResetReason
 register_of c (Ram k) = ram.read_of c.ram (Ram k)
 register_of c _ = 0
 
--- what a read leaves: three kinds of reads act
+-- what a read leaves: four kinds of reads act
 abbrev pub after_read : Chip → Reg → Chip
 after_read c (TimerLow k) = record c { timers = timers.after_read c.timers (TimerLow k) }
 after_read c (CaptureCountLow k) = record c { captures = captures.after_read c.captures (CaptureCountLow k) }
 after_read c (CaptureTimeLow k) = record c { captures = captures.after_read c.captures (CaptureTimeLow k) }
 after_read c (ConverterAbort u) = record c { converters = converters.after_read c.converters (ConverterAbort u) }
+after_read c (PinFlip p) = flipped c p
 after_read c _ = c
 
 -- the words that wait to come in on a serial unit
@@ -142,6 +177,7 @@ after_write c EnableClear value received = record c { control = disabling c.cont
 after_write c (SerialData u) value received = word_begun c u received
 after_write c r value received = record c {
   clock = clock.after_write c.clock r value;
+  watchdog = watchdogs.after_write c.watchdog c.clock.osc r value;
   timers = timers.after_write c.timers r value;
   pulses = pulses.after_write c.pulses r value;
   captures = captures.after_write c.captures r value;
@@ -184,10 +220,6 @@ ticked c n = record c {
   converters = converters.ticked c.converters (n * c.clock.rate);
   serials = serials.ticked c.serials (n * c.clock.rate);
 }
-
--- the outside level of a pin
-abbrev pub outside_at : Chip → ℕ → Bool
-outside_at c p = slice_index_or c.outside p false
 
 abbrev pub is_other : Bool → Bool → Bool
 is_other true v = not v
@@ -235,12 +267,32 @@ CanHappen c (Miso u ws) = (u < 2) × (length ws ≤ (incoming_at c u).room)
 CanHappen c (Fill channel ws) = (channel < 16) × (source_length c channel ≤ 64)
 CanHappen c _ = Unit {0}
 
+-- ---- what a run waits for
+
+-- the ticks of the oscillator that are left until the watchdog's time ends, where it runs
+abbrev pub expiry_of : Chip → Option ℕ
+expiry_of c = watchdogs.expiry c.watchdog c.clock.osc
+
+-- the ticks of the oscillator that make so many peripheral ticks, at this rate
+abbrev pub ticks_for : (peripheral rate : ℕ) → ℕ
+ticks_for peripheral rate = (peripheral + (max 1 rate - 1)) / max 1 rate
+
+-- the ticks of the oscillator until no word is in transfer on a serial unit
+abbrev pub wait_on : Chip → (u : ℕ) → ℕ
+wait_on c u = ticks_for (serials.left (serials.unit_at c.serials u) c.serials.time) c.clock.rate
+
+-- the ticks that a move waits for: a read of `S<u>.WAIT` for the word in transfer on its unit, and any other for none
+abbrev pub stall_of : Chip → Move → ℕ
+stall_of c (Read (SerialWait u)) = wait_on c u
+stall_of c _ = 0
+
 -- ---- resets
 
 -- what a reset leaves: all registers, RAM words and driver words are 0; the times go on, and what stands outside stays
 abbrev pub reset_chip : Chip → Reason → Chip
 reset_chip c reason = record c {
   clock = clock.fresh c.clock.osc reason;
+  watchdog = watchdogs.fresh;
   timers = timers.timers_fresh c.timers.time;
   pulses = pulses.pulses_fresh c.pulses.time;
   captures = captures.captures_fresh c.captures.pins c.captures.time;
@@ -270,16 +322,3 @@ is_pending c line = flag_of c line && has_bit c.control.enabled line
 
 abbrev pub is_masked : Chip → Bool
 is_masked c = c.control.masked
-
--- the pulse channel whose output is seen at a pin, from this number on
-abbrev pub channel_from : ℕ → List (Option ℕ) → ℕ → Option ℕ
-channel_from k [] p = None
-channel_from k (x ∷ xs) p = if captures.is_pin x p then Some k else channel_from (k + 1) xs p
-
--- the output that is seen at a pin, where a pulse channel names it
-abbrev pub output_at : Chip → ℕ → Option Bool
-output_at c p = option_map (λ k. pulses.level_at c.pulses k) (channel_from 0 c.wiring.outputs p)
-
--- the level of a pin
-abbrev pub pin_of : Chip → ℕ → Bool
-pin_of c p = pins.level c.pins p (outside_at c p) (output_at c p)

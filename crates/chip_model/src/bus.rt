@@ -1,10 +1,11 @@
-ghost use Rattle.std.specs.Prelude.{◌≡◌, ◌<◌, ◌≤◌, IfOk, length, map, slice_index, vec_len};
-ghost use Rattle.mcal_base.specs.Bits.{has_bit};
-ghost use Rattle.mcal_base.specs.declared.moves.Move.TheVariants.{Write};
+ghost use Rattle.std.specs.Prelude.{◌≡◌, ◌≢◌, ℕ, ◌<◌, ◌≤◌, ◌*◌, IfOk, length, map, slice_index, vec_len};
+ghost use Rattle.mcal_base.specs.Bits.{has_bit, bit_of};
+ghost use Rattle.mcal_base.specs.declared.moves.Move.TheVariants.{Read, Write};
 ghost use Rattle.mcal_base.specs.declared.register.Reg.TheVariants.{SerialData};
-ghost use Rattle.chip_model.specs.Chip.{power_on, register_of, after_read, has_device, word_begun, hung, after_write, word_of, value_of, chip_after, ticked, outside_at, levelled, filled, happened, CanHappen, reset_chip, flag_of, is_pending, is_masked, channel_from, output_at, pin_of};
+ghost use Rattle.chip_model.specs.Chip.{power_on, port_of, flipped, next_word, register_of, after_read, has_device, word_begun, hung, after_write, word_of, value_of, chip_after, ticked, outside_at, levelled, filled, happened, CanHappen, expiry_of, ticks_for, wait_on, stall_of, reset_chip, flag_of, is_pending, is_masked, channel_from, output_at, pin_of};
 ghost use Rattle.mcal_base.specs.Reach.{CanApply};
 ghost use Rattle.chip_model.specs.Devices.{ComesIn, CallsRight};
+ghost use Rattle.chip_units.specs.Serials.{unit_at, outgoing};
 
 use crate::incoming::Incoming;
 use crate::wiring::Wiring;
@@ -13,15 +14,17 @@ use chip_captures::CaptureBlock;
 use chip_converter::ConverterBlock;
 use chip_pulses::PulseBlock;
 use chip_timers::TimerBlock;
-use chip_units::{ClockBlock, PinBlock, RamBlock, SerialBlock};
+use chip_units::{ClockBlock, PinBlock, RamBlock, SerialBlock, WatchdogBlock};
 use irq_control::Irq;
 use mcal_base::{Config, Directive, Move, NoMemory, Order, Reason, Reg, SOURCES, WORDS};
 use serial_devices::{SerialDevice, call};
 use std::alloc::Global;
 use std::marker::Model;
 
-/// How many pins there are.
+/// How many pins there are, and how many of them a port has.
 const PINS: u32 = 64;
+
+const PORT_PINS: u32 = 8;
 
 /// What a move gave.
 #[derive(Clone, Copy)]
@@ -44,6 +47,7 @@ pub struct Bus {
     pins: PinBlock,
     ram: RamBlock,
     irq: Irq,
+    watchdog: WatchdogBlock,
     words: Vec<u32>,
     outside: [bool; 64],
     incoming: [Incoming; 2],
@@ -58,7 +62,7 @@ impl Model for Bus {
 
     ghost Value = { Chip };
 
-    ghost view = { λ b. record { clock = b.clock; timers = b.timers; pulses = b.pulses; captures = b.captures; converters = b.converters; serials = b.serials; pins = b.pins; ram = b.ram; control = b.irq; words = b.words.items; outside = b.outside; incoming = b.incoming; wiring = b.wiring; devices = b.devices } };
+    ghost view = { λ b. record { clock = b.clock; timers = b.timers; pulses = b.pulses; captures = b.captures; converters = b.converters; serials = b.serials; pins = b.pins; ram = b.ram; control = b.irq; watchdog = b.watchdog; words = b.words.items; outside = b.outside; incoming = b.incoming; wiring = b.wiring; devices = b.devices } };
 
     ghost invariant = { λ b. (length b.words.items ≡ WORDS) × (length b.outside ≡ 64) × (length b.incoming ≡ 2) × (length b.wiring.outputs ≡ 8) × (length b.wiring.sources ≡ 16) × (b.pulses.time ≡ b.timers.time) × (b.captures.time ≡ b.timers.time) × (b.converters.time ≡ b.timers.time) × (b.serials.time ≡ b.timers.time) };
 }
@@ -85,6 +89,7 @@ impl Bus {
             pins: PinBlock::new(config),
             ram: RamBlock::new(config),
             irq: Irq::new(),
+            watchdog: WatchdogBlock::new(config),
             words,
             outside: [false; 64],
             incoming: [first, second],
@@ -112,6 +117,24 @@ impl Bus {
     {
         self.devices = rack.len();
         self.make(made, rack)
+    }
+
+    /// Makes a move whose word that comes in is known, as a journal tells it: no device is called.
+    pub fn replay(&mut self, made: &Move, received: u32) -> u32
+        requires there { CanApply made.now }
+        ensures value { result ≡ value_of self.old made.now }
+        ensures state { self.new ≡ chip_after self.old made.now received }
+    {
+        match *made {
+            Move::Read(reg) => return self.read(reg),
+            Move::Load(number) => return self.words[number as usize],
+            Move::Write(reg, value) => self.rewrite(reg, value, received),
+            Move::Store(number, word) => self.words[number as usize] = word,
+            Move::Mask => self.irq.mask(),
+            Move::Unmask => self.irq.unmask(),
+            Move::Note(_) | Move::Report(_) => {}
+        }
+        0
     }
 
     /// Makes a move, where as many devices hang on the serial units as are in the rack.
@@ -142,6 +165,7 @@ impl Bus {
 
     /// Reads a register.
     fn read(&mut self, reg: Reg) -> u32
+        requires there { CanApply (Read reg) }
         ensures value { result ≡ register_of self.old reg }
         ensures state { self.new ≡ after_read self.old reg }
     {
@@ -160,11 +184,38 @@ impl Bus {
             | Reg::ConverterDone(_)
             | Reg::ConverterAbort(_)
             | Reg::TriggerFlags => self.converters.read(reg),
-            Reg::SerialReceived(_) | Reg::SerialState(_) => self.serials.read(reg),
+            Reg::SerialReceived(_) | Reg::SerialState(_) | Reg::SerialWait(_) => {
+                self.serials.read(reg)
+            }
+            Reg::PortLevels(port) => self.port(port),
+            Reg::PinFlip(pin) => self.flip(pin),
             Reg::ClockLock | Reg::ResetReason => self.clock.read(reg),
             Reg::Ram(_) => self.ram.read(reg),
             _ => 0,
         }
+    }
+
+    /// The latch of a pin that is out becomes the other level. Answers the pin's level after that, as a bit.
+    fn flip(&mut self, pin: u32) -> u32
+        ensures value { result ≡ bit_of (pin_of self.new pin) }
+        ensures state { self.new ≡ flipped self.old pin }
+    {
+        self.pins.flip(pin);
+        if self.pin(pin) { 1 } else { 0 }
+    }
+
+    /// The levels of a port's eight pins, the first one in bit 0.
+    fn port(&self, port: u32) -> u32
+        requires { port < 8 }
+        ensures { result ≡ port_of self.now port }
+    {
+        let mut bits = 0;
+        for place in 0..PORT_PINS {
+            if self.pin(PORT_PINS * port + place) {
+                bits |= 1 << place;
+            }
+        }
+        bits
     }
 
     /// Whether a serial unit selects a device that is there.
@@ -195,6 +246,17 @@ impl Bus {
         received
     }
 
+    /// Begins a word on a serial unit again, whose word that comes in is known.
+    fn begin_again(&mut self, unit: u32, sent: u32, received: u32)
+        requires there { unit < 2 }
+        ensures { self.new ≡ word_begun self.old unit received }
+    {
+        if !self.has_device(unit) {
+            self.incoming[unit as usize].take();
+        }
+        self.serials.word(unit, sent, received);
+    }
+
     /// Writes a register, and answers the word that comes in where that begins a serial word, else 0.
     fn write(&mut self, reg: Reg, value: u32, rack: &mut Vec<Box<dyn SerialDevice>>) -> u32
         requires there { CanApply (Write reg value) }
@@ -207,6 +269,26 @@ impl Bus {
         if let Reg::SerialData(unit) = reg {
             return self.begin_word(unit, value, rack);
         }
+        self.write_silently(reg, value);
+        0
+    }
+
+    /// Writes a register again, where the word that comes in is known.
+    fn rewrite(&mut self, reg: Reg, value: u32, received: u32)
+        requires there { CanApply (Write reg value) }
+        ensures { self.new ≡ after_write self.old reg value received }
+    {
+        if let Reg::SerialData(unit) = reg {
+            return self.begin_again(unit, value, received);
+        }
+        self.write_silently(reg, value);
+    }
+
+    /// Writes a register that begins no serial word.
+    fn write_silently(&mut self, reg: Reg, value: u32)
+        requires { (unit : ℕ) → reg ≢ SerialData unit }
+        ensures { self.new ≡ after_write self.old reg value 0 }
+    {
         match reg {
             Reg::EnableSet => self.irq.set(value),
             Reg::EnableClear => self.irq.clear(value),
@@ -244,8 +326,10 @@ impl Bus {
             | Reg::PinDirectionClear(_)
             | Reg::PinOutSet(_)
             | Reg::PinOutClear(_)
-            | Reg::PinMode(_) => self.pins.write(reg, value),
+            | Reg::PinMode(_)
+            | Reg::PortPut(_) => self.pins.write(reg, value),
             Reg::ClockPll | Reg::ClockRate => self.clock.write(reg, value),
+            Reg::WatchdogLoad => self.watchdog.write(self.clock.osc(), reg, value),
             Reg::Ram(_) => self.ram.write(reg, value),
             Reg::SerialData(_)
             | Reg::TimerRun
@@ -263,11 +347,41 @@ impl Bus {
             | Reg::ConverterAbort(_)
             | Reg::SerialReceived(_)
             | Reg::SerialState(_)
+            | Reg::SerialWait(_)
+            | Reg::PortLevels(_)
+            | Reg::PinFlip(_)
             | Reg::ClockLock
             | Reg::ResetReason
             | Reg::ResetRequest => {}
         }
-        0
+    }
+
+    /// The ticks of the oscillator that are left until the watchdog's time ends, where it runs.
+    pub fn expiry(&self) -> Option<u64>
+        ensures { result ≡ expiry_of self.now }
+    {
+        self.watchdog.expiry(self.clock.osc())
+    }
+
+    /// The ticks of the oscillator until no word is in transfer on a serial unit.
+    fn wait(&self, unit: u32) -> u64
+        ensures few { result ≤ 8 }
+        ensures wait { result ≡ wait_on self.now unit }
+        ensures over { wait_on (ticked self.now result) unit ≡ 0 }
+    {
+        ticks_for(self.serials.left(unit), self.clock.rate())
+    }
+
+    /// The ticks of the oscillator that a move waits for, 0 where there is nothing to wait for.
+    pub fn stall(&self, made: &Move) -> u64
+        ensures stall { result ≡ stall_of self.now made.now }
+        ensures few { result ≤ 8 }
+        ensures over { stall_of (ticked self.now result) made.now ≡ 0 }
+    {
+        match made {
+            Move::Read(Reg::SerialWait(unit)) => self.wait(*unit),
+            _ => 0,
+        }
     }
 
     /// A hardware event of the script.
@@ -346,6 +460,7 @@ impl Bus {
         self.serials.reset();
         self.pins.reset();
         self.ram.reset();
+        self.watchdog.reset();
         self.irq = Irq::new();
         words::clear(&mut self.words);
     }
@@ -394,6 +509,35 @@ impl Bus {
         self.ram.ram(number)
     }
 
+    /// The word that comes in next on a serial unit, where no device answers.
+    pub fn next_word(&self, unit: u32) -> u32
+        requires { unit < 2 }
+        ensures { result ≡ next_word self.now unit }
+    {
+        self.incoming[unit as usize].first()
+    }
+
+    /// The place of the device that is selected on a serial unit, and 1; 0 for none.
+    pub fn selected(&self, unit: u32) -> u32
+        ensures { result ≡ (unit_at self.now.serials unit).select }
+    {
+        self.serials.selected(unit)
+    }
+
+    /// The width of a word on a serial unit.
+    pub fn width(&self, unit: u32) -> u32
+        ensures { result ≡ (unit_at self.now.serials unit).width }
+    {
+        self.serials.width(unit)
+    }
+
+    /// What goes out on a serial unit where this is sent.
+    pub fn outgoing(&self, unit: u32, sent: u32) -> u32
+        ensures { result ≡ outgoing (unit_at self.now.serials unit) sent }
+    {
+        self.serials.outgoing(unit, sent)
+    }
+
     /// The level of a pin.
     pub fn pin(&self, pin: u32) -> bool
         ensures { result ≡ pin_of self.now pin }
@@ -411,6 +555,18 @@ impl Bus {
             None => None,
         }
     }
+}
+
+/// The ticks of the oscillator that make at most so many peripheral ticks, at this rate.
+fn ticks_for(peripheral: u64, rate: u32) -> u64
+    requires few { peripheral ≤ 8 }
+    requires runs { 0 < rate }
+    ensures ticks { result ≡ ticks_for peripheral rate }
+    ensures few { result ≤ 8 }
+    ensures enough { peripheral ≤ result * rate }
+{
+    let rate = u64::from(rate.max(1));
+    (peripheral + (rate - 1)) / rate
 }
 
 /// The pulse channel whose output is seen at a pin.

@@ -45,6 +45,16 @@ impl Incoming {
         self.words.extend_from_slice(words).unwrap();
     }
 
+    /// The word that comes in next; all ones where none waits.
+    pub fn first(&self) -> u32
+        ensures { result ≡ slice_index_or self.now.waiting 0 65535 }
+    {
+        match self.words.get(self.next) {
+            Some(word) => *word,
+            None => ALL_ONES,
+        }
+    }
+
     /// The word that comes in next, which waits no longer; all ones where none waits.
     pub fn take(&mut self) -> u32
         ensures word { result ≡ slice_index_or self.old.waiting 0 65535 }

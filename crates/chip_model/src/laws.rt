@@ -1,8 +1,8 @@
 //! What the chip's happenings come to, over every history.
 
-ghost use Rattle.std.specs.Prelude.{◌≡◌, ◌≢◌, ◌<◌, ◌≤◌, ◌-◌, ◌++◌, ◌&&◌, ℕ, not, true, false, Bool, Option, Some, None, List, [], ◌∷◌, slice_index, slice_index_or};
+ghost use Rattle.std.specs.Prelude.{◌≡◌, ◌≢◌, ◌<◌, ◌≤◌, ◌+◌, ◌-◌, ◌*◌, ◌++◌, ◌&&◌, ℕ, not, true, false, Bool, Option, Some, None, List, [], ◌∷◌, length, slice_index, slice_index_or};
 ghost use Rattle.std.specs.List.{AllByRecursion};
-ghost use Rattle.mcal_base.specs.Bits.{has_bit};
+ghost use Rattle.mcal_base.specs.Bits.{has_bit, bit_of};
 ghost use Rattle.mcal_base.specs.Layout.{WithinLimits, length_of};
 ghost use Rattle.mcal_base.specs.declared.TheConstants.{WORDS};
 ghost use Rattle.mcal_base.specs.declared.config.whole.Config.{Config};
@@ -11,8 +11,8 @@ ghost use Rattle.mcal_base.specs.declared.directive.Order.TheVariants.{Level};
 ghost use Rattle.mcal_base.specs.declared.directive.Reason.{Reason};
 ghost use Rattle.mcal_base.specs.declared.layout.Array.TheVariants.{Source};
 ghost use Rattle.mcal_base.specs.declared.moves.Move.{Move};
-ghost use Rattle.mcal_base.specs.declared.moves.Move.TheVariants.{Write, Store, Mask, Unmask};
-ghost use Rattle.mcal_base.specs.declared.register.Reg.TheVariants.{Ram};
+ghost use Rattle.mcal_base.specs.declared.moves.Move.TheVariants.{Read, Write, Store, Mask, Unmask};
+ghost use Rattle.mcal_base.specs.declared.register.Reg.TheVariants.{PortLevels, PinFlip, Ram};
 ghost use Rattle.chip_timers.specs.Timers as timers;
 ghost use Rattle.chip_pulses.specs.Pulses as pulses;
 ghost use Rattle.chip_captures.specs.Captures as captures;
@@ -20,7 +20,7 @@ ghost use Rattle.chip_converter.specs.Converters as converters;
 ghost use Rattle.chip_converter.specs.Rounds as rounds;
 ghost use Rattle.chip_units.specs.Serials as serials;
 ghost use Rattle.chip_units.specs.Pins as pins;
-ghost use Rattle.chip_model.specs.Chip.{Chip, power_on, chip_after, happened, now_of, reset_chip, levelled, outside_at, word_of, is_masked, is_pending, incoming_at, source_length, channel_from, pin_of};
+ghost use Rattle.chip_model.specs.Chip.{Chip, power_on, value_of, chip_after, happened, now_of, reset_chip, levelled, outside_at, word_of, is_masked, is_pending, incoming_at, source_length, channel_from, pin_of};
 ghost use Rattle.chip_model.specs.Histories.{Happening, chip_step, chip_after_all, chip_of, HasAll, IsAtOneTime, FillsThere, sets_rate, LeavesWord, LeavesRam, LeavesMask, LeavesLevel, given_to, taken_from, detaches_in};
 
 /// The chip after a history and one happening more is what that happening leaves. So a bus whose value is the
@@ -102,6 +102,20 @@ pub fn level_of_a_pin()
         → channel_from 0 c.wiring.outputs p ≡ None → pin_of c p ≡ pins.latch c.pins p }
     ensures other_mode { (c : Chip) (p : ℕ) → pins.is_out c.pins p ≡ true → pins.is_pulse (pins.mode c.pins p) ≡ false
         → pin_of c p ≡ pins.latch c.pins p }
+{}
+
+/// A read of `Q<q>.IN` has the level of each of the port's pins in its bit. A read of `F<p>.FLIP` gives the level that
+/// the pin has after it, and inverts the latch of that pin alone, if it is out.
+pub fn levels_of_ports()
+    ensures port { (c : Chip) (q k : ℕ) → k < 8 → has_bit (value_of c (Read (PortLevels q))) k ≡ pin_of c (8 * q + k) }
+    ensures value { (c : Chip) (p received : ℕ)
+        → value_of c (Read (PinFlip p)) ≡ bit_of (pin_of (chip_after c (Read (PinFlip p)) received) p) }
+    ensures flips { (c : Chip) (p received : ℕ) → p < 64 → length c.pins.latches ≡ 2 → pins.is_out c.pins p ≡ true
+        → pins.latch (chip_after c (Read (PinFlip p)) received).pins p ≡ not (pins.latch c.pins p) }
+    ensures others { (c : Chip) (p q received : ℕ) → q ≢ p
+        → pins.latch (chip_after c (Read (PinFlip q)) received).pins p ≡ pins.latch c.pins p }
+    ensures inside { (c : Chip) (p received : ℕ) → pins.is_out c.pins p ≡ false
+        → pins.latch (chip_after c (Read (PinFlip p)) received).pins p ≡ pins.latch c.pins p }
 {}
 
 /// The outside level of a pin is that of its last event. No move and no reset changes it.

@@ -1,5 +1,5 @@
 -- The clock block: the PLL, the rate of peripheral time, and why the chip was reset.
-use Rattle.std.specs.Prelude.{ℕ, ◌+◌, ◌-◌, Bool, false, ◌==◌, nat_le, if◌then◌else◌, Option, Some, None}
+use Rattle.std.specs.Prelude.{ℕ, ◌+◌, ◌-◌, ◌<◌, Bool, false, ◌==◌, nat_le, if◌then◌else◌, Option, Some, None}
 use Rattle.mcal_base.specs.Bits.{bit_of}
 use Rattle.mcal_base.specs.declared.register.Reg.{Reg}
 use Rattle.mcal_base.specs.declared.register.Reg.TheVariants.{ClockPll, ClockLock, ClockRate, ResetReason}
@@ -18,6 +18,14 @@ pub record Clock : Type 0 where
 -- as after a reset for that reason at that time
 abbrev pub fresh : ℕ → Reason → Clock
 fresh osc reason = record { osc = osc; pll = None; rate = 1; reason = reason }
+
+-- peripheral time runs, at the rate and at the multiplier
+abbrev pub Multiplies : Option Pll → Type 0
+Multiplies None = Unit {0}
+Multiplies (Some p) = 0 < p.multiplier
+
+abbrev pub Runs : (rate : ℕ) → Option Pll → Type 0
+Runs rate pll = (0 < rate) × Multiplies pll
 
 -- the number of a reason
 abbrev pub number_of : Reason → ℕ

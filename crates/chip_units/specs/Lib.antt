@@ -5,3 +5,4 @@ pub mod Ram
 pub mod SerialAccesses
 pub mod Serials
 pub mod WriteHistories
+pub mod Watchdogs

@@ -1,8 +1,8 @@
 -- The pin block: directions, latches and modes of 64 pins, and a pin's level.
-use Rattle.std.specs.Prelude.{ℕ, ◌/◌, ◌%◌, Bool, true, false, if◌then◌else◌, Option, Some, None, unwrap_or, List, [], ◌∷◌, replicate, slice_get, slice_index, slice_index_or, slice_set, bit_or}
+use Rattle.std.specs.Prelude.{ℕ, ◌*◌, ◌/◌, ◌%◌, ◌^◌, Bool, true, false, if◌then◌else◌, Option, Some, None, unwrap_or, List, [], ◌∷◌, replicate, slice_get, slice_index, slice_index_or, slice_set, bit_and, bit_or}
 use Rattle.mcal_base.specs.Bits.{has_bit, without}
 use Rattle.mcal_base.specs.declared.register.Reg.{Reg}
-use Rattle.mcal_base.specs.declared.register.Reg.TheVariants.{PinDirectionSet, PinDirectionClear, PinOutSet, PinOutClear, PinMode}
+use Rattle.mcal_base.specs.declared.register.Reg.TheVariants.{PinDirectionSet, PinDirectionClear, PinOutSet, PinOutClear, PinMode, PortPut}
 use Rattle.mcal_base.specs.declared.config.port.PortPinMode.{PortPinMode}
 use Rattle.mcal_base.specs.declared.config.port.PortPinMode.TheVariants.{Adc, Dio, Icu, Pwm, Spi}
 
@@ -63,6 +63,36 @@ abbrev pub with_mode : List PortPinMode → ℕ → Option PortPinMode → List 
 with_mode modes p (Some m) = slice_set modes p m
 with_mode modes p None = modes
 
+-- the latch of a pin that is out becomes the other level
+abbrev pub inverted : List ℕ → (p : ℕ) → List ℕ
+inverted latches p =
+    if bit_at latches p
+    then ones_clear latches (p / 32) (2 ^ (p % 32))
+    else ones_set latches (p / 32) (2 ^ (p % 32))
+
+abbrev pub flip : Pins → ℕ → Pins
+flip b p = if is_out b p then record b { latches = inverted b.latches p } else b
+
+-- ---- ports: port q has the pins 8q to 8q + 7, the first one in bit 0
+
+-- eight bits of a port, at the places of its pins in their half
+abbrev pub at_port : (q bits : ℕ) → ℕ
+at_port q bits = bits % 256 * 2 ^ (8 * (q % 4))
+
+-- those of a port's pins that are out and whose bit of the mask is one, as bits of their half
+abbrev pub chosen : Pins → (q mask : ℕ) → ℕ
+chosen b q mask = bit_and (at_port q mask) (slice_index b.out (q / 4))
+
+-- the latches of pins of a half become their bits of the levels
+abbrev pub replaced : List ℕ → (half chosen levels : ℕ) → List ℕ
+replaced latches half chosen levels = ones_set (ones_clear latches half chosen) half (bit_and chosen levels)
+
+-- a word of 256 * mask + levels is put to a port
+abbrev pub put : Pins → (q word : ℕ) → Pins
+put b q word = record b { latches = replaced b.latches (q / 4) (chosen b q (word / 256)) (at_port q word) }
+
+-- ---- writes
+
 -- what a write leaves; a register without a stated write ignores it
 abbrev pub after_write : Pins → Reg → ℕ → Pins
 after_write b (PinDirectionSet half) value = record b { out = ones_set b.out half value }
@@ -70,4 +100,5 @@ after_write b (PinDirectionClear half) value = record b { out = ones_clear b.out
 after_write b (PinOutSet half) value = record b { latches = ones_set b.latches half value }
 after_write b (PinOutClear half) value = record b { latches = ones_clear b.latches half value }
 after_write b (PinMode p) value = record b { modes = with_mode b.modes p (mode_named value) }
+after_write b (PortPut q) value = put b q value
 after_write b _ value = b

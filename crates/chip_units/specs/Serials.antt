@@ -1,8 +1,8 @@
 -- The serial block: what each access, each word and the passing of time leave, and what each read gives.
-use Rattle.std.specs.Prelude.{ℕ, ◌+◌, ◌-◌, ◌*◌, ◌%◌, ◌^◌, min, Bool, true, false, ◌&&◌, not, ◌==◌, nat_le, if◌then◌else◌, Option, Some, None, List, [], ◌∷◌, slice_index_or, slice_set}
+use Rattle.std.specs.Prelude.{ℕ, ◌+◌, ◌-◌, ◌*◌, ◌%◌, ◌^◌, ◌≤◌, min, Bool, true, false, ◌&&◌, not, ◌==◌, nat_le, if◌then◌else◌, Option, Some, None, List, [], ◌∷◌, slice_index_or, slice_set}
 use Rattle.mcal_base.specs.Bits.{bit_of}
 use Rattle.mcal_base.specs.declared.register.Reg.{Reg}
-use Rattle.mcal_base.specs.declared.register.Reg.TheVariants.{SerialSelect, SerialWidth, SerialReceived, SerialState, SerialAck}
+use Rattle.mcal_base.specs.declared.register.Reg.TheVariants.{SerialSelect, SerialWidth, SerialReceived, SerialState, SerialWait, SerialAck}
 use Rattle.chip_units.specs.declared.serial.Word.{Word}
 use Rattle.chip_units.specs.declared.serial.Serial.{Serial}
 
@@ -38,6 +38,14 @@ in_transfer (Some w) now = not (is_done_at w now)
 
 abbrev pub is_busy : Serial → ℕ → Bool
 is_busy s now = in_transfer s.word now
+
+-- the peripheral ticks that the word in transfer still needs
+abbrev pub left_at : Option Word → ℕ → ℕ
+left_at None now = 0
+left_at (Some w) now = 8 - (now - w.start)
+
+abbrev pub left : Serial → ℕ → ℕ
+left s now = left_at s.word now
 
 -- a word has ended, and wasn't acknowledged
 abbrev pub has_ended : Option Word → ℕ → Bool
@@ -88,6 +96,15 @@ acknowledged now s = if is_done s now then record s { received = received s now;
 abbrev pub outgoing : Serial → (sent : ℕ) → ℕ
 outgoing s sent = masked s.width sent
 
+-- its word began by now
+abbrev pub HasBegun : (now : ℕ) → Option Word → Type 0
+HasBegun now None = Unit {0}
+HasBegun now (Some w) = w.start ≤ now
+
+abbrev pub AreBegun : (now : ℕ) → List Serial → Type 0
+AreBegun now [] = Unit {0}
+AreBegun now (s ∷ us) = HasBegun now s.word × AreBegun now us
+
 -- ---- the block
 
 -- as after a reset at that time
@@ -110,6 +127,7 @@ flags_of b = bit_of (is_done (unit_at b 0) b.time) * 2 ^ 26 + bit_of (is_done (u
 abbrev pub read_of : Serials → Reg → ℕ
 read_of b (SerialReceived u) = received (unit_at b u) b.time
 read_of b (SerialState u) = state (unit_at b u) b.time
+read_of b (SerialWait u) = state (unit_at b u) b.time
 read_of b _ = 0
 
 -- what a write leaves; a register without a stated write ignores it

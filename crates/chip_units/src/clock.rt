@@ -28,11 +28,13 @@ pub struct ClockBlock {
 }
 
 impl Model for ClockBlock {
-    ghost use Rattle.chip_units.specs.Clock.{Clock};
+    ghost use Rattle.chip_units.specs.Clock.{Clock, Runs};
 
     ghost Value = { Clock };
 
     ghost view = { λ b. record { osc = b.osc; pll = b.pll; rate = b.rate; reason = b.reason } };
+
+    ghost invariant = { λ b. Runs b.rate b.pll };
 
     ghost inverse = { λ b. record { osc = b.osc; pll = b.pll; rate = b.rate; reason = b.reason } };
 }
@@ -94,9 +96,17 @@ impl ClockBlock {
         self.osc += ticks;
     }
 
+    /// The time of the oscillator.
+    pub fn osc(&self) -> u64
+        ensures { result ≡ self.now.osc }
+    {
+        self.osc
+    }
+
     /// How many peripheral ticks a tick of the oscillator is.
     pub fn rate(&self) -> u32
-        ensures { result ≡ self.now.rate }
+        ensures rate { result ≡ self.now.rate }
+        ensures runs { 0 < result }
     {
         self.rate
     }

@@ -1,17 +1,17 @@
 //! What the accesses of the serial, clock and pin blocks and of the RAM words come to, over every history.
 
-ghost use Rattle.std.specs.Prelude.{◌≡◌, ◌≢◌, ℕ, ◌+◌, ◌/◌, ◌%◌, ◌^◌, ◌<◌, ◌≤◌, true, false, nat_le, Option, None, List, length};
+ghost use Rattle.std.specs.Prelude.{◌≡◌, ◌≢◌, ℕ, ◌+◌, ◌/◌, ◌%◌, ◌^◌, ◌<◌, ◌≤◌, true, false, not, nat_le, Option, None, List, length};
 ghost use Rattle.std.specs.List.{AllByRecursion};
 ghost use Rattle.mcal_base.specs.Bits.{has_bit};
 ghost use Rattle.mcal_base.specs.declared.register.Reg.{Reg};
-ghost use Rattle.mcal_base.specs.declared.register.Reg.TheVariants.{SerialReceived, ClockPll, ClockRate, PinOutSet, PinOutClear, Ram};
+ghost use Rattle.mcal_base.specs.declared.register.Reg.TheVariants.{SerialReceived, ClockPll, ClockRate, PinOutSet, PinOutClear, PortPut, Ram};
 ghost use Rattle.chip_units.specs.Serials as serials;
 ghost use Rattle.chip_units.specs.SerialAccesses as serial;
 ghost use Rattle.chip_units.specs.Clock as clock;
 ghost use Rattle.chip_units.specs.ClockAccesses as clocks;
 ghost use Rattle.chip_units.specs.Pins as pins;
 ghost use Rattle.chip_units.specs.Ram as ram;
-ghost use Rattle.chip_units.specs.WriteHistories.{pins_after, ram_after, LeavesLatch, LeavesWord};
+ghost use Rattle.chip_units.specs.WriteHistories.{PinAccess, pins_after, ram_after, LeavesLatch, LeavesWord};
 
 /// `S<u>.RX` gives the last word that ended without failing, masked by the width that stood when it began: a
 /// word that came in whole is there 8 ticks later, and one that was refused, that had a fault or that hasn't
@@ -77,16 +77,32 @@ pub fn rate_since_start()
     ensures without { (c : clock.Clock) → c.pll ≡ None → clock.after_write c ClockRate 1 ≡ c }
 {}
 
-/// A latch is what a one in the pin's bit made it last, whatever is written since with a zero there, to the
-/// other half or to other registers.
+/// A latch is what the last access that names its pin made it, whatever comes since with a zero in the pin's
+/// bit, to another half, port or pin, or to other registers: a one in `D.OUTSET` sets it and a one in `D.OUTCLR`
+/// clears it; where the pin is out, a word put to its port with a one in the mask makes it its bit of the word, and
+/// a flip makes it the other level.
 pub fn latch_written_last()
-    ensures set { (b : pins.Pins) (p bits : ℕ) (history : List (Reg × ℕ))
+    ensures set { (b : pins.Pins) (p bits : ℕ) (history : List PinAccess)
         → p < 64 → length b.latches ≡ 2 → has_bit bits (p % 32) ≡ true → AllByRecursion (LeavesLatch p) history
         → pins.latch (pins_after (pins.after_write b (PinOutSet (p / 32)) bits) history) p ≡ true }
-    ensures clear { (b : pins.Pins) (p bits : ℕ) (history : List (Reg × ℕ))
+    ensures clear { (b : pins.Pins) (p bits : ℕ) (history : List PinAccess)
         → p < 64 → length b.latches ≡ 2 → bits < 2 ^ 32 → has_bit bits (p % 32) ≡ true
         → AllByRecursion (LeavesLatch p) history
         → pins.latch (pins_after (pins.after_write b (PinOutClear (p / 32)) bits) history) p ≡ false }
+    ensures put { (b : pins.Pins) (p word : ℕ) (history : List PinAccess)
+        → p < 64 → length b.latches ≡ 2 → pins.is_out b p ≡ true → has_bit word (8 + p % 8) ≡ true
+        → AllByRecursion (LeavesLatch p) history
+        → pins.latch (pins_after (pins.after_write b (PortPut (p / 8)) word) history) p ≡ has_bit word (p % 8) }
+    ensures flip { (b : pins.Pins) (p : ℕ) (history : List PinAccess)
+        → p < 64 → length b.latches ≡ 2 → pins.is_out b p ≡ true → AllByRecursion (LeavesLatch p) history
+        → pins.latch (pins_after (pins.flip b p) history) p ≡ not (pins.latch b p) }
+{}
+
+/// The latch of a pin that is in stays, whatever is put to a port and whichever pin is inverted.
+pub fn latch_of_a_pin_that_is_in()
+    ensures put { (b : pins.Pins) (p q word : ℕ) → pins.is_out b p ≡ false
+        → pins.latch (pins.after_write b (PortPut q) word) p ≡ pins.latch b p }
+    ensures flip { (b : pins.Pins) (p q : ℕ) → pins.is_out b p ≡ false → pins.latch (pins.flip b q) p ≡ pins.latch b p }
 {}
 
 /// A RAM word reads what was written there last.

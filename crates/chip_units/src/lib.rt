@@ -9,8 +9,10 @@ mod pins;
 mod ram;
 mod serial;
 mod serials;
+mod watchdog;
 
 pub use clock::ClockBlock;
 pub use pins::PinBlock;
 pub use ram::RamBlock;
 pub use serials::SerialBlock;
+pub use watchdog::WatchdogBlock;

@@ -1,5 +1,5 @@
-ghost use Rattle.std.specs.Prelude.{◌≡◌, Bool, List, ℕ, length, slice_index, slice_set, ◌<◌};
-ghost use Rattle.chip_units.specs.Pins.{fresh, bit_at, mode, is_pulse, level, latch, mode_named, ones_set, ones_clear, with_mode, after_write};
+ghost use Rattle.std.specs.Prelude.{◌≡◌, Bool, List, ℕ, length, slice_index, slice_set, ◌<◌, ◌%◌, ◌^◌};
+ghost use Rattle.chip_units.specs.Pins.{fresh, bit_at, mode, is_pulse, level, latch, mode_named, ones_set, ones_clear, with_mode, after_write, flip, put, chosen, at_port};
 
 use crate::bits::has;
 use mcal_base::{Config, PortPinMode, Reg};
@@ -10,7 +10,8 @@ const HALVES: u32 = 2;
 
 const PINS: u32 = 64;
 
-/// The pin block: the registers `D.DIRSET0` to `D63.MODE`.
+/// The pin block: the registers `D.DIRSET0` to `D63.MODE` and `Q0.PUT` to `Q7.PUT`, and what a read of
+/// `F0.FLIP` to `F63.FLIP` leaves.
 #[derive(Drop)]
 pub struct PinBlock {
     out: [u32; 2],
@@ -57,7 +58,7 @@ impl PinBlock {
         *self = PinBlock::fresh();
     }
 
-    /// Reads a register. None of the block has a stated read.
+    /// Reads a register. None has a stated read from the block alone.
     pub fn read(&mut self, _reg: Reg) -> u32
         ensures value { result ≡ 0 }
         ensures state { self.new ≡ self.old }
@@ -76,7 +77,22 @@ impl PinBlock {
             Reg::PinOutSet(half) => set(&mut self.latches, half, value),
             Reg::PinOutClear(half) => clear(&mut self.latches, half, value),
             Reg::PinMode(pin) => self.set_mode(pin, value),
+            Reg::PortPut(port) => self.put(port, value),
             _ => {}
+        }
+    }
+
+    /// The latch of a pin becomes the other level, where the pin is out.
+    pub fn flip(&mut self, pin: u32)
+        ensures { self.new ≡ flip self.old pin }
+    {
+        if !bit(&self.out, pin) {
+            return;
+        }
+        if bit(&self.latches, pin) {
+            clear(&mut self.latches, pin / 32, place(pin));
+        } else {
+            set(&mut self.latches, pin / 32, place(pin));
         }
     }
 
@@ -118,6 +134,17 @@ impl PinBlock {
             }
         }
     }
+
+    /// The latches of a port's pins that are out and whose bit of the mask is one become their bits of the
+    /// levels; the word is 256 * mask + levels.
+    fn put(&mut self, port: u32, word: u32)
+        ensures { self.new ≡ put self.old port word }
+    {
+        let half = port / 4;
+        let chosen = at_port(port, word / 256) & half_of(&self.out, half);
+        clear(&mut self.latches, half, chosen);
+        set(&mut self.latches, half, chosen & at_port(port, word));
+    }
 }
 
 /// The mode that a number names.
@@ -139,6 +166,31 @@ fn bit(halves: &[u32; 2], pin: u32) -> bool
     ensures { result ≡ bit_at halves.now pin }
 {
     pin < PINS && has(halves[(pin / 32) as usize], pin % 32)
+}
+
+/// The bit of a pin in its half.
+fn place(pin: u32) -> u32
+    ensures { result ≡ 2 ^ (pin % 32) }
+{
+    1 << (pin % 32)
+}
+
+/// Eight bits of a port, at the places of its pins in their half.
+fn at_port(port: u32, bits: u32) -> u32
+    ensures { result ≡ at_port port bits }
+{
+    (bits % 256) << (8 * (port % 4))
+}
+
+/// A half; one that isn't there has no bits.
+fn half_of(halves: &[u32; 2], half: u32) -> u32
+    ensures { result ≡ slice_index halves.now half }
+{
+    if half < HALVES {
+        halves[half as usize]
+    } else {
+        0
+    }
 }
 
 fn set(halves: &mut [u32; 2], half: u32, bits: u32)

@@ -1,5 +1,5 @@
-ghost use Rattle.std.specs.Prelude.{◌≡◌, ◌<◌};
-ghost use Rattle.chip_units.specs.Serials.{idle, masked as masked_of, refused, is_done_at, is_busy, is_done, is_failed, received as received_of, state as state_of, begun, faulted, acknowledged, outgoing as outgoing_of};
+ghost use Rattle.std.specs.Prelude.{◌≡◌, ◌<◌, ◌≤◌, ◌+◌, ℕ};
+ghost use Rattle.chip_units.specs.Serials.{idle, left as left_of, HasBegun, masked as masked_of, refused, is_done_at, is_busy, is_done, is_failed, received as received_of, state as state_of, begun, faulted, acknowledged, outgoing as outgoing_of};
 
 /// How many peripheral ticks a word takes.
 const WORD: u64 = 8;
@@ -62,6 +62,18 @@ impl Serial {
         }
     }
 
+    /// The peripheral ticks that the word in transfer still needs, 0 without one.
+    pub fn left(&self, now: u64) -> u64
+        ensures left { result ≡ left_of self.now now }
+        ensures few { result ≤ 8 }
+        ensures over { (n : ℕ) → HasBegun now self.now.word → result ≤ n → left_of self.now (now + n) ≡ 0 }
+    {
+        match self.word {
+            Some(word) => WORD.saturating_sub(now.saturating_sub(word.start)),
+            None => 0,
+        }
+    }
+
     /// Whether a word has ended and wasn't acknowledged.
     pub fn done(&self, now: u64) -> bool
         ensures { result ≡ is_done self.now now }
@@ -107,7 +119,8 @@ impl Serial {
 
     /// Begins a word. One that is still in transfer is dropped.
     pub fn begin(&mut self, incoming: u32, now: u64)
-        ensures { self.new ≡ begun incoming now self.old }
+        ensures begun { self.new ≡ begun incoming now self.old }
+        ensures word { HasBegun now self.new.word }
     {
         self.received = self.received(now);
         self.word = Some(Word {
@@ -119,7 +132,8 @@ impl Serial {
 
     /// Makes a word in transfer fail.
     pub fn fault(&mut self, now: u64)
-        ensures { self.new ≡ faulted now self.old }
+        ensures fault { self.new ≡ faulted now self.old }
+        ensures word { HasBegun now self.old.word → HasBegun now self.new.word }
     {
         if let Some(word) = self.word {
             if !word.done(now) {
@@ -134,7 +148,8 @@ impl Serial {
 
     /// Clears done and failed.
     pub fn acknowledge(&mut self, now: u64)
-        ensures { self.new ≡ acknowledged now self.old }
+        ensures acknowledged { self.new ≡ acknowledged now self.old }
+        ensures word { HasBegun now self.old.word → HasBegun now self.new.word }
     {
         if self.done(now) {
             self.received = self.received(now);

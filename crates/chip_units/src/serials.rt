@@ -1,5 +1,5 @@
-ghost use Rattle.std.specs.Prelude.{◌≡◌, ◌+◌, ◌<◌, ◌^◌};
-ghost use Rattle.chip_units.specs.Serials.{fresh, unit_at, with_unit, outgoing as outgoing_of, flags_of, read_of, after_write, after_word, after_fault, ticked};
+ghost use Rattle.std.specs.Prelude.{◌≡◌, ℕ, ◌+◌, ◌<◌, ◌≤◌, ◌^◌};
+ghost use Rattle.chip_units.specs.Serials.{fresh, HasBegun, left as left_of, unit_at, with_unit, outgoing as outgoing_of, flags_of, read_of, after_write, after_word, after_fault, ticked};
 
 use crate::serial::Serial;
 use mcal_base::{Config, Reg};
@@ -18,13 +18,13 @@ pub struct SerialBlock {
 
 impl Model for SerialBlock {
     ghost use Rattle.std.specs.Prelude.{◌≡◌, length};
-    ghost use Rattle.chip_units.specs.Serials.{Serials};
+    ghost use Rattle.chip_units.specs.Serials.{Serials, AreBegun};
 
     ghost Value = { Serials };
 
     ghost view = { λ b. record { time = b.time; units = b.units } };
 
-    ghost invariant = { λ b. length b.units ≡ 2 };
+    ghost invariant = { λ b. (length b.units ≡ 2) × AreBegun b.time b.units };
 
     ghost inverse = { λ b. record { time = b.time; units = b.units } };
 }
@@ -60,7 +60,7 @@ impl SerialBlock {
     {
         match reg {
             Reg::SerialReceived(unit) => self.unit(unit).received(self.time),
-            Reg::SerialState(unit) => self.unit(unit).state(self.time),
+            Reg::SerialState(unit) | Reg::SerialWait(unit) => self.unit(unit).state(self.time),
             _ => 0,
         }
     }
@@ -113,11 +113,27 @@ impl SerialBlock {
         first * (1 << 26) + second * (1 << 27)
     }
 
+    /// The peripheral ticks that the word in transfer on a unit still needs, 0 without one.
+    pub fn left(&self, unit: u32) -> u64
+        ensures left { result ≡ left_of (unit_at self.now unit) self.now.time }
+        ensures few { result ≤ 8 }
+        ensures over { (n : ℕ) → result ≤ n → left_of (unit_at self.now unit) (self.now.time + n) ≡ 0 }
+    {
+        self.unit(unit).left(self.time)
+    }
+
     /// `S<u>.SELECT`: the place of the selected device plus 1, and 0 for none.
     pub fn selected(&self, unit: u32) -> u32
         ensures { result ≡ (unit_at self.now unit).select }
     {
         self.unit(unit).select
+    }
+
+    /// `S<u>.WIDTH`: the width of a word.
+    pub fn width(&self, unit: u32) -> u32
+        ensures { result ≡ (unit_at self.now unit).width }
+    {
+        self.unit(unit).width
     }
 
     /// The word that a write to `S<u>.DATA` sends: what is written, masked by the width.
@@ -128,7 +144,8 @@ impl SerialBlock {
     }
 
     fn unit(&self, unit: u32) -> Serial
-        ensures { result ≡ unit_at self.now unit }
+        ensures unit { result ≡ unit_at self.now unit }
+        ensures begun { HasBegun self.now.time result.word }
     {
         if unit < UNITS {
             self.units[unit as usize]
@@ -138,6 +155,7 @@ impl SerialBlock {
     }
 
     fn set_unit(&mut self, unit: u32, changed: Serial)
+        requires { HasBegun self.old.time changed.word }
         ensures { self.new ≡ with_unit self.old unit changed }
     {
         if unit < UNITS {

@@ -1,5 +1,5 @@
 -- How words and registers stand for the machine's state.
-use Rattle.std.specs.Prelude.{◌≡◌, ℕ, ◌+◌, ◌*◌, ◌<◌, ◌^◌, ◌%◌, ◌==◌, nat_lt, Bool, true, false, ◌&&◌, ◌||◌, not, Option, Some, None, is_some}
+use Rattle.std.specs.Prelude.{◌≡◌, ℕ, ◌+◌, ◌*◌, ◌<◌, ◌^◌, ◌%◌, ◌==◌, nat_lt, Bool, true, false, ◌&&◌, ◌||◌, not, [], Option, Some, None, is_some}
 use Rattle.chip_model.specs.Chip.{Chip, word_of}
 use Rattle.chip_timers.specs.Timers.{Timers, timer_at, expired_between}
 use Rattle.chip_timers.specs.declared.timer.Count.{Count}
@@ -131,6 +131,7 @@ gpt_setting d = record {
   window_of = λ o. 32;
   may = λ o made. gpt_may made;
   halves = halves;
+  must = λ call. [];
   fills = λ c. false;
   in_use = λ w s c. false;
   rest = λ chip w s. Unit {0};
@@ -243,6 +244,7 @@ gpt_ground d = record {
   setting = gpt_setting d;
   wired = λ chip. Unit {0};
   lines = λ l. nat_lt l 8;
+  watches = false;
   owns = λ o made. gpt_owns made;
   count = λ s. 0;
   later = λ w s order. s;

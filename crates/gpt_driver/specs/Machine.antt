@@ -239,7 +239,7 @@ served w s c = served_by w s c (wakes s.mode (channel_at s c).switches) (notifie
 abbrev pub happens : GptDriver → World → GptState → Happening Call → Option (Outcome GptState)
 happens d w s (Acts call times) = Some (acts d w s call)
 happens d w s (Serves c received) = if ready d w s c then Some (served w s c) else None
-happens d w s (Starts u received) = None
+happens d w s (Starts u made_by received) = None
 happens d w s (Aborts u) = None
 happens d w s (Moves order) = Some (outcome s tells_nothing)
 happens d w s (Restarts reason) = Some (outcome first_state tells_nothing)
@@ -255,6 +255,7 @@ gpt_machine d = record {
   ready = ready d;
   due = ready d;
   startable = λ w s u. false;
+  line_waits = λ w s line. false;
   rate = λ s. 1;
   service_of = service_of;
   expires = λ w s. None;

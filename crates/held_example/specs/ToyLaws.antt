@@ -37,6 +37,7 @@ use Rattle.service_outline.specs.Short.{short_move, short_left, ending_gave, end
 use Rattle.service_outline.specs.laws.Acts.{never_clean}
 use Rattle.service_outline.specs.laws.Both.{both_ending, both_right}
 use Rattle.service_outline.specs.laws.Ending.{goes_right}
+use Rattle.service_outline.specs.laws.Duties.{no_duties, no_units}
 use Rattle.service_outline.specs.laws.Lawful.{services_lawful}
 use Rattle.service_outline.specs.laws.Owing.{owing_basis, windows_right}
 use Rattle.service_outline.specs.Seen.{is_windowed}
@@ -241,6 +242,9 @@ bare_right = record {
   owns_plain = λ o made e. plain made e;
   may_there = λ o made e. there made e;
   enables = λ o bits line e other. absurd (cc);
+  loads = λ origin value h. h;
+  watched = λ held gap chip w s has osc h. cc;
+  unwatched = λ w s none. refl;
   owns_called = λ line made e. (Ask, e);
   used_lines = λ line e. absurd (cc);
   due_used = λ held chip w s line h e. absurd (cc);
@@ -872,7 +876,7 @@ take_right = record {
 poll_steps : (below : Holds) (chip : Chip) (w : World) (s : State) (k : Polling) (o : Origin Call) (y : ℕ) (t : Past) (m : ℕ → Bool) → Stand basis poll_bodies below chip w s k o t → Right basis poll_bodies below chip w s k o y t m
 poll_steps below chip w s polls.Act o y t m (h, Is_being) = record { may = refl; stands = tt; state = s; told = tells_nothing; begins = None; is = refl; sends = tt; acts = tt; reset = refl; next = (h, Is_being) }
 poll_steps below chip w s polls.Serve o y t m (h, Is_being) = record {
-  may = (refl, refl);
+  may = ((refl, refl), refl);
   stands = tt;
   state = s;
   told = tells_nothing;
@@ -1017,6 +1021,8 @@ toy_right = record {
   bodies = bodies_right;
   windows = free_windows toy bodies_right (λ k. refl) (λ o made h. no_windows made h);
   unseen = λ below chip w s k c h. tt;
+  writes = no_duties toy (λ k c writes. tt) (λ c. refl);
+  starts = no_units toy (λ w s l. refl);
   looks = λ below chip w s c can beside h. looks below chip w s h c beside;
   own_word = λ o. refl;
   word_there = omega arith;

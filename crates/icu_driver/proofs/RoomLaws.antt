@@ -155,7 +155,7 @@ happens_room d w s (Serves l received) out room e = by (ready d w s l) e
         let at : served d s (channel_number l) ≡ out = cc in
         subst (λ (o : Outcome IcuState). HasRoom o.state) at (served_room d s (channel_number l) room)
     by false f = absurd (cc)
-happens_room d w s (Starts u received) out room e = absurd (cc)
+happens_room d w s (Starts u made_by received) out room e = absurd (cc)
 happens_room d w s (Aborts u) out room e = absurd (cc)
 happens_room d w s (Moves order) out room e =
     let at : outcome (moved d w s order) tells_nothing ≡ out = cc in

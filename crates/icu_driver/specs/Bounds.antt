@@ -1,5 +1,5 @@
 -- What frames of the module may do, and what a run of the driver is over.
-use Rattle.std.specs.Prelude.{◌≡◌, ℕ, ◌+◌, ◌-◌, ◌*◌, ◌/◌, ◌%◌, ◌<◌, ◌==◌, nat_lt, Bool, true, false, ◌&&◌, ◌||◌, not, Option, Some, None, is_some, IsSome}
+use Rattle.std.specs.Prelude.{◌≡◌, ℕ, ◌+◌, ◌-◌, ◌*◌, ◌/◌, ◌%◌, ◌<◌, ◌==◌, nat_lt, Bool, true, false, ◌&&◌, ◌||◌, not, [], Option, Some, None, is_some, IsSome}
 use Rattle.chip_model.specs.Chip.{Chip, word_of}
 use Rattle.mcal_base.specs.Bits.{bit_of}
 use Rattle.mcal_base.specs.Layout.{is_within, own_start, place_of}
@@ -150,6 +150,7 @@ icu_setting d = record {
   window_of = window_of;
   may = λ o made. icu_may d made;
   halves = halves;
+  must = λ call. [];
   fills = λ c. false;
   in_use = λ w s c. false;
   rest = λ chip w s. (c : ℕ) → IsSome (channel_of d c) → HasStamps chip s c;

@@ -378,6 +378,7 @@ icu_ground d = record {
   setting = icu_setting d;
   wired = λ chip. WiredAs d chip.captures;
   lines = λ l. not (nat_lt l 16) && nat_lt l 24;
+  watches = false;
   owns = λ o made. icu_owns d made;
   count = λ s. 0;
   later = λ w s order. moved d w s order;

@@ -277,7 +277,7 @@ ready d w s l = ready_by (channel_of_line d l) s (channel_number l)
 abbrev pub happens : IcuDriver → World → IcuState → Happening Call → Option (Outcome IcuState)
 happens d w s (Acts call committed) = Some (acts d s call)
 happens d w s (Serves l received) = if ready d w s l then Some (served d s (channel_number l)) else None
-happens d w s (Starts u received) = None
+happens d w s (Starts u made_by received) = None
 happens d w s (Aborts u) = None
 happens d w s (Moves order) = Some (outcome (moved d w s order) tells_nothing)
 happens d w s (Restarts reason) = Some (outcome first_state tells_nothing)
@@ -289,6 +289,7 @@ icu_machine d = record {
   ready = ready d;
   due = ready d;
   startable = λ w s u. false;
+  line_waits = λ w s line. false;
   rate = λ s. 1;
   service_of = service_of;
   expires = λ w s. None;

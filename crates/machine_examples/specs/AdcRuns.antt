@@ -177,7 +177,7 @@ sets_up g = asks g (SetupResultBuffer (Some Zero))
 
 -- unit 0 starts its next round, or aborts the one that runs
 abbrev pub starting : Happening Call
-starting = Starts Adc0 0
+starting = Starts Adc0 None 0
 
 abbrev pub aborting : Happening Call
 aborting = Aborts Adc0
@@ -374,5 +374,5 @@ inputs_run =
 -- both units have a round
 abbrev pub units_run : List (Happening Call)
 units_run =
-    acting Init ∷ sets_up 0 ∷ sets_up 2 ∷ analog 0 5 ∷ analog 2 6 ∷ asks 0 StartGroupConversion ∷ asks 2 StartGroupConversion ∷ starting ∷ Starts Adc1 0 ∷ ticks 4 ∷ serving 25 ∷ serving 25
+    acting Init ∷ sets_up 0 ∷ sets_up 2 ∷ analog 0 5 ∷ analog 2 6 ∷ asks 0 StartGroupConversion ∷ asks 2 StartGroupConversion ∷ starting ∷ Starts Adc1 None 0 ∷ ticks 4 ∷ serving 25 ∷ serving 25
     ∷ asks 2 ReadGroup ∷ asks 0 GetGroupStatus ∷ serving 24 ∷ asks 0 ReadGroup ∷ []

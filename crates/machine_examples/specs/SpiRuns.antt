@@ -166,7 +166,7 @@ cancels q = acting (Sequence q Cancel)
 
 -- the first unit starts its next job, and its line is served, which may begin a word; this comes in
 abbrev pub starting : ℕ → Happening Call
-starting received = Starts Spi0 received
+starting received = Starts Spi0 None received
 
 abbrev pub serving : ℕ → Happening Call
 serving received = Serves 26 received
@@ -242,11 +242,11 @@ waiting_run =
 
 -- the sequence that isn't interruptible starts first, or the other one is requested before it starts
 abbrev pub job_on_the_second_unit : List (Happening Call)
-job_on_the_second_unit = Starts Spi1 65535 ∷ ticks 8 ∷ Serves 27 0 ∷ []
+job_on_the_second_unit = Starts Spi1 None 65535 ∷ ticks 8 ∷ Serves 27 0 ∷ []
 
 abbrev pub uninterrupted_run : List (Happening Call)
 uninterrupted_run =
-    acting Init ∷ transmits 0 ∷ Starts Spi1 65535 ∷ transmits 1 ∷ acting (Channel 0 ReadIb) ∷ ticks 8 ∷ Serves 27 0
+    acting Init ∷ transmits 0 ∷ Starts Spi1 None 65535 ∷ transmits 1 ∷ acting (Channel 0 ReadIb) ∷ ticks 8 ∷ Serves 27 0
     ∷ acting (Channel 0 ReadIb) ∷ job_on_the_second_unit ++ job_on_the_second_unit
 
 abbrev pub overtaken_run : List (Happening Call)
@@ -315,7 +315,7 @@ between_run =
 
 -- a fault comes on one unit while a job runs on the second one
 abbrev pub fault_on : ℕ → List (Happening Call)
-fault_on u = acting Init ∷ transmits 1 ∷ Starts Spi1 65535 ∷ Moves (SpiFault u) ∷ ticks 8 ∷ Serves 27 0 ∷ sequence_asked 1 ∷ job_asked 2 ∷ []
+fault_on u = acting Init ∷ transmits 1 ∷ Starts Spi1 None 65535 ∷ Moves (SpiFault u) ∷ ticks 8 ∷ Serves 27 0 ∷ sequence_asked 1 ∷ job_asked 2 ∷ []
 
 -- ---- frames
 

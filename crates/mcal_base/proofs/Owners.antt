@@ -21,7 +21,7 @@ use Rattle.mcal_base.specs.declared.config.whole.Config.{Config}
 use Rattle.mcal_base.specs.declared.layout.Array.{Array}
 use Rattle.mcal_base.specs.declared.layout.Array.TheVariants.{Round, Stamps, Source, Destination}
 use Rattle.mcal_base.specs.declared.module_name.ModuleName.{ModuleName}
-use Rattle.mcal_base.specs.declared.module_name.ModuleName.TheVariants.{Mcu, Port, Gpt, Pwm, Icu, Adc, Spi}
+use Rattle.mcal_base.specs.declared.module_name.ModuleName.TheVariants.{Mcu, Port, Gpt, Pwm, Icu, Adc, Spi, Dio, Wdg}
 use Rattle.mcal_base.proofs.Places.{Placed, placed, alone, same_number}
 
 pub within_is : (first count k : ℕ) → is_within first count k ≡ true → (first ≤ k) × (k < first + count)
@@ -55,6 +55,8 @@ own_few c Spi w =
     let few = sum_by-le (λ (x : SpiChannel). internal_words x.channel_type) 64 c.spi.channels each in
     let most : length c.spi.channels * 64 ≤ 16 * 64 = mul-le-mul_right 64 w.channels.0 in
     omega (arith, few, most, w.channels.0, w.jobs, w.sequences)
+own_few c Dio w = omega arith
+own_few c Wdg w = omega arith
 
 pub own_range : (c : Config) (m : ModuleName) (k : ℕ) → WithinLimits c → is_own_word c m k ≡ true → (own_start m ≤ k) × (k < own_start m + 8192)
 own_range c m k w h = let r = within_is (own_start m) (own_count c m) k h in (r.0, omega (arith, r.1, own_few c m w))
@@ -87,6 +89,8 @@ users_alike c Spi =
     All-append (λ a. user_of a ≡ Spi) (map (λ (x : SpiChannel). Source x.id) c.spi.channels) (map (λ (x : SpiChannel). Destination x.id) c.spi.channels)
     (all_used Spi (λ (x : SpiChannel). Source x.id) c.spi.channels (λ x. refl))
     (all_used Spi (λ (x : SpiChannel). Destination x.id) c.spi.channels (λ x. refl))
+users_alike c Dio = All-nil (λ a. user_of a ≡ Dio)
+users_alike c Wdg = All-nil (λ a. user_of a ≡ Wdg)
 
 -- the place that a word of the users holds
 pub record Holding (c : Config) (m : ModuleName) (k : ℕ) : Type 0 where
@@ -166,7 +170,7 @@ listed c (Round g (suc (suc b))) k lt = absurd (omega (arith, rw (no_buffer b) a
 -- ---- no word is two modules'
 
 module_at : ℕ → ModuleName
-module_at n = slice_index_or (Mcu ∷ Port ∷ Gpt ∷ Pwm ∷ Icu ∷ Adc ∷ Spi ∷ []) n Mcu
+module_at n = slice_index_or (Mcu ∷ Port ∷ Gpt ∷ Pwm ∷ Icu ∷ Adc ∷ Spi ∷ Dio ∷ Wdg ∷ []) n Mcu
 
 module_at-number : (m : ModuleName) → module_at (module_number m) ≡ m
 unfolding module_at
@@ -177,11 +181,13 @@ module_at-number Pwm = refl
 module_at-number Icu = refl
 module_at-number Adc = refl
 module_at-number Spi = refl
+module_at-number Dio = refl
+module_at-number Wdg = refl
 
 same_module : (m n : ModuleName) → module_number m ≡ module_number n → m ≡ n
 same_module m n e = sym (module_at-number m) ∙ ap module_at e ∙ module_at-number n
 
-few_modules : (m : ModuleName) → module_number m < 7
+few_modules : (m : ModuleName) → module_number m < 9
 few_modules Mcu = omega arith
 few_modules Port = omega arith
 few_modules Gpt = omega arith
@@ -189,6 +195,8 @@ few_modules Pwm = omega arith
 few_modules Icu = omega arith
 few_modules Adc = omega arith
 few_modules Spi = omega arith
+few_modules Dio = omega arith
+few_modules Wdg = omega arith
 
 one_of : (a b : Bool) → (a || b) ≡ true → (a ≡ true) ⊎ (b ≡ true)
 one_of true b h = inl refl

@@ -13,7 +13,7 @@ use Rattle.mcal_base.specs.declared.layout.Array.{Array}
 use Rattle.mcal_base.specs.declared.layout.Array.TheVariants.{Round, Stamps, Source, Destination}
 use Rattle.mcal_base.specs.declared.layout.TheConstants.{USERS, STAMPS, SOURCES, DESTINATIONS}
 use Rattle.mcal_base.specs.declared.module_name.ModuleName.{ModuleName}
-use Rattle.mcal_base.specs.declared.module_name.ModuleName.TheVariants.{Mcu, Port, Gpt, Pwm, Icu, Adc, Spi}
+use Rattle.mcal_base.specs.declared.module_name.ModuleName.TheVariants.{Mcu, Port, Gpt, Pwm, Icu, Adc, Spi, Dio, Wdg}
 
 -- ---- what the layout asks of a configuration
 
@@ -100,6 +100,8 @@ objects_of c Pwm = length c.pwm.channels
 objects_of c Icu = length c.icu.channels
 objects_of c Adc = length c.adc.units + length c.adc.groups
 objects_of c Spi = length c.spi.channels + length c.spi.jobs + length c.spi.sequences
+objects_of c Dio = 0
+objects_of c Wdg = 0
 
 -- the words of an internal channel, and none of another one
 abbrev pub internal_words : SpiChannelType → ℕ

@@ -178,6 +178,8 @@ module_text modules.Pwm = codes "Pwm"
 module_text modules.Icu = codes "Icu"
 module_text modules.Adc = codes "Adc"
 module_text modules.Spi = codes "Spi"
+module_text modules.Dio = codes "Dio"
+module_text modules.Wdg = codes "Wdg"
 
 -- the number of a module, in the order of the configuration
 abbrev pub module_number : ModuleName → ℕ
@@ -188,6 +190,8 @@ module_number modules.Pwm = 3
 module_number modules.Icu = 4
 module_number modules.Adc = 5
 module_number modules.Spi = 6
+module_number modules.Dio = 7
+module_number modules.Wdg = 8
 
 -- an answer, as the standard spells it
 abbrev pub answer_text : AnswerName → List ℕ

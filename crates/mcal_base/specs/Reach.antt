@@ -2,11 +2,11 @@
 use Rattle.std.specs.Prelude.{◌<◌}
 use Rattle.mcal_base.specs.declared.TheConstants.{WORDS}
 use Rattle.mcal_base.specs.declared.register.Reg.{Reg}
-use Rattle.mcal_base.specs.declared.register.Reg.TheVariants.{TimerTarget, TimerPrescaler, TimerLow, TimerHigh, PulsePeriod, PulseDuty, PulsePolarity, PulseCommit, PulseIdle, PulseOut, CaptureCondition, CaptureMode, CaptureCountLow, CaptureCountHigh, CaptureZero, CaptureTimeLow, CaptureTimeHigh, CaptureInfo, CapturePop, CaptureFlush, ConverterList, ConverterGo, ConverterState, ConverterResult, ConverterDone, ConverterAbort, ConverterAck, SerialSelect, SerialWidth, SerialData, SerialReceived, SerialState, SerialAck, PinDirectionSet, PinDirectionClear, PinOutSet, PinOutClear, PinMode, Ram}
+use Rattle.mcal_base.specs.declared.register.Reg.TheVariants.{TimerTarget, TimerPrescaler, TimerLow, TimerHigh, PulsePeriod, PulseDuty, PulsePolarity, PulseCommit, PulseIdle, PulseOut, CaptureCondition, CaptureMode, CaptureCountLow, CaptureCountHigh, CaptureZero, CaptureTimeLow, CaptureTimeHigh, CaptureInfo, CapturePop, CaptureFlush, ConverterList, ConverterGo, ConverterState, ConverterResult, ConverterDone, ConverterAbort, ConverterAck, SerialSelect, SerialWidth, SerialData, SerialReceived, SerialState, SerialWait, SerialAck, PinDirectionSet, PinDirectionClear, PinOutSet, PinOutClear, PinMode, PortPut, PortLevels, PinFlip, Ram}
 use Rattle.mcal_base.specs.declared.moves.Move.{Move}
 use Rattle.mcal_base.specs.declared.moves.Move.TheVariants.{Read, Write, Load, Store}
 
--- the register is there: 8 channels of each kind, 2 units, 2 halves of the pins, 64 pins, 512 RAM words
+-- the register is there: 8 channels of each kind, 2 units, 2 halves of the pins, 8 ports, 64 pins, 512 RAM words
 abbrev pub IsThere : Reg → Type 0
 IsThere (TimerTarget c) = c < 8
 IsThere (TimerPrescaler c) = c < 8
@@ -40,12 +40,16 @@ IsThere (SerialWidth u) = u < 2
 IsThere (SerialData u) = u < 2
 IsThere (SerialReceived u) = u < 2
 IsThere (SerialState u) = u < 2
+IsThere (SerialWait u) = u < 2
 IsThere (SerialAck u) = u < 2
 IsThere (PinDirectionSet half) = half < 2
 IsThere (PinDirectionClear half) = half < 2
 IsThere (PinOutSet half) = half < 2
 IsThere (PinOutClear half) = half < 2
 IsThere (PinMode p) = p < 64
+IsThere (PortPut q) = q < 8
+IsThere (PortLevels q) = q < 8
+IsThere (PinFlip p) = p < 64
 IsThere (Ram k) = k < 512
 IsThere _ = Unit {0}
 

@@ -18,6 +18,10 @@ pub enum ModuleName {
     Adc,
     /// `Spi`
     Spi,
+    /// `Dio`
+    Dio,
+    /// `Wdg`
+    Wdg,
 }
 
 impl ModuleName {
@@ -33,6 +37,8 @@ impl ModuleName {
             ModuleName::Icu => "Icu",
             ModuleName::Adc => "Adc",
             ModuleName::Spi => "Spi",
+            ModuleName::Dio => "Dio",
+            ModuleName::Wdg => "Wdg",
         }
     }
 }
@@ -50,6 +56,8 @@ impl ModuleName {
             ModuleName::Icu => 4,
             ModuleName::Adc => 5,
             ModuleName::Spi => 6,
+            ModuleName::Dio => 7,
+            ModuleName::Wdg => 8,
         }
     }
 }

@@ -102,6 +102,8 @@ pub enum Reg {
     SerialReceived(u32),
     /// `S<u>.STATE`: busy, done and failed.
     SerialState(u32),
+    /// `S<u>.WAIT`: as `S<u>.STATE`, once no word is in transfer.
+    SerialWait(u32),
     /// `S<u>.ACK`: a write clears done and failed.
     SerialAck(u32),
 
@@ -115,6 +117,13 @@ pub enum Reg {
     PinOutClear(u32),
     /// `D<p>.MODE`: the mode of a pin.
     PinMode(u32),
+    /// `Q<q>.PUT`: a write of 256 * M + V sets the latch of each pin of this port that is out and whose bit
+    /// of M is one to its bit of V.
+    PortPut(u32),
+    /// `Q<q>.IN`: the levels of the eight pins of this port.
+    PortLevels(u32),
+    /// `F<p>.FLIP`: a read inverts the latch of a pin that is out, and gives the pin's level after that.
+    PinFlip(u32),
 
     /// `M.PLL`: a write of a multiplier starts the PLL.
     ClockPll,
@@ -126,6 +135,8 @@ pub enum Reg {
     ResetReason,
     /// `M.RESET`: a write resets the chip.
     ResetRequest,
+    /// `W.LOAD`: a write ends the watchdog's time so many ticks later, 0 stops it.
+    WatchdogLoad,
     /// `R<k>`: a RAM word, 0 to 511.
     Ram(u32),
 }

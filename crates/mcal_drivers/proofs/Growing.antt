@@ -8,7 +8,7 @@ use Rattle.mcal_base.specs.declared.moves.Move.{Move}
 use Rattle.run_model.specs.Frame.{Origin, Called, Entered, Open, Brought, brought_by, happening_at, outcome_of, outcome_at, state_by, begun_by}
 use Rattle.run_model.specs.Machine.{Happening, Acts, Serves, Starts, Aborts, Moves, Restarts, Outcome, Machine, outcome, outcome_with, tells_nothing}
 use Rattle.run_model.specs.World.{World}
-use Rattle.step_runner.specs.Union.{lift_out, in_both, in_first, union_machine}
+use Rattle.step_runner.specs.Union.{first_call, second_call, lift_out, in_both, in_first, union_machine}
 use Rattle.step_runner.specs.declared.either.Either.TheVariants.{Left, Right}
 use Rattle.spi_machine.proofs.Runs.{some_same}
 use Rattle.spi_machine.specs.Promised.{shown_on}
@@ -41,7 +41,7 @@ module _ {S T C D : Type 0} (ours : ℕ → Bool) (f : Machine S C) (g : Machine
       by : (q : Bool) → cond q (lift_out (λ x. (x, s.1)) (f.happens w s.0 (Serves l r))) (lift_out (λ y. (s.0, y)) (g.happens w s.1 (Serves l r))) ≡ Some out → out.begins ≡ None
       by true e = lifted (λ x. (x, s.1)) (f.happens w s.0 (Serves l r)) out (a w s.0 (Serves l r)) e
       by false e = lifted (λ y. (s.0, y)) (g.happens w s.1 (Serves l r)) out (b w s.1 (Serves l r)) e
-  wordless_both a b w s (Starts u r) out e = firsts s.0 s.1 (f.happens w s.0 (Starts u r)) (g.happens w s.1 (Starts u r)) out (a w s.0 (Starts u r)) (b w s.1 (Starts u r)) e
+  wordless_both a b w s (Starts u made_by r) out e = firsts s.0 s.1 (f.happens w s.0 (Starts u (first_call made_by) r)) (g.happens w s.1 (Starts u (second_call made_by) r)) out (a w s.0 (Starts u (first_call made_by) r)) (b w s.1 (Starts u (second_call made_by) r)) e
   wordless_both a b w s (Aborts u) out e = firsts s.0 s.1 (f.happens w s.0 (Aborts u)) (g.happens w s.1 (Aborts u)) out (a w s.0 (Aborts u)) (b w s.1 (Aborts u)) e
   wordless_both a b w s (Moves order) out e = boths (f.happens w s.0 (Moves order)) (g.happens w s.1 (Moves order)) out e
   wordless_both a b w s (Restarts reason) out e = boths (f.happens w s.0 (Restarts reason)) (g.happens w s.1 (Restarts reason)) out e
@@ -56,7 +56,7 @@ Stays wire s out = (out.begins ≡ None) × (wire out.state ≡ wire s)
 abbrev pub Leaves : {S C : Type 0} → (S → List (ℕ × ℕ)) → (unit : ℕ) → Happening C → S → Outcome S → Type 0
 Leaves wire u (Acts c times) s out = Stays wire s out
 Leaves wire u (Serves l received) s out = wire out.state ≡ wire s ++ shown_on u received out.begins
-Leaves wire u (Starts k received) s out = wire out.state ≡ wire s ++ shown_on u received out.begins
+Leaves wire u (Starts k made_by received) s out = wire out.state ≡ wire s ++ shown_on u received out.begins
 Leaves wire u (Aborts k) s out = Stays wire s out
 Leaves wire u (Moves order) s out = Stays wire s out
 Leaves wire u (Restarts reason) s out = wire out.state ≡ []
@@ -102,8 +102,8 @@ module _ {S T C D : Type 0} (ours : ℕ → Bool) (f : Machine S C) (g : Machine
       by : (q : Bool) → cond q (lift_out (λ a. (a, s.1)) (f.happens w s.0 (Serves l r))) (lift_out (λ b. (s.0, b)) (g.happens w s.1 (Serves l r))) ≡ Some out → Grows s r out
       by true e = of_first (Grows s r) s (f.happens w s.0 (Serves l r)) out (λ x is. still s r x (none w s.0 (Serves l r) x is)) e
       by false e = of_second (Grows s r) s (g.happens w s.1 (Serves l r)) out (λ y is. wired w s.1 (Serves l r) y is) e
-  wired_second none wired w s (Starts k r) out e =
-      of_either (Grows s r) s (f.happens w s.0 (Starts k r)) (g.happens w s.1 (Starts k r)) out (λ x is. still s r x (none w s.0 (Starts k r) x is)) (λ y is. wired w s.1 (Starts k r) y is) e
+  wired_second none wired w s (Starts k made_by r) out e =
+      of_either (Grows s r) s (f.happens w s.0 (Starts k (first_call made_by) r)) (g.happens w s.1 (Starts k (second_call made_by) r)) out (λ x is. still s r x (none w s.0 (Starts k (first_call made_by) r) x is)) (λ y is. wired w s.1 (Starts k (second_call made_by) r) y is) e
   wired_second none wired w s (Aborts k) out e = of_either (Stays Wire s) s (f.happens w s.0 (Aborts k)) (g.happens w s.1 (Aborts k)) out (λ x is. (none w s.0 (Aborts k) x is, refl)) (λ y is. wired w s.1 (Aborts k) y is) e
   wired_second none wired w s (Moves order) out e = of_both (Stays Wire s) (f.happens w s.0 (Moves order)) (g.happens w s.1 (Moves order)) out (λ x y is. (refl, (wired w s.1 (Moves order) y is).1)) e
   wired_second none wired w s (Restarts reason) out e = of_both (λ z. Wire z.state ≡ []) (f.happens w s.0 (Restarts reason)) (g.happens w s.1 (Restarts reason)) out (λ x y is. wired w s.1 (Restarts reason) y is) e
@@ -114,7 +114,7 @@ module _ {S T C D : Type 0} (ours : ℕ → Bool) (f : Machine S C) (g : Machine
 abbrev Brings : {C : Type 0} → (received : ℕ) → Happening C → Type 0
 Brings received (Acts c times) = Unit {0}
 Brings received (Serves l r) = r ≡ received
-Brings received (Starts k r) = r ≡ received
+Brings received (Starts k made_by r) = r ≡ received
 Brings received (Aborts k) = Unit {0}
 Brings received (Moves order) = Unit {0}
 Brings received (Restarts reason) = ⊥
@@ -140,7 +140,7 @@ module _ {S C : Type 0} (mac : Machine S C) (wire : S → List (ℕ × ℕ)) (u 
   leaves_grows : (received : ℕ) (h : Happening C) (out : Outcome S) → Brings received h → Leaves wire u h s out → GrowsBy received (Some out)
   leaves_grows received (Acts c times) out b h = stays_grows received out h
   leaves_grows received (Serves l r) out b h = h ∙ ap (λ n. wire s ++ shown_on u n out.begins) b
-  leaves_grows received (Starts k r) out b h = h ∙ ap (λ n. wire s ++ shown_on u n out.begins) b
+  leaves_grows received (Starts k made_by r) out b h = h ∙ ap (λ n. wire s ++ shown_on u n out.begins) b
   leaves_grows received (Aborts k) out b h = stays_grows received out h
   leaves_grows received (Moves order) out b h = stays_grows received out h
   leaves_grows received (Restarts reason) out b h = absurd b

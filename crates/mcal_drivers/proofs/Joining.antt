@@ -6,38 +6,31 @@ use Rattle.config_facts.specs.Valid.{IsValid}
 use Rattle.mcal_base.specs.declared.config.whole.Config.{Config}
 use Rattle.mcal_base.specs.declared.module_name.ModuleName.{ModuleName}
 use Rattle.mcal_base.specs.declared.module_name.ModuleName.TheVariants.{Mcu, Port, Gpt, Pwm, Icu, Adc, Spi}
-use Rattle.step_runner.specs.Driver.{Driver, Covers}
+use Rattle.step_runner.specs.Driver.{Driver}
 use Rattle.run_model.specs.World.{World}
 use Rattle.step_runner.specs.Union.{has_handler, union_of}
 use Rattle.step_runner.specs.declared.either.Either.TheVariants.{Left, Right}
 use Rattle.step_runner.specs.Whose.{only, all_of, are_disjoint, KeepsTo}
-use Rattle.step_runner.proofs.Apart.{covers-both}
 use Rattle.step_runner.proofs.Whose.{keeps-both, disjoint-apart}
 use Rattle.mcu_driver.specs.Fits as clock_fits
 use Rattle.mcu_driver.specs.Table as clock_table
 use Rattle.mcu_driver.specs.laws.Keeps.{keeps_clock}
-use Rattle.mcu_driver.specs.laws.Lawful.{covers_clock}
 use Rattle.port_driver.specs.Fits as pin_fits
 use Rattle.port_driver.specs.Table as pin_table
 use Rattle.port_driver.specs.laws.Keeps.{keeps_pins}
-use Rattle.port_driver.specs.laws.Lawful.{covers_pins}
 use Rattle.gpt_driver.specs.Fits as timer_fits
 use Rattle.gpt_driver.specs.Table as timer_table
 use Rattle.gpt_driver.specs.laws.Keeps.{keeps_timers}
-use Rattle.gpt_driver.specs.laws.Lawful.{covers_timers}
 use Rattle.pwm_driver.specs.Fits as pulse_fits
 use Rattle.pwm_driver.specs.Table as pulse_table
 use Rattle.pwm_driver.specs.laws.Keeps.{keeps_pulses}
-use Rattle.pwm_driver.specs.laws.Lawful.{covers_pulses}
 use Rattle.icu_driver.specs.Fits as capture_fits
 use Rattle.icu_driver.specs.Table as capture_table
 use Rattle.icu_driver.specs.laws.Keeps.{keeps_captures}
-use Rattle.icu_driver.specs.laws.Lawful.{covers_captures}
 use Rattle.adc_driver.specs.laws.Fits as converter_fits
-use Rattle.adc_driver.specs.laws.Joined.{covers_joined as covers_converters, keeps_converters}
+use Rattle.adc_driver.specs.laws.Joined.{keeps_converters}
 use Rattle.adc_machine.specs.Table as converter_table
 use Rattle.spi_driver.specs.laws.Fits as serial_fits
-use Rattle.spi_driver.specs.laws.Joined.{covers_joined}
 use Rattle.spi_driver.specs.laws.Keeps.{keeps_serial}
 use Rattle.spi_machine.specs.Table as serial_table
 use Rattle.mcal_drivers.specs.Drivers.{clock, pins, timers, pulses, captures, converters, serial, as_one, system}
@@ -48,7 +41,6 @@ use Rattle.mcal_drivers.proofs.SoundSerial.{sound_serial, wired_serial}
 -- A driver of these modules that may run on these chips.
 pub record IsReady {S C F : Type 0} (mine : ModuleName → Bool) (chip_of : ℕ → Chip) (d : Driver S C F) : Type 0 where
   pub fits : d.fits
-  pub covers : Covers d
   pub wired : (room : ℕ) → d.wired (chip_of room)
   pub keeps : KeepsTo mine d
 
@@ -60,7 +52,6 @@ IsMute {S = S} {C = C} d = (w : World) (s : S) (c : C) → d.setting.machine.pol
 join : {S T C D F G : Type 0} (p q : ModuleName → Bool) (chip_of : ℕ → Chip) (d : Driver S C F) (e : Driver T D G) → are_disjoint p q ≡ true → q Mcu ≡ false → IsMute d → IsReady p chip_of d → IsReady q chip_of e → IsReady (all_of p q) chip_of (union_of d e)
 join p q chip_of d e apart still mute one other = record {
   fits = (one.fits, other.fits, disjoint-apart p q d e apart still (λ w s c. subst (λ ls. list_all (has_handler d) ls ≡ true) (sym (mute w s c)) refl) one.keeps other.keeps);
-  covers = covers-both d e one.covers other.covers;
   wired = λ room. (one.wired room, other.wired room);
   keeps = keeps-both p q d e one.keeps other.keeps;
 }
@@ -73,29 +64,29 @@ module _ (c : Config) (v : IsValid c) (devices : ℕ) where
   Ready mine d = IsReady mine power d
 
   clock_ready : Ready (only Mcu) (clock c)
-  clock_ready = record { fits = clock_fits.fits_of c.mcu (sound_clock c.mcu v.mcu); covers = covers_clock (clock_table.driver_of c.mcu); wired = λ room. tt; keeps = keeps_clock (clock_table.driver_of c.mcu) }
+  clock_ready = record { fits = clock_fits.fits_of c.mcu (sound_clock c.mcu v.mcu); wired = λ room. tt; keeps = keeps_clock (clock_table.driver_of c.mcu) }
 
   pins_ready : Ready (only Port) (pins c)
-  pins_ready = record { fits = pin_fits.fits_of c.port (sound_pins c.port v.port); covers = covers_pins (pin_table.driver_of c.port); wired = λ room. tt; keeps = keeps_pins (pin_table.driver_of c.port) }
+  pins_ready = record { fits = pin_fits.fits_of c.port (sound_pins c.port v.port); wired = λ room. tt; keeps = keeps_pins (pin_table.driver_of c.port) }
 
   timers_ready : Ready (only Gpt) (timers c)
-  timers_ready = record { fits = timer_fits.fits_of c.gpt (sound_timers c.gpt v.gpt); covers = covers_timers (timer_table.driver_of c.gpt); wired = λ room. tt; keeps = keeps_timers (timer_table.driver_of c.gpt) }
+  timers_ready = record { fits = timer_fits.fits_of c.gpt (sound_timers c.gpt v.gpt); wired = λ room. tt; keeps = keeps_timers (timer_table.driver_of c.gpt) }
 
   pulses_ready : Ready (only Pwm) (pulses c)
-  pulses_ready = record { fits = pulse_fits.fits_of c.pwm; covers = covers_pulses (pulse_table.driver_of c.pwm); wired = λ room. tt; keeps = keeps_pulses (pulse_table.driver_of c.pwm) }
+  pulses_ready = record { fits = pulse_fits.fits_of c.pwm; wired = λ room. tt; keeps = keeps_pulses (pulse_table.driver_of c.pwm) }
 
   captures_ready : Ready (only Icu) (captures c)
-  captures_ready = record { fits = capture_fits.fits_of c.icu (sound_captures c.icu v.icu); covers = covers_captures (capture_table.driver_of c.icu); wired = λ room. wired_captures c.icu 0; keeps = keeps_captures (capture_table.driver_of c.icu) }
+  captures_ready = record { fits = capture_fits.fits_of c.icu (sound_captures c.icu v.icu); wired = λ room. wired_captures c.icu 0; keeps = keeps_captures (capture_table.driver_of c.icu) }
 
   converters_ready : Ready (only Adc) (converters c)
   converters_ready =
       let fits = converter_fits.fits_of c.adc (sound_converters c.adc v.adc) in
-      record { fits = fits; covers = covers_converters (converter_table.table_of c.adc); wired = λ room. tt; keeps = keeps_converters (converter_table.table_of c.adc) fits }
+      record { fits = fits; wired = λ room. tt; keeps = keeps_converters (converter_table.table_of c.adc) fits }
 
   serial_ready : Ready (only Spi) (serial c)
   serial_ready =
       let fits = serial_fits.fits_of c.spi (sound_serial c.spi v.spi) in
-      record { fits = fits; covers = covers_joined (serial_table.table_of c.spi); wired = λ room. wired_serial c v.spi room devices; keeps = keeps_serial (serial_table.table_of c.spi) fits }
+      record { fits = fits; wired = λ room. wired_serial c v.spi room devices; keeps = keeps_serial (serial_table.table_of c.spi) fits }
 
   -- one module after another
   timed_ready : Ready (all_of (only Port) (only Gpt)) (union_of (pins c) (timers c))

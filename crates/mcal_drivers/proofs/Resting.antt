@@ -13,7 +13,7 @@ use Rattle.step_runner.specs.Driver.{Driver}
 use Rattle.step_runner.specs.Stands.{paired, AreFramesOf, IsGuarded, Stands}
 use Rattle.step_runner.specs.declared.stack.Under.{Under}
 use Rattle.step_runner.specs.Union.{Splits, Nothing_open, UnionRelates, has_handler, union_of}
-use Rattle.step_runner.proofs.Runs.{served-last}
+use Rattle.run_model.proofs.LegalLaws.{served-last}
 
 -- ---- the wiring, which stays
 

@@ -84,7 +84,7 @@ clock_acts d w s call (Some e) = refl
 clock_wordless : (d : McuDriver) → IsWordless (clock.mcu_machine d)
 clock_wordless d w s (Acts call times) out e = none_of (clock.acts d w s call) out (clock_acts d w s call _) e
 clock_wordless d w s (Serves l received) out e = absurd (cc e)
-clock_wordless d w s (Starts u received) out e = absurd (cc e)
+clock_wordless d w s (Starts u made_by received) out e = absurd (cc e)
 clock_wordless d w s (Aborts u) out e = absurd (cc e)
 clock_wordless d w s (Moves order) out e = none_of (outcome s tells_nothing) out refl e
 clock_wordless d w s (Restarts reason) out e = none_of (outcome (clock.after_reset reason) tells_nothing) out refl e
@@ -96,7 +96,7 @@ pin_acts d s call (Some e) = refl
 pins_wordless : (d : PortDriver) → IsWordless (pins.port_machine d)
 pins_wordless d w s (Acts call times) out e = none_of (pins.acts d s call) out (pin_acts d s call _) e
 pins_wordless d w s (Serves l received) out e = absurd (cc e)
-pins_wordless d w s (Starts u received) out e = absurd (cc e)
+pins_wordless d w s (Starts u made_by received) out e = absurd (cc e)
 pins_wordless d w s (Aborts u) out e = absurd (cc e)
 pins_wordless d w s (Moves order) out e = none_of (outcome s tells_nothing) out refl e
 pins_wordless d w s (Restarts reason) out e = none_of (outcome pins.first_state tells_nothing) out refl e
@@ -130,7 +130,7 @@ timer_served w s c false notifies = refl
 timers_wordless : (d : GptDriver) → IsWordless (timers.gpt_machine d)
 timers_wordless d w s (Acts call times) out e = none_of (timers.acts d w s call) out (timer_acts d w s call _) e
 timers_wordless d w s (Serves c received) out e = none_if (timers.ready d w s c) (timers.served w s c) out (timer_served w s c _ _) e
-timers_wordless d w s (Starts u received) out e = absurd (cc e)
+timers_wordless d w s (Starts u made_by received) out e = absurd (cc e)
 timers_wordless d w s (Aborts u) out e = absurd (cc e)
 timers_wordless d w s (Moves order) out e = none_of (outcome s tells_nothing) out refl e
 timers_wordless d w s (Restarts reason) out e = none_of (outcome timers.first_state tells_nothing) out refl e
@@ -150,7 +150,7 @@ pulse_acts d w s call committed (Some e) = refl
 pulses_wordless : (d : PwmDriver) → IsWordless (pulses.pwm_machine d)
 pulses_wordless d w s (Acts call committed) out e = none_of (pulses.acts d w s call committed) out (pulse_acts d w s call committed _) e
 pulses_wordless d w s (Serves l received) out e = none_if (pulses.ready d w s l) (pulses.served w s (pulse_table.channel_number l)) out refl e
-pulses_wordless d w s (Starts u received) out e = absurd (cc e)
+pulses_wordless d w s (Starts u made_by received) out e = absurd (cc e)
 pulses_wordless d w s (Aborts u) out e = absurd (cc e)
 pulses_wordless d w s (Moves order) out e = none_of (outcome s tells_nothing) out refl e
 pulses_wordless d w s (Restarts reason) out e = none_of (outcome pulses.first_state tells_nothing) out refl e
@@ -178,7 +178,7 @@ capture_served None s c es = refl
 captures_wordless : (d : IcuDriver) → IsWordless (captures.icu_machine d)
 captures_wordless d w s (Acts call committed) out e = none_of (captures.acts d s call) out (capture_acts d s call _) e
 captures_wordless d w s (Serves l received) out e = none_if (captures.ready d w s l) (captures.served d s (capture_table.channel_number l)) out (capture_served _ s _ _) e
-captures_wordless d w s (Starts u received) out e = absurd (cc e)
+captures_wordless d w s (Starts u made_by received) out e = absurd (cc e)
 captures_wordless d w s (Aborts u) out e = absurd (cc e)
 captures_wordless d w s (Moves order) out e = none_of (outcome (captures.moved d w s order) tells_nothing) out refl e
 captures_wordless d w s (Restarts reason) out e = none_of (outcome captures.first_state tells_nothing) out refl e
@@ -247,7 +247,7 @@ converter_aborts d w s (Some u) out e = by (turns.aborts d w s u) e
 converters_wordless : (d : AdcTable) → IsWordless (converters.adc_machine d)
 converters_wordless d w s (Acts call times) out e = none_of (converters.acts d s call) out (converter_acts d s call _) e
 converters_wordless d w s (Serves l received) out e = none_if (converters.ready d w s l) (converters.served d w s l) out (converter_served d w s l) e
-converters_wordless d w s (Starts u received) out e = converter_starts d w s (turns.number_of u) out e
+converters_wordless d w s (Starts u made_by received) out e = converter_starts d w s (turns.number_of u) out e
 converters_wordless d w s (Aborts u) out e = converter_aborts d w s (turns.number_of u) out e
 converters_wordless d w s (Moves order) out e = none_of (outcome (converters.moved d s order) tells_nothing) out refl e
 converters_wordless d w s (Restarts reason) out e = none_of (outcome turns.first_state tells_nothing) out refl e
@@ -264,7 +264,7 @@ still s out u received b none e = (none, e ∙ ap (λ o. wire_at s u ++ shown_on
 serial_wired : (d : SpiTable) (u : ℕ) → IsWired (λ s. wire_at s u) u (spi_machine d)
 serial_wired d u w s (Acts call times) out e = still s out.state u 0 out.begins (none_by out.begins (happens-begins d w s (Acts call times) out e)) (happens-wire d w s (Acts call times) out u e refl)
 serial_wired d u w s (Serves l received) out e = happens-wire d w s (Serves l received) out u e refl
-serial_wired d u w s (Starts k received) out e = happens-wire d w s (Starts k received) out u e refl
+serial_wired d u w s (Starts k made_by received) out e = happens-wire d w s (Starts k made_by received) out u e refl
 serial_wired d u w s (Aborts k) out e = absurd (cc e)
 serial_wired d u w s (Moves order) out e = still s out.state u 0 out.begins (none_by out.begins (happens-begins d w s (Moves order) out e)) (happens-wire d w s (Moves order) out u e refl)
 serial_wired d u w s (Restarts reason) out e = ap (λ (y : Outcome SpiState). wire_at y.state u) (sym (some_same (outcome first_state tells_nothing) out e))

@@ -1,7 +1,6 @@
 ghost use Rattle.std.specs.Prelude.{◌≡◌, ℕ};
 ghost use Rattle.chip_model.specs.Chip.{power_on, hung};
 ghost use Rattle.config_facts.specs.Valid.{IsValid};
-ghost use Rattle.step_runner.specs.Driver.{Covers};
 ghost use Rattle.mcal_drivers.specs.Drivers.{as_one, drivers_of, system};
 
 use crate::frame::{Frame, ModuleFrame};
@@ -36,7 +35,6 @@ impl Drivers {
         requires valid { IsValid config.now }
         ensures is { result ≡ drivers_of config.now }
         ensures fits { (system config.now).fits }
-        ensures covers { Covers (system config.now) }
         ensures wired { (room devices : ℕ) → (system config.now).wired (hung devices (power_on config.now room)) }
     {
         Drivers {

@@ -17,7 +17,7 @@ use Rattle.mcal_base.specs.declared.directive.Order.TheVariants as orders
 use Rattle.mcal_base.specs.declared.moves.Move.{Move}
 use Rattle.mcal_base.specs.declared.moves.Move.TheVariants.{Read, Write, Load, Store, Mask, Unmask, Note, Report}
 use Rattle.mcal_base.specs.declared.register.Reg.{Reg}
-use Rattle.mcal_base.specs.declared.register.Reg.TheVariants.{EnableSet, EnableClear, TimerLow, CaptureCountLow, CaptureTimeLow, ConverterAbort, SerialSelect, SerialWidth, SerialData, SerialAck}
+use Rattle.mcal_base.specs.declared.register.Reg.TheVariants.{EnableSet, EnableClear, TimerLow, CaptureCountLow, CaptureTimeLow, ConverterAbort, SerialSelect, SerialWidth, SerialData, SerialAck, PinFlip}
 use Rattle.run_model.specs.declared.item.Stepped.{Stepped}
 use Rattle.run_model.specs.declared.item.Item.{Item}
 use Rattle.run_model.specs.Entry.{Entry, Said, entries, said_at}
@@ -98,6 +98,7 @@ in_read c (TimerLow k) = refl
 in_read c (CaptureCountLow k) = refl
 in_read c (CaptureTimeLow k) = refl
 in_read c (ConverterAbort k) = refl
+in_read c (PinFlip p) = refl
 in_read c _ = refl
 
 -- the width that a step leaves

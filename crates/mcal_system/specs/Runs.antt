@@ -9,7 +9,7 @@ use Rattle.run_model.specs.Follows.{Gives}
 use Rattle.run_model.specs.Moment.{Moment, start_moment, after_all}
 use Rattle.run_model.specs.Script.{deeds_of}
 use Rattle.serial_devices.specs.Lines.{Line}
-use Rattle.script_runner.specs.Runs.{Run}
+use Rattle.script_runner.specs.Runs.{Run, room_for}
 use Rattle.script_runner.specs.Scripts.{chip_for, script_bound}
 use Rattle.mcal_drivers.specs.Drivers.{drivers_of}
 use Rattle.mcal_drivers.specs.Frames.{SystemFrame}
@@ -41,7 +41,7 @@ run_start config script devices = record {
   devices = devices;
   obeyed = 0;
   too_long = false;
-  journal = record { entries = []; room = min most_steps (bound_of config script) + 2 * length script; words = []; words_room = 64 * length script };
+  journal = record { entries = []; room = room_for (min most_steps (bound_of config script)) (length script); words = []; words_room = 64 * length script };
 }
 
 -- the moment to which the items of a journal lead, from power on

@@ -42,7 +42,7 @@ acts_by-keeps d w s (SetMode n) times None left = record { pll = refl; initialis
 after-keeps : (d : McuDriver) (m : Moment) (h : Happening Call) → leaves_pll h ≡ true → Keeps m.state (after d m h).state
 after-keeps d m (Acts call times) left = acts_by-keeps d m.world m.state call times _ left
 after-keeps d m (Serves line received) left = unchanged m.state
-after-keeps d m (Starts u received) left = unchanged m.state
+after-keeps d m (Starts u made_by received) left = unchanged m.state
 after-keeps d m (Aborts u) left = unchanged m.state
 after-keeps d m (Moves order) left = unchanged m.state
 after-keeps d m (Restarts reason) left = absurd (cc left)

@@ -40,7 +40,7 @@ acts_by-reason d w s (SetMode n) None = refl
 after-reason : (d : McuDriver) (m : Moment) (h : Happening Call) → is_no_reset h ≡ true → (after d m h).state.reason ≡ m.state.reason
 after-reason d m (Acts call times) left = acts_by-reason d m.world m.state call _
 after-reason d m (Serves line received) left = refl
-after-reason d m (Starts u received) left = refl
+after-reason d m (Starts u made_by received) left = refl
 after-reason d m (Aborts u) left = refl
 after-reason d m (Moves order) left = refl
 after-reason d m (Restarts reason) left = absurd (cc left)
@@ -95,7 +95,7 @@ reset-limited reason = record { rate = (omega arith, omega arith); pll = λ p e.
 after-limited : (d : McuDriver) (m : Moment) (h : Happening Call) → FitsMcu d → Limited m.state → Limited (after d m h).state
 after-limited d m (Acts call times) fits limited = acts_by-limited d m.world m.state call _ fits limited
 after-limited d m (Serves line received) fits limited = limited
-after-limited d m (Starts u received) fits limited = limited
+after-limited d m (Starts u made_by received) fits limited = limited
 after-limited d m (Aborts u) fits limited = limited
 after-limited d m (Moves order) fits limited = limited
 after-limited d m (Restarts reason) fits limited = reset-limited reason
@@ -132,7 +132,7 @@ acts_by-ram d w s (SetMode n) times None k left = refl
 pub ram-left : (d : McuDriver) (w : World) (s : McuState) (h : Happening Call) (k : ℕ) → leaves_ram h ≡ true → ram_at (state_after d w s h) k ≡ ram_at s k
 ram-left d w s (Acts call times) k left = acts_by-ram d w s call times _ k left
 ram-left d w s (Serves line received) k left = refl
-ram-left d w s (Starts u received) k left = refl
+ram-left d w s (Starts u made_by received) k left = refl
 ram-left d w s (Aborts u) k left = refl
 ram-left d w s (Moves order) k left = refl
 ram-left d w s (Restarts reason) k left = absurd (cc left)
@@ -164,7 +164,7 @@ acts_by-clock d w s (SetMode n) times None left = (refl, refl)
 pub clock-left : (d : McuDriver) (w : World) (s : McuState) (h : Happening Call) → leaves_clock h ≡ true → ((state_after d w s h).rate ≡ s.rate) × ((state_after d w s h).pll ≡ s.pll)
 clock-left d w s (Acts call times) left = acts_by-clock d w s call times _ left
 clock-left d w s (Serves line received) left = (refl, refl)
-clock-left d w s (Starts u received) left = (refl, refl)
+clock-left d w s (Starts u made_by received) left = (refl, refl)
 clock-left d w s (Aborts u) left = (refl, refl)
 clock-left d w s (Moves order) left = (refl, refl)
 clock-left d w s (Restarts reason) left = absurd (cc left)

@@ -134,6 +134,7 @@ mcu_setting d = record {
   window_of = window_of;
   may = λ o made. may made;
   halves = λ call. None;
+  must = λ call. [];
   fills = λ c. false;
   in_use = λ w s c. false;
   rest = λ chip w s. RamAgrees chip.ram s;

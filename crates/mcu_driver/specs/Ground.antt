@@ -85,6 +85,7 @@ mcu_basis d = record {
   setting = mcu_setting d;
   wired = λ chip. Unit {0};
   lines = λ l. false;
+  watches = false;
   owns = λ o made. owns made;
   count = λ s. 0;
   later = λ w s order. s;

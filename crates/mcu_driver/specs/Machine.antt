@@ -114,7 +114,7 @@ acts d w s call = acts_by d w s call (error_by d call (not s.initialised) (not (
 abbrev pub happens : McuDriver → World → McuState → Happening Call → Option (Outcome McuState)
 happens d w s (Acts call times) = Some (acts d w s call)
 happens d w s (Serves line received) = None
-happens d w s (Starts u received) = None
+happens d w s (Starts u made_by received) = None
 happens d w s (Aborts u) = None
 happens d w s (Moves order) = Some (outcome s tells_nothing)
 happens d w s (Restarts reason) = Some (outcome (after_reset reason) tells_nothing)
@@ -126,6 +126,7 @@ mcu_machine d = record {
   ready = λ w s line. false;
   due = λ w s line. false;
   startable = λ w s u. false;
+  line_waits = λ w s line. false;
   rate = λ s. s.rate;
   service_of = service_of;
   expires = λ w s. None;

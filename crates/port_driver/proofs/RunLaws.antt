@@ -80,7 +80,7 @@ acts_by-stands d s (calls.Pin q call) None fits is stands = pin_call-stands d s 
 after-stands : (d : PortDriver) (w : World) (s : PortState) (h : Happening Call) → FitsPort d → Stands d s → Stands d (state_after d w s h)
 after-stands d w s (Acts call times) fits stands = acts_by-stands d s call (error_by d call (not s.initialised)) fits refl stands
 after-stands d w s (Serves line received) fits stands = stands
-after-stands d w s (Starts u received) fits stands = stands
+after-stands d w s (Starts u made_by received) fits stands = stands
 after-stands d w s (Aborts u) fits stands = stands
 after-stands d w s (Moves order) fits stands = stands
 after-stands d w s (Restarts reason) fits stands = λ on. absurd (cc on)

@@ -1,14 +1,14 @@
 -- Which calls may begin over which, the bounds of their frames, what frames may name, what stands in the pins, and what a run of the driver is over.
-use Rattle.std.specs.Prelude.{◌≡◌, ℕ, ◌+◌, ◌*◌, ◌<◌, nat_lt, Bool, true, false, not, ◌&&◌, ◌||◌, sum_by, List, map, Option, Some, None, is_some}
+use Rattle.std.specs.Prelude.{◌≡◌, ℕ, zero, suc, ◌+◌, ◌*◌, ◌/◌, ◌%◌, ◌<◌, ◌==◌, nat_lt, Bool, true, false, not, ◌&&◌, ◌||◌, sum_by, List, [], ◌∷◌, ◌++◌, map, Option, Some, None, is_some}
 use Rattle.std.specs.List.{filter, list_any, range_with_len}
 use Rattle.chip_units.specs.Pins as pins
-use Rattle.mcal_base.specs.Bits.{bit_of}
+use Rattle.mcal_base.specs.Bits.{bit_of, has_bit}
 use Rattle.mcal_base.specs.declared.module_name.ModuleName.{ModuleName}
 use Rattle.mcal_base.specs.declared.module_name.ModuleName.TheVariants.{Port}
 use Rattle.mcal_base.specs.declared.moves.Move.{Move}
 use Rattle.mcal_base.specs.declared.moves.Move.TheVariants.{Read, Write, Load, Store}
 use Rattle.mcal_base.specs.declared.register.Reg.{Reg}
-use Rattle.mcal_base.specs.declared.register.Reg.TheVariants.{PinDirectionSet, PinDirectionClear, PinOutSet, PinOutClear, PinMode}
+use Rattle.mcal_base.specs.declared.register.Reg.TheVariants.{PinDirectionSet, PinDirectionClear, PinOutSet, PinOutClear, PinMode, PortPut, PinFlip}
 use Rattle.run_model.specs.declared.class.Class.{Class}
 use Rattle.run_model.specs.declared.class.Kind.TheVariants.{Exclusive, Keyed}
 use Rattle.run_model.specs.declared.class.KeyKind.TheVariants as keys
@@ -68,6 +68,8 @@ is_register (PinDirectionClear half) = true
 is_register (PinOutSet half) = true
 is_register (PinOutClear half) = true
 is_register (PinMode p) = true
+is_register (PortPut q) = true
+is_register (PinFlip p) = true
 is_register _ = false
 
 -- a driver word of the module, which uses 64
@@ -86,10 +88,12 @@ owns _ = false
 abbrev pub may : Move → Bool
 may made = owns made && names_there made
 
--- the move sets or clears latches
+-- the move changes latches
 abbrev pub writes_latches : Move → Bool
 writes_latches (Write (PinOutSet half) v) = true
 writes_latches (Write (PinOutClear half) v) = true
+writes_latches (Write (PortPut q) v) = true
+writes_latches (Read (PinFlip p)) = true
 writes_latches _ = false
 
 -- the frame is of `Port_Init`
@@ -100,6 +104,29 @@ is_of_init _ = false
 -- a move that a frame of the module may make: one of `Port_Init` alone writes latches
 abbrev pub port_may : Origin Call → Move → Bool
 port_may origin made = may made && (is_of_init origin || not (writes_latches made))
+
+-- ---- what a call owes
+
+-- the move sets the pin's latch where it is to be high, and clears it where it is to be low
+abbrev pub puts_latch : (high : Bool) → (p : ℕ) → Move → Bool
+puts_latch high p (Write (PinOutSet half) v) = high && (half == p / 32 && has_bit v (p % 32))
+puts_latch high p (Write (PinOutClear half) v) = not high && (half == p / 32 && has_bit v (p % 32))
+puts_latch high p _ = false
+
+abbrev pub latch_duty : (p : ℕ) → Option Pin → List (Move → Bool)
+latch_duty p None = []
+latch_duty p (Some k) = puts_latch k.level_high p ∷ []
+
+-- the latch of each configured pin below n
+unfoldable pub latch_duties : PortDriver → (n : ℕ) → List (Move → Bool)
+latch_duties d zero = []
+latch_duties d (suc n) = latch_duty n (pin_of d n) ++ latch_duties d n
+
+-- `Port_Init` writes the latch of each configured pin, in every call
+abbrev pub must_by : PortDriver → Call → List (Move → Bool)
+must_by d Init = latch_duties d 64
+must_by d RefreshPortDirection = []
+must_by d (calls.Pin p call) = []
 
 -- ---- the pins
 
@@ -145,6 +172,7 @@ port_setting d = record {
   window_of = window_of;
   may = port_may;
   halves = λ call. None;
+  must = must_by d;
   fills = λ c. false;
   in_use = λ w s c. false;
   rest = λ chip w s. PinsAgree chip.pins s;

@@ -101,6 +101,7 @@ port_basis d = record {
   setting = port_setting d;
   wired = λ chip. Unit {0};
   lines = λ l. false;
+  watches = false;
   owns = λ o made. owns made;
   count = λ s. 0;
   later = λ w s order. s;

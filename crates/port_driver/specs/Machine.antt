@@ -135,7 +135,7 @@ acts d s call = acts_by d s call (error_by d call (not s.initialised))
 abbrev pub happens : PortDriver → World → PortState → Happening Call → Option (Outcome PortState)
 happens d w s (Acts call times) = Some (acts d s call)
 happens d w s (Serves line received) = None
-happens d w s (Starts u received) = None
+happens d w s (Starts u made_by received) = None
 happens d w s (Aborts u) = None
 happens d w s (Moves order) = Some (outcome s tells_nothing)
 happens d w s (Restarts reason) = Some (outcome first_state tells_nothing)
@@ -147,6 +147,7 @@ port_machine d = record {
   ready = λ w s line. false;
   due = λ w s line. false;
   startable = λ w s u. false;
+  line_waits = λ w s line. false;
   rate = λ s. 1;
   service_of = service_of;
   expires = λ w s. None;

@@ -3,6 +3,7 @@ pub mod Ground
 pub mod Halves
 pub mod Init
 pub mod Keeps
+pub mod Latches
 pub mod Lawful
 pub mod Levels
 pub mod Look

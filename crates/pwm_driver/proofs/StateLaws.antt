@@ -138,7 +138,7 @@ serves_off w s n c false lt off = off
 after_off : (d : PwmDriver) (w : World) (s : PwmState) (h : Happening Call) (c : ℕ) → c < 8 → leaves_off c h ≡ true → IsOff s c → IsOff (state_after d w s h) c
 after_off d w s (Acts call committed) c lt left off = acts_off d w s c call committed (error_by d call (not s.initialised)) lt left off
 after_off d w s (Serves l received) c lt left off = serves_off w s (channel_number l) c (ready d w s l) lt off
-after_off d w s (Starts u received) c lt left off = off
+after_off d w s (Starts u made_by received) c lt left off = off
 after_off d w s (Aborts u) c lt left off = off
 after_off d w s (Moves order) c lt left off = off
 after_off d w s (Restarts reason) c lt left off = refl

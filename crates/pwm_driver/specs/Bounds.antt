@@ -1,5 +1,5 @@
 -- What frames of the module may do, and what a run of the driver is over.
-use Rattle.std.specs.Prelude.{◌≡◌, ℕ, ◌+◌, ◌*◌, ◌%◌, ◌<◌, ◌==◌, nat_lt, Bool, true, false, ◌&&◌, not, Option, Some, None, is_some}
+use Rattle.std.specs.Prelude.{◌≡◌, ℕ, zero, suc, List, [], ◌∷◌, ◌++◌, ◌+◌, ◌*◌, ◌%◌, ◌<◌, ◌==◌, nat_lt, Bool, true, false, ◌&&◌, not, Option, Some, None, is_some}
 use Rattle.chip_pulses.specs.Pulses as pulses
 use Rattle.mcal_base.specs.Bits.{bit_of}
 use Rattle.mcal_base.specs.declared.module_name.ModuleName.{ModuleName}
@@ -103,6 +103,33 @@ may_name _ = false
 abbrev pub pwm_may : Move → Bool
 pwm_may made = may_name made && names_there made
 
+-- ---- what a call owes
+
+-- the move commits the output of this channel, and idles it
+abbrev pub commits_at : (c : ℕ) → Move → Bool
+commits_at c (Write (PulseCommit k) v) = k == c
+commits_at c _ = false
+
+abbrev pub idles_at : (c : ℕ) → Move → Bool
+idles_at c (Write (PulseIdle k) v) = k == c
+idles_at c _ = false
+
+abbrev pub duty_of : (kind : ℕ → Move → Bool) → (c : ℕ) → Option configured.Channel → List (Move → Bool)
+duty_of kind c None = []
+duty_of kind c (Some k) = kind c ∷ []
+
+-- such a write of each configured channel below n
+unfoldable pub duties : PwmDriver → (kind : ℕ → Move → Bool) → (n : ℕ) → List (Move → Bool)
+duties d kind zero = []
+duties d kind (suc n) = duty_of kind n (channel_of d n) ++ duties d kind n
+
+-- `Pwm_Init` commits the output of each configured channel, and `Pwm_DeInit` idles it
+abbrev pub must_by : PwmDriver → Call → List (Move → Bool)
+must_by d Init = duties d commits_at 8
+must_by d DeInit = duties d idles_at 8
+must_by d (GetOutputState c) = []
+must_by d (Channel c call) = []
+
 -- ---- the outputs
 
 -- the outputs of all eight pulse units are the machine's
@@ -124,6 +151,7 @@ pwm_setting d = record {
   window_of = window_of;
   may = λ o made. pwm_may made;
   halves = λ call. None;
+  must = must_by d;
   fills = λ c. false;
   in_use = λ w s c. false;
   rest = λ chip w s. Unit {0};

@@ -215,6 +215,7 @@ pwm_basis d = record {
   setting = pwm_setting d;
   wired = λ chip. Unit {0};
   lines = λ l. not (nat_lt l 8) && nat_lt l 16;
+  watches = false;
   owns = λ o made. pwm_owns made;
   count = λ s. 0;
   later = λ w s order. s;

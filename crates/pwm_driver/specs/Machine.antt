@@ -158,7 +158,7 @@ served w s c = outcome (with_pulse s c (forgotten w.now (pulse_at s c))) (notes 
 abbrev pub happens : PwmDriver → World → PwmState → Happening Call → Option (Outcome PwmState)
 happens d w s (Acts call committed) = Some (acts d w s call committed)
 happens d w s (Serves l received) = if ready d w s l then Some (served w s (channel_number l)) else None
-happens d w s (Starts u received) = None
+happens d w s (Starts u made_by received) = None
 happens d w s (Aborts u) = None
 happens d w s (Moves order) = Some (outcome s tells_nothing)
 happens d w s (Restarts reason) = Some (outcome first_state tells_nothing)
@@ -170,6 +170,7 @@ pwm_machine d = record {
   ready = ready d;
   due = ready d;
   startable = λ w s u. false;
+  line_waits = λ w s line. false;
   rate = λ s. 1;
   service_of = service_of;
   expires = λ w s. None;

@@ -9,6 +9,7 @@ pub mod InitRight
 pub mod InitWrites
 pub mod Keeps
 pub mod Lawful
+pub mod Made
 pub mod Look
 pub mod Notify
 pub mod Output

@@ -12,7 +12,7 @@ use Rattle.bench_report.specs.declared.tally.Tally.{Tally}
 use Rattle.bench_report.specs.Lines.{Line, Shows, Done, end_text}
 use Rattle.bench_report.specs.Rows.{Row}
 use Rattle.bench_report.specs.Pages.{Page, blank, counted, with_line, with_lines}
-use Rattle.bench_report.specs.Report.{Numbered, all_numbered, is_step, order_lines, said_lines, move_lines, end_lines, frames_after, chapter_lines, chapter_frames, chapter_shows, with_done, own_entries, later_entries, report_lines, end_of, is_return, is_leave, is_hold, is_error, is_note}
+use Rattle.bench_report.specs.Report.{Numbered, all_numbered, is_traced, order_lines, said_lines, move_lines, end_lines, frames_after, steps_next, chapter_lines, chapter_frames, chapter_shows, with_done, own_entries, later_entries, report_lines, end_of, is_return, is_leave, is_hold, is_error, is_note}
 use Rattle.bench_report.specs.Shown.{next_rows, shows_after}
 use Rattle.bench_report.proofs.Counts.{calls_after, handlers_after, held_after, errors_after, notes_after}
 use Rattle.report_end.specs.Counts.{Counting, beginning, counted_all, said_counted, items_counted, script_counted}
@@ -23,12 +23,12 @@ counted-append : (t : Tally) (xs ys : List Line) → counted_all t (xs ++ ys) �
 counted-append t [] ys = refl
 counted-append t (x ∷ xs) ys = counted-append (counted t x) xs ys
 
--- what is shown counts as nothing, and so does ok
+-- what is shown or waited counts as nothing, and so does ok
 rows_uncounted : (t : Tally) (rows : List Row) → counted_all t (map (λ row. Shows row) rows) ≡ t
 rows_uncounted t [] = refl
 rows_uncounted t (row ∷ rows) = rows_uncounted t rows
 
-order_uncounted : (t : Tally) (rows : List Row) (o : Order) → counted_all t (order_lines rows o) ≡ t
+order_uncounted : (t : Tally) (rows : List Row) (o : Order) → counted_all t (order_lines false rows o) ≡ t
 order_uncounted t rows (orders.Show what) = rows_uncounted t rows
 order_uncounted t rows _ = refl
 
@@ -37,29 +37,29 @@ done_by true t lines = counted-append t lines (Done ∷ [])
 done_by false t lines = refl
 
 done_uncounted : (t : Tally) (lines : List Line) → counted_all t (with_done lines) ≡ counted_all t lines
-done_uncounted t lines = done_by (list_all is_step lines) t lines
+done_uncounted t lines = done_by (list_all is_traced lines) t lines
 
 -- ---- an item, and the items of a directive
 
 counting : List Purpose → Tally → Counting
 counting frames t = record { frames = frames; tally = t }
 
-said_is : (order : Order) (c : Counting) (depth : ℕ) (rows : List Row) (said : Said) → said_counted order c said ≡ counting (frames_after order c.frames said) (counted_all c.tally (said_lines false depth c.frames rows said))
+said_is : (order : Order) (c : Counting) (depth : ℕ) (rows : List Row) (next : Bool) (said : Said) → said_counted order c said ≡ counting (frames_after order c.frames said) (counted_all c.tally (said_lines false depth c.frames rows next said))
 unfolding counting
-said_is order c depth rows (Happens o) = ap (λ (t : Tally). counting c.frames t) (sym (order_uncounted c.tally rows o))
-said_is order c depth rows Begins = refl
-said_is order c depth rows (Stays cause) = refl
-said_is order c depth rows (Steps step) = ap (λ (t : Tally). counting (frames_after order c.frames (Steps step)) t) (sym (counted-append c.tally (move_lines step.made) (end_lines c.frames step.ended)))
-said_is order c depth rows (Resets reason dropped) = refl
+said_is order c depth rows next (Happens o) = ap (λ (t : Tally). counting c.frames t) (sym (order_uncounted c.tally rows o))
+said_is order c depth rows next Begins = refl
+said_is order c depth rows next (Stays cause) = refl
+said_is order c depth rows next (Steps step) = ap (λ (t : Tally). counting (frames_after order c.frames (Steps step)) t) (sym (counted-append c.tally (move_lines step.made) (end_lines c.frames step.ended)))
+said_is order c depth rows next (Resets reason dropped) = refl
 
 items_are : (order : Order) (c : Counting) (shows : List (List Row)) (es : List Entry) → items_counted order c es ≡ counting (chapter_frames order c.frames es) (counted_all c.tally (chapter_lines false order c.frames shows es))
 unfolding counting
 items_are order c shows [] = refl
 items_are order c shows (e ∷ es) =
-    let lines = said_lines false e.depth c.frames (next_rows shows) e.said in
+    let lines = said_lines false e.depth c.frames (next_rows shows) (steps_next es) e.said in
     let frames = frames_after order c.frames e.said in
     let later = shows_after shows e.said in
-    ap (λ (k : Counting). items_counted order k es) (said_is order c e.depth (next_rows shows) e.said)
+    ap (λ (k : Counting). items_counted order k es) (said_is order c e.depth (next_rows shows) (steps_next es) e.said)
     ∙ items_are order (counting frames (counted_all c.tally lines)) later es
     ∙ ap (λ (t : Tally). counting (chapter_frames order frames es) t) (sym (counted-append c.tally lines (chapter_lines false order frames later es)))
 

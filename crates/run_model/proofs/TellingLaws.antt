@@ -19,7 +19,7 @@ use Rattle.mcal_base.specs.declared.directive.Request.{Request}
 use Rattle.mcal_base.specs.declared.moves.Move.{Move}
 use Rattle.mcal_base.specs.declared.moves.Move.TheVariants.{Read, Write, Load, Store, Mask, Unmask, Note, Report}
 use Rattle.mcal_base.specs.declared.register.Reg.{Reg}
-use Rattle.mcal_base.specs.declared.register.Reg.TheVariants.{EnableSet, EnableClear, TimerLow, CaptureCountLow, CaptureTimeLow, ConverterAbort, SerialSelect, SerialWidth, SerialData, SerialAck}
+use Rattle.mcal_base.specs.declared.register.Reg.TheVariants.{EnableSet, EnableClear, TimerLow, CaptureCountLow, CaptureTimeLow, ConverterAbort, SerialSelect, SerialWidth, SerialData, SerialAck, PinFlip}
 use Rattle.serial_devices.specs.Lines.{Line, extended}
 use Rattle.run_model.specs.declared.item.Stepped.{Stepped}
 use Rattle.run_model.specs.Devices.{AreTold, HasRisen, drops_by, drops_in, is_under, sent_by, pairs_at, pairs_by, pairs_from, refusals_by, refusals_from}
@@ -112,6 +112,7 @@ in_read c (TimerLow k) = refl
 in_read c (CaptureCountLow k) = refl
 in_read c (CaptureTimeLow k) = refl
 in_read c (ConverterAbort k) = refl
+in_read c (PinFlip p) = refl
 in_read c _ = refl
 
 write_ports : (r : Reg) (v received : ℕ) (p : Ports) → ports_by (access_of r v received) p ≡ ports_made (Write r v) p

@@ -58,7 +58,7 @@ pairs_called old new n word received k c (inr h) =
 
 risen_none : (o : Option Line) → HasRisen o 0 o
 risen_none None = tt
-risen_none (Some l) = omega arith
+risen_none (Some l) = (omega arith, λ none. refl)
 
 risen_twice : (a b c : Option Line) (m n : ℕ) → HasRisen a m b → HasRisen b n c → HasRisen a (m + n) c
 risen_twice None None None m n h k = tt
@@ -67,11 +67,11 @@ risen_twice None (Some b) c m n h k = absurd h
 risen_twice (Some a) None None m n h k = tt
 risen_twice (Some a) None (Some c) m n h k = absurd k
 risen_twice (Some a) (Some b) None m n h k = tt
-risen_twice (Some a) (Some b) (Some c) m n h k = omega (arith, h, k)
+risen_twice (Some a) (Some b) (Some c) m n h k = let one = h.0 in let two = k.0 in (omega (arith, one, two), λ none. k.1 (omega (arith, none)) ∙ h.1 (omega (arith, none)))
 
 refused_risen : (old new : List Line) (n word received : ℕ) (refused : Bool) → (received == 65536) ≡ refused → (c : CallsOne old new n word (answered received)) → HasRisen (Some c.was) (cond refused 1 0) (Some c.now)
-refused_risen old new n word received true e c = let h = rw e at c.exchanged.cause.failed in h
-refused_risen old new n word received false e c = let h = c.exchanged.cause.later in omega (arith, h)
+refused_risen old new n word received true e c = let h = rw e at c.exchanged.cause.failed in (h, λ none. cc)
+refused_risen old new n word received false e c = let h = c.exchanged.cause.later in let same = rw e at c.exchanged.cause.ok in (omega (arith, h), λ none. same)
 
 faults_called : (old new : List Line) (n word received k : ℕ) → CallsOne old new n word (answered received) → ((n == k) ≡ true) × (n ≡ k) ⊎ ((n == k) ≡ false) × (n ≢ k) → HasRisen (slice_get old k) (cond ((n == k) && received == 65536) 1 0) (slice_get new k)
 faults_called old new n word received k c (inl h) =
@@ -124,7 +124,7 @@ get_fewer (suc n) (x ∷ xs) (suc k) lt = get_fewer n xs k (omega (arith, lt))
 risen_fewer : (n : ℕ) (old : List Line) (k : ℕ) → HasRisen (slice_get old k) 0 (slice_get (take n old) k)
 risen_fewer zero old k = tt
 risen_fewer (suc n) [] k = tt
-risen_fewer (suc n) (x ∷ xs) zero = omega arith
+risen_fewer (suc n) (x ∷ xs) zero = (omega arith, λ none. refl)
 risen_fewer (suc n) (x ∷ xs) (suc k) = risen_fewer n xs k
 
 -- ---- deeds

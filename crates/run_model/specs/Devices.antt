@@ -85,15 +85,15 @@ refusals_from g m place (x ∷ xs) = refusals_by m.chip place x + refusals_from 
 abbrev pub pairs_at : List Line → (place : ℕ) → Option (List (ℕ × ℕ))
 pairs_at lines place = option_and_then (λ (l : Line). l.pairs) (slice_get lines place)
 
--- The count of faults of a device that is still there has risen by so many at least, or stands at the last value of u64;
--- where there was no device there is none.
+-- The count of faults of a device that is still there has risen by so many at least, or stands at the last value of u64,
+-- and is what it was where no exchange was refused; where there was no device there is none.
 abbrev pub HasRisen : Option Line → (refusals : ℕ) → Option Line → Type 0
 HasRisen was n None = Unit {0}
 HasRisen None n (Some now) = ⊥
-HasRisen (Some was) n (Some now) = min (was.faults + n) (2 ^ 64 - 1) ≤ now.faults
+HasRisen (Some was) n (Some now) = (min (was.faults + n) (2 ^ 64 - 1) ≤ now.faults) × (n ≡ 0 → now.faults ≡ was.faults)
 
 -- The devices after the deeds: there are as many as weren't dropped. The pairs of each of them, if it tells them, are those
--- before and the deeds' in their order; and its count of faults has risen by the refusals.
+-- before and the deeds' in their order; and its count of faults has risen by the refusals, and by nothing else.
 pub record AreTold {State Call : Type 0} (g : Setting State Call) (m : Moment State Call) (deeds : List (Deed Call)) (old new : List Line) : Type 0 where
   pub count : length new ≡ length old - drops_in deeds
   pub pairs : (place : ℕ) → place < length new → pairs_at new place ≡ extended (pairs_at old place) (pairs_from g m place deeds)

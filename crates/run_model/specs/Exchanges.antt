@@ -69,8 +69,8 @@ abbrev pub dropped_in : List entry.Entry → ℕ
 dropped_in entries = sum_by (λ (e : entry.Entry). dropped_by e.said) entries
 
 -- The devices after a call that left this journal: of so many there are as many as weren't dropped. Each of them that tells
--- its pairs has those before, and the journal's in their order, and its count of faults has risen by the journal's refusals;
--- with an empty journal the pairs are as they were.
+-- its pairs has those before, and the journal's in their order, and its count of faults has risen by the journal's refusals,
+-- and is what it was where there are none; with an empty journal the pairs are as they were.
 pub record AreToldBy (devices : ℕ) (entries : List entry.Entry) (old new : List Line) : Type 0 where
   pub count : length new ≡ devices - dropped_in entries
   pub pairs : (place : ℕ) → place < length new → pairs_at new place ≡ extended (pairs_at old place) (pairs_told place (ports_fresh devices) entries)

@@ -1,6 +1,6 @@
 -- When a journal follows a script: directive by directive its items are those that the bench language gives.
-use Rattle.std.specs.Prelude.{◌≡◌, ℕ, zero, suc, ◌+◌, ◌-◌, nat_lt, Bool, true, false, ◌||◌, ◌==◌, List, [], ◌∷◌, ◌++◌, length, Option, Some, None, is_some, MatchBool}
-use Rattle.chip_model.specs.Chip.{is_pending, is_masked}
+use Rattle.std.specs.Prelude.{◌≡◌, ℕ, zero, suc, ◌+◌, ◌-◌, ◌<◌, nat_lt, nat_le, Bool, true, false, ◌||◌, ◌==◌, List, [], ◌∷◌, ◌++◌, length, Option, Some, None, is_some, MatchBool}
+use Rattle.chip_model.specs.Chip.{wait_on, is_pending, is_masked}
 use Rattle.irq_control.specs.declared.held.Held.{Held}
 use Rattle.irq_control.specs.declared.held.Held.TheVariants.{Empty, Frames}
 use Rattle.mcal_base.specs.declared.directive.Directive.{Directive}
@@ -11,7 +11,8 @@ use Rattle.mcal_base.specs.declared.directive.Request.{Request}
 use Rattle.mcal_base.specs.declared.directive.Stop.{Stop}
 use Rattle.mcal_base.specs.declared.directive.Stop.TheVariants as stops
 use Rattle.mcal_base.specs.declared.moves.Move.{Move}
-use Rattle.mcal_base.specs.declared.moves.Move.TheVariants.{Mask, Unmask, Note}
+use Rattle.mcal_base.specs.declared.moves.Move.TheVariants.{Read, Mask, Unmask, Note}
+use Rattle.mcal_base.specs.declared.register.Reg.TheVariants.{SerialWait}
 use Rattle.run_model.specs.declared.item.Stepped.{Stepped}
 use Rattle.run_model.specs.declared.reach.Reach.{Reach}
 use Rattle.run_model.specs.declared.reach.Reach.TheVariants.{Count, Until, Whole}
@@ -19,7 +20,7 @@ use Rattle.run_model.specs.Causes.{call_cause, line_cause, tags_of, top_noted}
 use Rattle.run_model.specs.Entry as entry
 use Rattle.run_model.specs.Frame.{Open, is_act, resets_chip}
 use Rattle.run_model.specs.Legal.{hardware_held}
-use Rattle.run_model.specs.Moment.{Setting, Moment, Deed, Begins, Enters, Steps, after, after_all}
+use Rattle.run_model.specs.Moment.{Setting, Moment, Deed, Begins, Enters, Steps, Happens, after, after_all}
 use Rattle.run_model.specs.Script.{deed_of}
 
 -- the items are this one alone, with the directive's line and the number of frames before it
@@ -44,6 +45,45 @@ ticks_through line depth left rest =
 abbrev pub Ticks : {State Call : Type 0} → Moment State Call → (line n : ℕ) → (left : Option ℕ) → List entry.Entry → Type 0
 Ticks m line n None items = IsOne m line (entry.Happens (orders.Tick n)) items
 Ticks m line n (Some left) items = MatchBool (nat_lt n left) (IsOne m line (entry.Happens (orders.Tick n)) items) (items ≡ ticks_through line (length m.opens) left (n - left))
+
+-- ---- waiting for a word
+
+-- the move reads the wait register of this unit
+abbrev pub awaits : (u : ℕ) → Move → Bool
+awaits u (Read (SerialWait k)) = k == u
+awaits u made = false
+
+abbrev pub is_awaiting : (u : ℕ) → entry.Said → Bool
+is_awaiting u (entry.Steps s) = awaits u s.made
+is_awaiting u (entry.Happens o) = false
+is_awaiting u entry.Begins = false
+is_awaiting u (entry.Stays c) = false
+is_awaiting u (entry.Resets r k) = false
+
+-- the next item is the step that waited for the word of this unit
+abbrev pub ComesAwaited : (u : ℕ) → List entry.Entry → Type 0
+ComesAwaited u [] = ⊥
+ComesAwaited u (e ∷ es) = is_awaiting u e.said ≡ true
+
+-- the top frame may read the wait register of this unit
+abbrev pub MayWait : {State Call : Type 0} → Setting State Call → List (Open Call) → (u : ℕ) → Type 0
+MayWait g [] u = ⊥
+MayWait g (o ∷ os) u = g.may o.origin (Read (SerialWait u)) ≡ true
+
+-- the watchdog's time ends within so many ticks
+abbrev pub ends_within : ℕ → (left : Option ℕ) → Bool
+ends_within n None = false
+ends_within n (Some left) = nat_le left n
+
+-- The top frame waits so many ticks for the word in transfer on a unit, and then its step comes, and more; or the watchdog's
+-- time ends in them, and its reset comes in place of the step.
+pub record Waits {State Call : Type 0} (g : Setting State Call) (line : ℕ) (m : Moment State Call) (n : ℕ) (items : List entry.Entry) (More : Type 0) : Type 0 where
+  pub unit : ℕ
+  pub busy : 0 < wait_on m.chip unit
+  pub may : MayWait g m.opens unit
+  pub goes : MatchBool (ends_within (wait_on m.chip unit) (g.machine.expires m.world m.state))
+      ((g.machine.expires m.world m.state ≡ Some n) × IsOne m line (entry.Resets Watchdog (length m.opens)) items)
+      ((n ≡ wait_on m.chip unit) × ComesAwaited unit items × More)
 
 -- ---- steps of the top frame
 
@@ -79,15 +119,16 @@ ThenComes g line reach made m s items More =
     (IsOne (after g m (Steps s)) line (entry.Resets Software (length (after g m (Steps s)).opens)) items)
     (MatchBool (is_some s.ended || is_reached reach (made + 1) s) (items ≡ []) More)
 
--- the item is a step, with which so many were made, and more comes after its deed
+-- the item is a step, with which so many were made, and more comes after its deed; or a wait before one
 abbrev pub IsStep : {State Call : Type 0} → Setting State Call → (line : ℕ) → Reach → (made : ℕ) → Moment State Call → entry.Entry → (items : List entry.Entry) → entry.Said → ((made : ℕ) → Deed Call → Type 0) → Type 0
 IsStep g line reach made m e items (entry.Steps s) More = (e.line ≡ line) × (e.depth ≡ length m.opens) × ThenComes g line reach made m s items (More (made + 1) (Steps s))
+IsStep g line reach made m e items (entry.Happens (orders.Tick n)) More = (e.line ≡ line) × (e.depth ≡ length m.opens) × Waits g line m n items (More made (Happens (orders.Tick n)))
 IsStep g line reach made m e items (entry.Happens o) More = ⊥
 IsStep g line reach made m e items entry.Begins More = ⊥
 IsStep g line reach made m e items (entry.Stays c) More = ⊥
 IsStep g line reach made m e items (entry.Resets r k) More = ⊥
 
--- the items are steps of the top frame as far as the directive reaches, or to the frame's end, or to a reset; so many were made before
+-- the items are steps of the top frame, each after its wait, as far as the directive reaches, or to the frame's end, or to a reset; so many were made before
 abbrev pub GoesOn : {State Call : Type 0} → Setting State Call → (line : ℕ) → Reach → (made : ℕ) → Moment State Call → List entry.Entry → Type 0
 GoesOn g line reach made m [] = ⊥
 GoesOn g line reach made m (e ∷ es) = IsStep g line reach made m e es e.said (λ n deed. GoesOn g line reach n (after g m deed) es)

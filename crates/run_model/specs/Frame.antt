@@ -51,6 +51,8 @@ pub record Open (Call : Type 0) : Type 0 where
   -- the registers that it has read, and whether it has written a register or a word
   pub reads : List Reg
   pub wrote : Bool
+  -- the writes of registers that it has made, the newest first: no more than its steps
+  pub writes : List Move
   -- the notices that it owes, and the error that it has to report
   pub owed : List Owing
   pub report : Option DevError
@@ -67,7 +69,7 @@ pub record Open (Call : Type 0) : Type 0 where
 -- a frame that has done nothing yet
 abbrev pub opened : {Call : Type 0} → Origin Call → Tag → Open Call
 opened origin tag =
-    record { origin = origin; tag = tag; acted = None; acted_at = None; polled = []; served = []; missed = λ l. false; committed = λ c. None; reads = []; wrote = false; owed = []; report = None; inside = false; since = []; acts_since = false; steps = 0; window = 0; noted = false }
+    record { origin = origin; tag = tag; acted = None; acted_at = None; polled = []; served = []; missed = λ l. false; committed = λ c. None; reads = []; wrote = false; writes = []; owed = []; report = None; inside = false; since = []; acts_since = false; steps = 0; window = 0; noted = false }
 
 -- what a step brings to its event: the incoming word, and the time of the frame's last write of each commit register
 pub record Brought : Type 0 where
@@ -87,13 +89,18 @@ time_or now (Some time) = time
 abbrev pub brought_by : World → (ℕ → Option ℕ) → Move → (received : ℕ) → Brought
 brought_by w times made received = record { received = received; committed = λ c. time_or w.now (committed_after w times made c) }
 
+-- the call of a frame, where it is one of a call
+abbrev pub caller_of : {Call : Type 0} → Origin Call → Option Call
+caller_of (Called c) = Some c
+caller_of (Entered l) = None
+
 -- what an event of a frame is to the machine; a handler doesn't act
 abbrev pub happening_of : {Call : Type 0} → Origin Call → Brought → Event → Option (Happening Call)
 happening_of (Called c) b Act = Some (Acts c b.committed)
 happening_of (Entered l) b Act = None
 happening_of origin b (Serve k) = Some (Serves k b.received)
 happening_of origin b (Abort u) = Some (Aborts u)
-happening_of origin b (Start u) = Some (Starts u b.received)
+happening_of origin b (Start u) = Some (Starts u (caller_of origin) b.received)
 
 abbrev pub happening_at : {Call : Type 0} → Origin Call → Brought → Option Event → Option (Happening Call)
 happening_at origin b None = None
@@ -226,6 +233,17 @@ reads_after rs Unmask = rs
 reads_after rs (Note n) = rs
 reads_after rs (Report e) = rs
 
+-- the writes of registers, with this move
+abbrev pub writes_after : List Move → Move → List Move
+writes_after ms (Write r v) = Write r v ∷ ms
+writes_after ms (Read r) = ms
+writes_after ms (Load k) = ms
+writes_after ms (Store k v) = ms
+writes_after ms Mask = ms
+writes_after ms Unmask = ms
+writes_after ms (Note n) = ms
+writes_after ms (Report e) = ms
+
 -- the move writes a register or a word
 abbrev pub is_write : Move → Bool
 is_write (Write r v) = true
@@ -320,6 +338,7 @@ open_after mac w s o made received e =
       committed = committed_after w o.committed made;
       reads = reads_after o.reads made;
       wrote = o.wrote || is_write made;
+      writes = writes_after o.writes made;
       owed = owed_after (owed_by o.owed e out) made;
       report = report_after (report_by mac o.origin o.report e out) made;
       inside = inside_after o.inside made;

@@ -1,9 +1,9 @@
 -- When a run is legal: what each of its deeds has to be, in the moment before it.
-use Rattle.std.specs.Prelude.{◌≡◌, ℕ, ◌<◌, ◌≤◌, min, Bool, true, false, ◌&&◌, ◌||◌, ◌==◌, cond, List, [], ◌∷◌, Option, Some, None, IsSome, MatchBool}
+use Rattle.std.specs.Prelude.{◌≡◌, ℕ, ◌<◌, ◌≤◌, min, Bool, true, false, ◌&&◌, ◌||◌, ◌==◌, cond, not, List, [], ◌∷◌, Option, Some, None, IsSome, MatchBool}
 use Rattle.std.specs.List.{Contains, list_any, list_all}
 use Rattle.chip_units.specs.Serials.{unit_at, outgoing}
 use Rattle.chip_units.specs.declared.serial.Serial.{Serial}
-use Rattle.chip_model.specs.Chip.{Chip, value_of, names_device, next_word, is_pending, is_masked}
+use Rattle.chip_model.specs.Chip.{Chip, value_of, stall_of, names_device, next_word, is_pending, is_masked}
 use Rattle.mcal_base.specs.Reach.{CanApply}
 use Rattle.irq_control.specs.declared.held.Held.{Held}
 use Rattle.irq_control.specs.declared.held.Held.TheVariants.{Unknown}
@@ -27,7 +27,7 @@ use Rattle.mcal_base.specs.declared.directive.Order.TheVariants as orders
 use Rattle.mcal_base.specs.declared.directive.Reason.TheVariants.{Watchdog}
 use Rattle.run_model.specs.World.{World}
 use Rattle.run_model.specs.Machine.{Moves, Restarts, Begun, Machine, no_answer, select_of}
-use Rattle.run_model.specs.Frame.{Origin, Called, Entered, Owing, ActedAt, Open, outcome_at, begun_by, report_by, is_act, open_after, is_shared, resets_chip, asks_reset}
+use Rattle.run_model.specs.Frame.{Origin, Called, Entered, Owing, ActedAt, Open, outcome_at, begun_by, report_by, is_act, state_after, open_after, is_shared, resets_chip, asks_reset}
 use Rattle.run_model.specs.Causes.{call_cause, line_cause, fill_cause, tags_of, origins_of, top_noted}
 use Rattle.run_model.specs.Moment.{Halves, Setting, is_busy, Moment, Deed, Begins, Enters, Steps, Happens, Resets, after}
 
@@ -46,11 +46,12 @@ lines_from k (l ∷ ls) = cond (l == k) (l ∷ ls) (lines_from k ls)
 abbrev pub IsNext : (polls served : List ℕ) → ℕ → Type 0
 IsNext polls served k = (has_line polls k ≡ true) × (list_any (has_line served) (lines_from k polls) ≡ false)
 
--- a frame acts once; a handler doesn't act, and serves its own line, once; a call serves lines that it polls, in their order, each once
+-- a frame acts once; a handler doesn't act, and serves its own line, once; a call serves lines that it polls, in their order, each
+-- once and with no notice owed, so that it gives those of one before it serves the next
 abbrev pub IsOwnEvent : {State Call : Type 0} → Machine State Call → World → State → Open Call → Event → Origin Call → Type 0
 IsOwnEvent mac w s o Act (Called c) = o.acted ≡ None
 IsOwnEvent mac w s o Act (Entered l) = ⊥
-IsOwnEvent mac w s o (Serve k) (Called c) = IsNext (mac.polls w s c) o.served k × (o.inside ≡ true)
+IsOwnEvent mac w s o (Serve k) (Called c) = IsNext (mac.polls w s c) o.served k × (o.owed ≡ []) × (o.inside ≡ true)
 IsOwnEvent mac w s o (Serve k) (Entered l) = (k ≡ l) × (o.served ≡ []) × (o.inside ≡ true)
 IsOwnEvent mac w s o (Abort u) origin = o.owed ≡ []
 IsOwnEvent mac w s o (Start u) origin = o.owed ≡ []
@@ -234,11 +235,43 @@ abbrev pub EndRight : {Call : Type 0} → Open Call → Option Answer → Type 0
 EndRight o None = Unit {0}
 EndRight o (Some answer) = MayEnd o.origin o answer × (o.owed ≡ []) × (o.report ≡ None) × (o.inside ≡ false) × (o.noted ≡ false)
 
+-- the line was served, and its unit may start or abort
+abbrev pub is_left_waiting : {State Call : Type 0} → Machine State Call → World → State → (served : List ℕ) → ℕ → Bool
+is_left_waiting mac w s served l = has_line served l && mac.line_waits w s l
+
+-- a frame that ends leaves no unit waiting whose line it has served: a call of those that it polled, a handler its own
+abbrev pub LeavesNone : {State Call : Type 0} → Machine State Call → World → State → Origin Call → (polled served : List ℕ) → Type 0
+LeavesNone mac w s (Called c) polled served = list_all (λ l. not (is_left_waiting mac w s served l)) polled ≡ true
+LeavesNone mac w s (Entered l) polled served = is_left_waiting mac w s served l ≡ false
+
+abbrev pub StartsRight : {State Call : Type 0} → Machine State Call → World → State → Open Call → Option Answer → Type 0
+StartsRight mac w s o None = Unit {0}
+StartsRight mac w s o (Some answer) = LeavesNone mac w s o.origin o.polled o.served
+
+-- of each of these kinds a write was made
+abbrev pub AllMade : List (Move → Bool) → (writes : List Move) → Type 0
+AllMade kinds writes = list_all (λ kind. list_any kind writes) kinds ≡ true
+
+abbrev pub MadeUnless : Option ErrorName → List (Move → Bool) → (writes : List Move) → Type 0
+MadeUnless None kinds writes = AllMade kinds writes
+MadeUnless (Some e) kinds writes = Unit {0}
+
+-- a call that has acted and found no error has made what it owes
+abbrev pub HasMade : {State Call : Type 0} → Setting State Call → Origin Call → (writes : List Move) → Option ActedAt → Type 0
+HasMade g (Called c) writes None = Unit {0}
+HasMade g (Called c) writes (Some at) = MadeUnless at.error (g.must c) writes
+HasMade g (Entered l) writes at = Unit {0}
+
+abbrev pub WritesRight : {State Call : Type 0} → Setting State Call → Open Call → Option Answer → Type 0
+WritesRight g o None = Unit {0}
+WritesRight g o (Some answer) = HasMade g o.origin o.writes o.acted_at
+
 -- ---- a step
 
 -- what a step of the top frame has to be
 pub record IsLegalStep {State Call : Type 0} (g : Setting State Call) (m : Moment State Call) (o : Open Call) (s : Stepped) : Type 0 where
-  -- the value read is the chip's
+  -- it waits for no word in transfer, and the value read is the chip's
+  pub waits : stall_of m.chip s.made ≡ 0
   pub value : s.value ≡ value_of m.chip s.made
   -- the word that comes in is the one of that moment
   pub received : ReceivedRight m.chip m.world s.made s.received
@@ -261,6 +294,10 @@ pub record IsLegalStep {State Call : Type 0} (g : Setting State Call) (m : Momen
   pub stays : resets_chip s.made ≡ true → s.ended ≡ None
   -- the answer, where the frame ends
   pub ends : EndRight (open_after g.machine m.world m.state o s.made s.received s.event) s.ended
+  -- a call that ends without an error has made each write that it owes
+  pub writes : WritesRight g (open_after g.machine m.world m.state o s.made s.received s.event) s.ended
+  -- a frame that ends has made the start that its serving left
+  pub starts : StartsRight g.machine m.world (state_after g.machine m.world m.state o s.made s.received s.event) (open_after g.machine m.world m.state o s.made s.received s.event) s.ended
   -- the register or the word is there, and it is its module's
   pub there : CanApply s.made
   pub own : is_shared s.made || g.may o.origin s.made ≡ true
@@ -320,12 +357,25 @@ QuietAtRest g m (o ∷ os) = Unit {0}
 abbrev pub OutputsRight : {State Call : Type 0} → Setting State Call → Moment State Call → Type 0
 OutputsRight g m = is_masked m.chip ≡ false → g.unmasked m.chip m.world m.state (origins_of m.opens)
 
+-- a frame under way has made fewer steps than its bound, and fewer moves than its window's while it is in one
+pub record IsGoing {State Call : Type 0} (g : Setting State Call) (o : Open Call) : Type 0 where
+  pub steps : o.steps < g.steps_of o.origin
+  pub window : o.inside ≡ true → o.window < g.window_of o.origin
+
+abbrev pub AreGoing : {State Call : Type 0} → Setting State Call → List (Open Call) → Type 0
+AreGoing g [] = Unit {0}
+AreGoing g (o ∷ os) = IsGoing g o × AreGoing g os
+
 -- what holds of every moment of a legal run
 pub record IsServed {State Call : Type 0} (g : Setting State Call) (m : Moment State Call) : Type 0 where
   pub due : DueIsPending g m
   pub unused : UnusedIsIdle g m
   pub outputs : OutputsRight g m
   pub quiet : QuietAtRest g m m.opens
+  -- the chip's rate is the machine's
+  pub rate : m.chip.clock.rate ≡ g.machine.rate m.state
+  -- and each frame under way can go on within its bounds
+  pub going : AreGoing g m.opens
 
 -- each deed is legal in the moment before it, and comes in time, and each moment is served
 abbrev pub IsLegal : {State Call : Type 0} → Setting State Call → Moment State Call → List (Deed Call) → Type 0

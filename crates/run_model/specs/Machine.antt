@@ -17,8 +17,9 @@ pub data Happening (Call : Type 0) : Type 0 where
   Acts : Call → (committed : ℕ → ℕ) → Happening Call
   -- a line is served; a serial word that begins there has this incoming word
   Serves : (line received : ℕ) → Happening Call
-  -- a unit starts its next round or job; its first word has this incoming word
-  Starts : units.Unit → (received : ℕ) → Happening Call
+  -- a unit starts its next round or job, or the next word of a transmission that a call carries out; a frame of this call
+  -- made it, where a call's frame did, and the word that begins has this incoming word
+  Starts : units.Unit → (by : Option Call) → (received : ℕ) → Happening Call
   -- the running round of a unit is aborted
   Aborts : units.Unit → Happening Call
   -- the hardware moves
@@ -78,6 +79,8 @@ pub record Machine (State Call : Type 0) : Type 0 where
   pub due : World → State → ℕ → Bool
   -- whether a unit may start or abort
   pub startable : World → State → units.Unit → Bool
+  -- whether a line is a unit's that may start or abort
+  pub line_waits : World → State → ℕ → Bool
   -- the peripheral ticks of a tick of the oscillator
   pub rate : State → ℕ
   -- the ticks of the oscillator that are left until the watchdog's time ends, where it runs

@@ -38,6 +38,8 @@ pub record Setting (State Call : Type 0) : Type 1 where
   pub may : Origin Call → Move → Bool
   -- the halves of the counter that a call reads
   pub halves : Call → Option Halves
+  -- what a call owes that finds no error: before it ends it has made a write of each of these kinds
+  pub must : Call → List (Move → Bool)
   -- the source arrays that there are, and whether the machine has one in use
   pub fills : (channel : ℕ) → Bool
   pub in_use : World → State → (channel : ℕ) → Bool

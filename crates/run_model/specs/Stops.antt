@@ -1,5 +1,6 @@
 -- When a journal follows a script up to a stop: the items of the first directives are whole, and those of the next one end where the top frame would make one more step.
-use Rattle.std.specs.Prelude.{◌≡◌, ◌⊎◌, ℕ, zero, ◌+◌, Bool, true, false, ◌||◌, List, [], ◌∷◌, length, count_by, Option, None, is_some}
+use Rattle.std.specs.Prelude.{◌≡◌, ◌⊎◌, ℕ, zero, ◌+◌, ◌<◌, Bool, true, false, ◌||◌, List, [], ◌∷◌, length, count_by, Option, None, is_some}
+use Rattle.chip_model.specs.Chip.{wait_on}
 use Rattle.irq_control.specs.declared.held.Held.{Held}
 use Rattle.mcal_base.specs.declared.directive.Directive.{Directive}
 use Rattle.mcal_base.specs.declared.directive.Order.{Order}
@@ -8,22 +9,37 @@ use Rattle.mcal_base.specs.declared.directive.Request.{Request}
 use Rattle.run_model.specs.declared.reach.Reach.{Reach}
 use Rattle.run_model.specs.declared.reach.Reach.TheVariants.{Count, Until, Whole}
 use Rattle.run_model.specs.Entry as entry
-use Rattle.run_model.specs.Follows.{call_held, line_held, is_reached, FirstThen}
+use Rattle.run_model.specs.Follows.{call_held, line_held, is_awaiting, MayWait, ends_within, is_reached, FirstThen}
 use Rattle.run_model.specs.Frame.{resets_chip, Open}
-use Rattle.run_model.specs.Moment.{Setting, Moment, Deed, Begins, Enters, Steps, after}
+use Rattle.run_model.specs.Moment.{Setting, Moment, Deed, Begins, Enters, Steps, Happens, after}
 
--- the item is a step after which the directive goes on: it neither resets the chip, nor ends the frame, nor is the last that is asked for
-abbrev pub IsStepBefore : {State Call : Type 0} → (line : ℕ) → Reach → (made : ℕ) → Moment State Call → entry.Entry → entry.Said → ((made : ℕ) → Deed Call → Type 0) → Type 0
-IsStepBefore line reach made m e (entry.Steps s) More = (e.line ≡ line) × (e.depth ≡ length m.opens) × (resets_chip s.made || (is_some s.ended || is_reached reach (made + 1) s) ≡ false) × More (made + 1) (Steps s)
-IsStepBefore line reach made m e (entry.Happens o) More = ⊥
-IsStepBefore line reach made m e entry.Begins More = ⊥
-IsStepBefore line reach made m e (entry.Stays c) More = ⊥
-IsStepBefore line reach made m e (entry.Resets r k) More = ⊥
+-- the step that waited for the word of this unit comes next, or is the one that is asked for
+abbrev pub MayComeAwaited : (u : ℕ) → List entry.Entry → Type 0
+MayComeAwaited u [] = Unit {0}
+MayComeAwaited u (e ∷ es) = is_awaiting u e.said ≡ true
+
+-- the top frame waits so many ticks for the word in transfer on a unit, within the watchdog's time
+pub record WaitsBefore {State Call : Type 0} (g : Setting State Call) (m : Moment State Call) (n : ℕ) (items : List entry.Entry) : Type 0 where
+  pub unit : ℕ
+  pub busy : 0 < n
+  pub ticks : n ≡ wait_on m.chip unit
+  pub may : MayWait g m.opens unit
+  pub in_time : ends_within n (g.machine.expires m.world m.state) ≡ false
+  pub step : MayComeAwaited unit items
+
+-- the item is a step after which the directive goes on: it neither resets the chip, nor ends the frame, nor is the last that is asked for; or a wait before one
+abbrev pub IsStepBefore : {State Call : Type 0} → Setting State Call → (line : ℕ) → Reach → (made : ℕ) → Moment State Call → entry.Entry → (items : List entry.Entry) → entry.Said → ((made : ℕ) → Deed Call → Type 0) → Type 0
+IsStepBefore g line reach made m e items (entry.Steps s) More = (e.line ≡ line) × (e.depth ≡ length m.opens) × (resets_chip s.made || (is_some s.ended || is_reached reach (made + 1) s) ≡ false) × More (made + 1) (Steps s)
+IsStepBefore g line reach made m e items (entry.Happens (orders.Tick n)) More = (e.line ≡ line) × (e.depth ≡ length m.opens) × WaitsBefore g m n items × More made (Happens (orders.Tick n))
+IsStepBefore g line reach made m e items (entry.Happens o) More = ⊥
+IsStepBefore g line reach made m e items entry.Begins More = ⊥
+IsStepBefore g line reach made m e items (entry.Stays c) More = ⊥
+IsStepBefore g line reach made m e items (entry.Resets r k) More = ⊥
 
 -- the items are steps of the top frame, and the directive asks for one more; so many were made before
 abbrev pub GoesToStop : {State Call : Type 0} → Setting State Call → (line : ℕ) → Reach → (made : ℕ) → Moment State Call → List entry.Entry → Type 0
 GoesToStop g line reach made m [] = Unit {0}
-GoesToStop g line reach made m (e ∷ es) = IsStepBefore line reach made m e e.said (λ n deed. GoesToStop g line reach n (after g m deed) es)
+GoesToStop g line reach made m (e ∷ es) = IsStepBefore g line reach made m e es e.said (λ n deed. GoesToStop g line reach n (after g m deed) es)
 
 -- the items of `run`, `upto` and `finish` up to the stop; without a frame they ask for no step, and neither does `run 0`
 abbrev pub StopsWithin : {State Call : Type 0} → Setting State Call → (line : ℕ) → Reach → Moment State Call → List (Open Call) → List entry.Entry → Type 0

@@ -1,11 +1,13 @@
 //! What a run is: the items of a journal, and, in `specs/`, what stands after them and when they are legal.
 #![tactic(auto)]
 
+mod causes;
 mod class;
 mod item;
 mod journal;
 mod reach;
 
+pub use causes::{MOST_FRAMES, call_cause, is_blocked, line_cause};
 pub use class::{Class, Key, KeyKind, Kind, Tag};
 pub use item::{Hardware, Item, Logged, LoggedAnswer, Span, Stepped, What};
 pub use journal::{Items, Journal, Pool};

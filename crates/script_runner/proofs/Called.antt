@@ -1,5 +1,5 @@
 -- What a directive's items made of the devices.
-use Rattle.std.proofs.Common.{◌≡◌, ℕ, zero, suc, ◌-◌, Bool, true, false, List, [], ◌∷◌, ◌++◌, length, Option, Some, None, refl, sym, ◌∙◌, ap, subst, append_assoc, append-nil}
+use Rattle.std.proofs.Common.{◌≡◌, ℕ, zero, suc, ◌-◌, ◌<◌, Bool, true, false, List, [], ◌∷◌, ◌++◌, length, Option, Some, None, refl, sym, ◌∙◌, ap, subst, arith, append_assoc, append-nil}
 use Rattle.std.specs.Prelude.{MatchBool, nat_lt}
 use Rattle.std.specs.List.{AllByRecursion}
 use Rattle.chip_model.specs.Chip.{Chip}
@@ -10,6 +10,7 @@ use Rattle.mcal_base.specs.declared.directive.Order.{Order}
 use Rattle.mcal_base.specs.declared.directive.Order.TheVariants as orders
 use Rattle.mcal_base.specs.declared.directive.Reason.TheVariants.{PowerOn, Watchdog, Software}
 use Rattle.mcal_base.specs.declared.directive.Request.{Request}
+use Rattle.mcal_base.specs.declared.moves.Move.{Move}
 use Rattle.run_model.specs.declared.item.Stepped.{Stepped}
 use Rattle.run_model.specs.Devices.{AllCalls, IsStill}
 use Rattle.run_model.specs.Entry as entry
@@ -20,12 +21,12 @@ use Rattle.run_model.specs.Legal.{hardware_held}
 use Rattle.run_model.specs.Moment.{Setting, Moment, start_moment, after_all}
 use Rattle.run_model.specs.Script.{deed_of, deeds_of, moved_by, beginnings_of, order_at}
 use Rattle.run_model.proofs.CallsLaws.{calls-append, calls-still}
-use Rattle.run_model.proofs.Following.{after_all-append, deeds_of-append}
+use Rattle.run_model.proofs.Following.{Readies, At_once, After_wait, after_all-append, deeds_of-append}
 use Rattle.serial_devices.specs.Lines.{Line}
 use Rattle.step_runner.specs.Driver.{Driver}
 use Rattle.step_runner.specs.Kept.{Kept}
 use Rattle.step_runner.specs.declared.stack.Under.{Under}
-use Rattle.script_runner.specs.Standing.{moment_of, IsStanding, Called, Obeyed}
+use Rattle.script_runner.specs.Standing.{moment_of, IsStanding, Called, Obeyed, RanOut, Waited}
 
 -- ---- items that leave the devices as they were
 
@@ -177,3 +178,18 @@ module _ {State Call Frame : Type 0} (d : Driver State Call Frame) (first : Chip
   pub called_obeyed : (most line : ℕ) (order : Order) (chip : Chip) (k : Kept Frame) (before : Written) (chip1 : Chip) (k1 : Kept Frame) (after : Written) (lines : List Line) → LeavesDevices order → Obeyed d first call_of script most line order chip k before chip1 k1 after → Called d first call_of script before.entries after.entries lines lines
   called_obeyed most line order chip k before chip1 k1 after lines none o =
       called_still before.entries after.entries o.adds.items lines o.adds.is (given_still d.setting call_of (moment_of d first call_of script before.entries) line order o.adds.items none o.adds.right)
+
+  -- a frame waited
+  ready_still : {m m1 : Moment State Call} {s : Stepped} {ws : List Entry} (line : ℕ) → Readies d.setting line m s ws m1 → ItemsLeave ws
+  ready_still line At_once = tt
+  ready_still line (After_wait u busy may early awaited) = (tt, tt)
+
+  pub called_waited : (move_of : Frame → Move) (line : ℕ) (chip : Chip) (us : List (Under Frame)) (before : Written) (chip1 : Chip) (after : Written) (lines : List Line) → 0 < length us → Waited d first call_of script move_of line chip us before chip1 after → Called d first call_of script before.entries after.entries lines lines
+  called_waited move_of line chip [] before chip1 after lines some w = absurd (omega (arith, some))
+  called_waited move_of line chip (u ∷ us) before chip1 after lines some w =
+      let s : Stepped = record { made = move_of u.frame; value = 0; received = 0; event = None; ended = None } in
+      called_still before.entries after.entries w.waits lines w.is (ready_still line (w.ready s refl))
+
+  -- the watchdog's time ended
+  pub called_out : (line : ℕ) (chip : Chip) (k : Kept Frame) (before : Written) (chip1 : Chip) (k1 : Kept Frame) (after : Written) (lines : List Line) → RanOut d first call_of script line chip k before chip1 k1 after → Called d first call_of script before.entries after.entries lines lines
+  called_out line chip k before chip1 k1 after lines o = called_still before.entries after.entries _ lines o.down.is (tt, (tt, tt))

@@ -1,5 +1,5 @@
 -- Directives that move the hardware, show something or reset the chip.
-use Rattle.std.proofs.Common.{◌≡◌, ◌≢◌, ℕ, ◌+◌, ◌*◌, ◌<◌, ◌≤◌, ◌^◌, true, false, List, [], ◌∷◌, ◌++◌, length, Some, None, refl, sym, ◌∙◌, ap, subst, arith, append-nil}
+use Rattle.std.proofs.Common.{◌≡◌, ◌≢◌, ℕ, ◌+◌, ◌*◌, ◌<◌, ◌≤◌, ◌^◌, true, false, List, [], ◌∷◌, ◌++◌, length, Option, Some, None, refl, sym, ◌∙◌, ap, subst, arith, append-nil}
 use Rattle.std.specs.Prelude.{nat_le, nat_lt}
 use Rattle.std.proofs.lemmas.Bool.Decides.{nat_tests}
 use Rattle.chip_model.specs.Chip.{Chip, now_of, happened, reset_chip, CanHappen}
@@ -21,19 +21,20 @@ use Rattle.run_model.specs.Moment as moment
 use Rattle.run_model.specs.Moment.{Setting, Moment, Deed}
 use Rattle.run_model.specs.Script.{deeds_of, moved_by}
 use Rattle.run_model.specs.World.{World}
-use Rattle.step_runner.specs.Driver.{Driver}
+use Rattle.step_runner.specs.Driver.{Driver, EndsBefore}
 use Rattle.step_runner.specs.Kept.{Kept}
 use Rattle.step_runner.specs.Stands.{Stands, paired}
 use Rattle.step_runner.specs.declared.stack.Under.{Under}
 use Rattle.script_runner.specs.Standing.{moment_of, IsStanding, Obeyed, GivenFits, is_built, is_hardware, may_be_held, filled_by, words_by, room_on, work_of}
+use Rattle.script_runner.specs.Busy.{busies}
 use Rattle.script_runner.proofs.Arms.{depth_is, deeds_more, moment_more}
+use Rattle.script_runner.proofs.Busy.{busies-event}
 use Rattle.script_runner.proofs.Given.{room_event}
 use Rattle.script_runner.proofs.Orders.{item_filled, one_filled, no_opens, some_opens}
 
 -- ---- the orders that move the hardware
 
 pub is_noted : (order : Order) → is_hardware order ≡ true → is_happening order ≡ true
-is_noted (orders.Tick n) h = refl
 is_noted (orders.Level p v) h = refl
 is_noted (orders.Analog i v) h = refl
 is_noted (orders.Trigger i) h = refl
@@ -43,6 +44,11 @@ is_noted (orders.Fill c ws) h = refl
 is_noted orders.Detach h = refl
 is_noted _ h = cc
 
+-- and they end before the watchdog's time does
+pub is_early : (order : Order) (left : Option ℕ) → is_hardware order ≡ true → EndsBefore order left
+is_early (orders.Tick n) left h = cc
+is_early _ left h = tt
+
 -- the words of its list are those that it brings
 pub words_are : (order : Order) → length (words_of_order order) ≡ words_by order
 words_are (orders.Miso u ws) = refl
@@ -50,7 +56,6 @@ words_are (orders.Fill c ws) = refl
 words_are _ = refl
 
 moves_by : {Call : Type 0} (order : Order) → is_hardware order ≡ true → moved_by {Call = Call} order ≡ moment.Happens order ∷ []
-moves_by (orders.Tick n) h = refl
 moves_by (orders.Level p v) h = refl
 moves_by (orders.Analog i v) h = refl
 moves_by (orders.Trigger i) h = refl
@@ -66,59 +71,52 @@ none_held g m (orders.Fill c ws) h = cc
 none_held g m orders.Detach h = cc
 none_held g m _ h = refl
 
-few_ticks : (n : ℕ) → nat_le n 1000000 ≡ true → n ≤ 1000000
+pub few_ticks : (n : ℕ) → nat_le n 1000000 ≡ true → n ≤ 1000000
 few_ticks n h = grind (arith, nat_tests)
 
 is_unit : (u : ℕ) → nat_lt u 2 ≡ true → u < 2
 is_unit u h = grind (arith, nat_tests)
 
 -- so many peripheral ticks
-product : (n rate : ℕ) → n ≤ 1000000 → rate ≤ 16 → n * rate ≤ 16000000
+pub product : (n rate : ℕ) → n ≤ 1000000 → rate ≤ 16 → n * rate ≤ 16000000
 product n rate few slow = grind arith
 
-pub may_happen : (c : Chip) (order : Order) → is_built order ≡ true → may_be_held order ≡ false → c.clock.rate ≤ 16 → c.clock.osc + 1000000 < 2 ^ 64 → now_of c + 16000000 < 2 ^ 64 → GivenFits order c → CanHappen c order
-may_happen c (orders.Tick n) built other slow time late given =
-    let few = few_ticks n built in
-    let ticks = product n c.clock.rate few slow in
-    (omega (arith, few, time), omega (arith, ticks, late))
-may_happen c (orders.Miso u ws) built other slow time late given = let lt = is_unit u built in (lt, given u lt)
-may_happen c (orders.Fill k ws) built other slow time late given = cc
-may_happen c _ built other slow time late given = tt
+pub may_happen : (c : Chip) (order : Order) → is_hardware order ≡ true → is_built order ≡ true → may_be_held order ≡ false → GivenFits order c → CanHappen c order
+may_happen c (orders.Miso u ws) hard built other given = let lt = is_unit u built in (lt, given u lt)
+may_happen c (orders.Tick n) hard built other given = cc
+may_happen c (orders.Fill k ws) hard built other given = cc
+may_happen c _ hard built other given = tt
 
-osc_same : (c : Chip) (order : Order) → is_built order ≡ true → (happened c order).clock.osc ≤ c.clock.osc + 1000000
-osc_same c (orders.Tick n) built = let few = few_ticks n built in omega (arith, few)
-osc_same c (orders.Level p v) built = let e = level_leaves (λ d. d.clock.osc) c p v refl in omega (arith, e)
-osc_same c (orders.Analog i v) built = omega arith
-osc_same c (orders.Trigger i) built = omega arith
-osc_same c (orders.Miso u ws) built = omega arith
-osc_same c (orders.SpiFault u) built = omega arith
-osc_same c (orders.Fill k ws) built = omega arith
-osc_same c _ built = omega arith
+osc_same : (c : Chip) (order : Order) → is_hardware order ≡ true → (happened c order).clock.osc ≡ c.clock.osc
+osc_same c (orders.Tick n) hard = cc
+osc_same c (orders.Level p v) hard = level_leaves (λ d. d.clock.osc) c p v refl
+osc_same c (orders.Analog i v) hard = refl
+osc_same c (orders.Trigger i) hard = refl
+osc_same c (orders.Miso u ws) hard = refl
+osc_same c (orders.SpiFault u) hard = refl
+osc_same c (orders.Fill k ws) hard = refl
+osc_same c _ hard = refl
 
-now_same : (c : Chip) (order : Order) → is_built order ≡ true → c.clock.rate ≤ 16 → now_of (happened c order) ≤ now_of c + 16000000
-now_same c (orders.Tick n) built slow =
-    let few = few_ticks n built in
-    let ticks = product n c.clock.rate few slow in
-    omega (arith, ticks)
-now_same c (orders.Level p v) built slow = let e = level_leaves now_of c p v refl in omega (arith, e)
-now_same c (orders.Analog i v) built slow = omega arith
-now_same c (orders.Trigger i) built slow = omega arith
-now_same c (orders.Miso u ws) built slow = omega arith
-now_same c (orders.SpiFault u) built slow = omega arith
-now_same c (orders.Fill k ws) built slow = omega arith
-now_same c _ built slow = omega arith
+now_same : (c : Chip) (order : Order) → is_hardware order ≡ true → now_of (happened c order) ≡ now_of c
+now_same c (orders.Tick n) hard = cc
+now_same c (orders.Level p v) hard = level_leaves now_of c p v refl
+now_same c (orders.Analog i v) hard = refl
+now_same c (orders.Trigger i) hard = refl
+now_same c (orders.Miso u ws) hard = refl
+now_same c (orders.SpiFault u) hard = refl
+now_same c (orders.Fill k ws) hard = refl
+now_same c _ hard = refl
 
--- what one of them gives, on a chip without a watchdog
-gives_one : {State Call : Type 0} (g : Setting State Call) (call_of : Request → Call) (m : Moment State Call) (line : ℕ) (order : Order) (items : List Entry) → is_hardware order ≡ true → hardware_held g m order ≡ None → g.machine.expires m.world m.state ≡ None → IsOne m line (Happens order) items → Gives g call_of m line order items
-gives_one g call_of m line (orders.Tick n) items h b none one = subst (λ t. Ticks m line n t items) (sym none) one
-gives_one g call_of m line (orders.Level p v) items h b none one = one
-gives_one g call_of m line (orders.Analog i v) items h b none one = one
-gives_one g call_of m line (orders.Trigger i) items h b none one = one
-gives_one g call_of m line (orders.Miso u ws) items h b none one = one
-gives_one g call_of m line (orders.SpiFault u) items h b none one = one
-gives_one g call_of m line (orders.Fill c ws) items h b none one = subst (λ x. HappensOnly m line (orders.Fill c ws) x items) (sym b) one
-gives_one g call_of m line orders.Detach items h b none one = subst (λ x. HappensOnly m line orders.Detach x items) (sym b) one
-gives_one g call_of m line _ items h b none one = cc
+-- what one of them gives
+gives_one : {State Call : Type 0} (g : Setting State Call) (call_of : Request → Call) (m : Moment State Call) (line : ℕ) (order : Order) (items : List Entry) → is_hardware order ≡ true → hardware_held g m order ≡ None → IsOne m line (Happens order) items → Gives g call_of m line order items
+gives_one g call_of m line (orders.Level p v) items h b one = one
+gives_one g call_of m line (orders.Analog i v) items h b one = one
+gives_one g call_of m line (orders.Trigger i) items h b one = one
+gives_one g call_of m line (orders.Miso u ws) items h b one = one
+gives_one g call_of m line (orders.SpiFault u) items h b one = one
+gives_one g call_of m line (orders.Fill c ws) items h b one = subst (λ x. HappensOnly m line (orders.Fill c ws) x items) (sym b) one
+gives_one g call_of m line orders.Detach items h b one = subst (λ x. HappensOnly m line orders.Detach x items) (sym b) one
+gives_one g call_of m line _ items h b one = cc
 
 gives_held : {State Call : Type 0} (g : Setting State Call) (call_of : Request → Call) (m : Moment State Call) (line : ℕ) (order : Order) (cause : Held) (items : List Entry) → may_be_held order ≡ true → hardware_held g m order ≡ Some cause → IsOne m line (Stays cause) items → Gives g call_of m line order items
 gives_held g call_of m line (orders.Fill k ws) cause items may held one = subst (λ x. HappensOnly m line (orders.Fill k ws) x items) (sym held) one
@@ -144,22 +142,23 @@ module _ {State Call Frame : Type 0} (d : Driver State Call Frame) (first : Chip
       omega (arith, e, k)
 
   -- the hardware moved
-  pub moves : (most line n : ℕ) (order : Order) (chip : Chip) (kept : Kept Frame) (before : Written) (chip1 : Chip) (after : Written) → kept.steps ≤ most → is_hardware order ≡ true → is_built order ≡ true → hardware_held d.setting (moment_of d first call_of script before.entries) order ≡ None → words_by order ≤ 64 → chip.clock.rate ≤ 16 → n ≡ length kept.frames → chip1 ≡ happened chip order → after ≡ written before line n (Happens order) (words_of_order order) → Stands d first chip1 kept.frames (deeds_of call_of script before.entries ++ moment.Happens order ∷ []) → IsStanding d first call_of script chip kept.frames before.entries → Obeyed d first call_of script most line order chip kept before chip1 kept after
-  moves most line n order chip kept before chip1 after few hard built free short slow n_is chip_is is moved stands =
+  pub moves : (most line n : ℕ) (order : Order) (chip : Chip) (kept : Kept Frame) (before : Written) (chip1 : Chip) (after : Written) → kept.steps ≤ most → is_hardware order ≡ true → hardware_held d.setting (moment_of d first call_of script before.entries) order ≡ None → words_by order ≤ 64 → n ≡ length kept.frames → chip1 ≡ happened chip order → after ≡ written before line n (Happens order) (words_of_order order) → Stands d first chip1 kept.frames (deeds_of call_of script before.entries ++ moment.Happens order ∷ []) → IsStanding d first call_of script chip kept.frames before.entries → Obeyed d first call_of script most line order chip kept before chip1 kept after
+  moves most line n order chip kept before chip1 after few hard free short n_is chip_is is moved stands =
       let e : Entry = record { line = line; depth = n; said = Happens order } in
       let m = moment_of d first call_of script before.entries in
       record {
         adds = record {
           items = e ∷ [];
           is = ap (λ w. w.entries) is;
-          right = gives_one d.setting call_of m line order (e ∷ []) hard free (stands.covers.unwatched m.world m.state)
+          right = gives_one d.setting call_of m line order (e ∷ []) hard free
               (ap (λ x. let i : Entry = record { line = line; depth = x; said = Happens order } in i ∷ []) (n_is ∙ depth_is d first call_of script chip kept.frames before.entries stands));
           leads = sym (moment_more d first call_of script before.entries e (moved_by order) refl ∙ ap (λ ds. moment.after_all d.setting m ds) (sym (append-nil (moved_by order)))) ∙ ap (λ w. moment_of d first call_of script w.entries) (sym is);
           stands = subst (λ w. IsStanding d first call_of script chip1 kept.frames w.entries) (sym is) (subst (λ h. Stands d first chip1 kept.frames h) (sym (deeds_more d first call_of script before.entries e (moment.Happens order ∷ []) (moves_by order hard))) moved);
         };
-        filled = item_filled d first call_of script most line n (Happens order) (words_of_order order) kept.steps kept.steps before after few refl refl (omega (arith, words_are order, short)) is;
-        osc = subst (λ x. x.clock.osc ≤ chip.clock.osc + 1000000) (sym chip_is) (osc_same chip order built);
-        now = subst (λ x. now_of x ≤ now_of chip + 16000000) (sym chip_is) (now_same chip order built slow);
+        filled = item_filled d first call_of script most line n (Happens order) (words_of_order order) kept.steps kept.steps chip before chip1 after few refl refl (omega (arith, words_are order, short)) (subst (λ x. busies x ≤ busies chip) (sym chip_is) (busies-event chip order)) is;
+        more = omega arith;
+        osc = (let e = ap (λ x. x.clock.osc) chip_is ∙ osc_same chip order hard in omega (arith, e));
+        now = (let e = ap now_of chip_is ∙ now_same chip order hard in omega (arith, e));
         given = λ u. subst (λ x. room_on chip u ≤ room_on x u + words_by order) (sym chip_is) (room_event chip order u);
         spent = omega arith;
       }
@@ -178,7 +177,8 @@ module _ {State Call Frame : Type 0} (d : Driver State Call Frame) (first : Chip
           leads = sym (moment_more d first call_of script before.entries e [] refl) ∙ ap (λ w. moment_of d first call_of script w.entries) (sym is);
           stands = subst (λ w. IsStanding d first call_of script chip kept.frames w.entries) (sym is) (subst (λ h. Stands d first chip kept.frames h) (sym (deeds_more d first call_of script before.entries e [] refl ∙ append-nil (deeds_of call_of script before.entries))) stands);
         };
-        filled = one_filled d first call_of script most line n (Stays cause) kept.steps kept.steps before after few refl refl is;
+        filled = one_filled d first call_of script most line n (Stays cause) kept.steps kept.steps chip before after few refl refl is;
+        more = omega arith;
         osc = omega arith;
         now = omega arith;
         given = λ u. omega arith;
@@ -200,7 +200,8 @@ module _ {State Call Frame : Type 0} (d : Driver State Call Frame) (first : Chip
           leads = sym (moment_more d first call_of script before.entries e [] refl) ∙ ap (λ w. moment_of d first call_of script w.entries) (sym is);
           stands = subst (λ w. IsStanding d first call_of script chip kept.frames w.entries) (sym is) (subst (λ h. Stands d first chip kept.frames h) (sym (deeds_more d first call_of script before.entries e [] refl ∙ append-nil (deeds_of call_of script before.entries))) stands);
         };
-        filled = one_filled d first call_of script most line n (Happens (orders.Show shown)) kept.steps kept.steps before after few refl refl is;
+        filled = one_filled d first call_of script most line n (Happens (orders.Show shown)) kept.steps kept.steps chip before after few refl refl is;
+        more = omega arith;
         osc = omega arith;
         now = omega arith;
         given = λ u. omega arith;
@@ -222,7 +223,8 @@ module _ {State Call Frame : Type 0} (d : Driver State Call Frame) (first : Chip
           leads = sym (moment_more d first call_of script before.entries e [] refl) ∙ ap (λ w. moment_of d first call_of script w.entries) (sym is);
           stands = subst (λ w. IsStanding d first call_of script chip kept.frames w.entries) (sym is) (subst (λ h. Stands d first chip kept.frames h) (sym (deeds_more d first call_of script before.entries e [] refl ∙ append-nil (deeds_of call_of script before.entries))) stands);
         };
-        filled = one_filled d first call_of script most line n (Stays Frames) kept.steps kept.steps before after few refl refl is;
+        filled = one_filled d first call_of script most line n (Stays Frames) kept.steps kept.steps chip before after few refl refl is;
+        more = omega arith;
         osc = omega arith;
         now = omega arith;
         given = λ u. omega arith;
@@ -245,9 +247,10 @@ module _ {State Call Frame : Type 0} (d : Driver State Call Frame) (first : Chip
           leads = sym (moment_more d first call_of script before.entries e (moment.Resets reason ∷ []) refl) ∙ ap (λ w. moment_of d first call_of script w.entries) (sym is);
           stands = subst (λ w. IsStanding d first call_of script chip1 k1.frames w.entries) (sym is) (subst (λ h. Stands d first chip1 k1.frames h) (sym (deeds_more d first call_of script before.entries e (moment.Resets reason ∷ []) refl)) moved);
         };
-        filled = one_filled d first call_of script most line n (Resets reason dropped) kept.steps k1.steps before after few refl steps is;
-        osc = subst (λ x. x.clock.osc ≤ chip.clock.osc + 1000000) (sym chip_is) (omega arith);
-        now = subst (λ x. now_of x ≤ now_of chip + 16000000) (sym chip_is) (omega arith);
+        filled = item_filled d first call_of script most line n (Resets reason dropped) [] kept.steps k1.steps chip before chip1 after few refl steps (omega arith) (let e : busies chip1 ≡ 0 = ap busies chip_is in omega (arith, e)) is;
+        more = omega (arith, steps);
+        osc = (let e : chip1.clock.osc ≡ chip.clock.osc = ap (λ x. x.clock.osc) chip_is in omega (arith, e));
+        now = (let e : now_of chip1 ≡ now_of chip = ap now_of chip_is in omega (arith, e));
         given = λ u. subst (λ x. room_on chip u ≤ room_on x u + 0) (sym chip_is) (omega arith);
         spent = subst (λ k. work_of d k ≤ work_of d kept + 0) (sym k1_is) (omega arith);
       }

@@ -9,7 +9,7 @@ use Rattle.mcal_base.specs.declared.directive.Order.TheVariants.{Tick, Level, An
 use Rattle.mcal_base.specs.declared.moves.Move.{Move}
 use Rattle.mcal_base.specs.declared.moves.Move.TheVariants.{Read, Write, Load, Store, Mask, Unmask, Note, Report}
 use Rattle.mcal_base.specs.declared.register.Reg.{Reg}
-use Rattle.mcal_base.specs.declared.register.Reg.TheVariants.{EnableSet, EnableClear, SerialData, TimerLow, CaptureCountLow, CaptureTimeLow, ConverterAbort}
+use Rattle.mcal_base.specs.declared.register.Reg.TheVariants.{EnableSet, EnableClear, SerialData, TimerLow, CaptureCountLow, CaptureTimeLow, ConverterAbort, PinFlip}
 use Rattle.script_runner.specs.Standing.{room_on, words_by}
 
 abbrev none : Waiting
@@ -39,6 +39,7 @@ read_same c (TimerLow k) = refl
 read_same c (CaptureCountLow k) = refl
 read_same c (CaptureTimeLow k) = refl
 read_same c (ConverterAbort u) = refl
+read_same c (PinFlip p) = refl
 read_same c _ = refl
 
 -- a word that begins, with a device or without one

@@ -1,4 +1,5 @@
 pub mod Arms
+pub mod Busy
 pub mod Called
 pub mod Detached
 pub mod Events
@@ -9,4 +10,5 @@ pub mod Scripts
 pub mod Stops
 pub mod Taken
 pub mod UnderWay
+pub mod Waits
 pub mod Walks

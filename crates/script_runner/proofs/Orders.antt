@@ -23,7 +23,8 @@ use Rattle.step_runner.specs.Driver.{Driver}
 use Rattle.step_runner.specs.Kept.{Kept, tags_under, top_is_noted, beginning, enter_by}
 use Rattle.step_runner.specs.Stands.{Stands, AreFramesOf}
 use Rattle.step_runner.specs.declared.stack.Under.{Under}
-use Rattle.step_runner.proofs.Runs.{served-last}
+use Rattle.run_model.proofs.LegalLaws.{served-last}
+use Rattle.script_runner.specs.Busy.{busies}
 use Rattle.script_runner.specs.Standing.{moment_of, IsStanding, IsFilled, WentFar, Began, StayedOff, ObeyedBy, IsStuck, makes_no_step, work_of, bound_of, bounds_of}
 use Rattle.script_runner.proofs.Stops.{stops_within, no_step_counted}
 use Rattle.script_runner.proofs.Arms.{depth_is, deeds_more, moment_more, begins_only, stays_off, begins_whole}
@@ -133,21 +134,21 @@ module _ {State Call Frame : Type 0} (d : Driver State Call Frame) (first : Chip
       n_is (k1_is ∙ enter_held cause (d.handler_of irq) (line_tag d.setting irq) k) is stands
 
   -- the room after one item that is no step
-  pub item_filled : (most line n : ℕ) (said : entry.Said) (ws : List ℕ) (taken taken1 : ℕ) (before after : Written) → taken ≤ most → is_step said ≡ false → taken1 ≡ taken → length ws ≤ 64 → after ≡ written before line n said ws → IsFilled most taken before 2 taken1 after
-  item_filled most line n said ws taken taken1 before after few other same short is =
+  pub item_filled : (most line n : ℕ) (said : entry.Said) (ws : List ℕ) (taken taken1 : ℕ) (chip : Chip) (before : Written) (chip1 : Chip) (after : Written) → taken ≤ most → is_step said ≡ false → taken1 ≡ taken → length ws ≤ 64 → busies chip1 ≤ busies chip → after ≡ written before line n said ws → IsFilled most taken chip before 3 taken1 chip1 after
+  item_filled most line n said ws taken taken1 chip before chip1 after few other same short busy is =
       let e : Entry = record { line = line; depth = n; said = said } in
       record {
         steps = omega arith;
         counted = no_step_counted line n said ws taken taken1 before after other same is;
         room = ap (λ x. x.room) is;
         words_room = ap (λ x. x.words_room) is;
-        items = rw is (omega (arith, length-append before.entries (e ∷ []), same));
+        items = rw is (omega (arith, length-append before.entries (e ∷ []), same, busy));
         words = rw is (omega (arith, length-append before.words ws));
       }
 
   -- and one without words
-  pub one_filled : (most line n : ℕ) (said : entry.Said) (taken taken1 : ℕ) (before after : Written) → taken ≤ most → is_step said ≡ false → taken1 ≡ taken → after ≡ written before line n said [] → IsFilled most taken before 2 taken1 after
-  one_filled most line n said taken taken1 before after few other same is = item_filled most line n said [] taken taken1 before after few other same (omega arith) is
+  pub one_filled : (most line n : ℕ) (said : entry.Said) (taken taken1 : ℕ) (chip : Chip) (before after : Written) → taken ≤ most → is_step said ≡ false → taken1 ≡ taken → after ≡ written before line n said [] → IsFilled most taken chip before 3 taken1 chip after
+  one_filled most line n said taken taken1 chip before after few other same is = item_filled most line n said [] taken taken1 chip before chip after few other same (omega arith) (omega arith) is
 
   -- the same chip under another name
   pub on_same : (chip0 chip : Chip) (us : List (Under Frame)) (es : List Entry) → chip ≡ chip0 → IsStanding d first call_of script chip0 us es → IsStanding d first call_of script chip us es
@@ -161,7 +162,8 @@ module _ {State Call Frame : Type 0} (d : Driver State Call Frame) (first : Chip
       let a = begins_only d first call_of script line order deed (held (moment_of d first call_of script before.entries)) chip k before k1 after at stands on in
       record {
         adds = record { items = a.items; is = a.is; right = a.right; leads = a.leads; stands = a.stands };
-        filled = one_filled most line (length k.frames) Begins k.steps k1.steps before after few refl on.steps on.written;
+        filled = one_filled most line (length k.frames) Begins k.steps k1.steps chip before after few refl on.steps on.written;
+        more = omega (arith, on.steps);
         osc = omega arith;
         now = omega arith;
         given = λ u. omega arith;
@@ -171,7 +173,8 @@ module _ {State Call Frame : Type 0} (d : Driver State Call Frame) (first : Chip
       let a = stays_off d first call_of script line order (held (moment_of d first call_of script before.entries)) chip k before k1 after (λ h m items. BeginsOnly m line h items) (λ c m items x. x) stands off in
       record {
         adds = record { items = a.items; is = a.is; right = a.right; leads = a.leads; stands = a.stands };
-        filled = one_filled most line (length k.frames) (Stays off.cause) k.steps k1.steps before after few refl off.steps off.written;
+        filled = one_filled most line (length k.frames) (Stays off.cause) k.steps k1.steps chip before after few refl off.steps off.written;
+        more = omega (arith, off.steps);
         osc = omega arith;
         now = omega arith;
         given = λ u. omega arith;
@@ -191,11 +194,12 @@ module _ {State Call Frame : Type 0} (d : Driver State Call Frame) (first : Chip
           counted = omega (arith, w.filled.counted, no_step_counted line (length k.frames) Begins [] k.steps k1.steps before between refl b.steps b.written);
           room = w.filled.room ∙ ap (λ x. x.room) b.written;
           words_room = w.filled.words_room ∙ ap (λ x. x.words_room) b.written;
-          items = omega (arith, w.filled.items, n, b.steps);
+          items = (let a = w.filled.items in omega (arith, a, n, b.steps));
           words = omega (arith, w.filled.words, ap length words_are);
         };
-        osc = omega (arith, w.time.osc);
-        now = omega (arith, w.time.now);
+        more = omega (arith, w.more, b.steps);
+        osc = (let a = w.time.osc in omega (arith, a, w.more, b.steps));
+        now = (let a = w.time.now in omega (arith, a, w.more, b.steps));
         given = λ u. omega (arith, w.time.room u);
         spent = subst (λ hs. work_of d k2 ≤ work_of d k + bounds_of d.setting hs) (sym at) (omega (arith, b.spent, w.spent));
       }
@@ -205,7 +209,8 @@ module _ {State Call Frame : Type 0} (d : Driver State Call Frame) (first : Chip
       let a = stays_off d first call_of script line order (held (moment_of d first call_of script before.entries)) chip k before k1 after (λ h m items. BeginsWhole d.setting m line deed h items) (λ c m items x. x) stands off in
       record {
         adds = record { items = a.items; is = a.is; right = a.right; leads = a.leads; stands = a.stands };
-        filled = one_filled most line (length k.frames) (Stays off.cause) k.steps k1.steps before after few refl off.steps off.written;
+        filled = one_filled most line (length k.frames) (Stays off.cause) k.steps k1.steps chip before after few refl off.steps off.written;
+        more = omega (arith, off.steps);
         osc = omega arith;
         now = omega arith;
         given = λ u. omega arith;
@@ -231,7 +236,8 @@ module _ {State Call Frame : Type 0} (d : Driver State Call Frame) (first : Chip
           leads = sym (moment_more d first call_of script before.entries e [] refl) ∙ ap (λ w. moment_of d first call_of script w.entries) (sym is);
           stands = subst (λ w. IsStanding d first call_of script chip k.frames w.entries) (sym is) (subst (λ h. Stands d first chip k.frames h) (sym (deeds_more d first call_of script before.entries e [] refl ∙ append-nil (deeds_of call_of script before.entries))) stands);
         };
-        filled = one_filled most line n (Stays Empty) k.steps k.steps before after few refl refl is;
+        filled = one_filled most line n (Stays Empty) k.steps k.steps chip before after few refl refl is;
+        more = omega arith;
         osc = omega arith;
         now = omega arith;
         given = λ u. omega arith;
@@ -255,6 +261,7 @@ module _ {State Call Frame : Type 0} (d : Driver State Call Frame) (first : Chip
           stands = stands;
         };
         filled = record { steps = few; counted = refl; room = refl; words_room = refl; items = omega arith; words = omega arith };
+        more = omega arith;
         osc = omega arith;
         now = omega arith;
         given = λ u. omega arith;
@@ -274,9 +281,10 @@ module _ {State Call Frame : Type 0} (d : Driver State Call Frame) (first : Chip
       let a = w.adds order in
       record {
         adds = record { items = a.items; is = a.is; right = subst (λ os. Goes d.setting line reach m os a.items) (sym o.2) (goes_by line reach m a.items o.0 o.1 not a.right); leads = a.leads; stands = a.stands };
-        filled = record { steps = w.filled.steps; counted = w.filled.counted; room = w.filled.room; words_room = w.filled.words_room; items = omega (arith, w.filled.items); words = w.filled.words };
-        osc = omega (arith, w.time.osc);
-        now = omega (arith, w.time.now);
+        filled = record { steps = w.filled.steps; counted = w.filled.counted; room = w.filled.room; words_room = w.filled.words_room; items = (let i = w.filled.items in omega (arith, i)); words = w.filled.words };
+        more = w.more;
+        osc = (let i = w.time.osc in omega (arith, i));
+        now = (let i = w.time.now in omega (arith, i));
         given = λ u. omega (arith, w.time.room u);
         spent = omega (arith, w.spent);
       }

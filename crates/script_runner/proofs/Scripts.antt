@@ -1,6 +1,6 @@
 -- A script's directives, one after another.
 use Rattle.std.proofs.Common.{◌≡◌, ℕ, zero, suc, ◌+◌, ◌*◌, ◌<◌, ◌≤◌, Bool, true, false, cond, List, [], ◌∷◌, ◌++◌, length, take, drop, Some, sym, ◌∙◌, ap, subst, arith, add-one}
-use Rattle.std.specs.Prelude.{slice_get, slice_index_or, ◌==◌}
+use Rattle.std.specs.Prelude.{slice_get, slice_index_or, ◌==◌, ◌/◌}
 use Rattle.std.proofs.lemmas.Bool.Decides.{nat_tests}
 use Rattle.std.proofs.lemmas.List.Sums.{sum_by-append}
 use Rattle.chip_model.specs.Chip.{Chip, now_of}
@@ -15,6 +15,8 @@ use Rattle.run_model.proofs.Following.{FollowsTo, Nothing_followed, follows_more
 use Rattle.step_runner.specs.Driver.{Driver}
 use Rattle.step_runner.specs.Kept.{Kept, kept_empty}
 use Rattle.step_runner.specs.Stands.{Stands}
+use Rattle.script_runner.specs.Busy.{busies}
+use Rattle.script_runner.specs.Runs.{room_for}
 use Rattle.script_runner.specs.Scripts.{LinesRise, AllBuilt, AllOffered, is_offered, words_given, script_bound}
 use Rattle.script_runner.specs.Standing.{moment_of, IsStanding, Obeyed, Stuck, GivenFits, is_built, words_by, room_on, work_of, bounds_of}
 use Rattle.script_runner.specs.laws.Going.{Going}
@@ -78,6 +80,10 @@ script_bound-take d call_of zero ds = omega arith
 script_bound-take d call_of (suc n) [] = omega arith
 script_bound-take d call_of (suc n) (x ∷ xs) = let h = script_bound-take d call_of n xs in omega (arith, h)
 
+-- half of a number, rounded up, twice
+halves : (n : ℕ) → n ≤ 2 * ((n + 1) / 2)
+halves n = omega arith
+
 -- the words of a script by its first directive
 given_first : (d : Directive) (ds : List Directive) → words_given (d ∷ ds) ≡ words_by d.order + words_given ds
 given_first d ds = sum_by-append (λ x. words_by x.order) (d ∷ []) ds ∙ omega arith
@@ -101,10 +107,10 @@ module _ {State Call Frame : Type 0} (d : Driver State Call Frame) (first : Chip
         steps = o.filled.steps;
         counted = omega (arith, o.filled.counted, h.counted);
         spent = subst (λ ds. work_of d k1 ≤ script_bound d.setting call_of ds) (sym (take_more script at directive e)) (rw (script_bound-append d call_of (take at script) directive) (omega (arith, o.spent, h.spent)));
-        items = omega (arith, o.filled.items, o.filled.room, h.items);
+        items = (let a = o.filled.items in let b = h.items in omega (arith, a, o.filled.room, b, lt));
         words = omega (arith, o.filled.words, o.filled.words_room, h.words);
-        osc = omega (arith, o.osc, h.osc);
-        now = omega (arith, o.now, h.now);
+        osc = (let a = o.osc in let b = h.osc in omega (arith, a, b, o.more));
+        now = (let a = o.now in let b = h.now in omega (arith, a, b, o.more));
         given = λ u lt. omega (arith, o.given u, h.given u lt, given_more script at directive e);
       }
 
@@ -130,8 +136,8 @@ module _ {State Call Frame : Type 0} (d : Driver State Call Frame) (first : Chip
   pub given_fits : (most at : ℕ) (directive : Directive) (chip : Chip) (k : Kept Frame) (w : Written) → slice_get script at ≡ Some directive → Going d first call_of script most at chip k w → GivenFits directive.order chip
   given_fits most at directive chip k w e h u lt = omega (arith, h.given u lt, given_at script at directive e)
 
-  pub going_start : (most : ℕ) (chip : Chip) (k : Kept Frame) (w : Written) → chip ≡ first → first.clock.osc ≡ 0 → now_of first ≡ 0 → ((u : ℕ) → u < 2 → room_on first u ≡ words_given script) → k ≡ kept_empty → w ≡ record { entries = []; room = most + 2 * length script; words = []; words_room = 64 * length script } → Stands d first first k.frames [] → Going d first call_of script most 0 chip k w
-  going_start most chip k w chip_is none_osc none_now roomy k_is w_is stands =
+  pub going_start : (most : ℕ) (chip : Chip) (k : Kept Frame) (w : Written) → chip ≡ first → busies first ≡ 0 → first.clock.osc ≡ 0 → now_of first ≡ 0 → ((u : ℕ) → u < 2 → room_on first u ≡ words_given script) → k ≡ kept_empty → w ≡ record { entries = []; room = room_for most (length script); words = []; words_room = 64 * length script } → Stands d first first k.frames [] → Going d first call_of script most 0 chip k w
+  going_start most chip k w chip_is none_busy none_osc none_now roomy k_is w_is stands =
       let entries_are : w.entries ≡ [] = ap (λ x. x.entries) w_is in
       let e1 = ap (λ x. x.room) w_is in
       let e2 = ap (λ x. x.words_room) w_is in
@@ -144,10 +150,10 @@ module _ {State Call Frame : Type 0} (d : Driver State Call Frame) (first : Chip
         steps = omega (arith, e5);
         counted = ap (λ es. steps_in es) entries_are ∙ sym e5;
         spent = subst (λ x. work_of d x ≤ 0) (sym k_is) (omega arith);
-        items = omega (arith, e1, e3);
+        items = (let none : busies chip ≡ 0 = ap busies chip_is ∙ none_busy in let half = halves most in omega (arith, e1, e3, none, half, e5));
         words = omega (arith, e2, e4);
-        osc = subst (λ c. c.clock.osc ≤ 0) (sym chip_is) (omega (arith, none_osc));
-        now = subst (λ c. now_of c ≤ 0) (sym chip_is) (omega (arith, none_now));
+        osc = (let e : chip.clock.osc ≡ first.clock.osc = ap (λ c. c.clock.osc) chip_is in omega (arith, e, none_osc));
+        now = (let e : now_of chip ≡ now_of first = ap now_of chip_is in omega (arith, e, none_now));
         given = λ u lt. subst (λ c. words_given script ≤ room_on c u + words_given []) (sym chip_is) (omega (arith, roomy u lt));
       }
 

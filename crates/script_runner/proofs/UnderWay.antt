@@ -17,13 +17,13 @@ use Rattle.run_model.specs.Moment.{start_moment}
 use Rattle.run_model.specs.Script.{deeds_of, order_at}
 use Rattle.run_model.specs.Stops.{FollowsToStop, steps_in}
 use Rattle.run_model.proofs.Following.{follows_from}
-use Rattle.step_runner.proofs.Runs.{served-last}
+use Rattle.run_model.proofs.LegalLaws.{served-last}
 use Rattle.step_runner.specs.Driver.{Driver}
 use Rattle.step_runner.specs.Kept.{Kept, kept_empty}
 use Rattle.step_runner.specs.Stands.{Stands}
-use Rattle.script_runner.specs.Runs.{Run, IsAtRest}
+use Rattle.script_runner.specs.Runs.{Run, IsAtRest, room_for}
 use Rattle.script_runner.specs.Scripts.{IsScript, AllOffered, is_offered, IsRun, IsStopped, chip_for, script_bound, words_given}
-use Rattle.script_runner.specs.Standing.{moment_of, IsStanding, HasRoom, GivenFits, Obeyed, Stuck, is_built, room_on, work_of}
+use Rattle.script_runner.specs.Standing.{moment_of, IsStanding, HasRoom, HasTime, GivenFits, Obeyed, Stuck, is_built, room_on, work_of}
 use Rattle.script_runner.specs.laws.Going.{Going, IsUnderWay}
 use Rattle.script_runner.proofs.Arms.{depth_is}
 use Rattle.script_runner.proofs.Orders.{no_opens}
@@ -52,20 +52,24 @@ module _ {State Call Frame : Type 0} (d : Driver State Call Frame) (call_of : Re
   abbrev UnderWay : (at : ℕ) → Bool → Chip → Kept Frame → Written → Type 0
   UnderWay at too_long chip k w = IsUnderWay d call_of has config script devices limit most at too_long chip k w
 
-  pub begins : (chip : Chip) (k : Kept Frame) (w : Written) → d.fits → IsScript script → AllOffered has script → limit < 4294967295 → most ≡ min limit (script_bound d.setting call_of script) → chip ≡ first → k ≡ kept_empty → w ≡ record { entries = []; room = most + 2 * length script; words = []; words_room = 64 * length script } → Stands d first first k.frames [] → UnderWay 0 false chip k w
+  pub begins : (chip : Chip) (k : Kept Frame) (w : Written) → d.fits → IsScript script → AllOffered has script → limit < 4294967295 → most ≡ min limit (script_bound d.setting call_of script) → chip ≡ first → k ≡ kept_empty → w ≡ record { entries = []; room = room_for most (length script); words = []; words_room = 64 * length script } → Stands d first first k.frames [] → UnderWay 0 false chip k w
   begins chip k w fits is_script offered small least chip_is k_is w_is stands = record {
     fits = fits;
     is_script = is_script;
     offered = offered;
     small = small;
     least = least;
-    going = going_start d first call_of script most chip k w chip_is refl refl (roomy devices config script) k_is w_is stands;
+    going = going_start d first call_of script most chip k w chip_is refl refl refl (roomy devices config script) k_is w_is stands;
     halted = tt;
   }
 
   pub going_of : (at : ℕ) (too_long : Bool) (chip : Chip) (k : Kept Frame) (w : Written) → too_long ≡ false → UnderWay at too_long chip k w → Going d first call_of script most at chip k w
   going_of at false chip k w e u = u.going
   going_of at true chip k w e u = cc
+
+  -- no more steps than the limit
+  below : most ≡ min limit (script_bound d.setting call_of script) → most ≤ limit
+  below least = let h = min-le_left limit (script_bound d.setting call_of script) in omega (arith, least, h)
 
   -- ---- the next directive
 
@@ -82,17 +86,20 @@ module _ {State Call Frame : Type 0} (d : Driver State Call Frame) (call_of : Re
   next_given at too_long directive chip k w e on u = given_fits d first call_of script most at directive chip k w e (going_of at too_long chip k w on u)
 
   -- there is time for it, and room
-  pub next_time : (at : ℕ) (too_long : Bool) (directive : Directive) (chip : Chip) (k : Kept Frame) (w : Written) → slice_get script at ≡ Some directive → too_long ≡ false → UnderWay at too_long chip k w → chip.clock.osc + 1000000 < 18446744073709551616
-  next_time at too_long directive chip k w e on u = omega (arith, there script at directive e, u.is_script.few, (going_of at too_long chip k w on u).osc)
+  pub next_time : (at : ℕ) (too_long : Bool) (directive : Directive) (chip : Chip) (k : Kept Frame) (w : Written) → slice_get script at ≡ Some directive → too_long ≡ false → UnderWay at too_long chip k w → HasTime most k.steps chip
+  next_time at too_long directive chip k w e on u =
+      let h = going_of at too_long chip k w on u in
+      let lt = there script at directive e in
+      let few = below u.least in
+      let osc = h.osc in
+      let now = h.now in
+      record { osc = omega (arith, lt, u.is_script.few, osc, h.steps, few, u.small); now = omega (arith, lt, u.is_script.few, now, h.steps, few, u.small) }
 
-  pub next_late : (at : ℕ) (too_long : Bool) (directive : Directive) (chip : Chip) (k : Kept Frame) (w : Written) → slice_get script at ≡ Some directive → too_long ≡ false → UnderWay at too_long chip k w → now_of chip + 16000000 < 18446744073709551616
-  next_late at too_long directive chip k w e on u = omega (arith, there script at directive e, u.is_script.few, (going_of at too_long chip k w on u).now)
-
-  pub next_room : (at : ℕ) (too_long : Bool) (directive : Directive) (chip : Chip) (k : Kept Frame) (w : Written) → slice_get script at ≡ Some directive → too_long ≡ false → UnderWay at too_long chip k w → HasRoom most k.steps 2 w
+  pub next_room : (at : ℕ) (too_long : Bool) (directive : Directive) (chip : Chip) (k : Kept Frame) (w : Written) → slice_get script at ≡ Some directive → too_long ≡ false → UnderWay at too_long chip k w → HasRoom most k.steps 3 chip w
   next_room at too_long directive chip k w e on u =
       let h = going_of at too_long chip k w on u in
       let lt = there script at directive e in
-      record { steps = h.steps; items = omega (arith, h.items, lt); words = omega (arith, h.words, lt); counted = h.counted }
+      record { steps = h.steps; items = (let a = h.items in omega (arith, a, lt)); words = omega (arith, h.words, lt); counted = h.counted }
 
   pub next_number : (at : ℕ) (too_long : Bool) (directive : Directive) (chip : Chip) (k : Kept Frame) (w : Written) → slice_get script at ≡ Some directive → UnderWay at too_long chip k w → at + 1 < 18446744073709551616
   next_number at too_long directive chip k w e u = omega (arith, there script at directive e, u.is_script.few)
@@ -148,10 +155,6 @@ module _ {State Call Frame : Type 0} (d : Driver State Call Frame) (call_of : Re
 
   pub legal_of : (at : ℕ) (too_long : Bool) (chip : Chip) (k : Kept Frame) (w : Written) → UnderWay at too_long chip k w → IsLegal d.setting (start_moment d.setting first) (deeds_of call_of script w.entries)
   legal_of at too_long chip k w u = (stands_of at too_long chip k w u).legal
-
-  -- no more steps than the limit
-  below : most ≡ min limit (script_bound d.setting call_of script) → most ≤ limit
-  below least = let h = min-le_left limit (script_bound d.setting call_of script) in omega (arith, least, h)
 
   pub few_of : (at : ℕ) (too_long : Bool) (chip : Chip) (k : Kept Frame) (w : Written) → UnderWay at too_long chip k w → steps_in w.entries ≤ limit
   few_of at false chip k w u = omega (arith, u.going.counted, u.going.steps, below u.least)

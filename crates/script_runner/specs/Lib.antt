@@ -1,3 +1,4 @@
+pub mod Busy
 pub mod Runs
 pub mod Scripts
 pub mod Standing

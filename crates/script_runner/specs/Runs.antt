@@ -1,5 +1,5 @@
 -- A run under way, as those see it who have its script obeyed.
-use Rattle.std.specs.Prelude.{◌≡◌, ℕ, ◌+◌, ◌*◌, min, Bool, false, List, [], ◌++◌, length}
+use Rattle.std.specs.Prelude.{◌≡◌, ℕ, ◌+◌, ◌*◌, ◌/◌, min, Bool, false, List, [], ◌++◌, length}
 use Rattle.chip_model.specs.Chip.{Chip}
 use Rattle.mcal_base.specs.declared.config.whole.Config.{Config}
 use Rattle.mcal_base.specs.declared.directive.Directive.{Directive}
@@ -35,7 +35,12 @@ pub record Run (M Frame : Type 0) : Type 0 where
 abbrev pub first_of : {M Frame : Type 0} → Run M Frame → Chip
 first_of r = chip_for r.devices r.config r.script
 
--- a run before its first directive, with room for the steps that it may take, two other items of each directive, and 64 words of each
+-- the items of a run of so many steps and so many directives: every second step has a wait before it at most, and a directive three
+-- items beside
+abbrev pub room_for : (most directives : ℕ) → ℕ
+room_for most directives = most + (most + 1) / 2 + 3 * directives
+
+-- a run before its first directive, with room for its items, and 64 words of each directive
 abbrev pub run_start : {M State Call Frame : Type 0} → (driver : M) → Setting State Call → (Request → Call) → Config → List Directive → (limit devices : ℕ) → Run M Frame
 run_start driver setting calls config script limit devices = record {
   driver = driver;
@@ -45,7 +50,7 @@ run_start driver setting calls config script limit devices = record {
   limit = limit;
   obeyed = 0;
   too_long = false;
-  journal = record { entries = []; room = min limit (script_bound setting calls script) + 2 * length script; words = []; words_room = 64 * length script };
+  journal = record { entries = []; room = room_for (min limit (script_bound setting calls script)) (length script); words = []; words_room = 64 * length script };
   chip = chip_for devices config script;
   frames = [];
 }

@@ -1,17 +1,19 @@
 -- What the parts of a run are to its journal, while a directive is obeyed.
-use Rattle.std.specs.Prelude.{◌≡◌, ℕ, zero, suc, ◌+◌, ◌-◌, ◌<◌, ◌≤◌, Bool, true, false, nat_le, nat_lt, List, [], ◌∷◌, ◌++◌, length, Option, Some, None}
-use Rattle.chip_model.specs.Chip.{Chip, now_of, incoming_at}
+use Rattle.std.specs.Prelude.{◌≡◌, ℕ, zero, suc, ◌+◌, ◌-◌, ◌*◌, ◌^◌, ◌<◌, ◌≤◌, Bool, true, false, nat_le, nat_lt, cond, List, [], ◌∷◌, ◌++◌, length, Option, Some, None}
+use Rattle.chip_model.specs.Chip.{Chip, now_of, incoming_at, chip_after, happened, reset_chip, wait_on}
 use Rattle.mcal_base.specs.declared.directive.Directive.{Directive}
 use Rattle.mcal_base.specs.declared.directive.Order.{Order}
 use Rattle.mcal_base.specs.declared.directive.Order.TheVariants as orders
-use Rattle.mcal_base.specs.declared.directive.Reason.TheVariants.{Software}
+use Rattle.mcal_base.specs.declared.directive.Reason.TheVariants.{Watchdog, Software}
 use Rattle.mcal_base.specs.declared.directive.Request.{Request}
+use Rattle.mcal_base.specs.declared.moves.Move.{Move}
 use Rattle.irq_control.specs.declared.held.Held.{Held}
 use Rattle.run_model.specs.declared.item.Stepped.{Stepped}
 use Rattle.run_model.specs.declared.reach.Reach.{Reach}
 use Rattle.run_model.specs.declared.reach.Reach.TheVariants.{Count, Until, Whole}
-use Rattle.run_model.specs.Entry.{Entry, Begins, Stays, Steps, Written, written, words_of_answer}
-use Rattle.run_model.specs.Follows.{GoesOn, Gives, deeds_in}
+use Rattle.run_model.specs.Entry.{Entry, Begins, Stays, Steps, Happens, Resets, Written, written, words_of_answer}
+use Rattle.run_model.specs.Follows.{GoesOn, Gives, MayWait, deeds_in, ends_within}
+use Rattle.run_model.proofs.Following.{Readies}
 use Rattle.run_model.specs.Stops.{GivesToStop, steps_in}
 use Rattle.run_model.specs.Devices.{AllCalls}
 use Rattle.run_model.specs.Moment as moment
@@ -20,9 +22,10 @@ use Rattle.run_model.specs.Frame as frame
 use Rattle.run_model.specs.Script.{deeds_of, beginnings_of}
 use Rattle.serial_devices.specs.Lines.{Line}
 use Rattle.step_runner.specs.Driver.{Driver}
-use Rattle.step_runner.specs.Kept.{Kept, total_fuel}
+use Rattle.step_runner.specs.Kept.{Kept, IsStill, total_fuel, upcoming_of}
 use Rattle.step_runner.specs.Stands.{Stands}
 use Rattle.step_runner.specs.declared.stack.Under.{Under}
+use Rattle.script_runner.specs.Busy.{busies}
 
 -- the moment after the items of a journal, from power on with this chip
 abbrev pub moment_of : {State Call Frame : Type 0} → Driver State Call Frame → (first : Chip) → (Request → Call) → List Directive → List Entry → Moment State Call
@@ -32,25 +35,31 @@ moment_of d first call_of script entries = after_all d.setting (start_moment d.s
 abbrev pub IsStanding : {State Call Frame : Type 0} → Driver State Call Frame → (first : Chip) → (Request → Call) → List Directive → Chip → List (Under Frame) → List Entry → Type 0
 IsStanding d first call_of script chip us entries = Stands d first chip us (deeds_of call_of script entries)
 
--- The journal has room for the steps that may still be taken, for so many other items, and for the words of an answer.
-pub record HasRoom (most taken : ℕ) (others : ℕ) (w : Written) : Type 0 where
+-- The journal has room for the steps that may still be taken, each with its wait, for so many other items, and for the words of an
+-- answer. A wait ends a word in transfer, and each of those comes from a step that waited for none; so two steps have three items.
+pub record HasRoom (most taken : ℕ) (others : ℕ) (chip : Chip) (w : Written) : Type 0 where
   pub steps : taken ≤ most
-  pub items : length w.entries + (most - taken) + others ≤ w.room
+  pub items : 2 * length w.entries + 3 * (most - taken) + busies chip + 2 * others ≤ 2 * w.room
   pub words : length w.words + 64 ≤ w.words_room
   -- as many steps were taken as the journal has
   pub counted : steps_in w.entries ≡ taken
+
+-- the times stay within their registers through a directive: a wait is 8 ticks at most, and there is one before each step at most
+pub record HasTime (most taken : ℕ) (chip : Chip) : Type 0 where
+  pub osc : chip.clock.osc + 8 * (most - taken) + 1000008 < 2 ^ 64
+  pub now : now_of chip + 128 * (most - taken) + 16000128 < 2 ^ 64
 
 -- as many steps were counted as items that are steps were added
 abbrev pub IsCounted : (taken : ℕ) → Written → (taken1 : ℕ) → Written → Type 0
 IsCounted taken before taken1 after = steps_in after.entries + taken ≡ steps_in before.entries + taken1
 
--- Items were added, and the room is as it was: at most so many that are no steps, and the words of one answer.
-pub record IsFilled (most taken : ℕ) (before : Written) (others : ℕ) (taken1 : ℕ) (after : Written) : Type 0 where
+-- Items were added, and the room is as it was: at most so many beside the steps and their waits, and the words of one answer.
+pub record IsFilled (most taken : ℕ) (chip : Chip) (before : Written) (others : ℕ) (taken1 : ℕ) (chip1 : Chip) (after : Written) : Type 0 where
   pub steps : taken1 ≤ most
   pub counted : IsCounted taken before taken1 after
   pub room : after.room ≡ before.room
   pub words_room : after.words_room ≡ before.words_room
-  pub items : length after.entries + (most - taken1) ≤ length before.entries + (most - taken) + others
+  pub items : 2 * length after.entries + 3 * (most - taken1) + busies chip1 ≤ 2 * length before.entries + 3 * (most - taken) + busies chip + 2 * others
   pub words : length after.words ≤ length before.words + 64
 
 -- the steps that were taken, and those that the frames have left at most
@@ -71,10 +80,10 @@ room_on chip u = (incoming_at chip u).room
 abbrev pub GivenFits : Order → Chip → Type 0
 GivenFits order chip = (u : ℕ) → u < 2 → words_by order ≤ room_on chip u
 
--- the time stood still, and no word was given to come in
-pub record SameTime (before after : Chip) : Type 0 where
-  pub osc : after.clock.osc ≡ before.clock.osc
-  pub now : now_of after ≡ now_of before
+-- so many waits went by at most, and no word was given to come in
+pub record NearTime (waits : ℕ) (before after : Chip) : Type 0 where
+  pub osc : after.clock.osc ≤ before.clock.osc + 8 * waits
+  pub now : now_of after ≤ now_of before + 128 * waits
   pub room : (u : ℕ) → room_on after u ≡ room_on before u
 
 -- Items were added to a journal, for which the chip and the frames stand.
@@ -91,22 +100,84 @@ pub record Called {State Call Frame : Type 0} (d : Driver State Call Frame) (fir
   pub is : after ≡ before ++ items
   pub calls : AllCalls d.setting (moment_of d first call_of script before) (deeds_of call_of script items) old new
 
--- What a step adds: its item.
+-- the time that is left for the watchdog, where it ends within so many ticks
+abbrev pub left_within : ℕ → (left : Option ℕ) → Option ℕ
+left_within n None = None
+left_within n (Some left) = cond (nat_le left n) (Some left) None
+
+-- Ticks went by in which the watchdog's time didn't end: one item.
+pub record Ticked {State Call Frame : Type 0} (d : Driver State Call Frame) (first : Chip) (call_of : Request → Call) (script : List Directive) (line n : ℕ) (chip : Chip) (us : List (Under Frame)) (before : Written) (chip1 : Chip) (after : Written) : Type 0 where
+  pub written : after ≡ written before line (length us) (Happens (orders.Tick n)) []
+  pub chip_is : chip1 ≡ happened chip (orders.Tick n)
+  pub leads : moment_of d first call_of script after.entries ≡ moment.after d.setting (moment_of d first call_of script before.entries) (moment.Happens (orders.Tick n))
+  pub stands : IsStanding d first call_of script chip1 us after.entries
+
+-- The watchdog's time ended with so many ticks: they, and its reset, which dropped every frame.
+pub record RanDown {State Call Frame : Type 0} (d : Driver State Call Frame) (first : Chip) (call_of : Request → Call) (script : List Directive) (line n : ℕ) (chip : Chip) (k : Kept Frame) (before : Written) (chip1 : Chip) (k1 : Kept Frame) (after : Written) : Type 0 where
+  pub is : after.entries ≡ before.entries ++ (record { line = line; depth = length k.frames; said = Happens (orders.Tick n) }) ∷ (record { line = line; depth = length k.frames; said = Resets Watchdog (length k.frames) }) ∷ []
+  pub words : after.words ≡ before.words
+  pub room : after.room ≡ before.room
+  pub words_room : after.words_room ≡ before.words_room
+  pub chip_is : chip1 ≡ reset_chip (happened chip (orders.Tick n)) Watchdog
+  pub frames : k1 ≡ record k { frames = [] }
+  pub leads : moment_of d first call_of script after.entries ≡ after_all d.setting (moment_of d first call_of script before.entries) (moment.Happens (orders.Tick n) ∷ moment.Resets Watchdog ∷ [])
+  pub stands : IsStanding d first call_of script chip1 k1.frames after.entries
+
+-- The top frame waited for a word, where its next step reads of one in transfer; now that step may be made.
+pub record Waited {State Call Frame : Type 0} (d : Driver State Call Frame) (first : Chip) (call_of : Request → Call) (script : List Directive) (move_of : Frame → Move) (line : ℕ) (chip : Chip) (us : List (Under Frame)) (before : Written) (chip1 : Chip) (after : Written) : Type 0 where
+  pub waits : List Entry
+  pub is : after.entries ≡ before.entries ++ waits
+  pub ready : (s : Stepped) → upcoming_of move_of us ≡ Some s.made → Readies d.setting line (moment_of d first call_of script before.entries) s waits (moment_of d first call_of script after.entries)
+  pub still : IsStill move_of us chip1
+  pub stands : IsStanding d first call_of script chip1 us after.entries
+  pub room : after.room ≡ before.room
+  pub words_room : after.words_room ≡ before.words_room
+  pub words : after.words ≡ before.words
+  pub counted : steps_in after.entries ≡ steps_in before.entries
+  pub devices : chip1.devices ≡ chip.devices
+  pub few : 2 * length after.entries ≤ 2 * length before.entries + 1 + busies chip
+  -- with the step there is one item, or there are two and one word in transfer fewer
+  pub items : (made : Move) (received : ℕ) → upcoming_of move_of us ≡ Some made → 2 * length after.entries + busies (chip_after chip1 made received) ≤ 2 * length before.entries + busies chip + 1
+  pub time : NearTime 1 chip chip1
+
+-- In the wait of the top frame for a word the watchdog's time ended: two items, and the step isn't made.
+pub record RanOut {State Call Frame : Type 0} (d : Driver State Call Frame) (first : Chip) (call_of : Request → Call) (script : List Directive) (line : ℕ) (chip : Chip) (k : Kept Frame) (before : Written) (chip1 : Chip) (k1 : Kept Frame) (after : Written) : Type 0 where
+  pub unit : ℕ
+  pub left : ℕ
+  pub busy : 0 < wait_on (moment_of d first call_of script before.entries).chip unit
+  pub may : MayWait d.setting (moment_of d first call_of script before.entries).opens unit
+  pub expires : let m = moment_of d first call_of script before.entries in d.setting.machine.expires m.world m.state ≡ Some left
+  pub late : ends_within (wait_on (moment_of d first call_of script before.entries).chip unit) (Some left) ≡ true
+  pub down : RanDown d first call_of script line left chip k before chip1 k1 after
+  pub time : NearTime 1 chip chip1
+
+-- What a step adds: its item, after its wait.
 pub record TookStep {State Call Frame : Type 0} (d : Driver State Call Frame) (first : Chip) (call_of : Request → Call) (script : List Directive) (most : ℕ) (line : ℕ) (chip : Chip) (k : Kept Frame) (before : Written) (s : Stepped) (chip1 : Chip) (k1 : Kept Frame) (after : Written) : Type 0 where
-  pub written : after ≡ written before line (length k.frames) (Steps s) (words_of_answer s.ended)
+  pub waits : List Entry
+  -- the moment in which the step is made
+  pub at : Moment State Call
+  pub is : after.entries ≡ before.entries ++ (waits ++ (record { line = line; depth = length at.opens; said = Steps s }) ∷ [])
+  pub ready : Readies d.setting line (moment_of d first call_of script before.entries) s waits at
+  pub leads : moment_of d first call_of script after.entries ≡ moment.after d.setting at (moment.Steps s)
   pub stands : IsStanding d first call_of script chip1 k1.frames after.entries
   pub steps : k1.steps ≡ k.steps + 1
   pub few : k.steps < most
   pub goes : s.ended ≡ None → 0 < length k1.frames
+  pub words : after.words ≡ before.words ++ words_of_answer s.ended
   pub short : length (words_of_answer s.ended) ≤ 64
-  pub time : SameTime chip chip1
+  pub room : after.room ≡ before.room
+  pub words_room : after.words_room ≡ before.words_room
+  pub counted : steps_in after.entries ≡ steps_in before.entries + 1
+  pub items : 2 * length after.entries + busies chip1 ≤ 2 * length before.entries + busies chip + 3
+  pub time : NearTime 1 chip chip1
   pub spent : work_of d k1 ≤ work_of d k
 
 -- What the steps of a directive add.
 pub record WentFar {State Call Frame : Type 0} (d : Driver State Call Frame) (first : Chip) (call_of : Request → Call) (script : List Directive) (most : ℕ) (line : ℕ) (reach : Reach) (chip : Chip) (k : Kept Frame) (before : Written) (chip1 : Chip) (k1 : Kept Frame) (after : Written) : Type 0 where
   pub adds : (order : Order) → Adds d first call_of script order before after chip1 k1.frames (λ m items. GoesOn d.setting line reach 0 m items)
-  pub filled : IsFilled most k.steps before 1 k1.steps after
-  pub time : SameTime chip chip1
+  pub filled : IsFilled most k.steps chip before 2 k1.steps chip1 after
+  pub more : k.steps ≤ k1.steps
+  pub time : NearTime (k1.steps - k.steps + 1) chip chip1
   pub spent : work_of d k1 ≤ work_of d k
 
 -- the most steps of a frame that begins by a deed
@@ -144,9 +215,10 @@ pub record StayedOff {State Call Frame : Type 0} (d : Driver State Call Frame) (
 -- What a directive adds, which are the items that are right for it.
 pub record ObeyedBy {State Call Frame : Type 0} (d : Driver State Call Frame) (first : Chip) (call_of : Request → Call) (script : List Directive) (most : ℕ) (order : Order) (chip : Chip) (k : Kept Frame) (before : Written) (chip1 : Chip) (k1 : Kept Frame) (after : Written) (Right : Moment State Call → List Entry → Type 0) : Type 0 where
   pub adds : Adds d first call_of script order before after chip1 k1.frames Right
-  pub filled : IsFilled most k.steps before 2 k1.steps after
-  pub osc : chip1.clock.osc ≤ chip.clock.osc + 1000000
-  pub now : now_of chip1 ≤ now_of chip + 16000000
+  pub filled : IsFilled most k.steps chip before 3 k1.steps chip1 after
+  pub more : k.steps ≤ k1.steps
+  pub osc : chip1.clock.osc ≤ chip.clock.osc + 8 * (k1.steps - k.steps) + 1000008
+  pub now : now_of chip1 ≤ now_of chip + 128 * (k1.steps - k.steps) + 16000128
   pub given : (u : ℕ) → room_on chip u ≤ room_on chip1 u + words_by order
   pub spent : work_of d k1 ≤ work_of d k + bounds_of d.setting (beginnings_of call_of (Some order))
 
@@ -179,9 +251,8 @@ may_be_held (orders.Fill c ws) = true
 may_be_held orders.Detach = true
 may_be_held order = false
 
--- a directive that moves the hardware
+-- a directive that moves the hardware, and takes no time
 abbrev pub is_hardware : Order → Bool
-is_hardware (orders.Tick n) = true
 is_hardware (orders.Level p v) = true
 is_hardware (orders.Analog i v) = true
 is_hardware (orders.Trigger i) = true

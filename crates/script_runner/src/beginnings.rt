@@ -8,7 +8,7 @@ ghost use Rattle.run_model.specs.Moment.{Begins, Enters};
 ghost use Rattle.run_model.specs.Script.{order_at, beginnings_of};
 ghost use Rattle.run_model.specs.Stops.{BeginsToStop};
 ghost use Rattle.script_runner.specs.Scripts.{chip_for};
-ghost use Rattle.script_runner.specs.Standing.{moment_of, Called, IsStanding, HasRoom, Began, StayedOff, ObeyedBy, IsStuck, bounds_of};
+ghost use Rattle.script_runner.specs.Standing.{moment_of, Called, IsStanding, HasRoom, HasTime, Began, StayedOff, ObeyedBy, IsStuck, bounds_of};
 
 use crate::caller::Caller;
 use crate::parts::{Course, Parts};
@@ -108,7 +108,7 @@ pub(crate) fn obey_call_alone<M: Caller>(
     requires has { M.has_service course.now.driver request.now.service ≡ true }
     requires at { let calls = M.call_of course.now.driver in
         beginnings_of calls (order_at course.now.script.now line) ≡ Begins (calls request.now) level ∷ [] }
-    requires room { HasRoom course.now.most parts.old.stack.steps 2 parts.old.journal }
+    requires room { HasRoom course.now.most parts.old.stack.steps 3 parts.old.bus parts.old.journal }
     requires stands { let d = M.spec course.now.driver in let calls = M.call_of course.now.driver in
         let first = chip_for course.now.devices course.now.config course.now.script.now in
         IsStanding d first calls course.now.script.now parts.old.bus parts.old.stack.frames parts.old.journal.entries }
@@ -135,9 +135,10 @@ pub(crate) fn obey_call_whole<M: Caller>(
     requires hung { vec_len rack.old ≡ parts.old.bus.devices }
     requires has { M.has_service course.now.driver request.now.service ≡ true }
     requires limit { course.now.most < 4294967295 }
+    requires time { HasTime course.now.most parts.old.stack.steps parts.old.bus }
     requires at { let calls = M.call_of course.now.driver in
         beginnings_of calls (order_at course.now.script.now script_line) ≡ Begins (calls request.now) level ∷ [] }
-    requires room { HasRoom course.now.most parts.old.stack.steps 2 parts.old.journal }
+    requires room { HasRoom course.now.most parts.old.stack.steps 3 parts.old.bus parts.old.journal }
     requires stands { let d = M.spec course.now.driver in let calls = M.call_of course.now.driver in
         let first = chip_for course.now.devices course.now.config course.now.script.now in
         IsStanding d first calls course.now.script.now parts.old.bus parts.old.stack.frames parts.old.journal.entries }
@@ -176,7 +177,7 @@ pub(crate) fn obey_enter_alone<M: Caller>(
 )
     requires fits { (M.spec course.now.driver).fits }
     requires at { beginnings_of (M.call_of course.now.driver) (order_at course.now.script.now line) ≡ Enters irq ∷ [] }
-    requires room { HasRoom course.now.most parts.old.stack.steps 2 parts.old.journal }
+    requires room { HasRoom course.now.most parts.old.stack.steps 3 parts.old.bus parts.old.journal }
     requires stands { let d = M.spec course.now.driver in let calls = M.call_of course.now.driver in
         let first = chip_for course.now.devices course.now.config course.now.script.now in
         IsStanding d first calls course.now.script.now parts.old.bus parts.old.stack.frames parts.old.journal.entries }
@@ -201,8 +202,9 @@ pub(crate) fn obey_enter_whole<M: Caller>(
     requires fits { (M.spec course.now.driver).fits }
     requires hung { vec_len rack.old ≡ parts.old.bus.devices }
     requires limit { course.now.most < 4294967295 }
+    requires time { HasTime course.now.most parts.old.stack.steps parts.old.bus }
     requires at { beginnings_of (M.call_of course.now.driver) (order_at course.now.script.now script_line) ≡ Enters irq ∷ [] }
-    requires room { HasRoom course.now.most parts.old.stack.steps 2 parts.old.journal }
+    requires room { HasRoom course.now.most parts.old.stack.steps 3 parts.old.bus parts.old.journal }
     requires stands { let d = M.spec course.now.driver in let calls = M.call_of course.now.driver in
         let first = chip_for course.now.devices course.now.config course.now.script.now in
         IsStanding d first calls course.now.script.now parts.old.bus parts.old.stack.frames parts.old.journal.entries }

@@ -26,18 +26,18 @@ pub trait Caller: Module + Drop {
         ensures call { result ≡ call_of self.now request.now }
         ensures can { (Self.spec self.now).can_call result };
 
-    /// The most steps of a call, at most 10,176.
+    /// The most steps of a call, at most 66,656.
     fn call_steps(&self, call: &Self::Call) -> u32
         requires fits { (Self.spec self.now).fits }
         requires can { (Self.spec self.now).can_call call.now }
         ensures steps { result ≡ (Self.spec self.now).setting.steps_of (Called call.now) }
-        ensures few { result ≤ 10176 };
+        ensures few { result ≤ 66656 };
 
-    /// The most steps of the handler of a line, at most 10,176.
+    /// The most steps of the handler of a line, at most 66,656.
     fn line_steps(&self, line: u32) -> u32
         requires fits { (Self.spec self.now).fits }
         ensures steps { result ≡ (Self.spec self.now).setting.steps_of (Entered line) }
-        ensures few { result ≤ 10176 };
+        ensures few { result ≤ 66656 };
 
     /// A tick of the oscillator is at most 16 peripheral ticks.
     ghost slow: { (m : Self) (chip : Chip) (w : World) (ps : List (Self.Frame × Open Self.Call)) (s : Self.State) →

@@ -8,7 +8,6 @@ ghost use Rattle.run_model.specs.Script.{deeds_of};
 ghost use Rattle.run_model.specs.Stops.{FollowsToStop, steps_in};
 ghost use Rattle.script_runner.specs.Runs.{run_start, first_of, IsSameRun, StandsThere, AddsItems, CallsThere, IsAtRest};
 ghost use Rattle.script_runner.specs.Scripts.{IsScript, IsRun, IsStopped, AllOffered, chip_for, script_bound};
-ghost use Rattle.step_runner.specs.Driver.{Covers};
 
 use crate::caller::Caller;
 use crate::obeying::obey_one;
@@ -56,7 +55,6 @@ impl<'s, M: Caller> Engine<'s, M> {
         devices: usize,
     ) -> Result<Engine<'s, M>, NoMemory>
         requires fits { (M.spec driver).fits }
-        requires covers { Covers (M.spec driver) }
         requires config { WithinLimits config }
         requires wired { (M.spec driver).wired (chip_for devices config script.now) }
         requires script { IsScript script.now }
@@ -64,8 +62,8 @@ impl<'s, M: Caller> Engine<'s, M> {
         requires limit { limit < 4294967295 }
         ensures begins { let setting = (M.spec driver).setting in
             IfOk result (λ run. run ≡ run_start driver setting (M.call_of driver) config script.now limit devices) }
-        // No frame has more than 10,176 steps.
-        ensures small { IfOk result (λ run. run.journal.room ≤ 10178 * length script.now) }
+        // No frame has more than 66,656 steps, and every second step has a wait at most.
+        ensures small { IfOk result (λ run. run.journal.room ≤ 99987 * length script.now) }
     {
         let most = u64::from(limit).min(steps_of(&driver, script)) as u32;
         let journal = journal_for(alloc, most, script.len())?;

@@ -16,7 +16,7 @@ use mcal_base::{Directive, Reason, Shown};
 use serial_devices::{SerialDevice, drop_last};
 use step_runner::{fill_held, hardware, reset};
 
-/// Moves the hardware, where nothing holds it.
+/// Moves the hardware, where nothing holds it. It takes no time.
 fn move_hardware<M: Caller>(course: &Course<M>, directive: &Directive, parts: &mut Parts<M>)
     requires fits { (M.spec course.now.driver).fits }
     requires hardware { is_hardware directive.now.order ≡ true }
@@ -26,7 +26,7 @@ fn move_hardware<M: Caller>(course: &Course<M>, directive: &Directive, parts: &m
         let first = chip_for course.now.devices course.now.config course.now.script.now in
         hardware_held d.setting (moment_of d first calls course.now.script.now parts.old.journal.entries)
         directive.now.order ≡ None }
-    requires room { HasRoom course.now.most parts.old.stack.steps 2 parts.old.journal }
+    requires room { HasRoom course.now.most parts.old.stack.steps 3 parts.old.bus parts.old.journal }
     requires stands { let d = M.spec course.now.driver in let calls = M.call_of course.now.driver in
         let first = chip_for course.now.devices course.now.config course.now.script.now in
         IsStanding d first calls course.now.script.now parts.old.bus parts.old.stack.frames parts.old.journal.entries }
@@ -53,10 +53,8 @@ pub(crate) fn obey_hardware<M: Caller>(
     requires hardware { is_hardware directive.now.order ≡ true }
     requires built { is_built directive.now.order ≡ true }
     requires free { may_be_held directive.now.order ≡ false }
-    requires time { parts.old.bus.clock.osc + 1000000 < 2 ^ 64 }
-    requires late { now_of parts.old.bus + 16000000 < 2 ^ 64 }
     requires given { GivenFits directive.now.order parts.old.bus }
-    requires room { HasRoom course.now.most parts.old.stack.steps 2 parts.old.journal }
+    requires room { HasRoom course.now.most parts.old.stack.steps 3 parts.old.bus parts.old.journal }
     requires stands { let d = M.spec course.now.driver in let calls = M.call_of course.now.driver in
         let first = chip_for course.now.devices course.now.config course.now.script.now in
         IsStanding d first calls course.now.script.now parts.old.bus parts.old.stack.frames parts.old.journal.entries }
@@ -77,7 +75,7 @@ pub(crate) fn obey_fill<M: Caller>(
 )
     requires fits { (M.spec course.now.driver).fits }
     requires fill { filled_by directive.now.order ≡ Some channel }
-    requires room { HasRoom course.now.most parts.old.stack.steps 2 parts.old.journal }
+    requires room { HasRoom course.now.most parts.old.stack.steps 3 parts.old.bus parts.old.journal }
     requires stands { let d = M.spec course.now.driver in let calls = M.call_of course.now.driver in
         let first = chip_for course.now.devices course.now.config course.now.script.now in
         IsStanding d first calls course.now.script.now parts.old.bus parts.old.stack.frames parts.old.journal.entries }
@@ -105,7 +103,7 @@ pub(crate) fn obey_detach<M: Caller>(
     requires fits { (M.spec course.now.driver).fits }
     requires detach { directive.now.order ≡ Order.Detach }
     requires hung { vec_len rack.old ≡ parts.old.bus.devices }
-    requires room { HasRoom course.now.most parts.old.stack.steps 2 parts.old.journal }
+    requires room { HasRoom course.now.most parts.old.stack.steps 3 parts.old.bus parts.old.journal }
     requires stands { let d = M.spec course.now.driver in let calls = M.call_of course.now.driver in
         let first = chip_for course.now.devices course.now.config course.now.script.now in
         IsStanding d first calls course.now.script.now parts.old.bus parts.old.stack.frames parts.old.journal.entries }
@@ -137,7 +135,7 @@ pub(crate) fn obey_show<M: Caller>(
 )
     requires fits { (M.spec course.now.driver).fits }
     requires show { directive.now.order ≡ Order.Show shown }
-    requires room { HasRoom course.now.most parts.old.stack.steps 2 parts.old.journal }
+    requires room { HasRoom course.now.most parts.old.stack.steps 3 parts.old.bus parts.old.journal }
     requires stands { let d = M.spec course.now.driver in let calls = M.call_of course.now.driver in
         let first = chip_for course.now.devices course.now.config course.now.script.now in
         IsStanding d first calls course.now.script.now parts.old.bus parts.old.stack.frames parts.old.journal.entries }
@@ -167,7 +165,7 @@ pub(crate) fn obey_reset<M: Caller>(
     requires fits { (M.spec course.now.driver).fits }
     requires reset { directive.now.order ≡ Order.Reset reason }
     requires asked { reason ≢ Software }
-    requires room { HasRoom course.now.most parts.old.stack.steps 2 parts.old.journal }
+    requires room { HasRoom course.now.most parts.old.stack.steps 3 parts.old.bus parts.old.journal }
     requires stands { let d = M.spec course.now.driver in let calls = M.call_of course.now.driver in
         let first = chip_for course.now.devices course.now.config course.now.script.now in
         IsStanding d first calls course.now.script.now parts.old.bus parts.old.stack.frames parts.old.journal.entries }

@@ -9,6 +9,7 @@ mod obeying;
 mod parts;
 mod sizes;
 mod steps;
+mod ticks;
 mod union;
 mod within;
 

@@ -1,19 +1,19 @@
 //! Obeys one directive.
 
-ghost use Rattle.std.specs.Prelude.{◌≡◌, ◌<◌, ◌+◌, ◌^◌, length, OnOk, OnErr, Some, true, map, vec_len};
-ghost use Rattle.chip_model.specs.Chip.{now_of};
+ghost use Rattle.std.specs.Prelude.{◌≡◌, ◌<◌, length, OnOk, OnErr, Some, true, map, vec_len};
 ghost use Rattle.mcal_base.specs.declared.directive.Order.{Order};
 ghost use Rattle.run_model.specs.Follows.{Goes};
 ghost use Rattle.run_model.specs.Script.{order_at};
 ghost use Rattle.run_model.specs.Stops.{StopsWithin};
 ghost use Rattle.script_runner.specs.Scripts.{chip_for, is_offered};
-ghost use Rattle.script_runner.specs.Standing.{Called, IsStanding, HasRoom, ObeyedBy, Obeyed, IsStuck, Stuck, is_built, makes_no_step, GivenFits};
+ghost use Rattle.script_runner.specs.Standing.{Called, IsStanding, HasRoom, HasTime, ObeyedBy, Obeyed, IsStuck, Stuck, is_built, makes_no_step, GivenFits};
 
 use crate::beginnings::{obey_call_alone, obey_call_whole, obey_enter_alone, obey_enter_whole};
 use crate::caller::Caller;
 use crate::hardware::{obey_detach, obey_fill, obey_hardware, obey_reset, obey_show};
 use crate::parts::{Course, Parts};
 use crate::steps::{TooLong, run_steps};
+use crate::ticks::obey_tick;
 use irq_control::Held;
 use mcal_base::Directive;
 use mcal_base::Order::{
@@ -41,7 +41,8 @@ fn obey_steps<M: Caller>(
     requires fits { (M.spec course.now.driver).fits }
     requires hung { vec_len rack.old ≡ parts.old.bus.devices }
     requires limit { course.now.most < 4294967295 }
-    requires room { HasRoom course.now.most parts.old.stack.steps 2 parts.old.journal }
+    requires time { HasTime course.now.most parts.old.stack.steps parts.old.bus }
+    requires room { HasRoom course.now.most parts.old.stack.steps 3 parts.old.bus parts.old.journal }
     requires stands { let d = M.spec course.now.driver in let calls = M.call_of course.now.driver in
         let first = chip_for course.now.devices course.now.config course.now.script.now in
         IsStanding d first calls course.now.script.now parts.old.bus parts.old.stack.frames parts.old.journal.entries }
@@ -86,9 +87,8 @@ pub(crate) fn obey_one<M: Caller>(
     requires built { is_built directive.now.order ≡ true }
     requires offered { is_offered (M.has_service course.now.driver) directive.now.order ≡ true }
     requires given { GivenFits directive.now.order parts.old.bus }
-    requires time { parts.old.bus.clock.osc + 1000000 < 2 ^ 64 }
-    requires late { now_of parts.old.bus + 16000000 < 2 ^ 64 }
-    requires room { HasRoom course.now.most parts.old.stack.steps 2 parts.old.journal }
+    requires time { HasTime course.now.most parts.old.stack.steps parts.old.bus }
+    requires room { HasRoom course.now.most parts.old.stack.steps 3 parts.old.bus parts.old.journal }
     requires stands { let d = M.spec course.now.driver in let calls = M.call_of course.now.driver in
         let first = chip_for course.now.devices course.now.config course.now.script.now in
         IsStanding d first calls course.now.script.now parts.old.bus parts.old.stack.frames parts.old.journal.entries }
@@ -122,7 +122,11 @@ pub(crate) fn obey_one<M: Caller>(
         Run(count) => { obey_steps(course, line, Reach::Count(*count), parts, rack) }
         Upto(stop) => { obey_steps(course, line, Reach::Until(*stop), parts, rack) }
         Finish => obey_steps(course, line, Reach::Whole, parts, rack),
-        Tick(_) | Level(..) | Analog(..) | Trigger(_) | Miso(..) | SpiFault(_) => {
+        Tick(ticks) => {
+            obey_tick(course, directive, *ticks, parts);
+            Ok(())
+        }
+        Level(..) | Analog(..) | Trigger(_) | Miso(..) | SpiFault(_) => {
             obey_hardware(course, directive, parts);
             Ok(())
         }

@@ -3,6 +3,7 @@
 ghost use Rattle.std.specs.Prelude.{◌≡◌, ◌≤◌, ◌*◌, ◌+◌, [], length, IfOk, Some, true};
 ghost use Rattle.run_model.specs.Entry.{words_of_order};
 ghost use Rattle.run_model.specs.Script.{beginnings_of};
+ghost use Rattle.script_runner.specs.Runs.{room_for};
 ghost use Rattle.script_runner.specs.Scripts as spec;
 ghost use Rattle.script_runner.specs.Scripts.{AllOffered, is_offered, script_bound};
 ghost use Rattle.script_runner.specs.Standing.{bounds_of, words_by};
@@ -18,7 +19,7 @@ fn steps_by<M: Caller>(driver: &M, order: &Order) -> u32
     requires offered { is_offered (M.has_service driver.now) order.now ≡ true }
     ensures bound { let d = M.spec driver.now in let calls = M.call_of driver.now in
         result ≡ bounds_of d.setting (beginnings_of calls (Some order.now)) }
-    ensures few { result ≤ 10176 }
+    ensures few { result ≤ 66656 }
 {
     match order {
         Order::Call(_, request) | Order::Do(_, request) => {
@@ -35,7 +36,7 @@ pub(crate) fn steps_of<M: Caller>(driver: &M, script: &[Directive]) -> u64
     requires offered { AllOffered (M.has_service driver.now) script.now }
     requires few { length script.now ≤ 1100000 }
     ensures bound { result ≡ script_bound (M.spec driver.now).setting (M.call_of driver.now) script.now }
-    ensures few { result ≤ 10176 * length script.now }
+    ensures few { result ≤ 66656 * length script.now }
 {
     let mut most = 0;
     for directive in script {
@@ -68,12 +69,16 @@ pub(crate) fn words_given(script: &[Directive]) -> usize
     given
 }
 
-/// A journal with room for a run of so many directives, of at most so many steps.
+/// A journal with room for a run of so many directives, of at most so many steps: every second of them has a wait at most.
 pub(crate) fn journal_for(alloc: Global, most: u32, directives: usize) -> Result<Journal, NoMemory>
     requires { directives ≤ 1100000 }
-    ensures { IfOk result (λ j. j ≡ record { entries = []; room = most + 2 * directives; words = []; words_room = 64 * directives }) }
+    ensures { IfOk result (λ j. j ≡ record { entries = []; room = room_for most directives; words = []; words_room = 64 * directives }) }
 {
-    match Journal::with_room(alloc, most as usize + 2 * directives, 64 * directives) {
+    match Journal::with_room(
+        alloc,
+        most as usize + (most as usize + 1) / 2 + 3 * directives,
+        64 * directives,
+    ) {
         Ok(journal) => Ok(journal),
         Err(_) => Err(NoMemory),
     }

@@ -1,4 +1,5 @@
-ghost use Rattle.std.specs.Prelude.{ℕ, ◌≡◌, ◌<◌, ◌≤◌, ◌+◌, ◌∷◌, length, OnOk, OnErr, None, ◌||◌, is_some, map, vec_len};
+ghost use Rattle.std.specs.Prelude.{ℕ, ◌≡◌, ◌<◌, ◌≤◌, ◌+◌, ◌∷◌, length, IfOk, OnOk, OnErr, None, ◌||◌, is_some, map, vec_len};
+ghost use Rattle.std.specs.Bool.{OnFalse, OnTrue};
 ghost use Rattle.script_runner.specs.Scripts.{chip_for};
 ghost use Rattle.mcal_base.specs.declared.directive.Order.{Order};
 ghost use Rattle.run_model.specs.Entry as entry;
@@ -6,10 +7,11 @@ ghost use Rattle.run_model.specs.Follows as follows;
 ghost use Rattle.run_model.specs.Follows.{GoesOn, is_reached};
 ghost use Rattle.run_model.specs.Frame.{resets_chip};
 ghost use Rattle.run_model.specs.Stops.{GoesToStop};
-ghost use Rattle.script_runner.specs.Standing.{Called, IsStanding, HasRoom, TookStep, WentFar, IsStuck};
+ghost use Rattle.script_runner.specs.Standing.{Called, IsStanding, HasRoom, HasTime, TookStep, RanOut, Waited, WentFar, IsStuck};
 
 use crate::caller::Caller;
 use crate::parts::{Course, Parts};
+use crate::ticks::wait;
 use mcal_base::{Event, Move, Reason, Reg, Stop};
 use run_model::{Reach, Stepped};
 use serial_devices::SerialDevice;
@@ -66,8 +68,8 @@ fn answer_is_short(stepped: &Stepped) -> usize
     }
 }
 
-/// Takes a step of the top frame, and notes it, unless so many were taken. The step is written to a place that holds
-/// no answer.
+/// Takes a step of the top frame, after its wait, and notes it, unless so many were taken. The step is written to a place
+/// that holds no answer. Tells whether it was taken: it isn't where the watchdog's time ends in the wait.
 #[inline(always)]
 pub(crate) fn take_step<M: Caller>(
     course: &Course<M>,
@@ -75,29 +77,41 @@ pub(crate) fn take_step<M: Caller>(
     parts: &mut Parts<M>,
     rack: &mut Vec<Box<dyn SerialDevice>>,
     stepped: &mut Stepped,
-) -> Result<(), TooLong>
+) -> Result<bool, TooLong>
     requires fits { (M.spec course.now.driver).fits }
     requires hung { vec_len rack.old ≡ parts.old.bus.devices }
     requires limit { course.now.most < 4294967295 }
     requires frame { 0 < length parts.old.stack.frames }
-    requires room { HasRoom course.now.most parts.old.stack.steps 1 parts.old.journal }
+    requires time { HasTime course.now.most parts.old.stack.steps parts.old.bus }
+    requires room { HasRoom course.now.most parts.old.stack.steps 2 parts.old.bus parts.old.journal }
     requires stands { let d = M.spec course.now.driver in let calls = M.call_of course.now.driver in
         let first = chip_for course.now.devices course.now.config course.now.script.now in
         IsStanding d first calls course.now.script.now parts.old.bus parts.old.stack.frames parts.old.journal.entries }
     requires free { stepped.old.ended ≡ None }
     ensures took { let d = M.spec course.now.driver in let calls = M.call_of course.now.driver in
         let first = chip_for course.now.devices course.now.config course.now.script.now in
-        OnOk result (TookStep d first calls course.now.script.now course.now.most script_line
+        IfOk result (λ taken. OnTrue taken (TookStep d first calls course.now.script.now course.now.most script_line
         parts.old.bus parts.old.stack parts.old.journal stepped.new parts.new.bus
-        parts.new.stack parts.new.journal) }
-    ensures too_long { OnErr result ((parts.new.stack ≡ parts.old.stack) × (parts.new.bus ≡ parts.old.bus) ×
-        (parts.new.journal ≡ parts.old.journal) × (parts.old.stack.steps ≡ course.now.most)) }
+        parts.new.stack parts.new.journal)) }
+    ensures out { let d = M.spec course.now.driver in let calls = M.call_of course.now.driver in
+        let first = chip_for course.now.devices course.now.config course.now.script.now in
+        IfOk result (λ taken. OnFalse taken (RanOut d first calls course.now.script.now script_line
+        parts.old.bus parts.old.stack parts.old.journal parts.new.bus parts.new.stack parts.new.journal)) }
+    ensures too_long { let d = M.spec course.now.driver in let calls = M.call_of course.now.driver in
+        let first = chip_for course.now.devices course.now.config course.now.script.now in
+        OnErr result ((parts.new.stack ≡ parts.old.stack) × (parts.old.stack.steps ≡ course.now.most) ×
+        Waited d first calls course.now.script.now M.Frame.move_of script_line
+        parts.old.bus parts.old.stack.frames parts.old.journal parts.new.bus parts.new.journal) }
     ensures hung { vec_len rack.new ≡ parts.new.bus.devices }
     ensures calls { let d = M.spec course.now.driver in let calls = M.call_of course.now.driver in
         let first = chip_for course.now.devices course.now.config course.now.script.now in
         Called d first calls course.now.script.now parts.old.journal.entries parts.new.journal.entries
         (map (λ d. line d) rack.old.items) (map (λ d. line d) rack.new.items) }
 {
+    parts.stack.look(stepped);
+    if wait(course, script_line, parts, &stepped.made) {
+        return Ok(false);
+    }
     if parts.stack.steps() == course.most {
         return Err(TooLong);
     }
@@ -106,7 +120,7 @@ pub(crate) fn take_step<M: Caller>(
         Ok(()) => {
             let _words = answer_is_short(stepped);
             parts.journal.stepped(script_line, depth, stepped);
-            Ok(())
+            Ok(true)
         }
         Err(_) => unreachable!(),
     }
@@ -124,7 +138,8 @@ pub(crate) fn run_steps<M: Caller>(
     requires hung { vec_len rack.old ≡ parts.old.bus.devices }
     requires limit { course.now.most < 4294967295 }
     requires frame { 0 < length parts.old.stack.frames }
-    requires room { HasRoom course.now.most parts.old.stack.steps 1 parts.old.journal }
+    requires time { HasTime course.now.most parts.old.stack.steps parts.old.bus }
+    requires room { HasRoom course.now.most parts.old.stack.steps 2 parts.old.bus parts.old.journal }
     requires stands { let d = M.spec course.now.driver in let calls = M.call_of course.now.driver in
         let first = chip_for course.now.devices course.now.config course.now.script.now in
         IsStanding d first calls course.now.script.now parts.old.bus parts.old.stack.frames parts.old.journal.entries }
@@ -147,7 +162,8 @@ pub(crate) fn run_steps<M: Caller>(
     let mut stepped = Stepped::blank();
     loop {
         match take_step(course, script_line, parts, rack, &mut stepped) {
-            Ok(()) => {}
+            Ok(true) => {}
+            Ok(false) => return Ok(()),
             Err(TooLong) => return Err(TooLong),
         }
         made += 1;

@@ -2,9 +2,8 @@ ghost use Rattle.std.specs.Prelude.{◌≡◌, ◌<◌, ◌≤◌, ◌+◌, ◌*
 ghost use Rattle.std.specs.Bool.{OnFalse, OnTrue};
 ghost use Rattle.mcal_base.specs.Layout.{WithinLimits};
 ghost use Rattle.run_model.specs.Stops.{steps_in};
-ghost use Rattle.script_runner.specs.Runs.{IsSameRun};
+ghost use Rattle.script_runner.specs.Runs.{IsSameRun, room_for};
 ghost use Rattle.script_runner.specs.Scripts.{IsScript, IsRun, IsStopped, AllOffered, chip_for, script_bound};
-ghost use Rattle.step_runner.specs.Driver.{Covers};
 
 use crate::caller::Caller;
 use crate::engine::Engine;
@@ -61,7 +60,6 @@ pub fn run_within<M: Caller>(
     limit: u32,
 ) -> Result<Ran, NoMemory>
     requires fits { (M.spec driver).fits }
-    requires covers { Covers (M.spec driver) }
     requires config { WithinLimits config }
     requires wired { (M.spec driver).wired (chip_for 0 config script.now) }
     requires script { IsScript script.now }
@@ -74,10 +72,10 @@ pub fn run_within<M: Caller>(
     ensures stopped { let setting = (M.spec driver).setting in
         let first = chip_for 0 config script.now in let calls = M.call_of driver in
         IfOk result (λ ran. OnTrue ran.too_long (IsStopped setting first calls limit script.now ran.journal.entries)) }
-    // The room is for no more steps than the limit, and than those frames may take, which are at most 10,176 each.
+    // The room is for no more steps than the limit, and than those frames may take, which are at most 66,656 each.
     ensures room { let bound = script_bound (M.spec driver).setting (M.call_of driver) script.now in
-        IfOk result (λ ran. ran.journal.room ≡ min limit bound + 2 * length script.now) }
-    ensures small { IfOk result (λ ran. ran.journal.room ≤ 10178 * length script.now) }
+        IfOk result (λ ran. ran.journal.room ≡ room_for (min limit bound) (length script.now)) }
+    ensures small { IfOk result (λ ran. ran.journal.room ≤ 99987 * length script.now) }
     // The limit is not met where the bounds of all frames that may begin are within it.
     ensures within { let bound = script_bound (M.spec driver).setting (M.call_of driver) script.now in
         IfOk result (λ ran. OnTrue ran.too_long (limit < bound)) }

@@ -59,6 +59,7 @@ ActsRight g (Entered l) e clean made t left = Unit {0}
 pub record IsFresh {Call : Type 0} (o : Open Call) : Type 0 where
   pub wrote : o.wrote ≡ false
   pub reads : o.reads ≡ []
+  pub writes : o.writes ≡ []
   pub acted : o.acted_at ≡ None
   -- nor set an output since it closed the mask
   pub since : list_any sets_output o.since ≡ false

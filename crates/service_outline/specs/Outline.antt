@@ -1,6 +1,6 @@
 -- What a driver of short services is, what its frames have to do with its machine, and what it owes.
 use Rattle.std.specs.Prelude.{◌≡◌, ℕ, ◌+◌, ◌≤◌, Bool, true, false, List, [], ◌∷◌, Option, Some, None, is_some}
-use Rattle.chip_model.specs.Chip.{Chip, value_of, chip_after, happened, reset_chip, is_masked, is_pending}
+use Rattle.chip_model.specs.Chip.{Chip, value_of, chip_after, expiry_of, happened, reset_chip, is_masked, is_pending}
 use Rattle.mcal_base.specs.Bits.{has_bit}
 use Rattle.mcal_base.specs.Reach.{CanApply}
 use Rattle.mcal_base.specs.declared.answer.Answer.{Answer}
@@ -14,7 +14,7 @@ use Rattle.mcal_base.specs.declared.moves.Move.{Move}
 use Rattle.mcal_base.specs.declared.moves.Move.TheVariants.{Write, Load}
 use Rattle.mcal_base.specs.declared.moves.Unit as units
 use Rattle.mcal_base.specs.declared.notice.Notice.{Notice}
-use Rattle.mcal_base.specs.declared.register.Reg.TheVariants.{EnableSet}
+use Rattle.mcal_base.specs.declared.register.Reg.TheVariants.{EnableSet, WatchdogLoad}
 use Rattle.run_model.specs.World.{World, world_after}
 use Rattle.run_model.specs.Machine.{Happening, Acts, Moves, Restarts, Told, Outcome, ErrorLeaves, Machine, no_answer, tells_nothing, outcome}
 use Rattle.run_model.specs.Frame.{Origin, Called, Entered, Owing, Open, Brought, owing, happening_of, outcome_of, report_of, missed_after, is_shared, resets_chip, begins_word, is_reset_service}
@@ -74,7 +74,7 @@ report_in mac (Some t) (Entered l) = None
 
 -- a frame with the level, polled lines, misses, commits, reads, writes, window and counts of another, and these
 abbrev pub form : {Call : Type 0} → Open Call → Origin Call → Option Answer → List ℕ → List Owing → Option DevError → Bool → Open Call
-form r origin acted served owed report inside = record { origin = origin; tag = r.tag; acted = acted; acted_at = r.acted_at; polled = r.polled; served = served; missed = r.missed; committed = r.committed; reads = r.reads; wrote = r.wrote; owed = owed; report = report; inside = inside; since = r.since; acts_since = r.acts_since; steps = r.steps; window = r.window; noted = r.noted }
+form r origin acted served owed report inside = record { origin = origin; tag = r.tag; acted = acted; acted_at = r.acted_at; polled = r.polled; served = served; missed = r.missed; committed = r.committed; reads = r.reads; wrote = r.wrote; writes = r.writes; owed = owed; report = report; inside = inside; since = r.since; acts_since = r.acts_since; steps = r.steps; window = r.window; noted = r.noted }
 
 -- ---- what a driver gives
 
@@ -86,6 +86,8 @@ pub record Ground (State Call : Type 0) : Type 1 where
   -- the lines of its units, and whether a move names anything of a frame's module
   pub lines : ℕ → Bool
   pub owns : Origin Call → Move → Bool
+  -- whether it has the watchdog
+  pub watches : Bool
   -- how many numbers a state has given out, at most one a step
   pub count : State → ℕ
   -- what the hardware makes of a state
@@ -121,6 +123,10 @@ pub record IsGround {State Call : Type 0} (g : Ground State Call) : Type 0 where
   pub may_there : (origin : Origin Call) (made : Move) → g.setting.may origin made ≡ true → CanApply made
   -- no frame enables a line that isn't one of the driver's
   pub enables : (origin : Origin Call) (bits line : ℕ) → g.setting.may origin (Write EnableSet bits) ≡ true → g.lines line ≡ false → has_bit bits line ≡ false
+  -- no frame loads the watchdog but of a driver that has it; the time that runs then is the chip's, and else none does
+  pub loads : (origin : Origin Call) (value : ℕ) → g.setting.may origin (Write WatchdogLoad value) ≡ true → g.watches ≡ true
+  pub watched : (gap : g.Gap) (chip : Chip) (w : World) (s : State) → g.watches ≡ true → chip.clock.osc ≡ w.osc → g.agrees gap chip w s → g.setting.machine.expires w s ≡ expiry_of chip
+  pub unwatched : (w : World) (s : State) → g.watches ≡ false → g.setting.machine.expires w s ≡ None
   -- no call asks for a reset or polls a line, and no frame may make a reset
   pub asks_none : (c : Call) → is_reset_service (g.setting.machine.service_of c) ≡ false
   pub polls_none : (w : World) (s : State) (c : Call) → g.setting.machine.polls w s c ≡ []
@@ -277,6 +283,10 @@ pub record IsOutlined {State Call Asked Body : Type 0} (d : Outlined State Call 
   pub call_steps : (c : Call) → d.can c → 7 + d.most (d.asked c) ≤ d.basis.setting.steps_of (Called c)
   pub call_window : (c : Call) → d.can c → 3 + d.most (d.asked c) ≤ d.basis.setting.window_of (Called c)
   pub line_steps : (line : ℕ) (k : Body) → d.body_of line ≡ Some k → 6 + d.bodies.fuel k ≤ d.basis.setting.steps_of (Entered line)
+  -- no call owes a write
+  pub must_none : (c : Call) → d.basis.setting.must c ≡ []
+  -- no line is a unit's
+  pub units_none : (w : World) (s : State) (line : ℕ) → d.basis.setting.machine.line_waits w s line ≡ false
 
 -- ---- what places rest on
 

@@ -1,7 +1,7 @@
 -- Moves that a frame still owes its window. After its event a window makes moves that are fixed, but for the values that it
 -- loads; hardware may move between any two of them. Once all are made the words and registers agree with the state.
 use Rattle.std.specs.Prelude.{◌≡◌, ℕ, zero, suc, ◌+◌, ◌<◌, ◌≤◌, Bool, true, false, ◌||◌, List, Option, Some, None}
-use Rattle.chip_model.specs.Chip.{Chip, value_of, chip_after, happened, reset_chip, is_masked}
+use Rattle.chip_model.specs.Chip.{Chip, value_of, chip_after, expiry_of, happened, reset_chip, is_masked}
 use Rattle.mcal_base.specs.declared.answer.Answer.{Answer}
 use Rattle.mcal_base.specs.declared.directive.Order.{Order}
 use Rattle.mcal_base.specs.declared.directive.Order.TheVariants.{Fill}
@@ -11,8 +11,7 @@ use Rattle.mcal_base.specs.declared.moves.Move.TheVariants.{Write, Load, Store}
 use Rattle.mcal_base.specs.declared.register.Reg.TheVariants.{EnableSet, EnableClear}
 use Rattle.run_model.specs.World.{World, world_after}
 use Rattle.run_model.specs.Frame.{Origin, committed_after, is_shared, resets_chip, begins_word}
-use Rattle.run_model.specs.Legal.{ReceivedRight}
-use Rattle.step_runner.specs.Driver.{most_steps}
+use Rattle.step_runner.specs.Driver.{most_steps, ComesRight}
 use Rattle.service_outline.specs.Acts.{Cleans}
 use Rattle.service_outline.specs.Done.{goes}
 use Rattle.service_outline.specs.Fuel.{Shortens}
@@ -63,6 +62,7 @@ owing {Owed = Owed} g p = record {
   wired = g.wired;
   lines = g.lines;
   owns = g.owns;
+  watches = g.watches;
   count = g.count;
   later = g.later;
   Gap = Work g.Gap Owed;
@@ -102,6 +102,8 @@ pub record AreOwed {State Call Owed : Type 0} (g : Basis State Call) (p : Owing 
   pub calm : (made : Move) → p.own made ≡ true → (resets_chip made ≡ false) × (begins_word made ≡ false)
   pub times : (w : World) (times : ℕ → Option ℕ) (made : Move) → p.own made ≡ true → committed_after w times made ≡ times
   pub steady : (chip : Chip) (made : Move) → p.own made ≡ true → (chip_after chip made 0).clock.rate ≡ chip.clock.rate
+  -- and the watchdog's time
+  pub unwound : (chip : Chip) (made : Move) → p.own made ≡ true → expiry_of (chip_after chip made 0) ≡ expiry_of chip
   -- a reset leaves nothing of them
   pub resets : (chip : Chip) (made : Move) (reason : Reason) → p.own made ≡ true → reset_chip (chip_after chip made 0) reason ≡ reset_chip chip reason
   -- each leaves fewer
@@ -176,7 +178,7 @@ pub record AreWindows {State Call Owed About Body : Type 0} {g : Basis State Cal
 pub record AreFree {State Call Owed Body : Type 0} (g : Basis State Call) (b : LongBodies g Body) (owes : Body → Option Owed) (ends_with : Body → Option Answer) : Type 0 where
   pub own : (below : List (Held Call g.Hold)) (chip : Chip) (w : World) (s : State) (k : Body) (origin : Origin Call) (past : Past) → owes k ≡ None → Stand g b below chip w s k origin past → is_shared (b.work_of k) || g.setting.may origin (b.work_of k) ≡ true
   pub turns : (below : List (Held Call g.Hold)) (chip : Chip) (w : World) (s : State) (k : Body) (origin : Origin Call) (past : Past) → owes k ≡ None → Stand g b below chip w s k origin past → TurnsTo b (g.setting.window_of origin) k (b.takes k (value_of chip (b.work_of k)))
-  pub steps : (below : List (Held Call g.Hold)) (chip : Chip) (w : World) (s : State) (k : Body) (origin : Origin Call) (received : ℕ) (past : Past) (missed : ℕ → Bool) → owes k ≡ None → ReceivedRight chip w (b.work_of k) received → g.count s < most_steps → Stand g b below chip w s k origin past
+  pub steps : (below : List (Held Call g.Hold)) (chip : Chip) (w : World) (s : State) (k : Body) (origin : Origin Call) (received : ℕ) (past : Past) (missed : ℕ → Bool) → owes k ≡ None → ComesRight chip w (b.work_of k) received → g.count s < most_steps → Stand g b below chip w s k origin past
       → RightOr g b below chip w s k origin received past missed (ended_at b ends_with k (value_of chip (b.work_of k)))
   pub later : (below : List (Held Call g.Hold)) (chip : Chip) (w : World) (s : State) (order : Order) (k : Body) (origin : Origin Call) (past : Past) → owes k ≡ None → MayCome g.setting (with_holds origin past.acted (holds_at (b.spot k)) below) chip w s order
       → (is_masked chip ≡ false → is_closed (b.spot k) ≡ false) → Stand g b below chip w s k origin past → place_at (b.spot k) below (g.foot (happened chip order)) (world_after w chip.clock.rate order) (g.later w s order) origin past

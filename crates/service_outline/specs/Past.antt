@@ -53,11 +53,12 @@ past_after mac w s origin (Serve k) t p = record p { served = k ∷ p.served; ow
 past_after mac w s origin (Abort u) t p = record p { owed = p.owed ++ owing false t.notices }
 past_after mac w s origin (Start u) t p = record p { owed = p.owed ++ owing false t.notices }
 
--- a call acts once, and serves lines that it polls, in their order; a handler serves its line once; a unit is started or aborted where no notice is owed
+-- a call acts once, and serves lines that it polls, in their order; a handler serves its line once; a call serves, and a unit is started or
+-- aborted, where no notice is owed
 abbrev pub MayDo : {State Call : Type 0} → Machine State Call → World → State → Past → Event → Origin Call → Type 0
 MayDo mac w s p Act (Called c) = p.acted ≡ None
 MayDo mac w s p Act (Entered l) = ⊥
-MayDo mac w s p (Serve k) (Called c) = IsNext (mac.polls w s c) p.served k
+MayDo mac w s p (Serve k) (Called c) = IsNext (mac.polls w s c) p.served k × (p.owed ≡ [])
 MayDo mac w s p (Serve k) (Entered l) = (k ≡ l) × (p.served ≡ [])
 MayDo mac w s p (Abort u) origin = p.owed ≡ []
 MayDo mac w s p (Start u) origin = p.owed ≡ []

@@ -2,7 +2,7 @@
 -- what it needs; the words and registers agree with the state and with what the frames under way hold.
 use Rattle.std.specs.Prelude.{◌≡◌, ℕ, ◌+◌, ◌<◌, ◌≤◌, nat_lt, Bool, true, false, ◌||◌, ◌⊎◌, List, [], ◌∷◌, map, Option, Some, None, is_some}
 use Rattle.std.specs.List.{list_any}
-use Rattle.chip_model.specs.Chip.{Chip, value_of, chip_after, happened, reset_chip, is_masked, is_pending}
+use Rattle.chip_model.specs.Chip.{Chip, value_of, chip_after, expiry_of, happened, reset_chip, is_masked, is_pending}
 use Rattle.mcal_base.specs.Bits.{has_bit}
 use Rattle.mcal_base.specs.Reach.{CanApply}
 use Rattle.mcal_base.specs.declared.answer.Answer.{Answer}
@@ -15,19 +15,21 @@ use Rattle.mcal_base.specs.declared.moves.Move.{Move}
 use Rattle.mcal_base.specs.declared.moves.Move.TheVariants.{Read, Write, Load, Store, Mask, Unmask, Note, Report}
 use Rattle.mcal_base.specs.declared.moves.Unit as units
 use Rattle.mcal_base.specs.declared.notice.Notice.{Notice}
-use Rattle.mcal_base.specs.declared.register.Reg.TheVariants.{EnableSet}
+use Rattle.mcal_base.specs.declared.register.Reg.TheVariants.{EnableSet, WatchdogLoad}
 use Rattle.run_model.specs.declared.class.Class.{Class}
 use Rattle.run_model.specs.declared.class.Tag.{Tag}
 use Rattle.run_model.specs.Causes.{blocks}
 use Rattle.run_model.specs.World.{World, world_after}
-use Rattle.run_model.specs.Machine.{Happening, Acts, Moves, Restarts, Told, Begun, Outcome, ErrorLeaves, tells_nothing, outcome, outcome_with}
-use Rattle.run_model.specs.Frame.{Origin, Called, Entered, Owing, Open, owing, brought_by, happening_of, outcome_of, missed_after, is_shared, resets_chip, begins_word, asks_reset}
+use Rattle.run_model.specs.Machine.{Happening, Acts, Moves, Restarts, Told, Begun, Outcome, Machine, ErrorLeaves, tells_nothing, outcome, outcome_with}
+use Rattle.run_model.specs.Frame.{Origin, Called, Entered, Owing, Open, owing, brought_by, happening_of, happening_at, outcome_of, state_by, polled_by, served_by, missed_after, writes_after, is_shared, resets_chip, begins_word, asks_reset}
 use Rattle.run_model.specs.Moment.{Setting, call_tag, line_tag}
-use Rattle.run_model.specs.Legal.{MayEnd, StandsAt, SendsRight, ReceivedRight}
+use Rattle.run_model.specs.Legal.{MayEnd, LeavesNone, StandsAt, SendsRight, AllMade, MadeUnless, HasMade}
 use Rattle.run_model.specs.Outside.{StandsIn}
-use Rattle.step_runner.specs.Driver.{Driver, IsFree, most_steps}
+use Rattle.step_runner.specs.Driver.{Driver, IsFree, most_steps, ComesRight}
 use Rattle.service_outline.specs.declared.done.Done.{Done}
 use Rattle.service_outline.specs.declared.done.BodyTaken.{BodyTaken}
+use Rattle.service_outline.specs.declared.done.Owed.{Owed}
+use Rattle.service_outline.specs.declared.done.Owed.TheVariants.{Nothing, Error, One, Two}
 use Rattle.service_outline.specs.declared.body.Looked.{Looked}
 use Rattle.service_outline.specs.declared.body.Looked.TheVariants.{Refused, Goes}
 use Rattle.service_outline.specs.declared.short.Short.{Short}
@@ -90,6 +92,8 @@ pub record Basis (State Call : Type 0) : Type 1 where
   -- the lines of its units, and whether a move names anything of a frame's module
   pub lines : ℕ → Bool
   pub owns : Origin Call → Move → Bool
+  -- whether it has the watchdog
+  pub watches : Bool
   -- how many numbers a state has given out, at most one a step
   pub count : State → ℕ
   -- what the hardware makes of a state
@@ -107,7 +111,7 @@ pub record Basis (State Call : Type 0) : Type 1 where
 
 -- what short bodies stand on above these
 abbrev pub over : {State Call : Type 0} (g : Basis State Call) → List (Held Call g.Hold) → Ground State Call
-over g below = record { setting = g.setting; wired = g.wired; lines = g.lines; owns = g.owns; count = g.count; later = g.later; Gap = g.Gap; settled = g.settled; agrees = g.agrees below; Foot = g.Foot; foot = g.foot }
+over g below = record { setting = g.setting; wired = g.wired; lines = g.lines; owns = g.owns; watches = g.watches; count = g.count; later = g.later; Gap = g.Gap; settled = g.settled; agrees = g.agrees below; Foot = g.Foot; foot = g.foot }
 
 -- the move names nothing of the driver's
 abbrev pub Elsewhere : {State Call : Type 0} → Basis State Call → Move → Type 0
@@ -140,6 +144,10 @@ pub record IsBasis {State Call : Type 0} (g : Basis State Call) : Type 0 where
   pub may_there : (origin : Origin Call) (made : Move) → g.setting.may origin made ≡ true → CanApply made
   -- no frame enables a line that isn't one of the driver's
   pub enables : (origin : Origin Call) (bits line : ℕ) → g.setting.may origin (Write EnableSet bits) ≡ true → g.lines line ≡ false → has_bit bits line ≡ false
+  -- no frame loads the watchdog but of a driver that has it; the time that runs then is the chip's, and else none does
+  pub loads : (origin : Origin Call) (value : ℕ) → g.setting.may origin (Write WatchdogLoad value) ≡ true → g.watches ≡ true
+  pub watched : (held : List (Held Call g.Hold)) (gap : g.Gap) (chip : Chip) (w : World) (s : State) → g.watches ≡ true → chip.clock.osc ≡ w.osc → g.agrees held gap chip w s → g.setting.machine.expires w s ≡ expiry_of chip
+  pub unwatched : (w : World) (s : State) → g.watches ≡ false → g.setting.machine.expires w s ≡ None
   -- what a handler owns some call owns
   pub owns_called : (line : ℕ) (made : Move) → g.owns (Entered line) made ≡ true → (c : Call) × (g.owns (Called c) made ≡ true)
   -- a line that an object uses is one of the modules' lines, and one that no object uses is not due
@@ -218,6 +226,8 @@ pub record Services (State Call Asked Body : Type 0) : Type 1 where
   pub bodies : LongBodies basis Body
   -- what a frame has surely done since it last closed or opened the mask, at a place of a body
   pub seen : Body → Seen
+  -- which writes a frame of a call has surely made since it began, at a place of a body
+  pub written : Body → Call → List Move → Type 0
   -- what the driver's value, and a call, have to be
   pub fits : Type 0
   pub can : Call → Type 0
@@ -232,6 +242,11 @@ pub record Services (State Call Asked Body : Type 0) : Type 1 where
   pub body_of : ℕ → Option Body
 
 -- ---- what holds of frames
+
+-- a call's frame has made the writes that its place tells
+abbrev pub HasWritten : {State Call Asked Body : Type 0} → Services State Call Asked Body → Body → Origin Call → List Move → Type 0
+HasWritten d k (Called c) writes = d.written k c writes
+HasWritten d k (Entered l) writes = Unit {0}
 
 -- a call before its body
 pub record IsCalling {State Call Asked Body : Type 0} (d : Services State Call Asked Body) (a : Asked) (o : Open Call) (closed : Bool) : Type 0 where
@@ -251,6 +266,7 @@ pub record CanBegin {State Call Asked Body : Type 0} (d : Services State Call As
 pub record IsEntering {State Call Asked Body : Type 0} (d : Services State Call Asked Body) (k : Body) (o : Open Call) : Type 0 where
   pub form : o ≡ having o o.origin nothing_yet false
   pub fresh : IsFresh o
+  pub written : HasWritten d k o.origin o.writes
   pub can : CanBegin d k o.origin
 
 -- a frame in its body
@@ -259,6 +275,7 @@ pub record IsInside {State Call Asked Body : Type 0} (d : Services State Call As
   pub form : o ≡ having o o.origin past (is_closed (d.bodies.spot k))
   pub behaves : Behaves d.basis.setting (d.bodies.clean k) o
   pub window : IsSeen (d.seen k) o.since o.acts_since
+  pub written : HasWritten d k o.origin o.writes
   pub missed : AreMissed past.missed o.missed
   pub at : Stand d.basis d.bodies below chip w s k o.origin past
 
@@ -268,6 +285,7 @@ pub record IsOutside {State Call Asked Body : Type 0} (d : Services State Call A
   pub form : o ≡ having o o.origin past (is_closed (d.bodies.spot k))
   pub behaves : Behaves d.basis.setting (d.bodies.clean k) o
   pub window : IsSeen (d.seen k) o.since o.acts_since
+  pub written : HasWritten d k o.origin o.writes
   pub missed : AreMissed past.missed o.missed
   pub opened : is_closed (d.bodies.spot k) ≡ false
   pub place : (f : d.basis.Foot) (w : World) (s : State) → place_at (d.bodies.spot k) below f w s o.origin past
@@ -288,6 +306,13 @@ pub record MayStop {State Call : Type 0} (g : Basis State Call) (origin : Origin
   pub shown : served ≡ true → AreShown g origin (notices_in n.owed)
   pub report : p.report ≡ error_in n.owed
 
+-- a frame leaves no unit waiting now, and none at any time where it has something to tell yet
+abbrev pub Leaves : {State Call : Type 0} → Machine State Call → World → State → Origin Call → (polled served : List ℕ) → Owed → Type 0
+Leaves mac w s origin polled served Nothing = LeavesNone mac w s origin polled served
+Leaves {State} mac w s origin polled served (Error e) = (w1 : World) (s1 : State) → LeavesNone mac w1 s1 origin polled served
+Leaves {State} mac w s origin polled served (One k) = (w1 : World) (s1 : State) → LeavesNone mac w1 s1 origin polled served
+Leaves {State} mac w s origin polled served (Two k j) = (w1 : World) (s1 : State) → LeavesNone mac w1 s1 origin polled served
+
 -- a frame whose work is done, and which owes the rest
 pub record IsDone {State Call : Type 0} (g : Basis State Call) (o : Open Call) (n : Done) (closed : Bool) : Type 0 where
   pub may : MayEnd o.origin o n.answer
@@ -296,6 +321,8 @@ pub record IsDone {State Call : Type 0} (g : Basis State Call) (o : Open Call) (
   pub shown : served ≡ true → AreShown g o.origin (notices_in n.owed)
   pub report : o.report ≡ error_in n.owed
   pub leaves : LeavesRight g.setting o.origin o.reads o.wrote o.acted_at
+  pub writes : HasMade g.setting o.origin o.writes o.acted_at
+  pub idle : closed ≡ false → (w : World) (s : State) → LeavesNone g.setting.machine w s o.origin o.polled o.served
   pub inside : o.inside ≡ closed
   pub window : closed ≡ true → MayOpen o.since o.acts_since
 
@@ -344,7 +371,7 @@ IsTop d below chip w s (Calling a) o = d.basis.agrees below d.basis.settled chip
 IsTop d below chip w s (Loading a) o = d.basis.agrees below d.basis.settled chip w s × IsCalling d a o true
 IsTop d below chip w s (Entering k) o = d.basis.agrees below d.basis.settled chip w s × IsEntering d k o
 IsTop d below chip w s (Inside k) o = IsInside d below chip w s k o
-IsTop d below chip w s (Opening n) o = d.basis.agrees below d.basis.settled chip w s × IsDone d.basis o n true
+IsTop d below chip w s (Opening n) o = d.basis.agrees below d.basis.settled chip w s × IsDone d.basis o n true × Leaves d.basis.setting.machine w s o.origin o.polled o.served n.owed
 IsTop d below chip w s (Telling n) o = d.basis.agrees below d.basis.settled chip w s × IsDone d.basis o n false
 IsTop d below chip w s (Returning a) o = d.basis.agrees below d.basis.settled chip w s × IsDone d.basis o (owes_nothing a) false
 
@@ -369,6 +396,7 @@ services_driver d = record {
   fuel = short_fuel d.most d.bodies.fuel;
   room = short_room d.wide d.bodies.room;
   lines = d.basis.lines;
+  watches = d.basis.watches;
   owns = d.basis.owns;
   count = d.basis.count;
 }
@@ -489,7 +517,7 @@ pub record AreEnding {State Call Body : Type 0} (g : Basis State Call) (b : Long
   -- a body's move is one that its frame may make
   pub own : (below : List (Held Call g.Hold)) (chip : Chip) (w : World) (s : State) (k : Body) (origin : Origin Call) (past : Past) → Stand g b below chip w s k origin past → is_shared (b.work_of k) || g.setting.may origin (b.work_of k) ≡ true
   pub turns : (below : List (Held Call g.Hold)) (chip : Chip) (w : World) (s : State) (k : Body) (origin : Origin Call) (past : Past) → Stand g b below chip w s k origin past → TurnsTo b (g.setting.window_of origin) k (b.takes k (value_of chip (b.work_of k)))
-  pub steps : (below : List (Held Call g.Hold)) (chip : Chip) (w : World) (s : State) (k : Body) (origin : Origin Call) (received : ℕ) (past : Past) (missed : ℕ → Bool) → ReceivedRight chip w (b.work_of k) received → g.count s < most_steps → Stand g b below chip w s k origin past → RightOr g b below chip w s k origin received past missed (ended_at b ends_with k (value_of chip (b.work_of k)))
+  pub steps : (below : List (Held Call g.Hold)) (chip : Chip) (w : World) (s : State) (k : Body) (origin : Origin Call) (received : ℕ) (past : Past) (missed : ℕ → Bool) → ComesRight chip w (b.work_of k) received → g.count s < most_steps → Stand g b below chip w s k origin past → RightOr g b below chip w s k origin received past missed (ended_at b ends_with k (value_of chip (b.work_of k)))
   pub later : (below : List (Held Call g.Hold)) (chip : Chip) (w : World) (s : State) (order : Order) (k : Body) (origin : Origin Call) (past : Past) → MayCome g.setting (with_holds origin past.acted (holds_at (b.spot k)) below) chip w s order → (is_masked chip ≡ false → is_closed (b.spot k) ≡ false) → Stand g b below chip w s k origin past → place_at (b.spot k) below (g.foot (happened chip order)) (world_after w chip.clock.rate order) (g.later w s order) origin past
   -- a move at which no event stands resets nothing, and begins no serial word
   pub calm : (below : List (Held Call g.Hold)) (chip : Chip) (w : World) (s : State) (k : Body) (origin : Origin Call) (past : Past) → Stand g b below chip w s k origin past → (b.takes k (value_of chip (b.work_of k))).1.event ≡ None → (resets_chip (b.work_of k) ≡ false) × (begins_word (b.work_of k) ≡ false)
@@ -500,6 +528,31 @@ pub record AreEnding {State Call Body : Type 0} (g : Basis State Call) (b : Long
 abbrev pub AreLong : {State Call Body : Type 0} (g : Basis State Call) → LongBodies g Body → Type 0
 AreLong g b = AreEnding g b (λ k. None)
 
+-- a body goes on with these writes, or is done and has made those that its call owes
+abbrev pub WritesOn : {State Call Asked Body : Type 0} → Services State Call Asked Body → Call → (writes : List Move) → Body → Option Done → Type 0
+WritesOn d c writes k None = d.written k c writes
+WritesOn d c writes k (Some n) = AllMade (d.basis.setting.must c) writes
+
+-- what a driver owes of the writes that its calls owe
+pub record MakesWrites {State Call Asked Body : Type 0} (d : Services State Call Asked Body) (ends_with : Body → Option Answer) : Type 0 where
+  -- a call that goes on with its body has made none yet
+  pub begins : (c : Call) (x : ℕ) (k : Body) → d.can c → d.looked (d.asked c) x ≡ Goes k → d.written k c []
+  -- one that is refused owes none, or finds an error
+  pub refuses : (below : List (Held Call d.basis.Hold)) (chip : Chip) (w : World) (s : State) (c : Call) (n : Done) (told : Told) → d.can c → d.basis.agrees below d.basis.settled chip w s → d.looked (d.asked c) (value_of chip (Load d.word)) ≡ Refused n → ((times : ℕ → ℕ) → d.basis.setting.machine.happens w s (Acts c times) ≡ Some (outcome s told)) → MadeUnless told.error (d.basis.setting.must c) []
+  -- a step of a body adds its write
+  pub steps : (below : List (Held Call d.basis.Hold)) (chip : Chip) (w : World) (s : State) (k : Body) (c : Call) (past : Past) (writes : List Move) → Stand d.basis d.bodies below chip w s k (Called c) past → d.written k c writes → let p = d.bodies.takes k (value_of chip (d.bodies.work_of k)) in WritesOn d c (writes_after writes (d.bodies.work_of k)) p.0 p.1.done
+  -- and one that ends its frame itself has made all
+  pub stops : (below : List (Held Call d.basis.Hold)) (chip : Chip) (w : World) (s : State) (k : Body) (c : Call) (past : Past) (writes : List Move) (a : Answer) → Stand d.basis d.bodies below chip w s k (Called c) past → d.written k c writes → ended_at d.bodies ends_with k (value_of chip (d.bodies.work_of k)) ≡ Some a → AllMade (d.basis.setting.must c) writes
+
+-- what a driver owes of the units whose lines its frames serve
+pub record MakesStarts {State Call Asked Body : Type 0} (d : Services State Call Asked Body) (ends_with : Body → Option Answer) : Type 0 where
+  -- the hardware lets no unit wait
+  pub later : (w : World) (s : State) (order : Order) (rate line : ℕ) → d.basis.setting.machine.line_waits w s line ≡ false → d.basis.setting.machine.line_waits (world_after w rate order) (d.basis.later w s order) line ≡ false
+  -- a body that is done leaves none waiting, with its last event
+  pub done : (below : List (Held Call d.basis.Hold)) (chip : Chip) (w : World) (s : State) (k : Body) (origin : Origin Call) (received : ℕ) (past : Past) (n : Done) → Stand d.basis d.bodies below chip w s k origin past → let p = d.bodies.takes k (value_of chip (d.bodies.work_of k)) in p.1.done ≡ Some n → let mac = d.basis.setting.machine in Leaves mac w (state_by s (outcome_of mac w s (happening_at origin (brought_by w past.committed (d.bodies.work_of k) received) p.1.event))) origin (polled_by mac w s origin past.polled p.1.event) (served_by past.served p.1.event) n.owed
+  -- and so does one that ends its frame itself
+  pub stops : (below : List (Held Call d.basis.Hold)) (chip : Chip) (w : World) (s : State) (k : Body) (origin : Origin Call) (past : Past) (a : Answer) → Stand d.basis d.bodies below chip w s k origin past → ended_at d.bodies ends_with k (value_of chip (d.bodies.work_of k)) ≡ Some a → LeavesNone d.basis.setting.machine w s origin past.polled past.served
+
 -- what a driver owes, some of whose bodies may end their frame themselves, with these answers
 pub record AreEndingServices {State Call Asked Body : Type 0} (d : Services State Call Asked Body) (ends_with : Body → Option Answer) : Type 0 where
   pub basis : IsBasis d.basis
@@ -509,6 +562,10 @@ pub record AreEndingServices {State Call Asked Body : Type 0} (d : Services Stat
   pub unseen : (below : List (Held Call d.basis.Hold)) (chip : Chip) (w : World) (s : State) (k : Body) (c : Call) → Stand d.basis d.bodies below chip w s k (Called c) nothing_yet → Starts (d.seen k)
   -- the load of the state word, in the window, above what is held by those that let the call begin
   pub looks : (below : List (Held Call d.basis.Hold)) (chip : Chip) (w : World) (s : State) (c : Call) → d.can c → Beside d.basis.setting (Called c) below → d.basis.agrees below d.basis.settled chip w s → Decides d below chip w s c (d.looked (d.asked c) (value_of chip (Load d.word)))
+  -- what its calls write
+  pub writes : MakesWrites d ends_with
+  -- and what its frames leave waiting
+  pub starts : MakesStarts d ends_with
   -- the state word is its own, and there
   pub own_word : (origin : Origin Call) → d.basis.setting.may origin (Load d.word) ≡ true
   pub word_there : CanApply (Load d.word)

@@ -44,7 +44,7 @@ pub record IsCalm {State Call : Type 0} (g : Basis State Call) (origin : Origin 
 
 -- nothing is held
 abbrev pub unheld : {State Call : Type 0} → Ground State Call → Basis State Call
-unheld g = record { setting = g.setting; wired = g.wired; lines = g.lines; owns = g.owns; count = g.count; later = g.later; Gap = g.Gap; settled = g.settled; Hold = ⊥; agrees = λ held. g.agrees; Foot = g.Foot; foot = g.foot }
+unheld g = record { setting = g.setting; wired = g.wired; lines = g.lines; owns = g.owns; watches = g.watches; count = g.count; later = g.later; Gap = g.Gap; settled = g.settled; Hold = ⊥; agrees = λ held. g.agrees; Foot = g.Foot; foot = g.foot }
 
 -- the driver's services
 abbrev pub services_of : {State Call Asked Body : Type 0} → Outlined State Call Asked Body → Services State Call Asked Body
@@ -52,6 +52,7 @@ services_of d = record {
   basis = unheld d.basis;
   bodies = short (unheld d.basis) d.bodies (λ below. d.bodies.place);
   seen = d.seen;
+  written = λ k c writes. Unit {0};
   fits = d.fits;
   can = d.can;
   word = d.word;

@@ -2,7 +2,7 @@
 use Rattle.std.specs.Prelude.{nat_lt, Bool, true, ◌&&◌}
 use Rattle.mcal_base.specs.declared.TheConstants.{WORDS}
 use Rattle.mcal_base.specs.declared.register.Reg.{Reg}
-use Rattle.mcal_base.specs.declared.register.Reg.TheVariants.{TimerTarget, TimerPrescaler, TimerLow, TimerHigh, PulsePeriod, PulseDuty, PulsePolarity, PulseCommit, PulseIdle, PulseOut, CaptureCondition, CaptureMode, CaptureCountLow, CaptureCountHigh, CaptureZero, CaptureTimeLow, CaptureTimeHigh, CaptureInfo, CapturePop, CaptureFlush, ConverterList, ConverterGo, ConverterState, ConverterResult, ConverterDone, ConverterAbort, ConverterAck, SerialSelect, SerialWidth, SerialData, SerialReceived, SerialState, SerialAck, PinDirectionSet, PinDirectionClear, PinOutSet, PinOutClear, PinMode, Ram}
+use Rattle.mcal_base.specs.declared.register.Reg.TheVariants.{TimerTarget, TimerPrescaler, TimerLow, TimerHigh, PulsePeriod, PulseDuty, PulsePolarity, PulseCommit, PulseIdle, PulseOut, CaptureCondition, CaptureMode, CaptureCountLow, CaptureCountHigh, CaptureZero, CaptureTimeLow, CaptureTimeHigh, CaptureInfo, CapturePop, CaptureFlush, ConverterList, ConverterGo, ConverterState, ConverterResult, ConverterDone, ConverterAbort, ConverterAck, SerialSelect, SerialWidth, SerialData, SerialReceived, SerialState, SerialWait, SerialAck, PinDirectionSet, PinDirectionClear, PinOutSet, PinOutClear, PinMode, PortPut, PortLevels, PinFlip, Ram}
 use Rattle.mcal_base.specs.declared.moves.Move.{Move}
 use Rattle.mcal_base.specs.declared.moves.Move.TheVariants.{Read, Write, Load, Store}
 
@@ -39,12 +39,16 @@ is_there (SerialWidth u) = nat_lt u 2
 is_there (SerialData u) = nat_lt u 2
 is_there (SerialReceived u) = nat_lt u 2
 is_there (SerialState u) = nat_lt u 2
+is_there (SerialWait u) = nat_lt u 2
 is_there (SerialAck u) = nat_lt u 2
 is_there (PinDirectionSet half) = nat_lt half 2
 is_there (PinDirectionClear half) = nat_lt half 2
 is_there (PinOutSet half) = nat_lt half 2
 is_there (PinOutClear half) = nat_lt half 2
 is_there (PinMode p) = nat_lt p 64
+is_there (PortPut q) = nat_lt q 8
+is_there (PortLevels q) = nat_lt q 8
+is_there (PinFlip p) = nat_lt p 64
 is_there (Ram k) = nat_lt k 512
 is_there _ = true
 

@@ -1,6 +1,7 @@
 pub mod Acts
 pub mod Both
 pub mod Carried
+pub mod Duties
 pub mod Either
 pub mod Ending
 pub mod Fuel

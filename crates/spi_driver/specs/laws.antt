@@ -3,6 +3,7 @@ pub mod Begins
 pub mod Fits
 pub mod Frames
 pub mod Handling
+pub mod Idle
 pub mod Joined
 pub mod Keeps
 pub mod Lawful
@@ -16,3 +17,4 @@ pub mod Steps
 pub mod Told
 pub mod Turns
 pub mod Units
+pub mod Unpolled

@@ -105,7 +105,7 @@ happens-begins d w s (Acts call times) out h =
     rw (← some_same _ out h) (none-begins _ (still-acts d s call (error_by d call (is_off s.mode) (finds_held d s call))).0)
 happens-begins d w s (Serves l received) out h =
     rw (← serve_by (ready w s l) (served d w s (unit_of l) received (run_of s (unit_of l))) out h) (served-begins d w s (unit_of l) received)
-happens-begins d w s (Starts u received) out h = start_by-begins d w s (number_of u) received (next_at d s (number_of u)) out h
+happens-begins d w s (Starts u made_by received) out h = start_by-begins d w s (number_of u) received (next_at d s (number_of u)) out h
 happens-begins d w s (Aborts u) out h = absurd (cc h)
 happens-begins d w s (Moves order) out h = rw (← some_same _ out h) refl
 happens-begins d w s (Restarts reason) out h = rw (← some_same _ out h) refl
@@ -126,10 +126,10 @@ start_at-word d w s (Some v) received out u p h e f =
     let h' : start_by d w s (Some u) received (next_at d s (Some u)) ≡ Some out = rw (← g) h in
     start_by-word d w s u received p (next_at d s (Some u)) out f h'
 
-pub start-word : (d : SpiTable) (w : World) (s : SpiState) (unit : units.Unit) (received : ℕ) (out : Outcome SpiState) (u : ℕ) (p : Pending)
-    → (spi_machine d).happens w s (Starts unit received) ≡ Some out → number_of unit ≡ Some u → next_at d s (Some u) ≡ Some p
+pub start-word : (d : SpiTable) (w : World) (s : SpiState) (unit : units.Unit) (made_by : Option Call) (received : ℕ) (out : Outcome SpiState) (u : ℕ) (p : Pending)
+    → (spi_machine d).happens w s (Starts unit made_by received) ≡ Some out → number_of unit ≡ Some u → next_at d s (Some u) ≡ Some p
     → out.begins ≡ Some (as_begun d u (Some p) (slice_index_or (job_words d s (next_job d p)) 0 no_word))
-start-word d w s unit received out u p h e f = start_at-word d w s (number_of unit) received out u p h e f
+start-word d w s unit made_by received out u p h e f = start_at-word d w s (number_of unit) received out u p h e f
 
 served_by-word : (d : SpiTable) (w : World) (s : SpiState) (u received : ℕ) (r : Run) (b : Bool) → b ≡ true
     → (served_by d w s u received r b).begins ≡ Some (as_begun d u (pending_of s r) (slice_index_or r.words (length r.received + 1) no_word))
@@ -202,7 +202,7 @@ grows d w s (Acts call times) out h i =
     rw (← some_same _ out h) (grows-still s 0 (acts_by d s call error) (still-acts d s call error))
 grows d w s (Serves l received) out h i =
     rw (← serve_by (ready w s l) (served d w s (unit_of l) received (run_of s (unit_of l))) out h) (grows-served d w s (unit_of l) received (run_of s (unit_of l)))
-grows d w s (Starts u received) out h i = grows-start d w s (number_of u) received (next_at d s (number_of u)) out h
+grows d w s (Starts u made_by received) out h i = grows-start d w s (number_of u) received (next_at d s (number_of u)) out h
 grows d w s (Aborts u) out h i = absurd (cc h)
 grows d w s (Moves order) out h i = rw (← some_same _ out h) (grows-still s 0 (outcome (moved d w s order) tells_nothing) (refl, still-moved d w s order))
 grows d w s (Restarts reason) out h i = absurd (cc i)

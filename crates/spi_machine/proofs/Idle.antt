@@ -207,7 +207,7 @@ idle-happens d w s (Serves l received) out h idle =
     rw (← serve_by (ready w s l) (served d w s (unit_of l) received (run_of s (unit_of l))) out h)
     (idle-on s (served d w s (unit_of l) received (run_of s (unit_of l))).state (mode-served d w s (unit_of l) received (run_of s (unit_of l)))
     (on-ready (is_off s.mode) (has_done w.now (run_of s (unit_of l))) (served d w s (unit_of l) received (run_of s (unit_of l))) out h))
-idle-happens d w s (Starts u received) out h idle = idle-starts d w s (number_of u) received (next_at d s (number_of u)) out refl h
+idle-happens d w s (Starts u made_by received) out h idle = idle-starts d w s (number_of u) received (next_at d s (number_of u)) out refl h
 idle-happens d w s (Aborts u) out h idle = absurd (cc h)
 idle-happens d w s (Moves order) out h idle = rw (← some_same _ out h) (idle-moved d w s order idle)
 idle-happens d w s (Restarts reason) out h idle = rw (← some_same _ out h) (λ off. refl)

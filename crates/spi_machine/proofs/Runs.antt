@@ -174,7 +174,7 @@ happens-goes d w s (Acts call times) out h =
     rw (← some_same _ out h) (acts_by-goes d s call (error_by d call (is_off s.mode) (finds_held d s call)))
 happens-goes d w s (Serves l received) out h =
     rw (← serve_by (ready w s l) (served d w s (unit_of l) received (run_of s (unit_of l))) out h) (served-goes d w s (unit_of l) received (run_of s (unit_of l)) refl)
-happens-goes d w s (Starts u received) out h = start_by-goes d w s (number_of u) received (next_at d s (number_of u)) out refl h
+happens-goes d w s (Starts u made_by received) out h = start_by-goes d w s (number_of u) received (next_at d s (number_of u)) out refl h
 happens-goes d w s (Aborts u) out h = absurd (cc h)
 happens-goes d w s (Moves order) out h = rw (← some_same (outcome (moved d w s order) tells_nothing) out h) (moved-goes d w s order)
 happens-goes d w s (Restarts reason) out h = rw (← some_same _ out h) (λ u r q f g. absurd (cc g))
@@ -197,10 +197,10 @@ start_at-begins d w s (Some v) received out u p h e f =
     start_by-begins d w s u received p (next_at d s (Some u)) out f h'
 
 -- the job of the next sequence begins with its words as its channels stand
-pub start-begins : (d : SpiTable) (w : World) (s : SpiState) (unit : units.Unit) (received : ℕ) (out : Outcome SpiState) (u : ℕ) (p : Pending)
-    → (spi_machine d).happens w s (Starts unit received) ≡ Some out → number_of unit ≡ Some u → next_at d s (Some u) ≡ Some p
+pub start-begins : (d : SpiTable) (w : World) (s : SpiState) (unit : units.Unit) (made_by : Option Call) (received : ℕ) (out : Outcome SpiState) (u : ℕ) (p : Pending)
+    → (spi_machine d).happens w s (Starts unit made_by received) ≡ Some out → number_of unit ≡ Some u → next_at d s (Some u) ≡ Some p
     → run_at out.state u ≡ Some (begun w.now received p.sequence (job_words d s (next_job d p)) [])
-start-begins d w s unit received out u p h e f = start_at-begins d w s (number_of unit) received out u p h e f
+start-begins d w s unit made_by received out u p h e f = start_at-begins d w s (number_of unit) received out u p h e f
 
 -- ---- what the wire shows
 

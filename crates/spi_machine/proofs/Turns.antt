@@ -308,7 +308,7 @@ happens-turn d w s (Acts call times) out q h i =
     rw (← some_same _ out h) (acts_by-turn d q s call times (error_by d call (is_off s.mode) (finds_held d s call)) refl i)
 happens-turn d w s (Serves l received) out q h i =
     rw (← serve_by (ready w s l) (served d w s (unit_of l) received (run_of s (unit_of l))) out h) (served-turn d w q s l (unit_of l) received (run_of s (unit_of l)) refl)
-happens-turn d w s (Starts u received) out q h i = start_by-turn d w q s (Starts u received) (number_of u) received (next_at d s (number_of u)) out h
+happens-turn d w s (Starts u made_by received) out q h i = start_by-turn d w q s (Starts u made_by received) (number_of u) received (next_at d s (number_of u)) out h
 happens-turn d w s (Aborts u) out q h i = absurd (cc h)
 happens-turn d w s (Moves order) out q h i = rw (← some_same _ out h) (moved-turn d w q s order)
 happens-turn d w s (Restarts reason) out q h i = absurd (cc i)

@@ -191,7 +191,7 @@ happens-keeps d w s (Acts call times) out h i =
     rw (← some_same _ out h) (acts_by-keeps d s call (error_by d call (is_off s.mode) (finds_held d s call)) i)
 happens-keeps d w s (Serves l received) out h i =
     rw (← serve_by (ready w s l) (served d w s (unit_of l) received (run_of s (unit_of l))) out h) (served-keeps d w s (unit_of l) received (run_of s (unit_of l)) i)
-happens-keeps d w s (Starts u received) out h i = start_by-keeps d w s (number_of u) received (next_at d s (number_of u)) out h
+happens-keeps d w s (Starts u made_by received) out h i = start_by-keeps d w s (number_of u) received (next_at d s (number_of u)) out h
 happens-keeps d w s (Aborts u) out h i = absurd (cc h)
 happens-keeps d w s (Moves order) out h i = rw (← some_same _ out h) (moved-keeps d w s order)
 happens-keeps d w s (Restarts reason) out h i = absurd (cc i)

@@ -208,6 +208,7 @@ spi_setting d = record {
   window_of = window_of;
   may = λ o made. may d made;
   halves = λ call. None;
+  must = λ call. [];
   fills = fills d;
   in_use = λ w s c. is_in_use d c s.pending;
   rest = λ chip w s. (c : ℕ) → HoldsArrays (word_of chip) d s c;

@@ -278,7 +278,7 @@ moved d w s _ = s
 abbrev pub happens : SpiTable → World → SpiState → Happening Call → Option (Outcome SpiState)
 happens d w s (Acts call times) = Some (acts d s call)
 happens d w s (Serves l received) = if ready w s l then Some (served d w s (unit_of l) received (run_of s (unit_of l))) else None
-happens d w s (Starts u received) = start_by d w s (number_of u) received (next_at d s (number_of u))
+happens d w s (Starts u made_by received) = start_by d w s (number_of u) received (next_at d s (number_of u))
 happens d w s (Aborts u) = None
 happens d w s (Moves order) = Some (outcome (moved d w s order) tells_nothing)
 happens d w s (Restarts reason) = Some (outcome first_state tells_nothing)
@@ -299,6 +299,7 @@ spi_machine d = record {
   ready = ready;
   due = due;
   startable = λ w s u. is_some (next_at d s (number_of u));
+  line_waits = λ w s l. is_some (next_at d s (unit_of l));
   rate = λ s. 1;
   service_of = service_of;
   expires = λ w s. None;

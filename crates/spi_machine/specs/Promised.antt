@@ -212,7 +212,7 @@ pub record EndsJob (d : SpiTable) (u : ℕ) (p : Pending) (given : AnswerName) (
 abbrev pub renews : SpiState → Happening Call → Bool
 renews s (Acts call times) = is_init call
 renews s (Serves l received) = ends_well (run_of s (unit_of l))
-renews s (Starts u received) = false
+renews s (Starts u made_by received) = false
 renews s (Aborts u) = false
 renews s (Moves order) = false
 renews s (Restarts reason) = true
@@ -228,7 +228,7 @@ does_go_on (Some r) = goes_on r
 abbrev pub is_beginning : SpiState → Happening Call → Bool
 is_beginning s (Acts call times) = false
 is_beginning s (Serves l received) = does_go_on (run_of s (unit_of l))
-is_beginning s (Starts u received) = true
+is_beginning s (Starts u made_by received) = true
 is_beginning s (Aborts u) = false
 is_beginning s (Moves order) = false
 is_beginning s (Restarts reason) = false
@@ -241,7 +241,7 @@ is_reset _ = false
 -- what comes in with a word that a happening begins
 abbrev pub received_at : Happening Call → ℕ
 received_at (Serves l received) = received
-received_at (Starts u received) = received
+received_at (Starts u made_by received) = received
 received_at _ = 0
 
 -- what the wire of a unit shows of a word that begins: what is sent, and what comes in

@@ -54,8 +54,8 @@ pub fn next_job_is_the_best()
 /// A job's words are as they stood at its start, whatever happens while it runs. At its start they are the words of its
 /// channels as these stand, and each serving that goes on sends the next one of them.
 pub fn words_as_at_the_start()
-    ensures start { (d : SpiTable) (w : World) (s : SpiState) (unit : units.Unit) (received : ℕ) (out : Outcome SpiState) (u : ℕ) (p : pending.Pending)
-        → (spi_machine d).happens w s (Starts unit received) ≡ Some out → number_of unit ≡ Some u → next_at d s (Some u) ≡ Some p
+    ensures start { (d : SpiTable) (w : World) (s : SpiState) (unit : units.Unit) (made_by : Option Call) (received : ℕ) (out : Outcome SpiState) (u : ℕ) (p : pending.Pending)
+        → (spi_machine d).happens w s (Starts unit made_by received) ≡ Some out → number_of unit ≡ Some u → next_at d s (Some u) ≡ Some p
         → run_at out.state u ≡ Some (begun w.now received p.sequence (job_words d s (next_job d p)) []) }
     ensures since { (d : SpiTable) (w : World) (s : SpiState) (h : Happening Call) (out : Outcome SpiState) (u : ℕ) (r after : Run)
         → (spi_machine d).happens w s h ≡ Some out → run_at s u ≡ Some r → run_at out.state u ≡ Some after → after.words ≡ r.words }
@@ -71,8 +71,8 @@ pub fn words_as_at_the_start()
 pub fn words_that_begin()
     ensures exactly { (d : SpiTable) (w : World) (s : SpiState) (h : Happening Call) (out : Outcome SpiState)
         → (spi_machine d).happens w s h ≡ Some out → is_some out.begins ≡ laws.is_beginning s h }
-    ensures start { (d : SpiTable) (w : World) (s : SpiState) (unit : units.Unit) (received : ℕ) (out : Outcome SpiState) (u : ℕ) (p : pending.Pending)
-        → (spi_machine d).happens w s (Starts unit received) ≡ Some out → number_of unit ≡ Some u → next_at d s (Some u) ≡ Some p
+    ensures start { (d : SpiTable) (w : World) (s : SpiState) (unit : units.Unit) (made_by : Option Call) (received : ℕ) (out : Outcome SpiState) (u : ℕ) (p : pending.Pending)
+        → (spi_machine d).happens w s (Starts unit made_by received) ≡ Some out → number_of unit ≡ Some u → next_at d s (Some u) ≡ Some p
         → out.begins ≡ Some (as_begun d u (Some p) (slice_index_or (job_words d s (next_job d p)) 0 no_word)) }
     ensures serving { (d : SpiTable) (w : World) (s : SpiState) (line received : ℕ) (out : Outcome SpiState) (u : ℕ) (r : Run)
         → (spi_machine d).happens w s (Serves line received) ≡ Some out → unit_of line ≡ Some u → run_at s u ≡ Some r → goes_on r ≡ true

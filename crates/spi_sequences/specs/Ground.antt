@@ -66,6 +66,8 @@ spi_owns d _ = false
 pub data Hold : Type 0 where
   -- the frame will start the best job of this unit, if the unit is free
   Debt : (number : ℕ) → Hold
+  -- the frame has left this unit busy, or without a sequence that waits: a start that is due there later a frame above it owes
+  Cleared : (number : ℕ) → Hold
   -- it is the main function, which has acted and serves
   Handling : Hold
   -- it fills this bank of what the channel sends from this source, has filled in so many words, and has the next one
@@ -99,6 +101,7 @@ words_in (Some a) = a.words
 -- channel is to send, and what it has pinned is its answer
 abbrev pub HeldRight : SpiTable → Mode → List ChannelState → Held Call Hold → Hold → Type 0
 HeldRight d mode cs h (Debt u) = (u < 2) × (is_off mode ≡ false)
+HeldRight d mode cs h (Cleared u) = Unit {0}
 HeldRight d mode cs h Handling = is_polling mode ≡ true
 HeldRight d mode cs h (Writing c p b i x) = (h.by ≡ Called (calls.Channel c (WriteIb p))) × IsReady (to_write (channel_of d c) p (slice_index_or cs c untouched).source) i x × (is_off mode ≡ false) × (is_some (channel_of d c) ≡ true)
 HeldRight d mode cs h (Reading c b) = (h.by ≡ Called (calls.Channel c ReadIb)) × (h.acted ≡ Some (named_with EOk (words_in h.acted))) × (is_off mode ≡ false)
@@ -108,13 +111,16 @@ abbrev pub AllRight : SpiTable → Mode → List ChannelState → Holds → Type
 AllRight d mode cs [] = Unit {0}
 AllRight d mode cs (h ∷ hs) = HeldRight d mode cs h h.what × AllRight d mode cs hs
 
-abbrev pub is_debt : (number : ℕ) → Hold → Bool
-is_debt u (Debt v) = v == u
-is_debt u _ = false
+-- whether a start of the unit is owed, by this and by whether those below owe it
+abbrev pub owes_by : (number : ℕ) → Hold → (below : Bool) → Bool
+owes_by u (Debt v) below = v == u || below
+owes_by u (Cleared v) below = not (v == u) && below
+owes_by u _ below = below
 
--- some frame owes the unit a start
+-- some frame owes the unit a start, and none above it has cleared the unit
 abbrev pub is_owed : (number : ℕ) → Holds → Bool
-is_owed u hs = list_any (λ h. is_debt u h.what) hs
+is_owed u [] = false
+is_owed u (h ∷ hs) = owes_by u h.what (is_owed u hs)
 
 abbrev pub is_preparing : Hold → Bool
 is_preparing (Preparing stored readied x) = true
@@ -403,6 +409,7 @@ spi_bare d = record {
   setting = spi_setting d;
   wired = WiredAs d;
   lines = λ l. l == 26 || l == 27;
+  watches = false;
   owns = λ o made. spi_owns d made;
   count = λ s. 0;
   later = moved d;

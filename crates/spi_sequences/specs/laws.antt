@@ -8,6 +8,7 @@ pub mod Cancelling
 pub mod Changed
 pub mod Changing
 pub mod Choosing
+pub mod Cleared
 pub mod Clearing
 pub mod Costs
 pub mod Digits

@@ -6,9 +6,9 @@ use Rattle.mcal_base.specs.declared.moves.Move.{Move}
 use Rattle.run_model.specs.World.{World}
 use Rattle.run_model.specs.Machine.{Starts, Aborts, Outcome}
 use Rattle.run_model.specs.Frame.{Origin, Called, Entered}
-use Rattle.step_runner.specs.Driver.{Driver, Covers}
+use Rattle.step_runner.specs.Driver.{Driver}
 use Rattle.step_runner.specs.Lifts.{and-left, and-right}
-use Rattle.step_runner.specs.Union.{either_handler, by_origin, in_first, others, has_handler, AreApart, union_of}
+use Rattle.step_runner.specs.Union.{either_handler, by_origin, in_first, first_call, second_call, others, has_handler, AreApart, union_of}
 use Rattle.step_runner.specs.declared.either.Either.{Either}
 use Rattle.step_runner.specs.declared.either.Either.TheVariants.{Left, Right}
 
@@ -88,7 +88,7 @@ apart-second d e f a b = record {
   may_other = λ p q made h. may-either (has_handler e) e.setting.may f.setting.may q made h (λ x k. a.may_other p x made k) (λ y k. b.may_other p y made k);
   polls = a.polls;
   polls_other = λ w t c. polled-second d e f a b w t.0 t.1 c;
-  starts = λ w s t u r some. some-either t.0 t.1 (e.setting.machine.happens w t.0 (Starts u r)) (f.setting.machine.happens w t.1 (Starts u r)) some (a.starts w s t.0 u r) (b.starts w s t.1 u r);
+  starts = λ w s t u by q r some. some-either t.0 t.1 (e.setting.machine.happens w t.0 (Starts u (first_call q) r)) (f.setting.machine.happens w t.1 (Starts u (second_call q) r)) some (a.starts w s t.0 u by (first_call q) r) (b.starts w s t.1 u by (second_call q) r);
   aborts = λ w s t u some. some-either t.0 t.1 (e.setting.machine.happens w t.0 (Aborts u)) (f.setting.machine.happens w t.1 (Aborts u)) some (a.aborts w s t.0 u) (b.aborts w s t.1 u);
   steady = λ chip q made received h. may-either (has_handler e) e.setting.may f.setting.may q made h (λ x k. a.steady chip x made received k) (λ y k. b.steady chip y made received k);
 }
@@ -100,11 +100,7 @@ apart-first d e f a b = record {
   may_other = λ p q made h. owns-neither (has_handler d) d.owns e.owns p made (λ x. a.may_other x q made h) (λ y. b.may_other y q made h);
   polls = λ w s c. polled-first d e f a b w s.0 s.1 c;
   polls_other = λ w t c. all-both (others (has_handler d)) (others (has_handler e)) (others (has_handler (union_of d e))) (f.setting.machine.polls w t c) (λ l x y. handler-neither (d.handler_of l) (e.handler_of l) x y) (a.polls_other w t c) (b.polls_other w t c);
-  starts = λ w s t u r some. none-neither s.0 s.1 (d.setting.machine.happens w s.0 (Starts u r)) (e.setting.machine.happens w s.1 (Starts u r)) (a.starts w s.0 t u r some) (b.starts w s.1 t u r some);
+  starts = λ w s t u by q r some. none-neither s.0 s.1 (d.setting.machine.happens w s.0 (Starts u (first_call by) r)) (e.setting.machine.happens w s.1 (Starts u (second_call by) r)) (a.starts w s.0 t u (first_call by) q r some) (b.starts w s.1 t u (second_call by) q r some);
   aborts = λ w s t u some. none-neither s.0 s.1 (d.setting.machine.happens w s.0 (Aborts u)) (e.setting.machine.happens w s.1 (Aborts u)) (a.aborts w s.0 t u some) (b.aborts w s.1 t u some);
   steady = a.steady;
 }
-
--- two drivers that may stand on the chip may do so as one
-pub covers-both : {S T C D F G : Type 0} (d : Driver S C F) (e : Driver T D G) → Covers d → Covers e → Covers (union_of d e)
-covers-both d e a b = record { unwatched = λ w s. rw (a.unwatched w s.0, b.unwatched w s.1) }

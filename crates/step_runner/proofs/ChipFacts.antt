@@ -13,7 +13,7 @@ use Rattle.mcal_base.specs.declared.directive.Order.TheVariants.{Tick, Level, An
 use Rattle.mcal_base.specs.declared.moves.Move.{Move}
 use Rattle.mcal_base.specs.declared.moves.Move.TheVariants.{Read, Write, Load, Store, Mask, Unmask, Note, Report}
 use Rattle.mcal_base.specs.declared.register.Reg.{Reg}
-use Rattle.mcal_base.specs.declared.register.Reg.TheVariants.{EnableSet, EnableClear, TimerLow, CaptureCountLow, CaptureTimeLow, ConverterAbort, SerialData}
+use Rattle.mcal_base.specs.declared.register.Reg.TheVariants.{EnableSet, EnableClear, TimerLow, CaptureCountLow, CaptureTimeLow, ConverterAbort, SerialData, PinFlip}
 use Rattle.run_model.specs.World.{World, world_after}
 use Rattle.run_model.specs.Frame.{inside_after}
 use Rattle.chip_model.specs.Devices.{ComesIn}
@@ -51,6 +51,7 @@ control-read c (TimerLow k) = refl
 control-read c (CaptureCountLow k) = refl
 control-read c (CaptureTimeLow k) = refl
 control-read c (ConverterAbort u) = refl
+control-read c (PinFlip p) = refl
 control-read c _ = refl
 
 bit-or : (a b line : ℕ) → has_bit a line ≡ false → has_bit b line ≡ false → has_bit (bit_or a b) line ≡ false

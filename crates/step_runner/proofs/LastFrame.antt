@@ -12,7 +12,7 @@ use Rattle.mcal_base.specs.declared.routine.Taken.{Taken}
 use Rattle.run_model.specs.declared.item.Stepped.{Stepped}
 use Rattle.run_model.specs.Frame.{top_after}
 use Rattle.step_runner.specs.Driver.{stepped}
-use Rattle.step_runner.specs.Kept.{moved, TakesStep, hung_for}
+use Rattle.step_runner.specs.Kept.{IsLooked, moved, TakesStep, hung_for}
 use Rattle.step_runner.specs.declared.stack.Under.{Under}
 
 -- of the first places, with another last item
@@ -21,6 +21,10 @@ reverse-set xs n x lt = ap (λ ys. reverse ys) (take_more_set xs n x lt) ∙ rev
 
 reverse-last : {X : Type 0} (xs : List X) (n : ℕ) (d : X) → n < length xs → reverse (take (n + 1) xs) ≡ slice_index_or xs n d ∷ reverse (take n xs)
 reverse-last xs n d lt = sym (ap (λ ys. reverse (take (n + 1) ys)) (set-get_or xs n d)) ∙ reverse-set xs n (slice_index_or xs n d) lt
+
+-- the move that was looked up is that of the last item
+pub looked-last : {Frame : Type 0} (move_of : Frame → Move) (xs : List (Under Frame)) (n : ℕ) (u : Under Frame) (made : Move) → n < length xs → u ≡ slice_index_or xs n u → IsLooked move_of (reverse (take (n + 1) xs)) made → made ≡ move_of u.frame
+looked-last move_of xs n u made lt is h = subst (λ us. IsLooked move_of us made) (reverse-last xs n u lt ∙ ap (λ x. x ∷ reverse (take n xs)) (sym is)) h
 
 goes-on : {X : Type 0} (u : X) (us : List X) (ended : Option Answer) → is_some ended ≡ false → u ∷ us ≡ top_after u ended us
 goes-on u us None e = refl

@@ -8,4 +8,5 @@ pub mod KeptLemmas
 pub mod LastFrame
 pub mod PowerOn
 pub mod Runs
+pub mod Watchdog
 pub mod Whose

@@ -1,12 +1,12 @@
 -- Drivers of different modules are apart, and as one they are a driver of the modules of both.
-use Rattle.std.proofs.Common.{◌≡◌, ℕ, Bool, true, false, not, ◌&&◌, ◌||◌, Option, Some, None, is_some, refl, arith}
+use Rattle.std.proofs.Common.{◌≡◌, ℕ, Bool, true, false, not, ◌&&◌, ◌||◌, Option, Some, None, is_some, refl}
 use Rattle.std.specs.Prelude.{IsSome}
 use Rattle.std.specs.List.{list_all}
 use Rattle.chip_model.specs.Histories.{sets_rate}
 use Rattle.chip_model.proofs.HistoryLaws.{rate-left}
 use Rattle.mcal_base.specs.Bits.{has_bit}
 use Rattle.mcal_base.specs.declared.module_name.ModuleName.{ModuleName}
-use Rattle.mcal_base.specs.declared.module_name.ModuleName.TheVariants.{Mcu, Port, Gpt, Pwm, Icu, Adc, Spi}
+use Rattle.mcal_base.specs.declared.module_name.ModuleName.TheVariants.{Mcu, Port, Gpt, Pwm, Icu, Adc, Spi, Dio, Wdg}
 use Rattle.mcal_base.specs.declared.moves.Move.{Move}
 use Rattle.mcal_base.specs.declared.moves.Move.TheVariants.{Read, Write, Load, Store}
 use Rattle.mcal_base.specs.declared.register.Reg.{Reg}
@@ -14,7 +14,7 @@ use Rattle.mcal_base.specs.declared.register.Reg.TheVariants.{EnableSet, EnableC
 use Rattle.run_model.specs.World.{World}
 use Rattle.run_model.specs.Machine.{Starts, Aborts}
 use Rattle.step_runner.specs.Driver.{Driver}
-use Rattle.step_runner.specs.Union.{either_handler, others, has_handler, AreApart, union_of}
+use Rattle.step_runner.specs.Union.{either_handler, first_call, second_call, others, has_handler, AreApart, union_of}
 use Rattle.step_runner.specs.Whose.{module_of_register, module_of_line, module_of_word, module_of_unit, all_of, are_disjoint, is_of, is_line_of, EnablesWithin, WritesWithin, NamesWithin, WritesOthers, NamesOthers, KeepsTo}
 use Rattle.step_runner.proofs.Apart.{owns-neither, may-either, some-either, all-into}
 use Rattle.step_runner.specs.declared.either.Either.{Either}
@@ -31,17 +31,37 @@ not-both false b e h = cc
 abbrev Disjoint : (ModuleName → Bool) → (ModuleName → Bool) → Type 0
 Disjoint p q = (m : ModuleName) → p m ≡ true → q m ≡ false
 
+all-nine : (a b c d e f g h i : Bool) → a && b && c && d && e && f && g && h && i ≡ true → (a ≡ true) × (b ≡ true) × (c ≡ true) × (d ≡ true) × (e ≡ true) × (f ≡ true) × (g ≡ true) × (h ≡ true) × (i ≡ true)
+all-nine true true true true true true true true true k = (refl, refl, refl, refl, refl, refl, refl, refl, refl)
+all-nine false b c d e f g h i k = absurd (cc)
+all-nine true false c d e f g h i k = absurd (cc)
+all-nine true true false d e f g h i k = absurd (cc)
+all-nine true true true false e f g h i k = absurd (cc)
+all-nine true true true true false f g h i k = absurd (cc)
+all-nine true true true true true false g h i k = absurd (cc)
+all-nine true true true true true true false h i k = absurd (cc)
+all-nine true true true true true true true false i k = absurd (cc)
+all-nine true true true true true true true true false k = absurd (cc)
+
 disjoint : (p q : ModuleName → Bool) → are_disjoint p q ≡ true → Disjoint p q
-disjoint p q e m h = at m h
+disjoint p q e m h = not-both (p m) (q m) (apart m) h
   where
-    at : (m : ModuleName) → p m ≡ true → q m ≡ false
-    at Mcu h = grind arith
-    at Port h = grind arith
-    at Gpt h = grind arith
-    at Pwm h = grind arith
-    at Icu h = grind arith
-    at Adc h = grind arith
-    at Spi h = grind arith
+    single : ModuleName → Bool
+    single m = not (p m && q m)
+
+    each : (single Mcu ≡ true) × (single Port ≡ true) × (single Gpt ≡ true) × (single Pwm ≡ true) × (single Icu ≡ true) × (single Adc ≡ true) × (single Spi ≡ true) × (single Dio ≡ true) × (single Wdg ≡ true)
+    each = all-nine (single Mcu) (single Port) (single Gpt) (single Pwm) (single Icu) (single Adc) (single Spi) (single Dio) (single Wdg) e
+
+    apart : (m : ModuleName) → single m ≡ true
+    apart Mcu = each.0
+    apart Port = each.1
+    apart Gpt = each.2
+    apart Pwm = each.3
+    apart Icu = each.4
+    apart Adc = each.5
+    apart Spi = each.6
+    apart Dio = each.7
+    apart Wdg = each.8
 
 turned : (p q : ModuleName → Bool) → Disjoint p q → Disjoint q p
 turned p q apart m h = by (p m) (q m) (apart m) h
@@ -181,7 +201,7 @@ module _ {S T C D F G : Type 0} (p q : ModuleName → Bool) (d : Driver S C F) (
       may_other = λ a b made h. one.owns a made (names-others q p (turned p q apart) made (other.may b made h));
       polls = polled;
       polls_other = λ w t c. all-into (is_line_of q) (others (has_handler d)) (e.setting.machine.polls w t c) no-handler (other.polls w t c);
-      starts = λ w s t u r some. none-unless (d.setting.machine.happens w s (Starts u r)) (λ i. both-starts (module_of_unit u) (one.starts w s u r i) (other.starts w t u r some));
+      starts = λ w s t u by q r some. none-unless (d.setting.machine.happens w s (Starts u by r)) (λ i. both-starts (module_of_unit u) (one.starts w s u by r i) (other.starts w t u q r some));
       aborts = λ w s t u some. none-unless (d.setting.machine.happens w s (Aborts u)) (λ i. both-starts (module_of_unit u) (one.aborts w s u i) (other.aborts w t u some));
       steady = λ chip b made received h. rate-left chip made received (sets-none q made still (other.may b made h));
     }
@@ -197,7 +217,7 @@ module _ {S T C D F G : Type 0} (p q : ModuleName → Bool) (d : Driver S C F) (
     owns = λ o made h. owns-neither (has_handler d) d.owns e.owns o made (λ x. one.owns x made (names-fewer p (all_of p q) (of-left p q) (off-left p q) made h)) (λ y. other.owns y made (names-fewer q (all_of p q) (of-right p q) (off-right p q) made h));
     handlers = λ l h. some-of (d.handler_of l) (e.handler_of l) h (λ i. of-left p q (module_of_line l) (one.handlers l i)) (λ i. of-right p q (module_of_line l) (other.handlers l i));
     polls = polls-both;
-    starts = λ w s u r some. some-either s.0 s.1 (d.setting.machine.happens w s.0 (Starts u r)) (e.setting.machine.happens w s.1 (Starts u r)) some (λ i. or-left (p (module_of_unit u)) (q (module_of_unit u)) (one.starts w s.0 u r i)) (λ i. or-right (p (module_of_unit u)) (q (module_of_unit u)) (other.starts w s.1 u r i));
+    starts = λ w s u by r some. some-either s.0 s.1 (d.setting.machine.happens w s.0 (Starts u (first_call by) r)) (e.setting.machine.happens w s.1 (Starts u (second_call by) r)) some (λ i. or-left (p (module_of_unit u)) (q (module_of_unit u)) (one.starts w s.0 u (first_call by) r i)) (λ i. or-right (p (module_of_unit u)) (q (module_of_unit u)) (other.starts w s.1 u (second_call by) r i));
     aborts = λ w s u some. some-either s.0 s.1 (d.setting.machine.happens w s.0 (Aborts u)) (e.setting.machine.happens w s.1 (Aborts u)) some (λ i. or-left (p (module_of_unit u)) (q (module_of_unit u)) (one.aborts w s.0 u i)) (λ i. or-right (p (module_of_unit u)) (q (module_of_unit u)) (other.aborts w s.1 u i));
   }
 

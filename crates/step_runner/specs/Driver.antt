@@ -1,6 +1,6 @@
 -- What a driver is to the runner, and the laws that it owes.
 use Rattle.std.specs.Prelude.{◌≡◌, ℕ, ◌+◌, ◌<◌, ◌≤◌, Bool, true, false, ◌&&◌, ◌||◌, List, [], ◌∷◌, Option, Some, None, is_some}
-use Rattle.chip_model.specs.Chip.{Chip, value_of, chip_after, happened, reset_chip, is_masked, is_pending}
+use Rattle.chip_model.specs.Chip.{Chip, value_of, stall_of, chip_after, expiry_of, happened, reset_chip, is_masked, is_pending}
 use Rattle.mcal_base.specs.Bits.{has_bit}
 use Rattle.mcal_base.specs.Reach.{CanApply}
 use Rattle.mcal_base.specs.declared.answer.Answer.{Answer}
@@ -11,7 +11,7 @@ use Rattle.mcal_base.specs.declared.directive.Reason.TheVariants.{PowerOn}
 use Rattle.mcal_base.specs.declared.moves.Move.{Move}
 use Rattle.mcal_base.specs.declared.moves.Move.TheVariants.{Read, Write, Load, Store, Mask, Unmask, Note, Report}
 use Rattle.mcal_base.specs.declared.moves.Unit as units
-use Rattle.mcal_base.specs.declared.register.Reg.TheVariants.{EnableSet}
+use Rattle.mcal_base.specs.declared.register.Reg.TheVariants.{EnableSet, WatchdogLoad}
 use Rattle.mcal_base.specs.declared.routine.Taken.{Taken}
 use Rattle.run_model.specs.declared.class.Tag.{Tag}
 use Rattle.run_model.specs.declared.item.Stepped.{Stepped}
@@ -21,7 +21,7 @@ use Rattle.run_model.specs.Frame.{Origin, Called, Entered, Open, opened, is_act,
 use Rattle.run_model.specs.Causes.{may_reenter, none_above, all_below}
 use Rattle.run_model.specs.Moment.{Setting, is_busy, Moment, call_tag, line_tag}
 use Rattle.run_model.specs.Outside.{StandsIn}
-use Rattle.run_model.specs.Legal.{ReceivedRight, SendsRight, EventRight, WindowRight, is_beside_act, HalvesRight, halves_of, ErrorsRight, MoveRight, ShowsRight, EndRight}
+use Rattle.run_model.specs.Legal.{ReceivedRight, SendsRight, EventRight, WindowRight, is_beside_act, HalvesRight, halves_of, ErrorsRight, MoveRight, ShowsRight, EndRight, StartsRight, WritesRight}
 
 -- A driver: its machine with the bounds of its frames, its frames, and how the chip and the open frames stand for the machine's state.
 pub record Driver (State Call Frame : Type 0) : Type 1 where
@@ -40,6 +40,8 @@ pub record Driver (State Call Frame : Type 0) : Type 1 where
   pub room : Frame → ℕ
   -- the lines of its units, whether an object uses them or not
   pub lines : ℕ → Bool
+  -- whether it has the watchdog
+  pub watches : Bool
   -- how many numbers it has given out, at most one a step
   pub count : State → ℕ
   -- whether a move names anything of a frame's module, so that another module's would disturb it
@@ -49,9 +51,16 @@ pub record Driver (State Call Frame : Type 0) : Type 1 where
 abbrev pub most_steps : ℕ
 most_steps = 4294967295
 
--- a driver that may stand on the chip: that has no watchdog, so no time of one runs
-pub record Covers {State Call Frame : Type 0} (d : Driver State Call Frame) : Type 0 where
-  pub unwatched : (w : World) (s : State) → d.setting.machine.expires w s ≡ None
+-- the watchdog's time, where it runs, isn't over
+abbrev pub NotOver : (left : Option ℕ) → Type 0
+NotOver None = Unit {0}
+NotOver (Some left) = 0 < left
+
+-- ticks end before the watchdog's time does
+abbrev pub EndsBefore : Order → (left : Option ℕ) → Type 0
+EndsBefore (orders.Tick n) None = Unit {0}
+EndsBefore (orders.Tick n) (Some left) = n < left
+EndsBefore _ left = Unit {0}
 
 -- no frame of these holds the mask closed
 abbrev pub AllOutside : {Frame Call : Type 0} → List (Frame × Open Call) → Type 0
@@ -81,6 +90,10 @@ IsFree g masked w s origins _ = Unit {0}
 abbrev pub stepped : Move → (value received : ℕ) → Taken → Stepped
 stepped made value received taken = record { made = made; value = value; received = received; event = taken.event; ended = taken.ended }
 
+-- a step may come so: its move waits for no word, and the word that comes in with it is right
+abbrev pub ComesRight : Chip → World → Move → (received : ℕ) → Type 0
+ComesRight chip w made received = (stall_of chip made ≡ 0) × ReceivedRight chip w made received
+
 -- a frame that goes on has fewer steps left, and one that ends had one
 abbrev pub FuelRight : ℕ → ℕ → Option Answer → Type 0
 FuelRight before later None = later < before
@@ -107,6 +120,8 @@ pub record KeepsStep {State Call Frame : Type 0} (d : Driver State Call Frame) (
   pub move : MoveRight o.inside o.owed (report_by d.setting.machine o.origin o.report s.event (outcome_at d.setting.machine m.world m.state o s.made s.received s.event)) s.made
   pub shows : ShowsRight d.setting m.chip m.state o.origin o.owed s.made
   pub ends : EndRight (open_after d.setting.machine m.world m.state o s.made s.received s.event) s.ended
+  pub starts : StartsRight d.setting.machine m.world (state_after d.setting.machine m.world m.state o s.made s.received s.event) (open_after d.setting.machine m.world m.state o s.made s.received s.event) s.ended
+  pub writes : WritesRight d.setting (open_after d.setting.machine m.world m.state o s.made s.received s.event) s.ended
   pub own : is_shared s.made || d.setting.may o.origin s.made ≡ true
   pub reset : resets_chip s.made ≡ asks_reset d.setting.machine o.origin s.event (outcome_at d.setting.machine m.world m.state o s.made s.received s.event)
   pub stays : resets_chip s.made ≡ true → s.ended ≡ None
@@ -122,10 +137,15 @@ pub record IsLawful {State Call Frame : Type 0} (d : Driver State Call Frame) (m
   pub begins : (chip : Chip) (w : World) (ps : List (Frame × Open Call)) (s : State) (c : Call) (level : ℕ) → d.can_call c → is_masked chip ≡ false → AllOutside ps → may_reenter (d.setting.class_of c) (tags_in ps) ≡ true → none_above (tags_in ps) level ≡ true → d.relates chip w ps s → d.relates chip w ((d.frame_of c, opened (Called c) (call_tag d.setting c level)) ∷ ps) s
   -- a handler of a pending line that begins with the mask open, above frames of lower levels, keeps it
   pub enters : (chip : Chip) (w : World) (ps : List (Frame × Open Call)) (s : State) (line : ℕ) (f : Frame) → d.handler_of line ≡ Some f → is_masked chip ≡ false → is_pending chip line ≡ true → AllOutside ps → all_below (tags_in ps) (d.setting.level_of line) ≡ true → d.relates chip w ps s → d.relates chip w ((f, opened (Entered line) (line_tag d.setting line)) ∷ ps) s
-  -- a step of the top frame is right, whatever word may come in at it, while the numbers fit a word, and keeps it
-  pub steps : (chip : Chip) (w : World) (f : Frame) (o : Open Call) (ps : List (Frame × Open Call)) (s : State) (received : ℕ) → ReceivedRight chip w (move_of f) received → d.count s < most_steps → is_masked chip ≡ o.inside → AllOutside ps → d.relates chip w ((f, o) ∷ ps) s → let made = move_of f in let value = value_of chip made in let taken = gave f value in KeepsStep d (record { chip = chip; world = w; state = s; opens = []; steps = 0 }) f o (left f value) (stepped made value received taken) (λ s1 o1. d.relates (chip_after chip made received) w (top_after (left f value, o1) taken.ended ps) s1)
+  -- a step of the top frame that waits for no word is right, whatever word may come in at it, while the numbers fit a word, and keeps it
+  pub steps : (chip : Chip) (w : World) (f : Frame) (o : Open Call) (ps : List (Frame × Open Call)) (s : State) (received : ℕ) → ComesRight chip w (move_of f) received → d.count s < most_steps → is_masked chip ≡ o.inside → AllOutside ps → d.relates chip w ((f, o) ∷ ps) s → let made = move_of f in let value = value_of chip made in let taken = gave f value in KeepsStep d (record { chip = chip; world = w; state = s; opens = []; steps = 0 }) f o (left f value) (stepped made value received taken) (λ s1 o1. d.relates (chip_after chip made received) w (top_after (left f value, o1) taken.ended ps) s1)
   -- the register or the word of its move is there
   pub there : (chip : Chip) (w : World) (f : Frame) (o : Open Call) (ps : List (Frame × Open Call)) (s : State) → d.relates chip w ((f, o) ∷ ps) s → CanApply (move_of f)
+  -- and it is one that the frame may make
+  pub own : (chip : Chip) (w : World) (f : Frame) (o : Open Call) (ps : List (Frame × Open Call)) (s : State) → d.relates chip w ((f, o) ∷ ps) s → is_shared (move_of f) || d.setting.may o.origin (move_of f) ≡ true
+  -- a frame has steps left, and while it is in a window moves of that
+  pub lasts : (f : Frame) → 0 < d.fuel f
+  pub roomy : (chip : Chip) (w : World) (f : Frame) (o : Open Call) (ps : List (Frame × Open Call)) (s : State) → d.relates chip w ((f, o) ∷ ps) s → o.inside ≡ true → 0 < d.room f
   -- the hardware may move where it is free to, and keeps it, at whatever rate; with the mask open no frame holds it closed
   pub moves : (chip : Chip) (w : World) (ps : List (Frame × Open Call)) (s : State) (order : Order) → IsFree d.setting (is_masked chip) w s (origins_in ps) order → (is_masked chip ≡ false → AllOutside ps) → d.relates chip w ps s → (out : Outcome State) × (d.setting.machine.happens w s (Moves order) ≡ Some out) × d.relates (happened chip order) (world_after w chip.clock.rate order) ps out.state
   -- a reset may always come, and leaves the state of a start
@@ -165,9 +185,13 @@ pub record IsLawful {State Call Frame : Type 0} (d : Driver State Call Frame) (m
   pub count_resets : (w : World) (s : State) (reason : Reason) (out : Outcome State) → d.setting.machine.happens w s (Restarts reason) ≡ Some out → d.count out.state ≤ d.count s
   -- the rate of the chip is the machine's after power on, and wherever it was
   pub rate_starts : d.setting.machine.rate d.setting.first ≡ 1
-  pub rate : (chip : Chip) (w : World) (f : Frame) (o : Open Call) (ps : List (Frame × Open Call)) (s : State) (received : ℕ) → ReceivedRight chip w (move_of f) received → d.count s < most_steps → is_masked chip ≡ o.inside → AllOutside ps → d.relates chip w ((f, o) ∷ ps) s → chip.clock.rate ≡ d.setting.machine.rate s → (chip_after chip (move_of f) received).clock.rate ≡ d.setting.machine.rate (state_after d.setting.machine w s o (move_of f) received (gave f (value_of chip (move_of f))).event)
+  pub rate : (chip : Chip) (w : World) (f : Frame) (o : Open Call) (ps : List (Frame × Open Call)) (s : State) (received : ℕ) → ComesRight chip w (move_of f) received → d.count s < most_steps → is_masked chip ≡ o.inside → AllOutside ps → d.relates chip w ((f, o) ∷ ps) s → chip.clock.rate ≡ d.setting.machine.rate s → (chip_after chip (move_of f) received).clock.rate ≡ d.setting.machine.rate (state_after d.setting.machine w s o (move_of f) received (gave f (value_of chip (move_of f))).event)
   pub rate_moves : (w : World) (s : State) (order : Order) (out : Outcome State) → d.setting.machine.happens w s (Moves order) ≡ Some out → d.setting.machine.rate out.state ≡ d.setting.machine.rate s
   pub rate_resets : (chip : Chip) (w : World) (s : State) (reason : Reason) (out : Outcome State) → d.setting.machine.happens w s (Restarts reason) ≡ Some out → (reset_chip chip reason).clock.rate ≡ d.setting.machine.rate out.state
+  -- no frame loads the watchdog but of a driver that has it; the time that runs then is the chip's, and else none does
+  pub loads : (origin : Origin Call) (value : ℕ) → d.setting.may origin (Write WatchdogLoad value) ≡ true → d.watches ≡ true
+  pub expiry : (chip : Chip) (w : World) (ps : List (Frame × Open Call)) (s : State) → d.watches ≡ true → chip.clock.osc ≡ w.osc → d.relates chip w ps s → d.setting.machine.expires w s ≡ expiry_of chip
+  pub unwatched : (w : World) (s : State) → d.watches ≡ false → d.setting.machine.expires w s ≡ None
   -- a handler is there exactly where a configured object uses the line
   pub handled : (line : ℕ) → is_some (d.handler_of line) ≡ d.setting.used line
   -- a frame begins with no more steps than its bound

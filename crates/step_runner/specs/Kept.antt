@@ -1,6 +1,6 @@
 -- What a stack keeps of each frame, and what a beginning and a step leave of it.
 use Rattle.std.specs.Prelude.{◌≡◌, ℕ, ◌+◌, ◌<◌, Bool, false, ◌||◌, cond, List, [], ◌∷◌, length, Option, Some, None, Result, Ok, Err}
-use Rattle.chip_model.specs.Chip.{Chip, hung, value_of, chip_after}
+use Rattle.chip_model.specs.Chip.{Chip, hung, value_of, stall_of, chip_after}
 use Rattle.chip_model.specs.Devices.{ComesIn, CallsRight}
 use Rattle.irq_control.specs.declared.held.Held.{Held}
 use Rattle.irq_control.specs.declared.held.Held.TheVariants.{Empty, Busy, Unknown}
@@ -118,6 +118,21 @@ written_by (Err cause) s = Err cause
 abbrev pub CanStep : {Frame : Type 0} → (Frame → Move) → List (Under Frame) → Type 0
 CanStep move_of [] = Unit {0}
 CanStep move_of (u ∷ us) = CanApply (move_of u.frame)
+
+-- the top frame's move waits for no word
+abbrev pub IsStill : {Frame : Type 0} → (Frame → Move) → List (Under Frame) → Chip → Type 0
+IsStill move_of [] chip = Unit {0}
+IsStill move_of (u ∷ us) chip = stall_of chip (move_of u.frame) ≡ 0
+
+-- the top frame's next move, where there is a frame
+abbrev pub upcoming_of : {Frame : Type 0} → (Frame → Move) → List (Under Frame) → Option Move
+upcoming_of move_of [] = None
+upcoming_of move_of (u ∷ us) = Some (move_of u.frame)
+
+-- the move is the top frame's next one, where there is a frame
+abbrev pub IsLooked : {Frame : Type 0} → (Frame → Move) → List (Under Frame) → Move → Type 0
+IsLooked move_of [] made = Unit {0}
+IsLooked move_of (u ∷ us) made = made ≡ move_of u.frame
 
 -- the steps that the frames have left at most
 abbrev pub total_fuel : {Frame : Type 0} → (Frame → ℕ) → List (Under Frame) → ℕ

@@ -1,6 +1,6 @@
 -- A step of a driver is one within a larger driver.
 use Rattle.std.proofs.Common.{◌≡◌, ℕ, ◌+◌, Bool, true, false, not, ◌&&◌, ◌||◌, ◌==◌, List, [], ◌∷◌, Option, Some, None, refl, sym, ◌∙◌, ap, subst, arith}
-use Rattle.std.specs.Prelude.{IsSome, is_some}
+use Rattle.std.specs.Prelude.{IsSome, is_some, option_map}
 use Rattle.std.specs.List.{list_all}
 use Rattle.std.proofs.lemmas.Bool.Decides.{nat_tests}
 use Rattle.chip_model.specs.Chip.{Chip}
@@ -17,9 +17,9 @@ use Rattle.mcal_base.specs.declared.notice.Notice.{Notice}
 use Rattle.run_model.specs.declared.item.Stepped.{Stepped}
 use Rattle.run_model.specs.World.{World}
 use Rattle.run_model.specs.Machine.{Acts, Serves, Starts, Aborts, Outcome}
-use Rattle.run_model.specs.Frame.{Origin, Called, Entered, Owing, ActedAt, Open, Brought, brought_by, happening_of, happening_at, outcome_of, outcome_at, state_by, begun_by, acted_by, polled_by, committed_after, served_by, owed_by, acted_at_by, report_as, report_of, report_by, owed_after, report_after, reads_after, is_write, inside_after, since_after, is_act, acts_after, window_after, is_note, missed_after, open_after, is_shared, is_reset_service, asks_reset}
+use Rattle.run_model.specs.Frame.{Origin, Called, Entered, Owing, ActedAt, Open, Brought, brought_by, happening_of, happening_at, outcome_of, outcome_at, state_by, begun_by, acted_by, polled_by, committed_after, served_by, owed_by, acted_at_by, report_as, report_of, report_by, owed_after, report_after, reads_after, is_write, writes_after, inside_after, since_after, is_act, acts_after, window_after, is_note, missed_after, open_after, is_shared, is_reset_service, asks_reset}
 use Rattle.run_model.specs.Moment.{Setting}
-use Rattle.run_model.specs.Legal.{has_line, IsNext, IsOwnEvent, EventRight, SendsRight, ShowsFirst, ShowsRight, has_met, is_beside, is_beside_act, WindowRight, HalvesRight, halves_of, ErrorsRight, MoveRight, MayEnd, EndRight}
+use Rattle.run_model.specs.Legal.{has_line, IsNext, IsOwnEvent, EventRight, SendsRight, ShowsFirst, ShowsRight, has_met, is_beside, is_beside_act, WindowRight, HalvesRight, halves_of, ErrorsRight, MoveRight, MayEnd, EndRight, is_left_waiting, LeavesNone, StartsRight, MadeUnless, HasMade, WritesRight}
 use Rattle.step_runner.specs.Driver.{Driver, FuelRight, RoomRight, KeepsStep}
 use Rattle.step_runner.specs.Union.{lift_out, lift_origin, lift_open, IsMine, SameOn}
 
@@ -91,7 +91,7 @@ same-acted-at k put (Entered l) inside made a (Some (Start u)) x = refl
 pub record LiesIn {S C U E : Type 0} (g : Setting S C) (b : Setting U E) (put : S → U) (k : C → E) (mine : ℕ → Bool) (w : World) (s : S) : Type 0 where
   pub acts : (c : C) (times : ℕ → ℕ) → b.machine.happens w (put s) (Acts (k c) times) ≡ lift_out put (g.machine.happens w s (Acts c times))
   pub serves : (l r : ℕ) → mine l ≡ true → b.machine.happens w (put s) (Serves l r) ≡ lift_out put (g.machine.happens w s (Serves l r))
-  pub starts : (u : units.Unit) (r : ℕ) → IsSome (g.machine.happens w s (Starts u r)) → b.machine.happens w (put s) (Starts u r) ≡ lift_out put (g.machine.happens w s (Starts u r))
+  pub starts : (u : units.Unit) (by : Option C) (r : ℕ) → IsSome (g.machine.happens w s (Starts u by r)) → b.machine.happens w (put s) (Starts u (option_map k by) r) ≡ lift_out put (g.machine.happens w s (Starts u by r))
   pub aborts : (u : units.Unit) → IsSome (g.machine.happens w s (Aborts u)) → b.machine.happens w (put s) (Aborts u) ≡ lift_out put (g.machine.happens w s (Aborts u))
   pub ready : (l : ℕ) → mine l ≡ true → b.machine.ready w (put s) l ≡ g.machine.ready w s l
   pub services : (c : C) → b.machine.service_of (k c) ≡ g.machine.service_of c
@@ -100,6 +100,7 @@ pub record LiesIn {S C U E : Type 0} (g : Setting S C) (b : Setting U E) (put : 
   pub polled : (c : C) → list_all mine (g.machine.polls w s c) ≡ true
   pub shows : (p : Origin C) (n : Notice) (chip : Chip) → IsMine mine p → g.shows p n chip s → b.shows (lift_origin k p) n chip (put s)
   pub halves : (c : C) → b.halves (k c) ≡ g.halves c
+  pub must : (c : C) → b.must (k c) ≡ g.must c
   pub may : (p : Origin C) (made : Move) → IsMine mine p → b.may (lift_origin k p) made ≡ g.may p made
   pub window : (p : Origin C) → IsMine mine p → b.window_of (lift_origin k p) ≡ g.window_of p
 
@@ -159,11 +160,11 @@ module _ {S C U E : Type 0} (g : Setting S C) (b : Setting U E) (put : S → U) 
   out-by o (Called c) r Act m own some = lies.acts c r.committed
   out-by o (Called c) r (Serve l) m own some = lies.serves l r.received (all-has mine (g.machine.polls w s c) l (lies.polled c) own.0.0)
   out-by o (Called c) r (Abort u) m own some = lies.aborts u some
-  out-by o (Called c) r (Start u) m own some = lies.starts u r.received some
+  out-by o (Called c) r (Start u) m own some = lies.starts u (Some c) r.received some
   out-by o (Entered l) r Act m own some = absurd own
   out-by o (Entered l) r (Serve j) m own some = lies.serves j r.received (ap mine own.0 ∙ m)
   out-by o (Entered l) r (Abort u) m own some = lies.aborts u some
-  out-by o (Entered l) r (Start u) m own some = lies.starts u r.received some
+  out-by o (Entered l) r (Start u) m own some = lies.starts u None r.received some
 
   pub out-at : (o : Open C) (chip : Chip) (st : Stepped) (e : Option Event) → IsMine mine o.origin → EventRight g (record { chip = chip; world = w; state = s; opens = []; steps = 0 }) o st e → outcome_of b.machine w (put s) (happening_at (lift_origin k o.origin) (brought_by w o.committed st.made st.received) e) ≡ lift_out put (outcome_at g.machine w s o st.made st.received e)
   out-at o chip st None m right = refl
@@ -172,7 +173,7 @@ module _ {S C U E : Type 0} (g : Setting S C) (b : Setting U E) (put : S → U) 
   own-lifted : (o : Open C) (missed : ℕ → Bool) (e : Event) (p : Origin C) → IsOwnEvent g.machine w s o e p → IsOwnEvent b.machine w (put s) (lift_open k missed o) e (lift_origin k p)
   own-lifted o missed Act (Called c) own = own
   own-lifted o missed Act (Entered l) own = own
-  own-lifted o missed (Serve j) (Called c) own = (subst (λ x. IsNext x o.served j) (sym (lies.polls c)) own.0, own.1)
+  own-lifted o missed (Serve j) (Called c) own = (subst (λ x. IsNext x o.served j) (sym (lies.polls c)) own.0, own.1, own.2)
   own-lifted o missed (Serve j) (Entered l) own = own
   own-lifted o missed (Abort u) (Called c) own = own
   own-lifted o missed (Abort u) (Entered l) own = own
@@ -217,6 +218,26 @@ module _ {S C U E : Type 0} (g : Setting S C) (b : Setting U E) (put : S → U) 
   end-lifted o missed None m all same h = tt
   end-lifted o missed (Some a) m all same h = (may-lifted o missed o.origin a m all same h.0, h.1, h.2, h.3, h.4)
 
+  made-lifted : (p : Origin C) (writes : List Move) (at : Option ActedAt) → HasMade g p writes at → HasMade b (lift_origin k p) writes at
+  made-lifted (Called c) writes None h = tt
+  made-lifted (Called c) writes (Some at) h = subst (λ kinds. MadeUnless at.error kinds writes) (sym (lies.must c)) h
+  made-lifted (Entered l) writes at h = tt
+
+  writes-lifted : (o : Open C) (missed : ℕ → Bool) (ended : Option Answer) → WritesRight g o ended → WritesRight b (lift_open k missed o) ended
+  writes-lifted o missed None h = tt
+  writes-lifted o missed (Some a) h = made-lifted o.origin o.writes o.acted_at h
+
+  left-lifted : (s1 : S) → ((l : ℕ) → mine l ≡ true → b.machine.line_waits w (put s1) l ≡ g.machine.line_waits w s1 l) → (served : List ℕ) (l : ℕ) → mine l ≡ true → is_left_waiting b.machine w (put s1) served l ≡ is_left_waiting g.machine w s1 served l
+  left-lifted s1 waits served l m = ap (λ x. has_line served l && x) (waits l m)
+
+  none-lifted : (s1 : S) → ((l : ℕ) → mine l ≡ true → b.machine.line_waits w (put s1) l ≡ g.machine.line_waits w s1 l) → (polled served : List ℕ) (p : Origin C) → IsMine mine p → list_all mine polled ≡ true → LeavesNone g.machine w s1 p polled served → LeavesNone b.machine w (put s1) (lift_origin k p) polled served
+  none-lifted s1 waits polled served (Called c) m all h = all-same mine (λ l. not (is_left_waiting g.machine w s1 served l)) (λ l. not (is_left_waiting b.machine w (put s1) served l)) polled (λ l i. ap not (left-lifted s1 waits served l i)) all h
+  none-lifted s1 waits polled served (Entered l) m all h = left-lifted s1 waits served l m ∙ h
+
+  starts-lifted : (s1 : S) → ((l : ℕ) → mine l ≡ true → b.machine.line_waits w (put s1) l ≡ g.machine.line_waits w s1 l) → (o : Open C) (missed : ℕ → Bool) (ended : Option Answer) → IsMine mine o.origin → list_all mine o.polled ≡ true → StartsRight g.machine w s1 o ended → StartsRight b.machine w (put s1) (lift_open k missed o) ended
+  starts-lifted s1 waits o missed None m all h = tt
+  starts-lifted s1 waits o missed (Some a) m all h = none-lifted s1 waits o.polled o.served o.origin m all h
+
   missed-lifted : (missed missed1 : ℕ → Bool) → SameOn mine missed missed1 → SameOn mine (missed_after b.machine w (put s) missed) (missed_after g.machine w s missed1)
   missed-lifted missed missed1 same l m = ap (λ x. x || not (b.machine.ready w (put s) l)) (same l m) ∙ ap (λ x. missed1 l || not x) (lies.ready l m)
 
@@ -232,6 +253,7 @@ module _ {S C U E : Type 0} (g : Setting S C) (b : Setting U E) (put : S → U) 
     committed = committed_after w o.committed made;
     reads = reads_after o.reads made;
     wrote = o.wrote || is_write made;
+    writes = writes_after o.writes made;
     owed = owed_after owed made;
     report = report_after report made;
     inside = inside_after o.inside made;
@@ -269,10 +291,11 @@ pub lift-keeps : {S C F U E H : Type 0} (d : Driver S C F) (big : Driver U E H) 
     → IsMine mine o.origin
     → list_all mine o.polled ≡ true
     → SameOn mine missed o.missed
+    → ((s1 : S) (l : ℕ) → mine l ≡ true → big.setting.machine.line_waits w (put s1) l ≡ d.setting.machine.line_waits w s1 l)
     → ((s1 : S) (o1 : Open C) (missed1 : ℕ → Bool) → o1.origin ≡ o.origin → list_all mine o1.polled ≡ true → SameOn mine missed1 o1.missed → Kept s1 o1 → Big (put s1) (lift_open k missed1 o1))
     → KeepsStep d (record { chip = chip; world = w; state = s; opens = []; steps = 0 }) f o later st Kept
     → KeepsStep big (record { chip = chip; world = w; state = put s; opens = []; steps = 0 }) (into f) (lift_open k missed o) (into later) st Big
-lift-keeps d big put k into mine chip w s f later o missed st Kept Big lies fuels rooms m all same grow h =
+lift-keeps d big put k into mine chip w s f later o missed st Kept Big lies fuels rooms m all same waits grow h =
     let g = d.setting in
     let b = big.setting in
     let x = outcome_at g.machine w s o st.made st.received st.event in
@@ -295,6 +318,8 @@ lift-keeps d big put k into mine chip w s f later o missed st Kept Big lies fuel
       stays = h.stays;
       move = subst (λ r. MoveRight o.inside o.owed r st.made) (sym report_is) h.move;
       ends = subst (λ a. EndRight a st.ended) (sym o_is) (end-lifted g b put k mine w s lies o1 missed1 st.ended m all1 same1 h.ends);
+      starts = subst (λ a. StartsRight b.machine w (state_by (put s) y) a st.ended) (sym o_is) (subst (λ z. StartsRight b.machine w z (lift_open k missed1 o1) st.ended) (sym state_is) (starts-lifted g b put k mine w s lies (state_by s x) (waits (state_by s x)) o1 missed1 st.ended m all1 h.starts));
+      writes = subst (λ a. WritesRight b a st.ended) (sym o_is) (writes-lifted g b put k mine w s lies o1 missed1 st.ended h.writes);
       own = ap (λ a. is_shared st.made || a) (lies.may o.origin st.made m) ∙ h.own;
       reset = h.reset ∙ (sym (asks-lifted g b put k mine w s lies o.origin st.event x) ∙ sym (ap (asks_reset b.machine (lift_origin k o.origin) st.event) is));
       fuel = subst (λ n. FuelRight n (big.fuel (into later)) st.ended) (sym (fuels f)) (subst (λ n. FuelRight (d.fuel f) n st.ended) (sym (fuels later)) h.fuel);

@@ -1,6 +1,6 @@
 -- The deeds for which a chip and a stack stand: all that was done since power on.
 use Rattle.std.specs.Prelude.{◌≡◌, ℕ, ◌+◌, ◌<◌, ◌≤◌, Bool, true, false, List, [], ◌∷◌, Option, Some, None, Result, Ok, Err}
-use Rattle.chip_model.specs.Chip.{Chip, incoming_at, reset_chip, is_masked}
+use Rattle.chip_model.specs.Chip.{Chip, incoming_at, expiry_of, reset_chip, is_masked}
 use Rattle.mcal_base.specs.Bits.{has_bit}
 use Rattle.mcal_base.specs.declared.directive.Reason.TheVariants.{PowerOn}
 use Rattle.run_model.specs.declared.class.Tag.{Tag}
@@ -13,7 +13,7 @@ use Rattle.run_model.specs.Frame.{Origin, Called, Entered, Open}
 use Rattle.run_model.specs.Moment.{Setting, Moment, Deed, Steps, start_moment, after_all}
 use Rattle.run_model.specs.Legal.{IsLegal}
 use Rattle.run_model.specs.Outside.{StandsIn}
-use Rattle.step_runner.specs.Driver.{Driver, Covers}
+use Rattle.step_runner.specs.Driver.{Driver, NotOver}
 use Rattle.step_runner.specs.Kept.{total_fuel}
 use Rattle.step_runner.specs.declared.stack.Under.{Under}
 
@@ -75,6 +75,8 @@ pub record Matches {State Call Frame : Type 0} (d : Driver State Call Frame) (ch
   pub hung : m.chip.devices ≡ m.world.devices
   -- no line is enabled that isn't one of the driver's
   pub enabled : (line : ℕ) → d.lines line ≡ false → has_bit m.chip.control.enabled line ≡ false
+  -- no watchdog's time runs where the driver has none
+  pub unloaded : d.watches ≡ false → expiry_of m.chip ≡ None
 
 -- A chip as at power on: no time went by outside, no word waits to come in, and it is as that reset leaves it.
 pub record IsFirst (chip : Chip) : Type 0 where
@@ -82,11 +84,11 @@ pub record IsFirst (chip : Chip) : Type 0 where
   pub waits : (u : ℕ) → (incoming_at chip u).waiting ≡ []
   pub is_reset : reset_chip chip PowerOn ≡ chip
 
--- A chip and the frames of a stack stand for a list of deeds, from power on with this chip: those are a legal run, and lead to them.
+-- A chip and the frames of a stack stand for a list of deeds, from power on with this chip: those are a legal run, and lead to them, and the watchdog's time isn't over.
 pub record Stands {State Call Frame : Type 0} (d : Driver State Call Frame) (first : Chip) (chip : Chip) (us : List (Under Frame)) (h : List (Deed Call)) : Type 0 where
-  pub covers : Covers d
   pub legal : IsLegal d.setting (start_moment d.setting first) h
   pub matches : Matches d chip us (after_all d.setting (start_moment d.setting first) h)
+  pub alive : NotOver (expiry_of chip)
 
 -- the deed, unless it was held
 abbrev pub done : {A Call : Type 0} → Result A Held → Deed Call → List (Deed Call)

@@ -57,12 +57,23 @@ abbrev pub in_first : {S T : Type 0} → S → T → Option (Outcome S) → Opti
 in_first s t (Some x) y = Some (outcome_with (x.state, t) x.told x.begins)
 in_first s t None y = lift_out (λ b. (s, b)) y
 
+-- a call of the first, and of the second
+abbrev pub first_call : {C D : Type 0} → Option (Either C D) → Option C
+first_call None = None
+first_call (Some (Left c)) = Some c
+first_call (Some (Right d)) = None
+
+abbrev pub second_call : {C D : Type 0} → Option (Either C D) → Option D
+second_call None = None
+second_call (Some (Left c)) = None
+second_call (Some (Right d)) = Some d
+
 -- calls and lines go to the member that has them, a unit to the one that allows it, and all else to both; ours tells the lines of the first
 abbrev pub union_happens : {S T C D : Type 0} → (ℕ → Bool) → Machine S C → Machine T D → World → S × T → Happening (Either C D) → Option (Outcome (S × T))
 union_happens ours f g w s (Acts (Left c) times) = lift_out (λ a. (a, s.1)) (f.happens w s.0 (Acts c times))
 union_happens ours f g w s (Acts (Right d) times) = lift_out (λ b. (s.0, b)) (g.happens w s.1 (Acts d times))
 union_happens ours f g w s (Serves l r) = cond (ours l) (lift_out (λ a. (a, s.1)) (f.happens w s.0 (Serves l r))) (lift_out (λ b. (s.0, b)) (g.happens w s.1 (Serves l r)))
-union_happens ours f g w s (Starts u r) = in_first s.0 s.1 (f.happens w s.0 (Starts u r)) (g.happens w s.1 (Starts u r))
+union_happens ours f g w s (Starts u by r) = in_first s.0 s.1 (f.happens w s.0 (Starts u (first_call by) r)) (g.happens w s.1 (Starts u (second_call by) r))
 union_happens ours f g w s (Aborts u) = in_first s.0 s.1 (f.happens w s.0 (Aborts u)) (g.happens w s.1 (Aborts u))
 union_happens ours f g w s (Moves order) = in_both (f.happens w s.0 (Moves order)) (g.happens w s.1 (Moves order))
 union_happens ours f g w s (Restarts reason) = in_both (f.happens w s.0 (Restarts reason)) (g.happens w s.1 (Restarts reason))
@@ -79,6 +90,7 @@ union_machine ours f g = record {
   happens = union_happens ours f g;
   ready = λ w s l. cond (ours l) (f.ready w s.0 l) (g.ready w s.1 l);
   due = λ w s l. cond (ours l) (f.due w s.0 l) (g.due w s.1 l);
+  line_waits = λ w s l. cond (ours l) (f.line_waits w s.0 l) (g.line_waits w s.1 l);
   startable = λ w s u. f.startable w s.0 u || g.startable w s.1 u;
   rate = λ s. f.rate s.0;
   expires = λ w s. sooner (f.expires w s.0) (g.expires w s.1);
@@ -114,7 +126,7 @@ second_origins ours (Entered l ∷ os) = cond (ours l) (second_origins ours os) 
 
 -- a member's frame as one of the union, which misses other lines
 abbrev pub lift_open : {C E : Type 0} → (C → E) → (ℕ → Bool) → Open C → Open E
-lift_open k missed o = record { origin = lift_origin k o.origin; tag = o.tag; acted = o.acted; acted_at = o.acted_at; polled = o.polled; served = o.served; missed = missed; committed = o.committed; reads = o.reads; wrote = o.wrote; owed = o.owed; report = o.report; inside = o.inside; since = o.since; acts_since = o.acts_since; steps = o.steps; window = o.window; noted = o.noted }
+lift_open k missed o = record { origin = lift_origin k o.origin; tag = o.tag; acted = o.acted; acted_at = o.acted_at; polled = o.polled; served = o.served; missed = missed; committed = o.committed; reads = o.reads; wrote = o.wrote; writes = o.writes; owed = o.owed; report = o.report; inside = o.inside; since = o.since; acts_since = o.acts_since; steps = o.steps; window = o.window; noted = o.noted }
 
 -- the line that was entered is one of these
 abbrev pub IsMine : {C : Type 0} → (ℕ → Bool) → Origin C → Type 0
@@ -164,7 +176,7 @@ pub record AreApart {S T C D F G : Type 0} (d : Driver S C F) (e : Driver T D G)
   pub polls : (w : World) (s : S) (c : C) → list_all (has_handler d) (d.setting.machine.polls w s c) ≡ true
   pub polls_other : (w : World) (t : T) (c : D) → list_all (others (has_handler d)) (e.setting.machine.polls w t c) ≡ true
   -- the first allows no start and no abort that the second does
-  pub starts : (w : World) (s : S) (t : T) (u : units.Unit) (r : ℕ) → IsSome (e.setting.machine.happens w t (Starts u r)) → d.setting.machine.happens w s (Starts u r) ≡ None
+  pub starts : (w : World) (s : S) (t : T) (u : units.Unit) (by : Option C) (other : Option D) (r : ℕ) → IsSome (e.setting.machine.happens w t (Starts u other r)) → d.setting.machine.happens w s (Starts u by r) ≡ None
   pub aborts : (w : World) (s : S) (t : T) (u : units.Unit) → IsSome (e.setting.machine.happens w t (Aborts u)) → d.setting.machine.happens w s (Aborts u) ≡ None
   -- what the second may do leaves the rate
   pub steady : (chip : Chip) (q : Origin D) (made : Move) (received : ℕ) → e.setting.may q made ≡ true → (chip_after chip made received).clock.rate ≡ chip.clock.rate
@@ -182,6 +194,7 @@ union_setting ours g h = record {
   window_of = by_origin ours g.window_of h.window_of;
   may = by_origin ours g.may h.may;
   halves = either g.halves h.halves;
+  must = either g.must h.must;
   fills = λ c. g.fills c || h.fills c;
   in_use = λ w s c. g.fills c && g.in_use w s.0 c || h.fills c && h.in_use w s.1 c;
   rest = λ chip w s. g.rest chip w s.0 × h.rest chip w s.1;
@@ -201,6 +214,7 @@ union_of d e = record {
   fuel = either d.fuel e.fuel;
   room = either d.room e.room;
   lines = λ l. d.lines l || e.lines l;
+  watches = d.watches || e.watches;
   count = λ s. d.count s.0 + e.count s.1;
   owns = by_origin (has_handler d) d.owns e.owns;
 }

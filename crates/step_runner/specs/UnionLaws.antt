@@ -1,16 +1,16 @@
 -- The laws of two drivers as one, from those of the members.
-use Rattle.std.proofs.Common.{◌≡◌, ℕ, ◌+◌, ◌<◌, ◌≤◌, nat_lt, nat_le, Bool, true, false, cond, not, ◌&&◌, ◌||◌, List, [], ◌∷◌, Option, Some, None, is_some, refl, sym, ◌∙◌, ap, subst, arith}
-use Rattle.std.proofs.Math.Nat.{min-le_left, min-le_right}
-use Rattle.std.specs.Prelude.{IsSome}
+use Rattle.std.proofs.Common.{◌≡◌, ℕ, ◌+◌, ◌<◌, ◌≤◌, min, nat_lt, nat_le, Bool, true, false, cond, not, ◌&&◌, ◌||◌, List, [], ◌∷◌, Option, Some, None, is_some, refl, sym, ◌∙◌, ap, subst, arith}
+use Rattle.std.proofs.Math.Nat.{min-le_left, min-le_right, min-eq_left}
+use Rattle.std.specs.Prelude.{IsSome, option_map}
 use Rattle.std.specs.List.{list_any, list_all}
-use Rattle.chip_model.specs.Chip.{Chip, value_of, chip_after, happened, reset_chip, is_masked, is_pending}
+use Rattle.chip_model.specs.Chip.{Chip, value_of, chip_after, expiry_of, happened, reset_chip, is_masked, is_pending}
 use Rattle.mcal_base.specs.Bits.{has_bit}
 use Rattle.mcal_base.specs.Reach.{CanApply}
 use Rattle.mcal_base.specs.declared.answer.Answer.{Answer}
 use Rattle.mcal_base.specs.declared.directive.Order.{Order}
 use Rattle.mcal_base.specs.declared.directive.Reason.{Reason}
 use Rattle.mcal_base.specs.declared.moves.Move.{Move}
-use Rattle.mcal_base.specs.declared.register.Reg.TheVariants.{EnableSet}
+use Rattle.mcal_base.specs.declared.register.Reg.TheVariants.{EnableSet, WatchdogLoad}
 use Rattle.mcal_base.specs.declared.moves.Move.TheVariants.{Read, Write, Load, Store, Mask, Unmask, Note, Report}
 use Rattle.mcal_base.specs.declared.moves.Unit as units
 use Rattle.mcal_base.specs.declared.notice.Notice.{Notice}
@@ -22,10 +22,9 @@ use Rattle.run_model.specs.Machine.{Happening, Acts, Serves, Starts, Aborts, Mov
 use Rattle.run_model.specs.Frame.{Origin, Called, Entered, Open, opened, outcome_at, state_by, state_after, top_after, is_shared}
 use Rattle.run_model.specs.Causes.{may_reenter, blocks, none_above, all_below}
 use Rattle.run_model.specs.Moment.{Setting, reads_from, call_tag, line_tag}
-use Rattle.run_model.specs.Legal.{ReceivedRight}
-use Rattle.step_runner.specs.Driver.{Driver, most_steps, IsLawful, AllOutside, tags_in, origins_in, TicksFit, IsFree, KeepsStep, stepped}
+use Rattle.step_runner.specs.Driver.{Driver, most_steps, IsLawful, AllOutside, tags_in, origins_in, TicksFit, IsFree, ComesRight, KeepsStep, stepped}
 use Rattle.step_runner.specs.Lifts.{and-left, and-right, LiesIn, lift-keeps, out-at, same-state}
-use Rattle.step_runner.specs.Union.{sooner, either, EitherFits, either_left, either_gave, either_handler, lift_out, in_both, in_first, by_origin, lift_origin, lift_open, first_origins, second_origins, IsMine, SameOn, others, Splits, Nothing_open, Left_open, Right_open, UnionRelates, has_handler, AreApart, union_setting, union_of}
+use Rattle.step_runner.specs.Union.{sooner, either, EitherFits, either_left, either_gave, either_handler, lift_out, in_both, in_first, first_call, second_call, by_origin, lift_origin, lift_open, first_origins, second_origins, IsMine, SameOn, others, Splits, Nothing_open, Left_open, Right_open, UnionRelates, has_handler, AreApart, union_setting, union_of}
 use Rattle.step_runner.specs.declared.either.Either.{Either}
 use Rattle.step_runner.specs.declared.either.Either.TheVariants.{Left, Right}
 
@@ -124,6 +123,24 @@ may-by false p q r s made e f g = g e
 owned-by : {X : Type 0} (b : Bool) (p q : Move → Bool) (made : Move) → cond b p q made ≡ true → (p made ≡ true → X) → (q made ≡ true → X) → X
 owned-by true p q made e f g = f e
 owned-by false p q made e f g = g e
+
+min-same : (n : ℕ) → min n n ≡ n
+min-same n = min-eq_left (omega arith)
+
+-- the sooner of two times, of which each is this one or none
+sooner-same : (x : Option ℕ) → sooner x x ≡ x
+sooner-same None = refl
+sooner-same (Some n) = ap Some (min-same n)
+
+sooner-none : (x : Option ℕ) → sooner x None ≡ x
+sooner-none None = refl
+sooner-none (Some n) = refl
+
+sooner-is : (a b : Bool) (t x y : Option ℕ) → a || b ≡ true → (a ≡ true → x ≡ t) → (a ≡ false → x ≡ None) → (b ≡ true → y ≡ t) → (b ≡ false → y ≡ None) → sooner x y ≡ t
+sooner-is true true t x y has one none other lack = rw (one refl, other refl) (sooner-same t)
+sooner-is true false t x y has one none other lack = rw (one refl, lack refl) (sooner-none t)
+sooner-is false true t x y has one none other lack = rw (none refl, other refl) refl
+sooner-is false false t x y has one none other lack = cc
 
 -- ---- outcomes
 
@@ -262,11 +279,20 @@ module _ {S T C D F G : Type 0} (d : Driver S C F) (e : Driver T D G) (move_a : 
   shows-right (Called c) n chip s t m h = h
   shows-right (Entered l) n chip s t m h = let x = not-true (ours l) m in rw x h
 
+  -- a start by a call of a member is the member's
+  starts-left : (w : World) (s : S) (t : T) (u : units.Unit) (by : Option C) (r : ℕ) → IsSome (d.setting.machine.happens w s (Starts u by r)) → g.machine.happens w (s, t) (Starts u (option_map Left by) r) ≡ lift_out (λ a. (a, t)) (d.setting.machine.happens w s (Starts u by r))
+  starts-left w s t u None r some = first-some s t (d.setting.machine.happens w s (Starts u None r)) (e.setting.machine.happens w t (Starts u None r)) some
+  starts-left w s t u (Some c) r some = first-some s t (d.setting.machine.happens w s (Starts u (Some c) r)) (e.setting.machine.happens w t (Starts u None r)) some
+
+  starts-right : (w : World) (s : S) (t : T) (u : units.Unit) (by : Option D) (r : ℕ) → IsSome (e.setting.machine.happens w t (Starts u by r)) → g.machine.happens w (s, t) (Starts u (option_map Right by) r) ≡ lift_out (λ b. (s, b)) (e.setting.machine.happens w t (Starts u by r))
+  starts-right w s t u None r some = first-none s t (d.setting.machine.happens w s (Starts u None r)) (e.setting.machine.happens w t (Starts u None r)) (apart.starts w s t u None None r some)
+  starts-right w s t u (Some c) r some = first-none s t (d.setting.machine.happens w s (Starts u None r)) (e.setting.machine.happens w t (Starts u (Some c) r)) (apart.starts w s t u None (Some c) r some)
+
   lies-left : (w : World) (s : S) (t : T) → LiesIn d.setting g (λ a. (a, t)) Left ours w s
   lies-left w s t = record {
     acts = λ c times. refl;
     serves = λ l r m. rw m;
-    starts = λ u r some. first-some s t (d.setting.machine.happens w s (Starts u r)) (e.setting.machine.happens w t (Starts u r)) some;
+    starts = λ u by r some. starts-left w s t u by r some;
     aborts = λ u some. first-some s t (d.setting.machine.happens w s (Aborts u)) (e.setting.machine.happens w t (Aborts u)) some;
     ready = λ l m. rw m;
     services = λ c. refl;
@@ -275,6 +301,7 @@ module _ {S T C D F G : Type 0} (d : Driver S C F) (e : Driver T D G) (move_a : 
     polled = λ c. apart.polls w s c;
     shows = λ p n chip m h. shows-left p n chip s t m h;
     halves = λ c. refl;
+    must = λ c. refl;
     may = λ p made m. ap (λ f. f made) (origin-left ours d.setting.may e.setting.may p m);
     window = λ p m. origin-left ours d.setting.window_of e.setting.window_of p m;
   }
@@ -283,7 +310,7 @@ module _ {S T C D F G : Type 0} (d : Driver S C F) (e : Driver T D G) (move_a : 
   lies-right w s t = record {
     acts = λ c times. refl;
     serves = λ l r m. let x = not-true (ours l) m in rw x;
-    starts = λ u r some. first-none s t (d.setting.machine.happens w s (Starts u r)) (e.setting.machine.happens w t (Starts u r)) (apart.starts w s t u r some);
+    starts = λ u by r some. starts-right w s t u by r some;
     aborts = λ u some. first-none s t (d.setting.machine.happens w s (Aborts u)) (e.setting.machine.happens w t (Aborts u)) (apart.aborts w s t u some);
     ready = λ l m. let x = not-true (ours l) m in rw x;
     services = λ c. refl;
@@ -292,6 +319,7 @@ module _ {S T C D F G : Type 0} (d : Driver S C F) (e : Driver T D G) (move_a : 
     polled = λ c. apart.polls_other w t c;
     shows = λ p n chip m h. shows-right p n chip s t m h;
     halves = λ c. refl;
+    must = λ c. refl;
     may = λ p made m. ap (λ f. f made) (origin-right ours d.setting.may e.setting.may p m);
     window = λ p m. origin-right ours d.setting.window_of e.setting.window_of p m;
   }
@@ -314,7 +342,7 @@ module _ {S T C D F G : Type 0} (d : Driver S C F) (e : Driver T D G) (move_a : 
   abbrev UKeeps : Chip → World → ℕ → Either F G → Open (Either C D) → List (Either F G × Open (Either C D)) → S × T → Type 0
   UKeeps chip w received u o ps s = let made = either move_a move_b u in let value = value_of chip made in let taken = either_gave gave_a gave_b u value in KeepsStep (union_of d e) (record { chip = chip; world = w; state = s; opens = []; steps = 0 }) u o (either_left left_a left_b u value) (stepped made value received taken) (λ s1 o1. URelates (chip_after chip made received) w (top_after (either_left left_a left_b u value, o1) taken.ended ps) s1)
 
-  step-split : (chip : Chip) (w : World) (u : Either F G) (o : Open (Either C D)) (ps : List (Either F G × Open (Either C D))) (s : S) (t : T) (fs : List (F × Open C)) (gs : List (G × Open D)) → Splits ours ((u, o) ∷ ps) fs gs → is_masked chip ≡ o.inside → AllOutside ps → d.relates chip w fs s → e.relates chip w gs t → (received : ℕ) → ReceivedRight chip w (either move_a move_b u) received → d.count s < most_steps → e.count t < most_steps → UKeeps chip w received u o ps (s, t)
+  step-split : (chip : Chip) (w : World) (u : Either F G) (o : Open (Either C D)) (ps : List (Either F G × Open (Either C D))) (s : S) (t : T) (fs : List (F × Open C)) (gs : List (G × Open D)) → Splits ours ((u, o) ∷ ps) fs gs → is_masked chip ≡ o.inside → AllOutside ps → d.relates chip w fs s → e.relates chip w gs t → (received : ℕ) → ComesRight chip w (either move_a move_b u) received → d.count s < most_steps → e.count t < most_steps → UKeeps chip w received u o ps (s, t)
   step-split chip w u o ps s t fs gs (Left_open f o1 missed qs fs1 gs1 m all same sp) masked out x y received come few_a few_b =
       let made = move_a f in
       let value = value_of chip made in
@@ -323,7 +351,7 @@ module _ {S T C D F G : Type 0} (d : Driver S C F) (e : Driver T D G) (move_a : 
       lift-keeps d (union_of d e) (λ a. (a, t)) Left (λ z. Left z) ours chip w s f (left_a f value) o1 missed (stepped made value received taken)
       (λ s1 o2. d.relates (chip_after chip made received) w (top_after (left_a f value, o2) taken.ended fs1) s1)
       (λ s1 o2. URelates (chip_after chip made received) w (top_after (Left (left_a f value), o2) taken.ended qs) s1)
-      (lies-left w s t) (λ z. refl) (λ z. refl) m all same
+      (lies-left w s t) (λ z. refl) (λ z. refl) m all same (λ s1 l i. rw i)
       (λ s1 o2 missed1 is all1 same1 kept. grow-left (chip_after chip made received) w (left_a f value) o2 missed1 taken.ended qs fs1 gs1 s1 t (mine-same ours o1.origin o2.origin is m) all1 same1 sp kept (lb.undisturbed chip w gs1 t made received (not-second o1.origin made k.own) (outside-split ours qs fs1 gs1 sp out).1 y))
       k
   step-split chip w u o ps s t fs gs (Right_open f o1 missed qs fs1 gs1 m all same sp) masked out x y received come few_a few_b =
@@ -334,7 +362,7 @@ module _ {S T C D F G : Type 0} (d : Driver S C F) (e : Driver T D G) (move_a : 
       lift-keeps e (union_of d e) (λ b. (s, b)) Right (λ z. Right z) (others ours) chip w t f (left_b f value) o1 missed (stepped made value received taken)
       (λ s1 o2. e.relates (chip_after chip made received) w (top_after (left_b f value, o2) taken.ended gs1) s1)
       (λ s1 o2. URelates (chip_after chip made received) w (top_after (Right (left_b f value), o2) taken.ended qs) s1)
-      (lies-right w s t) (λ z. refl) (λ z. refl) m all same
+      (lies-right w s t) (λ z. refl) (λ z. refl) m all same (λ s1 l i. let x = not-true (ours l) i in rw x)
       (λ s1 o2 missed1 is all1 same1 kept. grow-right (chip_after chip made received) w (left_b f value) o2 missed1 taken.ended qs fs1 gs1 s s1 (mine-same (others ours) o1.origin o2.origin is m) all1 same1 sp (la.undisturbed chip w fs1 s made received (not-first o1.origin made k.own) (outside-split ours qs fs1 gs1 sp out).0 x) kept)
       k
 
@@ -342,7 +370,19 @@ module _ {S T C D F G : Type 0} (d : Driver S C F) (e : Driver T D G) (move_a : 
   there-split chip w u o ps s t fs gs (Left_open f o1 missed qs fs1 gs1 m all same sp) x y = la.there chip w f o1 fs1 s x
   there-split chip w u o ps s t fs gs (Right_open f o1 missed qs fs1 gs1 m all same sp) x y = lb.there chip w f o1 gs1 t y
 
-  rate-split : (chip : Chip) (w : World) (u : Either F G) (o : Open (Either C D)) (ps : List (Either F G × Open (Either C D))) (s : S) (t : T) (fs : List (F × Open C)) (gs : List (G × Open D)) → Splits ours ((u, o) ∷ ps) fs gs → is_masked chip ≡ o.inside → AllOutside ps → d.relates chip w fs s → e.relates chip w gs t → (received : ℕ) → ReceivedRight chip w (either move_a move_b u) received → d.count s < most_steps → e.count t < most_steps → chip.clock.rate ≡ d.setting.machine.rate s → (chip_after chip (either move_a move_b u) received).clock.rate ≡ g.machine.rate (state_after g.machine w (s, t) o (either move_a move_b u) received (either_gave gave_a gave_b u (value_of chip (either move_a move_b u))).event)
+  own-split : (chip : Chip) (w : World) (u : Either F G) (o : Open (Either C D)) (ps : List (Either F G × Open (Either C D))) (s : S) (t : T) (fs : List (F × Open C)) (gs : List (G × Open D)) → Splits ours ((u, o) ∷ ps) fs gs → d.relates chip w fs s → e.relates chip w gs t → is_shared (either move_a move_b u) || g.may o.origin (either move_a move_b u) ≡ true
+  own-split chip w u o ps s t fs gs (Left_open f o1 missed qs fs1 gs1 m all same sp) x y = subst (λ q. is_shared (move_a f) || q ≡ true) (sym (ap (λ h. h (move_a f)) (origin-left ours d.setting.may e.setting.may o1.origin m))) (la.own chip w f o1 fs1 s x)
+  own-split chip w u o ps s t fs gs (Right_open f o1 missed qs fs1 gs1 m all same sp) x y = subst (λ q. is_shared (move_b f) || q ≡ true) (sym (ap (λ h. h (move_b f)) (origin-right ours d.setting.may e.setting.may o1.origin m))) (lb.own chip w f o1 gs1 t y)
+
+  lasts-either : (u : Either F G) → 0 < either d.fuel e.fuel u
+  lasts-either (Left f) = la.lasts f
+  lasts-either (Right f) = lb.lasts f
+
+  roomy-split : (chip : Chip) (w : World) (u : Either F G) (o : Open (Either C D)) (ps : List (Either F G × Open (Either C D))) (s : S) (t : T) (fs : List (F × Open C)) (gs : List (G × Open D)) → Splits ours ((u, o) ∷ ps) fs gs → d.relates chip w fs s → e.relates chip w gs t → o.inside ≡ true → 0 < either d.room e.room u
+  roomy-split chip w u o ps s t fs gs (Left_open f o1 missed qs fs1 gs1 m all same sp) x y closed = la.roomy chip w f o1 fs1 s x closed
+  roomy-split chip w u o ps s t fs gs (Right_open f o1 missed qs fs1 gs1 m all same sp) x y closed = lb.roomy chip w f o1 gs1 t y closed
+
+  rate-split : (chip : Chip) (w : World) (u : Either F G) (o : Open (Either C D)) (ps : List (Either F G × Open (Either C D))) (s : S) (t : T) (fs : List (F × Open C)) (gs : List (G × Open D)) → Splits ours ((u, o) ∷ ps) fs gs → is_masked chip ≡ o.inside → AllOutside ps → d.relates chip w fs s → e.relates chip w gs t → (received : ℕ) → ComesRight chip w (either move_a move_b u) received → d.count s < most_steps → e.count t < most_steps → chip.clock.rate ≡ d.setting.machine.rate s → (chip_after chip (either move_a move_b u) received).clock.rate ≡ g.machine.rate (state_after g.machine w (s, t) o (either move_a move_b u) received (either_gave gave_a gave_b u (value_of chip (either move_a move_b u))).event)
   rate-split chip w u o ps s t fs gs (Left_open f o1 missed qs fs1 gs1 m all same sp) masked out x y received come few_a few_b is =
       let made = move_a f in
       let value = value_of chip made in
@@ -495,6 +535,20 @@ module _ {S T C D F G : Type 0} (d : Driver S C F) (e : Driver T D G) (move_a : 
       let none = none-either (d.lines line) (e.lines line) out in
       owned-by (ours l) (d.setting.may (Entered l)) (e.setting.may (Entered l)) (Write EnableSet bits) h (λ k. la.enables (Entered l) bits line k none.0) (λ k. lb.enables (Entered l) bits line k none.1)
 
+  -- ---- the watchdog
+
+  u-loads : (origin : Origin (Either C D)) (value : ℕ) → g.may origin (Write WatchdogLoad value) ≡ true → d.watches || e.watches ≡ true
+  u-loads (Called (Left c)) value h = or-first d.watches e.watches (la.loads (Called c) value h)
+  u-loads (Called (Right c)) value h = or-second d.watches e.watches (lb.loads (Called c) value h)
+  u-loads (Entered l) value h = owned-by (ours l) (d.setting.may (Entered l)) (e.setting.may (Entered l)) (Write WatchdogLoad value) h (λ k. or-first d.watches e.watches (la.loads (Entered l) value k)) (λ k. or-second d.watches e.watches (lb.loads (Entered l) value k))
+
+  u-expiry : (chip : Chip) (w : World) (ps : List (Either F G × Open (Either C D))) (s : S × T) → d.watches || e.watches ≡ true → chip.clock.osc ≡ w.osc → URelates chip w ps s → sooner (d.setting.machine.expires w s.0) (e.setting.machine.expires w s.1) ≡ expiry_of chip
+  u-expiry chip w ps s has osc h = sooner-is d.watches e.watches (expiry_of chip) (d.setting.machine.expires w s.0) (e.setting.machine.expires w s.1) has
+      (λ k. la.expiry chip w h.firsts s.0 k osc h.first) (λ k. la.unwatched w s.0 k) (λ k. lb.expiry chip w h.seconds s.1 k osc h.second) (λ k. lb.unwatched w s.1 k)
+
+  u-unwatched : (w : World) (s : S × T) → d.watches || e.watches ≡ false → sooner (d.setting.machine.expires w s.0) (e.setting.machine.expires w s.1) ≡ None
+  u-unwatched w s none = let k = none-either d.watches e.watches none in rw (la.unwatched w s.0 k.0, lb.unwatched w s.1 k.1)
+
   u-call-fuel : (c : Either C D) → EitherFits d.can_call e.can_call c → either d.fuel e.fuel (either (λ x. Left (d.frame_of x)) (λ y. Right (e.frame_of y)) c) ≤ g.steps_of (Called c)
   u-call-fuel (Left c) can = la.call_fuel c can
   u-call-fuel (Right c) can = lb.call_fuel c can
@@ -591,7 +645,7 @@ module _ {S T C D F G : Type 0} (d : Driver S C F) (e : Driver T D G) (move_a : 
   count-happens w s (Acts (Left c) times) out is = count-left w s (Acts c times) out is
   count-happens w s (Acts (Right c) times) out is = count-right w s (Acts c times) out is
   count-happens w s (Serves l r) out is = count-line w s l r out (ours l) is
-  count-happens w s (Starts u r) out is = count-unit w s (Starts u r) (Starts u r) out (d.setting.machine.happens w s.0 (Starts u r)) refl is
+  count-happens w s (Starts u by r) out is = count-unit w s (Starts u (first_call by) r) (Starts u (second_call by) r) out (d.setting.machine.happens w s.0 (Starts u (first_call by) r)) refl is
   count-happens w s (Aborts u) out is = count-unit w s (Aborts u) (Aborts u) out (d.setting.machine.happens w s.0 (Aborts u)) refl is
   count-happens w s (Moves order) out is = let k = count-moves w s order out is in omega (arith, k)
   count-happens w s (Restarts reason) out is = let k = count-resets w s reason out is in omega (arith, k)
@@ -604,6 +658,9 @@ module _ {S T C D F G : Type 0} (d : Driver S C F) (e : Driver T D G) (move_a : 
     enters = λ chip w ps s line f is masked pending out under h. u-enters chip w ps s line f (d.handler_of line) (e.handler_of line) refl refl is masked pending out under h;
     steps = λ chip w f o ps s received come few masked out h. step-split chip w f o ps s.0 s.1 h.firsts h.seconds h.splits masked out h.first h.second received come (omega (arith, few)) (omega (arith, few));
     there = λ chip w f o ps s h. there-split chip w f o ps s.0 s.1 h.firsts h.seconds h.splits h.first h.second;
+    own = λ chip w f o ps s h. own-split chip w f o ps s.0 s.1 h.firsts h.seconds h.splits h.first h.second;
+    lasts = lasts-either;
+    roomy = λ chip w f o ps s h. roomy-split chip w f o ps s.0 s.1 h.firsts h.seconds h.splits h.first h.second;
     moves = u-moves;
     resets = u-resets;
     undisturbed = λ chip w ps s made received none out h. record { firsts = h.firsts; seconds = h.seconds; splits = h.splits; first = la.undisturbed chip w h.firsts s.0 made received (none-first made none) (outside-split ours ps h.firsts h.seconds h.splits out).0 h.first; second = lb.undisturbed chip w h.seconds s.1 made received (none-second made none) (outside-split ours ps h.firsts h.seconds h.splits out).1 h.second };
@@ -628,6 +685,9 @@ module _ {S T C D F G : Type 0} (d : Driver S C F) (e : Driver T D G) (move_a : 
     rate = λ chip w f o ps s received come few masked out h is. rate-split chip w f o ps s.0 s.1 h.firsts h.seconds h.splits masked out h.first h.second received come (omega (arith, few)) (omega (arith, few)) is;
     rate_moves = λ w s order out is. let k = both-first (d.setting.machine.happens w s.0 (Moves order)) (e.setting.machine.happens w s.1 (Moves order)) out is in subst (λ x. d.setting.machine.rate x ≡ d.setting.machine.rate s.0) k.2 (la.rate_moves w s.0 order k.0 k.1);
     rate_resets = λ chip w s reason out is. let k = both-first (d.setting.machine.happens w s.0 (Restarts reason)) (e.setting.machine.happens w s.1 (Restarts reason)) out is in subst (λ x. (reset_chip chip reason).clock.rate ≡ d.setting.machine.rate x) k.2 (la.rate_resets chip w s.0 reason k.0 k.1);
+    loads = u-loads;
+    expiry = λ chip w ps s has osc h. u-expiry chip w ps s has osc h;
+    unwatched = u-unwatched;
     handled = λ line. handler-some (d.handler_of line) (e.handler_of line) ∙ (ap (λ x. x || is_some (e.handler_of line)) (la.handled line) ∙ ap (λ x. d.setting.used line || x) (lb.handled line));
     call_fuel = u-call-fuel;
     line_fuel = λ line f is. fuel-by d.fuel e.fuel (d.handler_of line) (e.handler_of line) f (d.setting.steps_of (Entered line)) (e.setting.steps_of (Entered line)) is (λ x k. la.line_fuel line x k) (λ y k. lb.line_fuel line y k);

@@ -6,13 +6,13 @@ use Rattle.mcal_base.specs.Names.{module_number}
 use Rattle.mcal_base.specs.declared.TheConstants.{WORDS}
 use Rattle.mcal_base.specs.declared.layout.TheConstants.{USERS, STAMPS, SOURCES}
 use Rattle.mcal_base.specs.declared.module_name.ModuleName.{ModuleName}
-use Rattle.mcal_base.specs.declared.module_name.ModuleName.TheVariants.{Mcu, Port, Gpt, Pwm, Icu, Adc, Spi}
+use Rattle.mcal_base.specs.declared.module_name.ModuleName.TheVariants.{Mcu, Port, Gpt, Pwm, Icu, Adc, Spi, Dio, Wdg}
 use Rattle.mcal_base.specs.declared.moves.Move.{Move}
 use Rattle.mcal_base.specs.declared.moves.Move.TheVariants.{Read, Write, Load, Store}
 use Rattle.mcal_base.specs.declared.moves.Unit as units
 use Rattle.mcal_base.specs.declared.moves.Unit.TheVariants.{Adc0, Adc1, Spi0, Spi1}
 use Rattle.mcal_base.specs.declared.register.Reg.{Reg}
-use Rattle.mcal_base.specs.declared.register.Reg.TheVariants.{EnableSet, EnableClear, TimerTarget, TimerPrescaler, TimerOneShot, TimerGateSet, TimerGateClear, TimerRun, TimerFlags, TimerZero, TimerLow, TimerHigh, PulsePeriod, PulseDuty, PulsePolarity, PulseCommit, PulseIdle, PulseOut, PulseEdges, PulseFlags, CaptureCondition, CaptureMode, CaptureGateSet, CaptureGateClear, CaptureCountLow, CaptureCountHigh, CaptureZero, CaptureTimeLow, CaptureTimeHigh, CaptureInfo, CapturePop, CaptureFlush, ConverterList, ConverterGo, ConverterState, ConverterResult, ConverterDone, ConverterAbort, ConverterAck, TriggerSet, TriggerClear, TriggerFlags, SerialSelect, SerialWidth, SerialData, SerialReceived, SerialState, SerialAck, PinDirectionSet, PinDirectionClear, PinOutSet, PinOutClear, PinMode, ClockPll, ClockLock, ClockRate, ResetReason, ResetRequest, Ram}
+use Rattle.mcal_base.specs.declared.register.Reg.TheVariants.{EnableSet, EnableClear, TimerTarget, TimerPrescaler, TimerOneShot, TimerGateSet, TimerGateClear, TimerRun, TimerFlags, TimerZero, TimerLow, TimerHigh, PulsePeriod, PulseDuty, PulsePolarity, PulseCommit, PulseIdle, PulseOut, PulseEdges, PulseFlags, CaptureCondition, CaptureMode, CaptureGateSet, CaptureGateClear, CaptureCountLow, CaptureCountHigh, CaptureZero, CaptureTimeLow, CaptureTimeHigh, CaptureInfo, CapturePop, CaptureFlush, ConverterList, ConverterGo, ConverterState, ConverterResult, ConverterDone, ConverterAbort, ConverterAck, TriggerSet, TriggerClear, TriggerFlags, SerialSelect, SerialWidth, SerialData, SerialReceived, SerialState, SerialWait, SerialAck, PinDirectionSet, PinDirectionClear, PinOutSet, PinOutClear, PinMode, PortPut, PortLevels, PinFlip, ClockPll, ClockLock, ClockRate, ResetReason, ResetRequest, WatchdogLoad, Ram}
 use Rattle.run_model.specs.World.{World}
 use Rattle.run_model.specs.Machine.{Starts, Aborts}
 use Rattle.run_model.specs.Frame.{Origin}
@@ -70,17 +70,22 @@ module_of_register (SerialWidth u) = Some Spi
 module_of_register (SerialData u) = Some Spi
 module_of_register (SerialReceived u) = Some Spi
 module_of_register (SerialState u) = Some Spi
+module_of_register (SerialWait u) = Some Spi
 module_of_register (SerialAck u) = Some Spi
 module_of_register (PinDirectionSet half) = Some Port
 module_of_register (PinDirectionClear half) = Some Port
 module_of_register (PinOutSet half) = Some Port
 module_of_register (PinOutClear half) = Some Port
 module_of_register (PinMode p) = Some Port
+module_of_register (PortPut q) = Some Port
+module_of_register (PortLevels q) = Some Port
+module_of_register (PinFlip p) = Some Port
 module_of_register ClockPll = Some Mcu
 module_of_register ClockLock = Some Mcu
 module_of_register ClockRate = Some Mcu
 module_of_register ResetReason = Some Mcu
 module_of_register ResetRequest = Some Mcu
+module_of_register WatchdogLoad = Some Wdg
 module_of_register (Ram k) = Some Mcu
 
 -- the module whose handlers serve the line
@@ -89,7 +94,7 @@ module_of_line l = if nat_lt l 8 then Some Gpt else if nat_lt l 16 then Some Pwm
 
 -- the module that has the driver word: of its 8,192, or of a user's array of its objects
 abbrev pub module_of_word : ℕ → Option ModuleName
-module_of_word k = if nat_lt k 8192 then Some Mcu else if nat_lt k 16384 then Some Port else if nat_lt k 24576 then Some Gpt else if nat_lt k 32768 then Some Pwm else if nat_lt k 40960 then Some Icu else if nat_lt k 49152 then Some Adc else if nat_lt k 57344 then Some Spi else if nat_lt k USERS then None else if nat_lt k STAMPS then Some Adc else if nat_lt k SOURCES then Some Icu else if nat_lt k WORDS then Some Spi else None
+module_of_word k = if nat_lt k 8192 then Some Mcu else if nat_lt k 16384 then Some Port else if nat_lt k 24576 then Some Gpt else if nat_lt k 32768 then Some Pwm else if nat_lt k 40960 then Some Icu else if nat_lt k 49152 then Some Adc else if nat_lt k 57344 then Some Spi else if nat_lt k 65536 then Some Dio else if nat_lt k USERS then Some Wdg else if nat_lt k STAMPS then Some Adc else if nat_lt k SOURCES then Some Icu else if nat_lt k WORDS then Some Spi else None
 
 abbrev pub module_of_unit : units.Unit → ModuleName
 module_of_unit Adc0 = Adc
@@ -109,7 +114,7 @@ all_of p q m = p m || q m
 
 -- no module is of both
 abbrev pub are_disjoint : (ModuleName → Bool) → (ModuleName → Bool) → Bool
-are_disjoint p q = not (p Mcu && q Mcu) && not (p Port && q Port) && not (p Gpt && q Gpt) && not (p Pwm && q Pwm) && not (p Icu && q Icu) && not (p Adc && q Adc) && not (p Spi && q Spi)
+are_disjoint p q = not (p Mcu && q Mcu) && not (p Port && q Port) && not (p Gpt && q Gpt) && not (p Pwm && q Pwm) && not (p Icu && q Icu) && not (p Adc && q Adc) && not (p Spi && q Spi) && not (p Dio && q Dio) && not (p Wdg && q Wdg)
 
 -- it is one of these modules'
 abbrev pub is_of : (ModuleName → Bool) → Option ModuleName → Bool
@@ -167,5 +172,5 @@ pub record KeepsTo {S C F : Type 0} (mine : ModuleName → Bool) (d : Driver S C
   pub owns : (o : Origin C) (made : Move) → NamesOthers mine made → d.owns o made ≡ false
   pub handlers : (l : ℕ) → has_handler d l ≡ true → is_line_of mine l ≡ true
   pub polls : (w : World) (s : S) (c : C) → list_all (is_line_of mine) (d.setting.machine.polls w s c) ≡ true
-  pub starts : (w : World) (s : S) (u : units.Unit) (r : ℕ) → IsSome (d.setting.machine.happens w s (Starts u r)) → mine (module_of_unit u) ≡ true
+  pub starts : (w : World) (s : S) (u : units.Unit) (by : Option C) (r : ℕ) → IsSome (d.setting.machine.happens w s (Starts u by r)) → mine (module_of_unit u) ≡ true
   pub aborts : (w : World) (s : S) (u : units.Unit) → IsSome (d.setting.machine.happens w s (Aborts u)) → mine (module_of_unit u) ≡ true

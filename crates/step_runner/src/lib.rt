@@ -9,7 +9,7 @@ mod union;
 
 pub use either::Either;
 pub use module::Module;
-pub use run::{begin, enter, fill_held, hardware, reset, step, step_into};
+pub use run::{begin, enter, fill_held, hardware, reset, run_out, step, step_into};
 pub use run_model::{
     Class, Hardware, Item, Items, Journal, Key, KeyKind, Kind, Logged, Pool, Span, Stepped, What,
 };

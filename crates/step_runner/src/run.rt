@@ -1,16 +1,18 @@
-ghost use Rattle.std.specs.Prelude.{◌≡◌, ◌<◌, ◌&&◌, ℕ, List, [], ◌∷◌, ◌++◌, length, map, vec_len, OnOk, None, is_some};
-ghost use Rattle.chip_model.specs.Chip.{Chip, hung, is_masked, is_pending, happened, CanHappen, reset_chip};
+ghost use Rattle.std.specs.Prelude.{◌≡◌, ◌<◌, ◌&&◌, ℕ, List, [], ◌∷◌, ◌++◌, length, map, vec_len, OnOk, Some, None, is_some};
+ghost use Rattle.chip_model.specs.Chip.{Chip, hung, expiry_of, is_masked, is_pending, happened, CanHappen, reset_chip};
 ghost use Rattle.run_model.specs.Causes.{call_cause, line_cause};
-ghost use Rattle.mcal_base.specs.declared.directive.Order.TheVariants.{Fill};
+ghost use Rattle.mcal_base.specs.declared.directive.Order.TheVariants.{Fill, Tick};
+ghost use Rattle.mcal_base.specs.declared.directive.Reason.TheVariants.{Watchdog};
 ghost use Rattle.run_model.specs.Legal.{hardware_held};
 ghost use Rattle.run_model.specs.Moment.{Deed, Begins, Enters, Happens, Resets, call_tag, line_tag, start_moment, after_all};
+ghost use Rattle.step_runner.specs.Driver.{EndsBefore};
 ghost use Rattle.step_runner.specs.Stands.{Stands, done, step_done, FuelFalls};
-ghost use Rattle.step_runner.specs.Kept.{tags_under, top_is_noted, cause_of, beginning, put_by, enter_by, fill_by, written_by, CanStep, TakesStep, hung_for, StepCalls};
+ghost use Rattle.step_runner.specs.Kept.{tags_under, top_is_noted, cause_of, beginning, put_by, enter_by, fill_by, written_by, CanStep, IsStill, IsLooked, TakesStep, hung_for, StepCalls};
 
 use crate::{Module, Stack};
 use chip_model::Bus;
 use irq_control::Held;
-use mcal_base::{Directive, Reason};
+use mcal_base::{Directive, Order, Reason};
 use run_model::{Stepped, Tag};
 use serial_devices::SerialDevice;
 
@@ -78,6 +80,7 @@ pub fn step<M: Module>(
 ) -> Result<Stepped, Held>
     requires few { stack.old.steps < 4294967295 }
     requires there { CanStep M.Frame.move_of stack.old.frames }
+    requires still { IsStill M.Frame.move_of stack.old.frames bus.old }
     ensures step { TakesStep M.Frame.move_of M.Frame.left M.Frame.gave
         stack.old.frames stack.old.steps (hung_for stack.old.frames (vec_len rack.old) bus.old) stack.new bus.new result }
     // The units have this rack's devices in a step. One that begins a word under a device's select calls it, and no other
@@ -97,11 +100,12 @@ pub fn step<M: Module>(
         FuelFalls (M.spec driver).fuel stack.old.frames stack.new.frames result }
 {
     let mut stepped = Stepped::blank();
+    stack.look(&mut stepped);
     step_into(stack, bus, rack, &mut stepped)?;
     Ok(stepped)
 }
 
-/// As `step`, with the step written to a place that holds no answer.
+/// As `step`, of the move that `Stack::look` has written to the step, which holds no answer.
 #[inline(always)]
 pub fn step_into<M: Module>(
     stack: &mut Stack<M>,
@@ -111,7 +115,9 @@ pub fn step_into<M: Module>(
 ) -> Result<(), Held>
     requires few { stack.old.steps < 4294967295 }
     requires there { CanStep M.Frame.move_of stack.old.frames }
+    requires still { IsStill M.Frame.move_of stack.old.frames bus.old }
     requires free { stepped.old.ended ≡ None }
+    requires looked { IsLooked M.Frame.move_of stack.old.frames stepped.old.made }
     ensures step { TakesStep M.Frame.move_of M.Frame.left M.Frame.gave
         stack.old.frames stack.old.steps (hung_for stack.old.frames (vec_len rack.old) bus.old) stack.new bus.new (written_by result stepped.new) }
     ensures count { vec_len rack.new ≡ vec_len rack.old }
@@ -156,13 +162,14 @@ pub fn fill_held<M: Module>(stack: &Stack<M>, driver: &M, bus: &Bus, channel: u3
     fill_cause(used, bus.masked(), stack.is_read(channel))
 }
 
-/// A hardware event of the script.
+/// A hardware event of the script. Ticks end before the watchdog's time does.
 pub fn hardware<M: Module>(stack: &Stack<M>, bus: &mut Bus, happening: &Directive)
     requires { CanHappen bus.old happening.now.order }
     ensures chip { bus.new ≡ happened bus.old happening.now.order }
     ensures stands { (driver : M) (first : Chip) (h : List (Deed M.Call)) → (M.spec driver).fits →
         let setting = (M.spec driver).setting in
         hardware_held setting (after_all setting (start_moment setting first) h) happening.now.order ≡ None →
+        EndsBefore happening.now.order (expiry_of bus.old) →
         Stands (M.spec driver) first bus.old stack.now.frames h →
         Stands (M.spec driver) first bus.new stack.now.frames (h ++ Happens happening.now.order ∷ []) }
 {
@@ -180,5 +187,24 @@ pub fn reset<M: Module>(stack: &mut Stack<M>, bus: &mut Bus, reason: Reason) -> 
         Stands (M.spec driver) first bus.new stack.new.frames (h ++ Resets reason ∷ []) }
 {
     bus.reset(reason);
+    stack.clear()
+}
+
+/// So many ticks, with which the watchdog's time ends: it resets the chip and drops every frame. Answers how many they were.
+pub fn run_out<M: Module>(stack: &mut Stack<M>, bus: &mut Bus, ticks: u32) -> u32
+    requires can { CanHappen bus.old (Tick ticks) }
+    requires ends { expiry_of bus.old ≡ Some ticks }
+    ensures dropped { result ≡ length stack.old.frames }
+    ensures stack { stack.new ≡ record stack.old { frames = [] } }
+    ensures chip { bus.new ≡ reset_chip (happened bus.old (Tick ticks)) Watchdog }
+    ensures stands { (driver : M) (first : Chip) (h : List (Deed M.Call)) → (M.spec driver).fits →
+        Stands (M.spec driver) first bus.old stack.old.frames h →
+        Stands (M.spec driver) first bus.new stack.new.frames (h ++ Happens (Tick ticks) ∷ Resets Watchdog ∷ []) }
+{
+    bus.hardware(&Directive {
+        line: 0,
+        order: Order::Tick(ticks),
+    });
+    bus.reset(Reason::Watchdog);
     stack.clear()
 }

@@ -1,26 +1,22 @@
 ghost use Rattle.std.specs.Prelude.{◌≡◌, ◌<◌, [], ◌∷◌, not, length, map, vec_len, IfOk, OnOk, None, reverse};
 ghost use Rattle.std.specs.List.{list_all, list_any};
 ghost use Rattle.std.specs.Bool.{OnFalse};
-ghost use Rattle.mcal_base.specs.Names.{module_number};
-ghost use Rattle.run_model.specs.Causes.{kind_number, same_key, reads_source, kind_blocks, class_blocks, blocks, may_reenter, call_level_allows, line_level_allows, call_cause, line_cause, is_full};
+ghost use Rattle.run_model.specs.Causes.{reads_source, blocks, may_reenter, call_level_allows, line_level_allows, call_cause, line_cause, is_full};
 ghost use Rattle.chip_model.specs.Chip.{Chip, hung, value_of, chip_after};
 ghost use Rattle.chip_model.specs.Devices.{ComesIn, CallsRight};
 ghost use Rattle.mcal_base.specs.Reach.{CanApply};
-ghost use Rattle.step_runner.specs.Driver.{stepped as step_of, Covers};
+ghost use Rattle.step_runner.specs.Driver.{stepped as step_of};
 ghost use Rattle.step_runner.specs.Stands.{IsFirst, Stands};
-ghost use Rattle.step_runner.specs.Kept.{kept_empty, is_read, tags_under, top_is_noted, cause_of, beginning, moved, written_by, CanStep, TakesStep, hung_for, StepCalls};
+ghost use Rattle.step_runner.specs.Kept.{kept_empty, is_read, tags_under, top_is_noted, cause_of, beginning, moved, written_by, CanStep, IsLooked, TakesStep, hung_for, StepCalls};
 
 use crate::Module;
 use chip_model::Bus;
 use irq_control::Held;
 use mcal_base::{Move, NoMemory, Routine};
-use run_model::{Class, Key, KeyKind, Kind, Stepped, Tag};
+use run_model::{Class, KeyKind, MOST_FRAMES, Stepped, Tag, is_blocked};
 use serial_devices::SerialDevice;
 use std::alloc::Global;
 use std::marker::Model;
-
-/// The most frames at once.
-const MOST_FRAMES: u32 = 8;
 
 /// A frame under way, as the stack keeps it.
 #[derive(Drop)]
@@ -53,53 +49,6 @@ impl<M: Module> Model for Stack<M> {
     ghost invariant = { λ s. (s.count ≤ vec_len s.places) × (vec_len s.places ≤ 8) × (8 ≤ vec_capacity s.places) };
 }
 
-fn kind_number_of(kind: KeyKind) -> u32
-    ensures { result ≡ kind_number kind }
-{
-    match kind {
-        KeyKind::Section => 0,
-        KeyKind::Pin => 1,
-        KeyKind::Channel | KeyKind::Source => 2,
-        KeyKind::Group => 3,
-        KeyKind::Sequence => 4,
-        KeyKind::Clock => 5,
-        KeyKind::Main => 6,
-    }
-}
-
-/// Whether two calls have the same key.
-fn have_same_key(new: Option<Key>, there: Option<Key>) -> bool
-    ensures { result ≡ same_key new there }
-{
-    match (new, there) {
-        (Some(new), Some(there)) => {
-            kind_number_of(new.kind) == kind_number_of(there.kind) && new.number == there.number
-        }
-        _ => false,
-    }
-}
-
-/// Whether a kind of call may not begin over a call of the same module.
-fn kind_is_blocked(new: Kind, there: Kind, same: bool) -> bool
-    ensures { result ≡ kind_blocks new there same }
-{
-    match (new, there) {
-        (Kind::Exclusive, _) | (Kind::Keyed | Kind::Guarded, Kind::Exclusive) => true,
-        (Kind::Keyed, Kind::Keyed) => same,
-        _ => false,
-    }
-}
-
-/// Whether a call may not begin over a call, or over a handler, of the same module.
-fn class_is_blocked(new: &Class, there: Option<Class>) -> bool
-    ensures { result ≡ class_blocks new.now there }
-{
-    match there {
-        None => matches!(new.kind, Kind::Exclusive),
-        Some(there) => kind_is_blocked(new.kind, there.kind, have_same_key(new.key, there.key)),
-    }
-}
-
 /// Whether a call of this class reads the source array of a serial channel.
 fn reads_source(channel: u32, class: Option<Class>) -> bool
     ensures { result ≡ reads_source channel class }
@@ -120,13 +69,6 @@ fn one_reads<F: Drop>(channel: u32, frames: &[Under<F>]) -> bool
     frames.iter().any(|u| reads_source(channel, u.tag.class))
 }
 
-/// Whether a call may not begin over a frame with this tag.
-fn is_blocked(new: &Class, there: &Tag) -> bool
-    ensures { result ≡ blocks new.now there.now }
-{
-    new.module.number() == there.owner.number() && class_is_blocked(new, there.class)
-}
-
 /// Whether a call may begin over each of these frames.
 fn none_blocks<F: Drop>(class: &Class, frames: &[Under<F>]) -> bool
     ensures { result ≡ list_all (λ u. not (blocks class.now u.tag)) frames.now }
@@ -134,7 +76,8 @@ fn none_blocks<F: Drop>(class: &Class, frames: &[Under<F>]) -> bool
     frames.iter().all(|u| !is_blocked(class, &u.tag))
 }
 
-/// A frame makes its move and takes what that gave, and the step is written to a place that holds no answer.
+/// A frame makes the move that was looked up and takes what that gave, and the step is written to the place of the move, which
+/// holds no answer.
 fn move_frame<F: Routine + Drop>(
     top: &mut Under<F>,
     bus: &mut Bus,
@@ -143,6 +86,7 @@ fn move_frame<F: Routine + Drop>(
 )
     requires there { CanApply (F.move_of top.old.frame) }
     requires free { stepped.old.ended ≡ None }
+    requires looked { stepped.old.made ≡ F.move_of top.old.frame }
     ensures top { let made = F.move_of top.old.frame in
         top.new ≡ moved top.old (F.left top.old.frame (value_of bus.old made)) made }
     ensures comes { ComesIn (hung (vec_len rack.old) bus.old) (F.move_of top.old.frame) stepped.new.received }
@@ -153,7 +97,6 @@ fn move_frame<F: Routine + Drop>(
     ensures count { vec_len rack.new ≡ vec_len rack.old }
     ensures calls { CallsRight (hung (vec_len rack.old) bus.old) stepped.new.made stepped.new.received (map (λ d. line d) rack.old.items) (map (λ d. line d) rack.new.items) }
 {
-    stepped.made = top.frame.next();
     let applied = bus.apply(&stepped.made, rack);
     stepped.value = applied.value;
     stepped.received = applied.received;
@@ -174,7 +117,7 @@ impl<M: Module> Stack<M> {
     /// An empty stack. It takes the room of eight frames, and no later call takes memory.
     pub fn new(alloc: Global) -> Result<Stack<M>, NoMemory>
         ensures empty { IfOk result (λ s. s ≡ kept_empty) }
-        ensures stands { (driver : M) (first : Chip) → (M.spec driver).fits → Covers (M.spec driver) →
+        ensures stands { (driver : M) (first : Chip) → (M.spec driver).fits →
             IsFirst first → (M.spec driver).wired first →
             IfOk result (λ s. Stands (M.spec driver) first first s.frames []) }
     {
@@ -191,6 +134,17 @@ impl<M: Module> Stack<M> {
         ensures { result ≡ length self.now.frames }
     {
         self.count as u32
+    }
+
+    /// Looks up the move that the top frame makes next, and writes it to the step that will be made.
+    #[inline(always)]
+    pub fn look(&self, stepped: &mut Stepped)
+        ensures looked { IsLooked M.Frame.move_of self.now.frames stepped.new.made }
+        ensures rest { stepped.new ≡ record stepped.old { made = stepped.new.made } }
+    {
+        if self.count > 0 {
+            stepped.made = self.places[self.count - 1].frame.next();
+        }
     }
 
     /// The number of steps that were made.
@@ -345,7 +299,7 @@ impl<M: Module> Stack<M> {
         self.put(driver.frame(call), tag);
     }
 
-    /// Lets the top frame make its move and take the value, where it stands. It is taken off where it ended.
+    /// Lets the top frame make the move that was looked up and take the value, where it stands. It is taken off where it ended.
     #[inline(always)]
     pub(crate) fn step_top(
         &mut self,
@@ -356,6 +310,7 @@ impl<M: Module> Stack<M> {
         requires few { self.old.steps < 4294967295 }
         requires there { CanStep M.Frame.move_of self.old.frames }
         requires free { stepped.old.ended ≡ None }
+        requires looked { IsLooked M.Frame.move_of self.old.frames stepped.old.made }
         ensures step { TakesStep M.Frame.move_of M.Frame.left M.Frame.gave
             self.old.frames self.old.steps (hung_for self.old.frames (vec_len rack.old) bus.old) self.new bus.new (written_by result stepped.new) }
         ensures count { vec_len rack.new ≡ vec_len rack.old }

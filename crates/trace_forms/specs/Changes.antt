@@ -80,6 +80,7 @@ error_word found = service_text found.service ++ (codes ":" ++ error_text found.
 abbrev pub change_of : ℕ → ℕ → What → List ℕ
 change_of at line whats.Turn = time at ++ number line signals.ScriptLine
 change_of at line (whats.Ticked ticks all) = number all signals.Ticks
+change_of at line (whats.Waited ticks all) = time at ++ number all signals.Ticks
 change_of at line (whats.Begins frame) = frame_change frame
 change_of at line (whats.Stepped step fresh) = step_change at step fresh
 change_of at line (whats.Held cause) = word (held_text cause) signals.Held ++ codes "s- x\n"

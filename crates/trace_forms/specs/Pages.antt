@@ -54,6 +54,7 @@ event_symbol (Some marks.Start) = codes "start"
 abbrev pub symbol : What → List ℕ
 symbol whats.Turn = codes "turn"
 symbol (whats.Ticked ticks all) = codes "tick"
+symbol (whats.Waited ticks all) = codes "tick"
 symbol (whats.Stepped step fresh) = event_symbol step.mark
 symbol (whats.Held cause) = codes "held"
 symbol (whats.Noted notice) = codes "note"
@@ -67,6 +68,7 @@ abbrev pub label_row : What → Option ℕ
 label_row whats.Turn = Some 0
 label_row (whats.Held cause) = Some 1
 label_row (whats.Ticked ticks all) = Some 2
+label_row (whats.Waited ticks all) = Some 2
 label_row (whats.Noted notice) = Some 3
 label_row (whats.Erred found) = Some 4
 label_row (whats.Reset reason dropped) = Some 5
@@ -77,6 +79,7 @@ abbrev pub height : Look → ℕ → What → ℕ
 height look depth whats.Turn = 40
 height look depth (whats.Held cause) = 56
 height look depth (whats.Ticked ticks all) = 72
+height look depth (whats.Waited ticks all) = 72
 height look depth (whats.Noted notice) = flag_row look 0 + 12
 height look depth (whats.Erred found) = flag_row look 1 + 12
 height look depth (whats.Reset reason dropped) = flag_row look 2 + 12

@@ -38,6 +38,7 @@ ending_text endings.Open = codes " is under way at the end"
 abbrev pub sentence : What → List ℕ
 sentence whats.Turn = codes "the directive is obeyed"
 sentence (whats.Ticked ticks all) = decimal ticks ++ (codes " ticks, " ++ (decimal all ++ codes " in all"))
+sentence (whats.Waited ticks all) = lines.line_text (lines.Waits ticks) ++ (codes " ticks, " ++ (decimal all ++ codes " in all"))
 sentence (whats.Begins frame) = purpose_text frame.purpose ++ codes " begins"
 sentence (whats.Stepped step fresh) = lines.line_text (lines.Makes step.depth step.made step.value step.received (event_there step.mark))
 sentence (whats.Held cause) = lines.line_text (lines.Holds cause)

@@ -281,6 +281,10 @@ fn put_change(text: &mut String, alloc: Global, sign: Sign) -> Result<(), AllocE
             let ticks = Number(all, Signal::Ticks);
             write!(text, "{ticks}")
         }
+        What::Waited(_, all) => {
+            let ticks = Number(all, Signal::Ticks);
+            write!(text, "{time}{ticks}")
+        }
         What::Begins(frame) => put_frame(text, alloc, frame),
         What::Stepped(step, fresh) => put_step(text, sign.step, step, fresh),
         What::Held(cause) => {

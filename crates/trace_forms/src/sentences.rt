@@ -69,6 +69,10 @@ impl fmt::Display for Sentence {
         match self.0 {
             What::Turn => f.write_str("the directive is obeyed"),
             What::Ticked(ticks, all) => write!(f, "{ticks} ticks, {all} in all"),
+            What::Waited(ticks, all) => {
+                let line = Line::Waits(ticks);
+                write!(f, "{line} ticks, {all} in all")
+            }
             What::Begins(frame) => {
                 let name = Named(frame.purpose);
                 write!(f, "{name} begins")

@@ -28,7 +28,7 @@ pub(crate) fn symbol(what: What) -> &'static str
 {
     match what {
         What::Turn => "turn",
-        What::Ticked(_, _) => "tick",
+        What::Ticked(_, _) | What::Waited(_, _) => "tick",
         What::Stepped(step, _) => event_symbol(step.mark),
         What::Held(_) => "held",
         What::Noted(_) => "note",
@@ -47,7 +47,7 @@ pub(crate) fn label_row(what: What) -> Option<usize>
     match what {
         What::Turn => Some(0),
         What::Held(_) => Some(1),
-        What::Ticked(_, _) => Some(2),
+        What::Ticked(_, _) | What::Waited(_, _) => Some(2),
         What::Noted(_) => Some(3),
         What::Erred(_) => Some(4),
         What::Reset(_, _) => Some(5),
@@ -62,7 +62,7 @@ pub(crate) fn height(look: Look, depth: usize, what: What) -> usize
     match what {
         What::Turn => 40,
         What::Held(_) => 56,
-        What::Ticked(_, _) => 72,
+        What::Ticked(_, _) | What::Waited(_, _) => 72,
         What::Noted(_) => look.flag_row(0) + 12,
         What::Erred(_) => look.flag_row(1) + 12,
         What::Reset(_, _) => look.flag_row(2) + 12,

@@ -33,8 +33,10 @@ pub enum Ending {
 pub enum What {
     /// A directive of the script is obeyed.
     Turn,
-    /// It asks for ticks: so many, and then so many were asked for in all.
+    /// It asks for ticks: so many, and then so many passed in all.
     Ticked(u32, u64),
+    /// The next step waited so many ticks, and then so many passed in all.
+    Waited(u32, u64),
     /// It begins a frame.
     Begins(Frame),
     /// A step, and whether a directive was held or the chip reset since the step before.

@@ -70,7 +70,7 @@ chapter_by false d x line lines frames count left ms h k = (h.0, later_drawable 
 chapter_drawable : (d : Directive) (x : Drawing) (lines : List Line) (frames : List Purpose) (count left : ℕ) (ms : List belonging.Moment) → Tells d.line (entered x (first_at d.line d.order (first_said lines))) lines (λ e. Stands e.frames e.steps frames count left) →
     ((e : Drawing) → Stands e.frames e.steps frames count left → Drawable e ms) → Drawable x (chapter_moments d (with_done lines) ++ ms)
 chapter_drawable d x [] frames count left ms h k = done_drawable d.line (entered x (first_at d.line d.order Done)) frames count left ms h k
-chapter_drawable d x (line ∷ lines) frames count left ms h k = chapter_by (list_all report.is_step (line ∷ lines)) d x line lines frames count left ms h k
+chapter_drawable d x (line ∷ lines) frames count left ms h k = chapter_by (list_all report.is_traced (line ∷ lines)) d x line lines frames count left ms h k
 
 -- ---- a script
 

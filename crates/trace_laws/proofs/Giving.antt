@@ -1,6 +1,7 @@
 -- The lines of a directive follow a drawing that stands for the frames before it: by what each directive gives.
 use Rattle.std.proofs.Common.{◌≡◌, ℕ, zero, suc, ◌+◌, ◌-◌, ◌<◌, Bool, true, false, List, [], ◌∷◌, ◌++◌, append-nil, length, map, Option, Some, None, refl, ◌∙◌, ap, sym, subst, arith}
 use Rattle.std.specs.Prelude.{nat_lt, option_to_list, MatchBool}
+use Rattle.chip_model.specs.Chip.{wait_on}
 use Rattle.irq_control.specs.declared.held.Held.{Held}
 use Rattle.irq_control.specs.declared.held.Held.TheVariants.{Empty, Frames}
 use Rattle.mcal_base.specs.declared.directive.Order.{Order}
@@ -11,7 +12,7 @@ use Rattle.mcal_base.specs.declared.directive.Request.{Request}
 use Rattle.mcal_base.specs.declared.directive.Shown.{Shown}
 use Rattle.run_model.specs.Entry as entry
 use Rattle.run_model.specs.Entry.{Entry, Said}
-use Rattle.run_model.specs.Follows.{IsOne, Ticks, ticks_through, IsStep, GoesOn, Goes, BeginsOnly, BeginsWhole, Shows, HappensOnly, Gives, deeds_in, call_held, line_held}
+use Rattle.run_model.specs.Follows.{IsOne, Ticks, ticks_through, is_awaiting, ComesAwaited, ends_within, IsStep, GoesOn, Goes, BeginsOnly, BeginsWhole, Shows, HappensOnly, Gives, deeds_in, call_held, line_held}
 use Rattle.run_model.specs.Frame.{Open}
 use Rattle.run_model.specs.Legal.{IsLegal}
 use Rattle.run_model.specs.Moment.{Setting, Moment, Deed, Begins, Enters, after, after_all}
@@ -21,7 +22,7 @@ use Rattle.run_model.specs.declared.reach.Reach.{Reach}
 use Rattle.run_model.specs.declared.reach.Reach.TheVariants.{Count, Until, Whole}
 use Rattle.bench_report.specs.Lines as Lines
 use Rattle.bench_report.specs.Lines.{Line}
-use Rattle.bench_report.specs.Report.{purpose_of, chapter_lines, chapter_frames}
+use Rattle.bench_report.specs.Report.{purpose_of, is_stepped, steps_next, wait_lines, chapter_lines, chapter_frames}
 use Rattle.bench_report.specs.Rows.{Row}
 use Rattle.bench_report.specs.Shown.{next_rows}
 use Rattle.bench_report.specs.declared.frames.Purpose.{Purpose}
@@ -30,10 +31,22 @@ use Rattle.trace_reader.specs.Told.{told}
 use Rattle.trace_signs.specs.Drawing.{Drawing, entered}
 use Rattle.trace_signs.specs.Moments.{begins_of}
 use Rattle.trace_laws.specs.Lines.{HasLines}
-use Rattle.trace_laws.proofs.Chapters.{counted, Follow, same_follows, stays_follow, steps_follow}
+use Rattle.trace_laws.proofs.Chapters.{counted, match_both, Follow, same_follows, stays_follow, steps_follow}
 use Rattle.trace_laws.proofs.Entering.{first_said, first_at, quiet_entered, begun_entered, begins_none}
 use Rattle.trace_laws.proofs.Opens.{OnChip, call_room, line_room, line_used, served}
 use Rattle.trace_laws.proofs.Telling.{Tells, Stands, stands_less, shown_told, reset_told}
+
+awaited_step : (u : ℕ) (said : Said) → is_awaiting u said ≡ true → is_stepped said ≡ true
+awaited_step u (entry.Steps s) h = refl
+awaited_step u (entry.Happens o) h = cc
+awaited_step u entry.Begins h = cc
+awaited_step u (entry.Stays c) h = cc
+awaited_step u (entry.Resets r k) h = cc
+
+-- a step that waited comes next
+awaited_next : (u : ℕ) (es : List Entry) → ComesAwaited u es → steps_next es ≡ true
+awaited_next u [] h = absurd h
+awaited_next u (e ∷ es) h = awaited_step u e.said h
 
 module _ {State Call : Type 0} (g : Setting State Call) (call_of : Request → Call) where
   -- the lines of a directive follow where its first one has shown what it began
@@ -137,10 +150,15 @@ module _ {State Call : Type 0} (g : Setting State Call) (call_of : Request → C
   begins_only n order p deed (Some cause) frames shows items m d left b lt is h = held_chapter n order frames shows cause items m d left is h
   begins_only n order p deed None frames shows items m d left b lt is h = begun_chapter n order p deed frames shows items m d left b (lt refl) is h
 
-  -- steps say first that one was made
+  -- steps say first that one was made, or that it waited, or the reset that ended its wait
   said_first : (n : ℕ) (reach : Reach) (made : ℕ) (order : Order) (frames : List Purpose) (shows : List (List Row)) (line depth : ℕ) (said : Said) (es : List Entry) (m : Moment State Call) (More : ℕ → Deed Call → Type 0) → IsStep g n reach made m (record { line = line; depth = depth; said = said }) es said More →
       begins_of order (told (first_said (chapter_lines true order frames shows ((record { line = line; depth = depth; said = said }) ∷ es)))) ≡ purpose_of order
   said_first n reach made order frames shows line depth (entry.Steps s) es m More h = refl
+  said_first n reach made order frames shows line depth (entry.Happens (orders.Tick ticks)) es m More h =
+      let over = ends_within (wait_on m.chip h.2.unit) (g.machine.expires m.world m.state) in
+      match_both over over refl h.2.goes
+      (λ ends is. subst (λ (xs : List Entry). begins_of order (told (first_said (chapter_lines true order frames shows ((record { line = line; depth = depth; said = entry.Happens (orders.Tick ticks) }) ∷ xs)))) ≡ purpose_of order) (sym is.1) refl)
+      (λ on goes. ap (λ (b : Bool). begins_of order (told (first_said (wait_lines b ticks ++ chapter_lines true order frames shows es)))) (awaited_next h.2.unit es goes.1))
   said_first n reach made order frames shows line depth (entry.Happens o) es m More h = absurd h
   said_first n reach made order frames shows line depth entry.Begins es m More h = absurd h
   said_first n reach made order frames shows line depth (entry.Stays c) es m More h = absurd h

@@ -1,22 +1,28 @@
 -- The items of a journal have the numbers of what it holds.
 use Rattle.std.proofs.Common.{◌≡◌, ℕ, suc, ◌<◌, ◌≤◌, List, [], ◌∷◌, length, Option, Some, None, take, drop, refl, ap, arith}
 use Rattle.std.proofs.lemmas.List.Sums.{count_by-le-length}
-use Rattle.run_model.specs.Entry.{Entry, answer_at, said_at, entry_at, entries}
+use Rattle.run_model.specs.Entry.{Entry, answer_at, order_at, said_at, entry_at, entries}
 use Rattle.run_model.specs.Stops.{is_step, steps_in}
+use Rattle.run_model.specs.declared.item.Hardware.{Hardware}
+use Rattle.run_model.specs.declared.item.Hardware.TheVariants as hardware
 use Rattle.run_model.specs.declared.item.Item.{Item}
 use Rattle.run_model.specs.declared.item.LoggedAnswer.{LoggedAnswer}
 use Rattle.run_model.specs.declared.item.What.{What}
 use Rattle.run_model.specs.declared.item.What.TheVariants as whats
-use Rattle.trace_reader.specs.Trace.{IsNumber, Each}
-use Rattle.trace_laws.specs.Numbers.{AnswerFits, SaidFits, EntryFits, WhatFits, ItemFits}
+use Rattle.bench_report.specs.Numbers.{IsNumber, Each, AnswerFits, HappensFits, SaidFits, EntryFits}
+use Rattle.trace_laws.specs.Numbers.{HardwareFits, WhatFits, ItemFits}
 use Rattle.trace_laws.proofs.Within.{each_take, each_drop}
 
 answer_fits : (words : List ℕ) (ended : Option LoggedAnswer) → Each IsNumber words → AnswerFits (answer_at words ended)
 answer_fits words None w = tt
 answer_fits words (Some a) w = each_take IsNumber a.words.count (drop a.words.at words) (each_drop IsNumber a.words.at words w)
 
+happens_fits : (words : List ℕ) (what : Hardware) → HardwareFits what → HappensFits (order_at words what)
+happens_fits words (hardware.Tick ticks) h = h
+happens_fits words _ h = tt
+
 said_fits : (words : List ℕ) (what : What) → Each IsNumber words → WhatFits what → SaidFits (said_at words what)
-said_fits words (whats.Happened what) w h = tt
+said_fits words (whats.Happened what) w h = happens_fits words what h
 said_fits words whats.Begun w h = tt
 said_fits words (whats.Held cause) w h = tt
 said_fits words (whats.Stepped step) w h = (h.0, h.1, h.2, h.3, answer_fits words step.ended w)

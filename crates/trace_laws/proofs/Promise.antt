@@ -8,17 +8,17 @@ use Rattle.run_model.specs.Moment.{Setting}
 use Rattle.run_model.specs.Stops.{steps_in}
 use Rattle.script_runner.specs.Scripts.{IsScript, IsRun}
 use Rattle.bench_report.specs.Limit.{most_bytes}
+use Rattle.bench_report.specs.Numbers.{Each, EntryFits}
 use Rattle.bench_report.specs.Report.{report, report_lines}
 use Rattle.bench_report.specs.Rows.{Row}
 use Rattle.trace_reader.specs.Told.{told_line}
-use Rattle.trace_reader.specs.Trace.{Each}
 use Rattle.trace_signs.specs.Drawing.{drawing_of}
 use Rattle.trace_signs.specs.Moments.{moments_of}
 use Rattle.trace_signs.proofs.Balance.{is_drawing}
 use Rattle.trace_drawing.specs.Program.{◌>>=◌}
 use Rattle.trace_laws.specs.Drawn.{IsDrawn}
 use Rattle.trace_laws.specs.Lines.{HasLines}
-use Rattle.trace_laws.specs.Numbers.{DirectiveFits, EntryFits, RowsFit}
+use Rattle.trace_laws.specs.Numbers.{DirectiveFits, RowsFit}
 use Rattle.trace_laws.proofs.DrawnLaws.{run_is_drawn}
 use Rattle.trace_laws.proofs.Read.{report_is_read}
 

@@ -4,13 +4,13 @@ use Rattle.std.specs.Prelude.{Ok}
 use Rattle.mcal_base.specs.declared.directive.Directive.{Directive}
 use Rattle.run_model.specs.Entry.{Entry}
 use Rattle.bench_report.specs.Limit.{most_bytes}
+use Rattle.bench_report.specs.Numbers.{Each, EntryFits}
 use Rattle.bench_report.specs.Report.{report, report_lines}
 use Rattle.bench_report.specs.Rows.{Row}
 use Rattle.trace_reader.specs.Reading.{read_trace}
 use Rattle.trace_reader.specs.Told.{told_line}
-use Rattle.trace_reader.specs.Trace.{Each}
 use Rattle.trace_reader.proofs.Whole.{trace_again}
-use Rattle.trace_laws.specs.Numbers.{DirectiveFits, EntryFits, RowsFit}
+use Rattle.trace_laws.specs.Numbers.{DirectiveFits, RowsFit}
 use Rattle.trace_laws.proofs.Within.{lines_within, few_lines}
 
 pub report_is_read : (script : List Directive) (es : List Entry) (shows : List (List Row)) → Each DirectiveFits script → Each EntryFits es → Each RowsFit shows → length (report true script es shows) ≤ most_bytes →

@@ -1,5 +1,5 @@
 -- What lines may tell of a drawing that stands for the frames of a run, and how it stands behind them.
-use Rattle.std.proofs.Common.{◌≡◌, ℕ, suc, ◌+◌, ◌-◌, ◌<◌, ◌≤◌, Bool, true, List, [], ◌∷◌, ◌++◌, length, map, drop, Option, Some, None, refl, ◌∙◌, ap, sym, subst, arith}
+use Rattle.std.proofs.Common.{◌≡◌, ℕ, suc, ◌+◌, ◌-◌, ◌<◌, ◌≤◌, Bool, true, false, List, [], ◌∷◌, ◌++◌, length, map, drop, Option, Some, None, refl, ◌∙◌, ap, sym, subst, arith}
 use Rattle.std.specs.Prelude.{◌==◌, nat_lt, nat_le, min, option_map, if◌then◌else◌}
 use Rattle.std.proofs.lemmas.Bool.Decides.{nat_tests}
 use Rattle.std.proofs.lemmas.Slice.Eq.{bytes_eq-Decides}
@@ -10,7 +10,7 @@ use Rattle.mcal_base.specs.declared.moves.Move.{Move}
 use Rattle.mcal_base.specs.declared.moves.Move.TheVariants as moves
 use Rattle.run_model.specs.declared.item.Stepped.{Stepped}
 use Rattle.bench_report.specs.Lines.{Line, Restarts, Shows}
-use Rattle.bench_report.specs.Report.{frames_after_end, step_lines, move_lines, end_lines}
+use Rattle.bench_report.specs.Report.{frames_after_end, step_lines, wait_lines, move_lines, end_lines}
 use Rattle.bench_report.specs.Rows.{Row}
 use Rattle.bench_report.specs.declared.frames.Purpose.{Purpose}
 use Rattle.bench_report.specs.declared.frames.Purpose.TheVariants as purposes
@@ -74,6 +74,10 @@ fits_by d t count e h k = rw (few_le (length d.frames) (rw e h)) k
 pub shown_told : (n : ℕ) (d : Drawing) (rows : List Row) (frames : List Purpose) (count left : ℕ) → Stands d.frames d.steps frames count left → Tells n d (map (λ row. Shows row) rows) (λ e. Stands e.frames e.steps frames count left)
 shown_told n d [] frames count left h = h
 shown_told n d (row ∷ rows) frames count left h = (fits_by d tells.Shown count h.size h.few refl, shown_told n (put d n whats.Shown) rows frames count left (record { purposes = h.purposes; begun = h.begun; size = h.size; few = h.few; room = h.room }))
+
+pub wait_told : (n : ℕ) (d : Drawing) (waited : Bool) (ticks : ℕ) (frames : List Purpose) (count left : ℕ) → Stands d.frames d.steps frames count left → Tells n d (wait_lines waited ticks) (λ e. Stands e.frames e.steps frames count left)
+wait_told n d true ticks frames count left h = (fits_by d (tells.Waited ticks) count h.size h.few refl, record { purposes = h.purposes; begun = h.begun; size = h.size; few = h.few; room = h.room })
+wait_told n d false ticks frames count left h = h
 
 -- ---- what a step leaves
 

@@ -7,7 +7,7 @@ use Rattle.mcal_base.specs.declared.directive.Directive.{Directive}
 use Rattle.run_model.specs.Entry.{Entry}
 use Rattle.script_runner.specs.Scripts.{LinesRise}
 use Rattle.bench_report.specs.Lines.{Line, Done}
-use Rattle.bench_report.specs.Report.{Numbered, chapter_lines, chapter_frames, chapter_shows, is_step, with_done, own_entries, later_entries, all_numbered, report_lines}
+use Rattle.bench_report.specs.Report.{Numbered, chapter_lines, chapter_frames, chapter_shows, is_traced, with_done, own_entries, later_entries, all_numbered, report_lines}
 use Rattle.bench_report.specs.Rows.{Row}
 use Rattle.bench_report.specs.declared.frames.Purpose.{Purpose}
 use Rattle.trace_reader.specs.Told.{told_line}
@@ -90,13 +90,13 @@ behind_are n (line ∷ lines) rest h = rw (same_line n) (behind_are n lines rest
 
 -- ---- each directive prints something
 
-some_by : (b : Bool) (lines : List Line) → list_all is_step lines ≡ b → 0 < length (cond b (lines ++ Done ∷ []) lines)
+some_by : (b : Bool) (lines : List Line) → list_all is_traced lines ≡ b → 0 < length (cond b (lines ++ Done ∷ []) lines)
 some_by true lines h = let a = length-append lines (Done ∷ []) in omega (arith, a)
 some_by false [] h = cc
 some_by false (line ∷ lines) h = omega arith
 
 some_line : (lines : List Line) → 0 < length (with_done lines)
-some_line lines = some_by (list_all is_step lines) lines refl
+some_line lines = some_by (list_all is_traced lines) lines refl
 
 -- ---- the whole
 

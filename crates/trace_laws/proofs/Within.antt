@@ -11,13 +11,14 @@ use Rattle.mcal_base.specs.declared.moves.Move.{Move}
 use Rattle.mcal_base.specs.declared.moves.Move.TheVariants as moves
 use Rattle.run_model.specs.Entry.{Entry, Said, Happens, Begins, Stays, Steps, Resets}
 use Rattle.bench_report.specs.Lines.{Line, Holds, Makes, Notes, Errs, Returns, Leaves, Restarts, Shows, Done, line_text, numbered}
-use Rattle.bench_report.specs.Report.{Numbered, purpose_of, frames_after, frames_after_end, step_lines, move_lines, end_lines, order_lines, said_lines, chapter_lines, chapter_frames, chapter_shows, is_step, with_done, own_entries, later_entries, all_numbered, report_lines, end_of, report}
+use Rattle.bench_report.specs.Numbers.{IsNumber, HasMoveNumbers, Each, AnswerFits, HappensFits, SaidFits, EntryFits}
+use Rattle.bench_report.specs.Report.{Numbered, purpose_of, frames_after, frames_after_end, step_lines, move_lines, end_lines, wait_lines, order_lines, said_lines, steps_next, chapter_lines, chapter_frames, chapter_shows, is_traced, with_done, own_entries, later_entries, all_numbered, report_lines, end_of, report}
 use Rattle.bench_report.specs.Rows.{Row}
 use Rattle.bench_report.specs.Shown.{next_rows, shows_after, shows_after_order}
 use Rattle.bench_report.specs.declared.frames.Purpose.{Purpose}
 use Rattle.bench_report.specs.declared.frames.Purpose.TheVariants as purposes
-use Rattle.trace_reader.specs.Trace.{IsNumber, HasMoveNumbers, HasLineNumbers, IsWithin, Each, lines_text}
-use Rattle.trace_laws.specs.Numbers.{AnswerFits, SaidFits, EntryFits, OrderFits, DirectiveFits, RowFits, RowsFit}
+use Rattle.trace_reader.specs.Trace.{HasLineNumbers, IsWithin, lines_text}
+use Rattle.trace_laws.specs.Numbers.{OrderFits, DirectiveFits, RowFits, RowsFit}
 
 -- ---- lists
 
@@ -62,21 +63,26 @@ rows_fit : (rows : List Row) → RowsFit rows → Each HasLineNumbers (map (λ r
 rows_fit [] h = tt
 rows_fit (row ∷ rows) h = (h.0, rows_fit rows h.1)
 
-order_fits : (rows : List Row) (what : Order) → RowsFit rows → Each HasLineNumbers (order_lines rows what)
-order_fits rows (orders.Show what) h = rows_fit rows h
-order_fits rows _ h = tt
+wait_fits : (waited : Bool) (ticks : ℕ) → IsNumber ticks → Each HasLineNumbers (wait_lines waited ticks)
+wait_fits true ticks h = (h, tt)
+wait_fits false ticks h = tt
+
+order_fits : (waited : Bool) (rows : List Row) (what : Order) → RowsFit rows → HappensFits what → Each HasLineNumbers (order_lines waited rows what)
+order_fits waited rows (orders.Show what) h k = rows_fit rows h
+order_fits waited rows (orders.Tick ticks) h k = wait_fits waited ticks k
+order_fits waited rows _ h k = tt
 
 next_fit : (shows : List (List Row)) → Each RowsFit shows → RowsFit (next_rows shows)
 next_fit [] h = tt
 next_fit (rows ∷ shows) h = h.0
 
-said_fit : (depth : ℕ) (frames : List Purpose) (rows : List Row) (said : Said) → IsNumber depth → Each PurposeFits frames → RowsFit rows → SaidFits said → Each HasLineNumbers (said_lines true depth frames rows said)
-said_fit depth frames rows (Happens what) d f r h = order_fits rows what r
-said_fit depth frames rows Begins d f r h = tt
-said_fit depth frames rows (Stays cause) d f r h = (tt, tt)
-said_fit depth frames rows (Steps s) d f r h =
+said_fit : (depth : ℕ) (frames : List Purpose) (rows : List Row) (next : Bool) (said : Said) → IsNumber depth → Each PurposeFits frames → RowsFit rows → SaidFits said → Each HasLineNumbers (said_lines true depth frames rows next said)
+said_fit depth frames rows next (Happens what) d f r h = order_fits next rows what r h
+said_fit depth frames rows next Begins d f r h = tt
+said_fit depth frames rows next (Stays cause) d f r h = (tt, tt)
+said_fit depth frames rows next (Steps s) d f r h =
     ((d, h.0, h.1, h.2, h.3), each_append HasLineNumbers (move_lines s.made) (end_lines frames s.ended) (made_fit s.made h.0) (end_fits frames s.ended f h.4))
-said_fit depth frames rows (Resets reason dropped) d f r h = (h, tt)
+said_fit depth frames rows next (Resets reason dropped) d f r h = (h, tt)
 
 -- ---- what is left behind an item
 
@@ -126,7 +132,7 @@ shows_fit shows (Resets reason dropped) h = h
 chapter_fits : (order : Order) (frames : List Purpose) (shows : List (List Row)) (es : List Entry) → OrderFits order → Each PurposeFits frames → Each RowsFit shows → Each EntryFits es → Each HasLineNumbers (chapter_lines true order frames shows es)
 chapter_fits order frames shows [] o f r h = tt
 chapter_fits order frames shows (e ∷ es) o f r h =
-    each_append HasLineNumbers (said_lines true e.depth frames (next_rows shows) e.said) _ (said_fit e.depth frames (next_rows shows) e.said h.0.1 f (next_fit shows r) h.0.2)
+    each_append HasLineNumbers (said_lines true e.depth frames (next_rows shows) (steps_next es) e.said) _ (said_fit e.depth frames (next_rows shows) (steps_next es) e.said h.0.1 f (next_fit shows r) h.0.2)
     (chapter_fits order (frames_after order frames e.said) (shows_after shows e.said) es o (frames_fit order frames e.said o f) (shows_fit shows e.said r) h.1)
 
 frames_left : (order : Order) (frames : List Purpose) (es : List Entry) → OrderFits order → Each PurposeFits frames → Each PurposeFits (chapter_frames order frames es)
@@ -169,7 +175,7 @@ script_fits frames shows (d ∷ script) es s f r h =
     let own = own_entries d.line es in
     let lines = chapter_lines true d.order frames shows own in
     each_append IsWithin (all_numbered d.line (with_done lines)) _
-    (numbered_fit d.line (with_done lines) s.0.0 (done_by (list_all is_step lines) lines (chapter_fits d.order frames shows own s.0.1 f r (own_fit d.line es h))))
+    (numbered_fit d.line (with_done lines) s.0.0 (done_by (list_all is_traced lines) lines (chapter_fits d.order frames shows own s.0.1 f r (own_fit d.line es h))))
     (script_fits (chapter_frames d.order frames own) (chapter_shows shows own) script (later_entries d.line es) s.1 (frames_left d.order frames own s.0.1 f) (shows_left shows own r) (later_fit d.line es h))
 
 -- all lines of a report are within what a reader reads

@@ -2,8 +2,8 @@
 
 ghost use Rattle.std.specs.Prelude.{◌<◌, length};
 ghost use Rattle.run_model.specs.Stops.{steps_in};
-ghost use Rattle.trace_reader.specs.Trace.{Each, IsNumber};
-ghost use Rattle.trace_laws.specs.Numbers.{DirectiveFits, EntryFits, ItemFits, OrderFits};
+ghost use Rattle.bench_report.specs.Numbers.{Each, IsNumber, EntryFits};
+ghost use Rattle.trace_laws.specs.Numbers.{DirectiveFits, ItemFits, OrderFits};
 
 use mcal_base::{Directive, Order};
 use run_model::{Item, Journal};

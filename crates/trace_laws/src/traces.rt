@@ -2,11 +2,11 @@
 
 ghost use Rattle.std.specs.Prelude.{◌≡◌, ◌≤◌, List, [], true, Ok, length, map};
 ghost use Rattle.bench_report.specs.Limit.{most_bytes};
+ghost use Rattle.bench_report.specs.Numbers.{Each};
 ghost use Rattle.bench_report.specs.Report.{report, report_lines};
 ghost use Rattle.bench_report.specs.Rows.{Row};
 ghost use Rattle.trace_reader.specs.Reading.{read_trace};
 ghost use Rattle.trace_reader.specs.Told.{told_line};
-ghost use Rattle.trace_reader.specs.Trace.{Each};
 ghost use Rattle.trace_laws.specs.Numbers.{RowsFit};
 
 use crate::numbers::{journal_fits, script_fits};

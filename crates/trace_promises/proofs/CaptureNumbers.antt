@@ -20,7 +20,7 @@ use Rattle.icu_driver.specs.declared.call.ChannelCall.{ChannelCall}
 use Rattle.icu_driver.specs.declared.call.ChannelCall.TheVariants.{SetActivationCondition, EnableNotification, DisableNotification, GetInputState, EnableEdgeDetection, DisableEdgeDetection, ResetEdgeCount, EnableEdgeCount, DisableEdgeCount, GetEdgeNumbers, StartTimestamp, StopTimestamp, GetTimestampIndex, StartSignalMeasurement, StopSignalMeasurement, GetTimeElapsed, GetDutyCycleValues}
 use Rattle.icu_driver.specs.declared.driver.Channel.{Channel}
 use Rattle.icu_driver.specs.declared.driver.IcuDriver.{IcuDriver}
-use Rattle.trace_reader.specs.Trace.{IsNumber, Each}
+use Rattle.bench_report.specs.Numbers.{IsNumber, Each}
 use Rattle.trace_laws.proofs.Within.{each_append}
 use Rattle.trace_promises.specs.Keeping.{WorldFits, HappeningFits, Keeps}
 use Rattle.trace_promises.specs.Numbers.{EdgeFits, StampFits, CaptureFits, CapturesFit}
@@ -142,7 +142,7 @@ serving_fits false d s c h = h
 stays : (d : IcuDriver) (w : World) (s : IcuState) (x : Happening Call) → WorldFits w → HappeningFits x → CapturesFit s → CapturesFit (state_by s (happens d w s x))
 stays d w s (Acts call committed) v f h = act_fits d s call (error_by d call (not s.initialised) (is_on s call)) h
 stays d w s (Serves l received) v f h = serving_fits (ready d w s l) d s (channel_number l) h
-stays d w s (Starts u received) v f h = h
+stays d w s (Starts u made_by received) v f h = h
 stays d w s (Aborts u) v f h = h
 stays d w s (Moves order) v f h = moved_fits d w s order h
 stays d w s (Restarts reason) v f h = λ c. at_place CaptureFits [] c untouched tt untouched_fits

@@ -16,7 +16,7 @@ use Rattle.mcu_driver.specs.declared.call.Call.TheVariants.{Init, InitRamSection
 use Rattle.mcu_driver.specs.declared.call.ClockCall.TheVariants.{InitClock, DistributePllClock}
 use Rattle.mcu_driver.specs.declared.driver.McuDriver.{McuDriver}
 use Rattle.mcu_driver.specs.declared.driver.Section.{Section}
-use Rattle.trace_reader.specs.Trace.{IsNumber, Each}
+use Rattle.bench_report.specs.Numbers.{IsNumber, Each}
 use Rattle.trace_promises.specs.Keeping.{WorldFits, HappeningFits, Keeps}
 use Rattle.trace_promises.specs.Numbers.{SectionFits, FillFits, ClockFits}
 use Rattle.trace_promises.proofs.Lists.{chosen, at_place}
@@ -67,7 +67,7 @@ module _ (d : McuDriver) (small : (n : ℕ) → Small (section_of d n)) where
   stays : (w : World) (s : McuState) (x : Happening Call) → WorldFits w → HappeningFits x → ClockFits s → ClockFits (state_by s (happens d w s x))
   stays w s (Acts call times) v f h = act_fits w s call (error_by d call (not s.initialised) (not (is_locked w s.pll))) h
   stays w s (Serves line received) v f h = h
-  stays w s (Starts u received) v f h = h
+  stays w s (Starts u made_by received) v f h = h
   stays w s (Aborts u) v f h = h
   stays w s (Moves order) v f h = h
   stays w s (Restarts reason) v f h = tt

@@ -38,7 +38,7 @@ use Rattle.mcal_config.specs.Icu as icu_table
 use Rattle.mcal_config.specs.Adc as adc_table
 use Rattle.mcal_config.specs.Spi as spi_table
 use Rattle.mcal_config.specs.Whole.{tree_of, is_bare, default_board, modules_checks, modules_value, config_checks, config_of, fault_of, record_of}
-use Rattle.trace_reader.specs.Trace.{IsNumber, Each}
+use Rattle.bench_report.specs.Numbers.{IsNumber, Each}
 use Rattle.trace_promises.specs.Numbers.{SectionFits, DefaultFits, ConfigFits}
 
 -- ---- numbers

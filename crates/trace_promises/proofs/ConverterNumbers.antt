@@ -21,7 +21,7 @@ use Rattle.adc_machine.specs.declared.call.GroupCall.TheVariants.{SetupResultBuf
 use Rattle.adc_machine.specs.declared.call.ResultBuffer.{ResultBuffer}
 use Rattle.adc_machine.specs.declared.table.AdcTable.{AdcTable}
 use Rattle.adc_machine.specs.declared.table.Group as configured
-use Rattle.trace_reader.specs.Trace.{IsNumber, Each}
+use Rattle.bench_report.specs.Numbers.{IsNumber, Each}
 use Rattle.trace_laws.proofs.Within.{each_append}
 use Rattle.trace_promises.specs.Keeping.{SampleFits, WorldFits, HappeningFits, Keeps}
 use Rattle.trace_promises.specs.Numbers.{RequestFits, GroupFits, RoundFits, StoredFits, ConverterFits}
@@ -205,7 +205,7 @@ module _ (d : AdcTable) where
   stays : (w : World) (s : AdcState) (x : Happening Call) → WorldFits w → HappeningFits x → ConverterFits s → ConverterFits (state_by s (happens d w s x))
   stays w s (Acts call times) v f h = act_fits s call (error_by d call (circumstances d s call)) h
   stays w s (Serves l received) v f h = serving_fits (ready d w s l) w s l v h
-  stays w s (Starts u received) v f h = start_fits w s (number_of u) h
+  stays w s (Starts u made_by received) v f h = start_fits w s (number_of u) h
   stays w s (Aborts u) v f h = abort_fits w s (number_of u) v h
   stays w s (Moves order) v f h = moved_fits s order h
   stays w s (Restarts reason) v f h = (tt, tt, tt)

@@ -15,7 +15,7 @@ use Rattle.bench_script.specs.Lines.{file, file_of_parts, is_separator, before_c
 use Rattle.bench_script.specs.Productions.{HoldsNothing, HoldsOrder, HoldDirectives, first_word}
 use Rattle.bench_script.specs.Script.{script}
 use Rattle.mcal_config.specs.Whole.{fault_of}
-use Rattle.trace_reader.specs.Trace.{Each}
+use Rattle.bench_report.specs.Numbers.{Each}
 use Rattle.trace_drawing.specs.Judged.{judged, drawn, is_mark, split_parts, split_report, file_size, lines_in}
 use Rattle.trace_drawing.specs.Program.{text_under}
 use Rattle.trace_drawing.specs.declared.program.Form.{Form}

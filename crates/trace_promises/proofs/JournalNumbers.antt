@@ -8,9 +8,8 @@ use Rattle.run_model.specs.declared.item.Item.{Item}
 use Rattle.run_model.specs.declared.item.Span.{Span}
 use Rattle.run_model.specs.declared.item.What.{What}
 use Rattle.run_model.specs.declared.item.What.TheVariants as whats
-use Rattle.trace_reader.specs.Trace.{IsNumber, Each}
+use Rattle.bench_report.specs.Numbers.{IsNumber, Each, SaidFits, EntryFits}
 use Rattle.trace_laws.proofs.Within.{each_take, each_drop}
-use Rattle.trace_laws.specs.Numbers.{SaidFits, EntryFits}
 use Rattle.trace_promises.specs.Keeping.{OrderBrings}
 use Rattle.trace_promises.specs.Numbers.{SaidBrings, BringsNumbers, HardwareBrings, WhatBrings, ItemBrings}
 

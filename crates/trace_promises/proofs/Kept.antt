@@ -15,12 +15,12 @@ use Rattle.run_model.specs.Moment.{Setting, Moment, Deed, Begins, Enters, Steps,
 use Rattle.run_model.specs.Script.{order_at, beginnings_of, moved_by, deed_of}
 use Rattle.run_model.specs.World.{World, world_after}
 use Rattle.run_model.specs.declared.item.Stepped.{Stepped}
-use Rattle.step_runner.specs.Union.{union_setting, lift_out, in_both, in_first}
+use Rattle.step_runner.specs.Union.{first_call, second_call, union_setting, lift_out, in_both, in_first}
 use Rattle.step_runner.specs.declared.either.Either.{Either}
 use Rattle.step_runner.specs.declared.either.Either.TheVariants.{Left, Right}
+use Rattle.bench_report.specs.Numbers.{IsNumber, Each}
 use Rattle.bench_report.specs.Rows.{Row}
 use Rattle.bench_report.specs.Showing.{Showing, item_rows, shows_from}
-use Rattle.trace_reader.specs.Trace.{IsNumber, Each}
 use Rattle.trace_promises.specs.Keeping.{OrderBrings, WorldFits, HappeningFits, Keeps}
 use Rattle.trace_promises.specs.Numbers.{SaidBrings, BringsNumbers}
 
@@ -61,7 +61,7 @@ module _ {S T : Type 0} (P : S → Type 0) (Q : T → Type 0) where
     both_stay w s (Acts (Left c) times) v f k = at_first s _ (a.stays w s.0 (Acts c times) v f k.0) k.1
     both_stay w s (Acts (Right d) times) v f k = at_second s _ k.0 (b.stays w s.1 (Acts d times) v f k.1)
     both_stay w s (Serves l r) v f k = at_one s (ours l) _ _ (at_first s _ (a.stays w s.0 (Serves l r) v f k.0) k.1) (at_second s _ k.0 (b.stays w s.1 (Serves l r) v f k.1))
-    both_stay w s (Starts u r) v f k = at_either s (g.machine.happens w s.0 (Starts u r)) (h.machine.happens w s.1 (Starts u r)) k (a.stays w s.0 (Starts u r) v f k.0) (b.stays w s.1 (Starts u r) v f k.1)
+    both_stay w s (Starts u made_by r) v f k = at_either s (g.machine.happens w s.0 (Starts u (first_call made_by) r)) (h.machine.happens w s.1 (Starts u (second_call made_by) r)) k (a.stays w s.0 (Starts u (first_call made_by) r) v f k.0) (b.stays w s.1 (Starts u (second_call made_by) r) v f k.1)
     both_stay w s (Aborts u) v f k = at_either s (g.machine.happens w s.0 (Aborts u)) (h.machine.happens w s.1 (Aborts u)) k (a.stays w s.0 (Aborts u) v f k.0) (b.stays w s.1 (Aborts u) v f k.1)
     both_stay w s (Moves order) v f k = at_both s (g.machine.happens w s.0 (Moves order)) (h.machine.happens w s.1 (Moves order)) k (a.stays w s.0 (Moves order) v f k.0) (b.stays w s.1 (Moves order) v f k.1)
     both_stay w s (Restarts reason) v f k = at_both s (g.machine.happens w s.0 (Restarts reason)) (h.machine.happens w s.1 (Restarts reason)) k (a.stays w s.0 (Restarts reason) v f k.0) (b.stays w s.1 (Restarts reason) v f k.1)

@@ -1,7 +1,7 @@
 -- What holds of each element holds of one of them.
 use Rattle.std.proofs.Common.{ℕ, zero, suc, Bool, true, false, List, [], ◌∷◌}
 use Rattle.std.specs.Prelude.{slice_index_or, if◌then◌else◌}
-use Rattle.trace_reader.specs.Trace.{Each}
+use Rattle.bench_report.specs.Numbers.{Each}
 
 pub chosen : {T : Type 0} (P : T → Type 0) (b : Bool) (x y : T) → P x → P y → P (if b then x else y)
 chosen P true x y h k = h

@@ -5,7 +5,7 @@ use Rattle.std.specs.List.{slice_split, onto_first, join_with_byte}
 use Rattle.std.proofs.lemmas.List.Elements.{All-nil, All-cons}
 use Rattle.std.proofs.lemmas.List.Splits.{slice_split_none, slice_split_at}
 use Rattle.bench_script.proofs.Parts.{some_part}
-use Rattle.trace_reader.specs.Trace.{Each}
+use Rattle.bench_report.specs.Numbers.{Each}
 
 -- the parts of a text between its line feeds
 abbrev pub parts : List ℕ → List (List ℕ)

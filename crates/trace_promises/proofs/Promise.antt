@@ -23,8 +23,7 @@ use Rattle.trace_drawing.specs.Judged.{judged}
 use Rattle.trace_drawing.specs.Program.{◌>>=◌, drawing_under, text_under, printed}
 use Rattle.trace_drawing.specs.declared.program.Form.{Form}
 use Rattle.trace_laws.proofs.Promise.{is_drawn}
-use Rattle.trace_laws.specs.Numbers.{EntryFits}
-use Rattle.trace_reader.specs.Trace.{Each}
+use Rattle.bench_report.specs.Numbers.{EntryFits, Each}
 use Rattle.trace_promises.specs.Numbers.{BringsNumbers}
 use Rattle.trace_promises.specs.Viewed.{EndsLine, input, IsViewed}
 use Rattle.trace_promises.proofs.ConfigNumbers.{read_fits}

@@ -30,7 +30,7 @@ use Rattle.spi_machine.specs.declared.call.Pointer.TheVariants.{Users, Null}
 use Rattle.spi_machine.specs.declared.call.SequenceCall.{SequenceCall}
 use Rattle.spi_machine.specs.declared.call.SequenceCall.TheVariants.{AsyncTransmit, Cancel}
 use Rattle.spi_machine.specs.declared.table.SpiTable.{SpiTable}
-use Rattle.trace_reader.specs.Trace.{IsNumber, Each}
+use Rattle.bench_report.specs.Numbers.{IsNumber, Each}
 use Rattle.trace_laws.proofs.Within.{each_append, each_take, each_drop}
 use Rattle.trace_promises.specs.Keeping.{OrderBrings, WorldFits, HappeningFits, Keeps}
 use Rattle.trace_promises.specs.Numbers.{DefaultFits, ChannelFits, SentFits, RunFits, PairFits, WireFits, SerialFits}
@@ -279,7 +279,7 @@ module _ (d : SpiTable) (small : (c : ℕ) → Small (channel_of d c)) where
   stays : (w : World) (s : SpiState) (x : Happening Call) → WorldFits w → HappeningFits x → SerialFits s → SerialFits (state_by s (happens d w s x))
   stays w s (Acts call times) v f h = act_fits s call (error_by d call (is_off s.mode) (finds_held d s call)) h
   stays w s (Serves l received) v f h = serving_fits (ready w s l) w s l received f h
-  stays w s (Starts u received) v f h = start_fits w s (number_of u) received (next_at d s (number_of u)) f h
+  stays w s (Starts u made_by received) v f h = start_fits w s (number_of u) received (next_at d s (number_of u)) f h
   stays w s (Aborts u) v f h = h
   stays w s (Moves order) v f h = moved_fits w s order f h
   stays w s (Restarts reason) v f h = (tt, tt, tt)

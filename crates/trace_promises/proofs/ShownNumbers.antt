@@ -22,6 +22,7 @@ use Rattle.spi_jobs.specs.declared.channel.Channel.{Channel}
 use Rattle.spi_machine.specs.Numbered.{word_at}
 use Rattle.spi_machine.specs.State.{channel_at, internal_word, wire_at}
 use Rattle.spi_machine.specs.Table as serial_table
+use Rattle.bench_report.specs.Numbers.{IsNumber, Each}
 use Rattle.bench_report.specs.Rows.{Row}
 use Rattle.bench_report.specs.declared.rows.RowName.{RowName}
 use Rattle.bench_report.specs.declared.rows.RowName.TheVariants as names
@@ -30,7 +31,7 @@ use Rattle.mcal_system.specs.Setting.{SystemState, clock_setting, pin_setting, t
 use Rattle.mcal_system.specs.Shows.{level_at, ram_at, size_at, stamp_at, buffer_of, result_at, results_at, serial_channel}
 use Rattle.bench_top.specs.Runs.{shows_of}
 use Rattle.bench_top.specs.Shows.{level_value, has_pin, level_row, pin_row, section_rows, stamps_row, stamps_rows, results_row, result_rows, channel_rows, serial_rows, wire_row, show_rows}
-use Rattle.trace_reader.specs.Trace.{IsNumber, HasNameNumbers, HasValueNumbers, Each}
+use Rattle.trace_reader.specs.Trace.{HasNameNumbers, HasValueNumbers}
 use Rattle.trace_laws.specs.Numbers.{RowFits, RowsFit}
 use Rattle.trace_laws.proofs.Within.{each_append}
 use Rattle.trace_promises.specs.Keeping.{Keeps}

@@ -6,7 +6,7 @@ use Rattle.run_model.specs.Frame.{state_by}
 use Rattle.run_model.specs.Machine.{Happening, Acts, Serves, Starts, Aborts, Moves, Restarts}
 use Rattle.run_model.specs.Moment.{Setting}
 use Rattle.run_model.specs.World.{World, Sample}
-use Rattle.trace_reader.specs.Trace.{IsNumber, Each}
+use Rattle.bench_report.specs.Numbers.{IsNumber, Each}
 
 -- what an order brings: the level of an analog input, or words
 abbrev pub OrderBrings : Order → Type 0
@@ -24,7 +24,7 @@ WorldFits w = Each SampleFits w.samples
 abbrev pub HappeningFits : {Call : Type 0} → Happening Call → Type 0
 HappeningFits (Acts call times) = Unit {0}
 HappeningFits (Serves line received) = IsNumber received
-HappeningFits (Starts u received) = IsNumber received
+HappeningFits (Starts u made_by received) = IsNumber received
 HappeningFits (Aborts u) = Unit {0}
 HappeningFits (Moves order) = OrderBrings order
 HappeningFits (Restarts reason) = Unit {0}

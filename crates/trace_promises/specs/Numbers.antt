@@ -20,7 +20,7 @@ use Rattle.spi_machine.specs.Channels.{ChannelState}
 use Rattle.spi_machine.specs.State.{SpiState}
 use Rattle.spi_machine.specs.Transfers.{JobWord, Run}
 use Rattle.mcal_system.specs.Setting.{SystemState}
-use Rattle.trace_reader.specs.Trace.{IsNumber, Each}
+use Rattle.bench_report.specs.Numbers.{IsNumber, Each}
 use Rattle.trace_promises.specs.Keeping.{OrderBrings}
 
 -- of a configuration: its RAM sections are numbered, and filled, with such numbers, and its serial channels send such

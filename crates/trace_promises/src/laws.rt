@@ -8,7 +8,7 @@ ghost use Rattle.bench_top.specs.Runs.{shows_of};
 ghost use Rattle.bench_top.specs.Statuses.{IsRunDone};
 ghost use Rattle.bench_top.specs.declared.words.Task.TheVariants.{Run};
 ghost use Rattle.bench_top.specs.declared.words.Printing.TheVariants.{Traced};
-ghost use Rattle.trace_reader.specs.Trace.{Each, IsNumber};
+ghost use Rattle.bench_report.specs.Numbers.{Each, IsNumber};
 ghost use Rattle.trace_laws.specs.Lines.{HasLines};
 ghost use Rattle.trace_laws.specs.Numbers.{RowsFit};
 ghost use Rattle.trace_promises.specs.Numbers.{BringsNumbers, ConfigFits, ItemBrings};

@@ -8,7 +8,7 @@ use Rattle.std.proofs.lemmas.Bool.Decides.{nat_tests}
 use Rattle.std.proofs.lemmas.Fmt.{digits_decimal, digits_value-decimal, decimal_nonempty}
 use Rattle.std.proofs.lemmas.Str.Parse.{IsNumeralModel, numerals_by_fold}
 use Rattle.trace_reader.specs.Numbers.{number_from, number}
-use Rattle.trace_reader.specs.Trace.{IsNumber}
+use Rattle.bench_report.specs.Numbers.{IsNumber}
 
 -- the number that digits give after a number
 abbrev pub read_on : ℕ → List ℕ → ℕ

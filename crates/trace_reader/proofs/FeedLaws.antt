@@ -24,14 +24,15 @@ use Rattle.mcal_base.specs.declared.register.Reg.{Reg}
 use Rattle.mcal_base.specs.declared.register.Reg.TheVariants as regs
 use Rattle.mcal_base.specs.declared.service.Service.{Service}
 use Rattle.mcal_base.specs.declared.service.Service.TheVariants as services
-use Rattle.bench_report.specs.Lines.{Line, Holds, Makes, Notes, Errs, Returns, Leaves, Restarts, Shows, Done, event_text, move_text, head_text, words_text, line_text, reason_text}
+use Rattle.bench_report.specs.Lines.{Line, Holds, Makes, Waits, Notes, Errs, Returns, Leaves, Restarts, Shows, Done, event_text, move_text, head_text, words_text, line_text, reason_text}
+use Rattle.bench_report.specs.Numbers.{IsNumber, HasNumbers, HasMoveNumbers, HasEventNumber, Each}
 use Rattle.bench_report.specs.Registers.{register_text}
 use Rattle.bench_report.specs.Rows.{name_text, values_text}
 use Rattle.bench_report.specs.declared.rows.RowName.{RowName}
 use Rattle.bench_report.specs.declared.rows.RowName.TheVariants as names
 use Rattle.bench_report.specs.declared.rows.Value.{Value}
 use Rattle.bench_report.specs.declared.rows.Value.TheVariants as values
-use Rattle.trace_reader.specs.Trace.{IsNumber, HasNumbers, HasMoveNumbers, HasEventNumber, HasLineNumbers, HasNameNumbers, HasValueNumbers, Each}
+use Rattle.trace_reader.specs.Trace.{HasLineNumbers, HasNameNumbers, HasValueNumbers}
 use Rattle.trace_reader.proofs.Digits.{none, none_append, no_feed}
 use Rattle.trace_reader.proofs.LineLaws.{ComesAny, comes}
 use Rattle.trace_reader.proofs.RegisterLaws.{wide}
@@ -278,17 +279,22 @@ register_feedless (regs.SerialWidth n) h = before n (codes ".WIDTH") h refl
 register_feedless (regs.SerialData n) h = before n (codes ".DATA") h refl
 register_feedless (regs.SerialReceived n) h = before n (codes ".RX") h refl
 register_feedless (regs.SerialState n) h = before n (codes ".STATE") h refl
+register_feedless (regs.SerialWait n) h = before n (codes ".WAIT") h refl
 register_feedless (regs.SerialAck n) h = before n (codes ".ACK") h refl
 register_feedless (regs.PinDirectionSet n) h = before n (codes "") h refl
 register_feedless (regs.PinDirectionClear n) h = before n (codes "") h refl
 register_feedless (regs.PinOutSet n) h = before n (codes "") h refl
 register_feedless (regs.PinOutClear n) h = before n (codes "") h refl
 register_feedless (regs.PinMode n) h = before n (codes ".MODE") h refl
+register_feedless (regs.PortPut n) h = before n (codes ".PUT") h refl
+register_feedless (regs.PortLevels n) h = before n (codes ".IN") h refl
+register_feedless (regs.PinFlip n) h = before n (codes ".FLIP") h refl
 register_feedless regs.ClockPll h = refl
 register_feedless regs.ClockLock h = refl
 register_feedless regs.ClockRate h = refl
 register_feedless regs.ResetReason h = refl
 register_feedless regs.ResetRequest h = refl
+register_feedless regs.WatchdogLoad h = refl
 register_feedless (regs.Ram n) h = before n (codes "") h refl
 
 found_feedless : (word : List ℕ) (b : Bool) (service : Service) (error : List ℕ) → none nl word ≡ true → none nl error ≡ true → none nl ((if b then codes "runtime" else word) ++ (codes " " ++ (service_text service ++ (codes " " ++ error)))) ≡ true
@@ -346,6 +352,7 @@ step_feedless depth value received m e c d h v k =
 pub line_feedless : (line : Line) → HasLineNumbers line → none nl (line_text line) ≡ true
 line_feedless (Holds cause) h = cause_feedless cause
 line_feedless (Makes depth made value received event) h = step_feedless depth value received made event (comes made received h.3) h.0 h.1 h.2 h.4
+line_feedless (Waits ticks) h = no_feed ticks h
 line_feedless (Notes n) h = behind (notice_text n.kind) (decimal n.id) (notice_feedless n.kind) (no_feed n.id h)
 line_feedless (Errs n) h = found_feedless (codes "error") n.runtime n.service (error_text n.error) refl (error_feedless n.error)
 line_feedless (Returns service head ns) h = none_append nl (service_text service) _ (service_feedless service) (none_append nl (head_text head) (words_text ns) (head_feedless head) (words_feedless ns h))

@@ -9,7 +9,8 @@ use Rattle.trace_reader.specs.Guess.{words_of, guess}
 use Rattle.trace_reader.specs.Numbers.{number}
 use Rattle.trace_reader.specs.Reading.{line_with, told_where, read_number, read_words, read_line, parts_of, ended, go_on, read_parts}
 use Rattle.trace_reader.specs.Told.{told, told_line}
-use Rattle.trace_reader.specs.Trace.{IsNumber, HasLineNumbers, IsLineOf}
+use Rattle.bench_report.specs.Numbers.{IsNumber}
+use Rattle.trace_reader.specs.Trace.{HasLineNumbers, IsLineOf}
 use Rattle.trace_reader.specs.declared.told.TraceLine.{TraceLine}
 use Rattle.trace_reader.proofs.Digits.{number_again, no_space}
 use Rattle.trace_reader.proofs.LineLaws.{IsRead, read_again}

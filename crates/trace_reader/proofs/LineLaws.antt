@@ -24,7 +24,8 @@ use Rattle.mcal_base.specs.declared.notice.Notice.{Notice}
 use Rattle.mcal_base.specs.declared.register.Reg.{Reg}
 use Rattle.mcal_base.specs.declared.register.Reg.TheVariants as regs
 use Rattle.mcal_base.specs.declared.service.Service.{Service}
-use Rattle.bench_report.specs.Lines.{Line, Holds, Makes, Notes, Errs, Returns, Leaves, Restarts, Shows, Done, event_text, move_text, incoming_text, head_text, words_text, line_text, reason_text}
+use Rattle.bench_report.specs.Lines.{Line, Holds, Makes, Waits, Notes, Errs, Returns, Leaves, Restarts, Shows, Done, event_text, move_text, incoming_text, head_text, words_text, line_text, reason_text}
+use Rattle.bench_report.specs.Numbers.{IsNumber, HasMoveNumbers, HasEventNumber, Each}
 use Rattle.bench_report.specs.Registers.{register_text}
 use Rattle.bench_report.specs.Rows.{values_text}
 use Rattle.bench_report.specs.declared.rows.RowName.{RowName}
@@ -34,7 +35,7 @@ use Rattle.bench_report.specs.declared.rows.Value.TheVariants as values
 use Rattle.trace_reader.specs.Guess.{words_of, before_colon, value, notice, found, marked, ending, followed, made_step, with_more, guess, each, numbered, answer, is_numeral}
 use Rattle.trace_reader.specs.Numbers.{number}
 use Rattle.trace_reader.specs.Told.{told, given, incoming, mark_of}
-use Rattle.trace_reader.specs.Trace.{IsNumber, HasMoveNumbers, HasEventNumber, HasLineNumbers, HasNameNumbers, HasValueNumbers, Each}
+use Rattle.trace_reader.specs.Trace.{HasLineNumbers, HasNameNumbers, HasValueNumbers}
 use Rattle.trace_reader.proofs.Digits.{none, none_append, number_again, no_space, no_feed, no_stroke, not_n, digits_of, some_digit}
 use Rattle.trace_reader.proofs.NameLaws.{cause_again, cause_plain, reason_again, reason_plain, notice_again, notice_plain, answer_again, answer_plain, answer_letter, error_again, error_plain, service_again, service_plain}
 use Rattle.trace_reader.proofs.RegisterLaws.{register_again, register_plain}
@@ -209,17 +210,22 @@ comes_written (regs.SerialWidth n) sent received h = silent (moves.Write (regs.S
 comes_written (regs.SerialData n) sent received h = got n sent received h
 comes_written (regs.SerialReceived n) sent received h = silent (moves.Write (regs.SerialReceived n) sent) received refl refl refl
 comes_written (regs.SerialState n) sent received h = silent (moves.Write (regs.SerialState n) sent) received refl refl refl
+comes_written (regs.SerialWait n) sent received h = silent (moves.Write (regs.SerialWait n) sent) received refl refl refl
 comes_written (regs.SerialAck n) sent received h = silent (moves.Write (regs.SerialAck n) sent) received refl refl refl
 comes_written (regs.PinDirectionSet n) sent received h = silent (moves.Write (regs.PinDirectionSet n) sent) received refl refl refl
 comes_written (regs.PinDirectionClear n) sent received h = silent (moves.Write (regs.PinDirectionClear n) sent) received refl refl refl
 comes_written (regs.PinOutSet n) sent received h = silent (moves.Write (regs.PinOutSet n) sent) received refl refl refl
 comes_written (regs.PinOutClear n) sent received h = silent (moves.Write (regs.PinOutClear n) sent) received refl refl refl
 comes_written (regs.PinMode n) sent received h = silent (moves.Write (regs.PinMode n) sent) received refl refl refl
+comes_written (regs.PortPut n) sent received h = silent (moves.Write (regs.PortPut n) sent) received refl refl refl
+comes_written (regs.PortLevels n) sent received h = silent (moves.Write (regs.PortLevels n) sent) received refl refl refl
+comes_written (regs.PinFlip n) sent received h = silent (moves.Write (regs.PinFlip n) sent) received refl refl refl
 comes_written regs.ClockPll sent received h = silent (moves.Write regs.ClockPll sent) received refl refl refl
 comes_written regs.ClockLock sent received h = silent (moves.Write regs.ClockLock sent) received refl refl refl
 comes_written regs.ClockRate sent received h = silent (moves.Write regs.ClockRate sent) received refl refl refl
 comes_written regs.ResetReason sent received h = silent (moves.Write regs.ResetReason sent) received refl refl refl
 comes_written regs.ResetRequest sent received h = silent (moves.Write regs.ResetRequest sent) received refl refl refl
+comes_written regs.WatchdogLoad sent received h = silent (moves.Write regs.WatchdogLoad sent) received refl refl refl
 comes_written (regs.Ram n) sent received h = silent (moves.Write (regs.Ram n) sent) received refl refl refl
 
 pub comes : (made : Move) (received : ℕ) → IsNumber received → ComesAny made received
@@ -366,6 +372,9 @@ erred_read n = by_words _ ((if n.runtime then codes "runtime" else codes "error"
 
 left_read : (line : ℕ) → IsNumber line → IsRead (words_of (line_text (Leaves line))) (Leaves line)
 left_read line h = by_words _ (codes "left" ∷ decimal line ∷ []) (Leaves line) (Leaves line) (ap (λ (ws : List (List ℕ)). codes "left" ∷ ws) (one_word (decimal line) (no_space line h))) (rw (number_again line h) refl) refl refl
+
+wait_read : (ticks : ℕ) → IsNumber ticks → IsRead (words_of (line_text (Waits ticks))) (Waits ticks)
+wait_read ticks h = by_words _ (codes "stall" ∷ decimal ticks ∷ []) (Waits ticks) (Waits ticks) (ap (λ (ws : List (List ℕ)). codes "stall" ∷ ws) (one_word (decimal ticks) (no_space ticks h))) (rw (number_again ticks h) refl) refl refl
 
 reset_read : (reason : Reason) (dropped : ℕ) → IsNumber dropped → IsRead (words_of (line_text (Restarts reason dropped))) (Restarts reason dropped)
 unfolding with_more
@@ -529,6 +538,7 @@ pub read_again : (line : Line) → HasLineNumbers line → IsRead (words_of (lin
 unfolding row_line
 read_again (Holds cause) h = held_read cause
 read_again (Makes depth made given_value received event) h = step_read depth given_value received made event (comes made received h.3) h.0 h.1 h.2 h.4
+read_again (Waits ticks) h = wait_read ticks h
 read_again (Notes n) h = note_read n h
 read_again (Errs n) h = erred_read n
 read_again (Returns service head ns) h = return_read service head ns h

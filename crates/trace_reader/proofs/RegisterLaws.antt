@@ -5,11 +5,11 @@ use Rattle.std.specs.Char.{is_ascii_digit}
 use Rattle.std.proofs.lemmas.List.{append-nil}
 use Rattle.mcal_base.specs.declared.register.Reg.{Reg}
 use Rattle.mcal_base.specs.declared.register.Reg.TheVariants as regs
+use Rattle.bench_report.specs.Numbers.{IsNumber, HasNumbers}
 use Rattle.bench_report.specs.Registers.{register_text}
 use Rattle.trace_reader.specs.Guess.{register}
 use Rattle.trace_reader.specs.Numbers.{number, front, rest, is_letter}
 use Rattle.trace_reader.specs.Registers.{rows, chosen}
-use Rattle.trace_reader.specs.Trace.{IsNumber, HasNumbers}
 use Rattle.trace_reader.proofs.Digits.{none, starts, none_append, number_again, no_space, no_letter, starts_number}
 use Rattle.trace_reader.proofs.Splits.{sp, front_at, rest_at, front_all, rest_all}
 
@@ -94,17 +94,22 @@ register_again (regs.SerialWidth n) h = one (codes "S") (codes ".WIDTH") n refl 
 register_again (regs.SerialData n) h = one (codes "S") (codes ".DATA") n refl refl refl h
 register_again (regs.SerialReceived n) h = one (codes "S") (codes ".RX") n refl refl refl h
 register_again (regs.SerialState n) h = one (codes "S") (codes ".STATE") n refl refl refl h
+register_again (regs.SerialWait n) h = one (codes "S") (codes ".WAIT") n refl refl refl h
 register_again (regs.SerialAck n) h = one (codes "S") (codes ".ACK") n refl refl refl h
 register_again (regs.PinDirectionSet n) h = one (codes "D.DIRSET") (codes "") n refl refl refl h
 register_again (regs.PinDirectionClear n) h = one (codes "D.DIRCLR") (codes "") n refl refl refl h
 register_again (regs.PinOutSet n) h = one (codes "D.OUTSET") (codes "") n refl refl refl h
 register_again (regs.PinOutClear n) h = one (codes "D.OUTCLR") (codes "") n refl refl refl h
 register_again (regs.PinMode n) h = one (codes "D") (codes ".MODE") n refl refl refl h
+register_again (regs.PortPut n) h = one (codes "Q") (codes ".PUT") n refl refl refl h
+register_again (regs.PortLevels n) h = one (codes "Q") (codes ".IN") n refl refl refl h
+register_again (regs.PinFlip n) h = one (codes "F") (codes ".FLIP") n refl refl refl h
 register_again regs.ClockPll h = refl
 register_again regs.ClockLock h = refl
 register_again regs.ClockRate h = refl
 register_again regs.ResetReason h = refl
 register_again regs.ResetRequest h = refl
+register_again regs.WatchdogLoad h = refl
 register_again (regs.Ram n) h = one (codes "R") (codes "") n refl refl refl h
 
 -- a number between letters has no space
@@ -159,15 +164,20 @@ register_plain (regs.SerialWidth n) h = between n (codes ".WIDTH") h refl
 register_plain (regs.SerialData n) h = between n (codes ".DATA") h refl
 register_plain (regs.SerialReceived n) h = between n (codes ".RX") h refl
 register_plain (regs.SerialState n) h = between n (codes ".STATE") h refl
+register_plain (regs.SerialWait n) h = between n (codes ".WAIT") h refl
 register_plain (regs.SerialAck n) h = between n (codes ".ACK") h refl
 register_plain (regs.PinDirectionSet n) h = between n (codes "") h refl
 register_plain (regs.PinDirectionClear n) h = between n (codes "") h refl
 register_plain (regs.PinOutSet n) h = between n (codes "") h refl
 register_plain (regs.PinOutClear n) h = between n (codes "") h refl
 register_plain (regs.PinMode n) h = between n (codes ".MODE") h refl
+register_plain (regs.PortPut n) h = between n (codes ".PUT") h refl
+register_plain (regs.PortLevels n) h = between n (codes ".IN") h refl
+register_plain (regs.PinFlip n) h = between n (codes ".FLIP") h refl
 register_plain regs.ClockPll h = refl
 register_plain regs.ClockLock h = refl
 register_plain regs.ClockRate h = refl
 register_plain regs.ResetReason h = refl
 register_plain regs.ResetRequest h = refl
+register_plain regs.WatchdogLoad h = refl
 register_plain (regs.Ram n) h = between n (codes "") h refl

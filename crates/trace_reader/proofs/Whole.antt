@@ -7,11 +7,12 @@ use Rattle.std.specs.List.{join_with_byte}
 use Rattle.std.proofs.lemmas.Bool.{false≢true}
 use Rattle.std.proofs.lemmas.List.Splits.{join_with_byte-slice_split}
 use Rattle.std.proofs.lemmas.Slice.Eq.{bytes_eq-Decides}
-use Rattle.bench_report.specs.Lines.{Line, Holds, Makes, Notes, Errs, Returns, Leaves, Restarts, Shows, Done, line_text, numbered, end_text}
+use Rattle.bench_report.specs.Lines.{Line, Holds, Makes, Waits, Notes, Errs, Returns, Leaves, Restarts, Shows, Done, line_text, numbered, end_text}
+use Rattle.bench_report.specs.Numbers.{IsNumber, Each}
 use Rattle.bench_report.specs.Report.{Numbered, end_of, is_return, is_leave, is_hold, is_error, is_note}
 use Rattle.trace_reader.specs.Reading.{line_with, read_line, parts_of, ended, go_on, read_parts, read_trace, tally_of, count_of, is_returned, is_left, is_held, is_erred, is_noted}
 use Rattle.trace_reader.specs.Told.{told, told_line}
-use Rattle.trace_reader.specs.Trace.{IsNumber, HasLineNumbers, IsWithin, IsTraceOf, Each, lines_text, trace_text}
+use Rattle.trace_reader.specs.Trace.{HasLineNumbers, IsWithin, IsTraceOf, lines_text, trace_text}
 use Rattle.trace_reader.specs.declared.told.TraceLine.{TraceLine}
 use Rattle.trace_reader.specs.declared.told.Told.{Told}
 use Rattle.trace_reader.proofs.Digits.{none, none_append, no_feed}
@@ -23,6 +24,7 @@ use Rattle.trace_reader.proofs.LineByLine.{read_more, read_last, line_is, line_a
 same_return : (line : Line) → is_returned (told line) ≡ is_return line
 same_return (Holds cause) = refl
 same_return (Makes depth made value received event) = refl
+same_return (Waits ticks) = refl
 same_return (Notes notice) = refl
 same_return (Errs found) = refl
 same_return (Returns service head words) = refl
@@ -34,6 +36,7 @@ same_return Done = refl
 same_leave : (line : Line) → is_left (told line) ≡ is_leave line
 same_leave (Holds cause) = refl
 same_leave (Makes depth made value received event) = refl
+same_leave (Waits ticks) = refl
 same_leave (Notes notice) = refl
 same_leave (Errs found) = refl
 same_leave (Returns service head words) = refl
@@ -45,6 +48,7 @@ same_leave Done = refl
 same_hold : (line : Line) → is_held (told line) ≡ is_hold line
 same_hold (Holds cause) = refl
 same_hold (Makes depth made value received event) = refl
+same_hold (Waits ticks) = refl
 same_hold (Notes notice) = refl
 same_hold (Errs found) = refl
 same_hold (Returns service head words) = refl
@@ -56,6 +60,7 @@ same_hold Done = refl
 same_error : (line : Line) → is_erred (told line) ≡ is_error line
 same_error (Holds cause) = refl
 same_error (Makes depth made value received event) = refl
+same_error (Waits ticks) = refl
 same_error (Notes notice) = refl
 same_error (Errs found) = refl
 same_error (Returns service head words) = refl
@@ -67,6 +72,7 @@ same_error Done = refl
 same_note : (line : Line) → is_noted (told line) ≡ is_note line
 same_note (Holds cause) = refl
 same_note (Makes depth made value received event) = refl
+same_note (Waits ticks) = refl
 same_note (Notes notice) = refl
 same_note (Errs found) = refl
 same_note (Returns service head words) = refl

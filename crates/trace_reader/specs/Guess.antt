@@ -16,7 +16,7 @@ use Rattle.mcal_base.specs.declared.moves.Unit.TheVariants as units
 use Rattle.mcal_base.specs.declared.notice.Notice.{Notice}
 use Rattle.mcal_base.specs.declared.register.Reg.{Reg}
 use Rattle.mcal_base.specs.declared.service.Service.{Service}
-use Rattle.bench_report.specs.Lines.{Line, Holds, Makes, Notes, Errs, Returns, Leaves, Restarts, Shows, Done, reason_text}
+use Rattle.bench_report.specs.Lines.{Line, Holds, Makes, Waits, Notes, Errs, Returns, Leaves, Restarts, Shows, Done, reason_text}
 use Rattle.bench_report.specs.declared.rows.RowName.{RowName}
 use Rattle.bench_report.specs.declared.rows.RowName.TheVariants as names
 use Rattle.bench_report.specs.declared.rows.Value.{Value}
@@ -179,6 +179,7 @@ alone word = if bytes_eq word (codes "ok") then Some Done else None
 abbrev pub with_one : List ℕ → List ℕ → Option Line
 with_one word first =
     if bytes_eq word (codes "left") then option_map (λ l. Leaves l) (number first)
+    else if bytes_eq word (codes "stall") then option_map (λ t. Waits t) (number first)
     else if bytes_eq word (codes "held") then option_map (λ c. Holds c) (named held_text all_causes first)
     else None
 

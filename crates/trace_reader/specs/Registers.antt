@@ -87,6 +87,7 @@ serials n =
     row (codes "S") (codes ".DATA") (regs.SerialData n) ∷
     row (codes "S") (codes ".RX") (regs.SerialReceived n) ∷
     row (codes "S") (codes ".STATE") (regs.SerialState n) ∷
+    row (codes "S") (codes ".WAIT") (regs.SerialWait n) ∷
     row (codes "S") (codes ".ACK") (regs.SerialAck n) ∷
     []
 
@@ -98,9 +99,12 @@ pins n =
     row (codes "D.OUTSET") (codes "") (regs.PinOutSet n) ∷
     row (codes "D.OUTCLR") (codes "") (regs.PinOutClear n) ∷
     row (codes "D") (codes ".MODE") (regs.PinMode n) ∷
+    row (codes "Q") (codes ".PUT") (regs.PortPut n) ∷
+    row (codes "Q") (codes ".IN") (regs.PortLevels n) ∷
+    row (codes "F") (codes ".FLIP") (regs.PinFlip n) ∷
     []
 
--- of the clock, of resets and of RAM
+-- of the clock, of resets, of the watchdog and of RAM
 abbrev pub clocks : ℕ → List Row
 clocks n =
     row (codes "M.PLL") (codes "") regs.ClockPll ∷
@@ -108,6 +112,7 @@ clocks n =
     row (codes "M.RATE") (codes "") regs.ClockRate ∷
     row (codes "M.REASON") (codes "") regs.ResetReason ∷
     row (codes "M.RESET") (codes "") regs.ResetRequest ∷
+    row (codes "W.LOAD") (codes "") regs.WatchdogLoad ∷
     row (codes "R") (codes "") (regs.Ram n) ∷
     []
 

@@ -5,7 +5,7 @@ use Rattle.mcal_base.specs.declared.moves.Event.TheVariants as events
 use Rattle.mcal_base.specs.declared.moves.Move.{Move}
 use Rattle.mcal_base.specs.declared.moves.Move.TheVariants as moves
 use Rattle.mcal_base.specs.declared.register.Reg.TheVariants as regs
-use Rattle.bench_report.specs.Lines.{Line, Holds, Makes, Notes, Errs, Returns, Leaves, Restarts, Shows, Done}
+use Rattle.bench_report.specs.Lines.{Line, Holds, Makes, Waits, Notes, Errs, Returns, Leaves, Restarts, Shows, Done}
 use Rattle.bench_report.specs.Report.{Numbered}
 use Rattle.trace_reader.specs.declared.told.Mark.{Mark}
 use Rattle.trace_reader.specs.declared.told.Mark.TheVariants as marks
@@ -36,6 +36,7 @@ abbrev pub told : Line → Told
 told (Holds cause) = tells.Held cause
 told (Makes depth made value received event) =
     tells.Step (record { depth = depth; made = made; value = given made value; received = incoming made received; mark = option_map mark_of event })
+told (Waits ticks) = tells.Waited ticks
 told (Notes notice) = tells.Noted notice
 told (Errs found) = tells.Erred found
 told (Returns service head words) = tells.Returned service

@@ -1,12 +1,7 @@
 -- What the lines of a trace are, and which of them a text prints.
-use Rattle.std.specs.Prelude.{◌≡◌, ℕ, ◌<◌, ◌++◌, List, [], ◌∷◌, Option, Some, map, flat_map}
-use Rattle.mcal_base.specs.declared.moves.Event.{Event}
-use Rattle.mcal_base.specs.declared.moves.Event.TheVariants as events
-use Rattle.mcal_base.specs.declared.moves.Move.{Move}
-use Rattle.mcal_base.specs.declared.moves.Move.TheVariants as moves
-use Rattle.mcal_base.specs.declared.register.Reg.{Reg}
-use Rattle.mcal_base.specs.declared.register.Reg.TheVariants as regs
-use Rattle.bench_report.specs.Lines.{Line, Holds, Makes, Notes, Errs, Returns, Leaves, Restarts, Shows, Done, numbered}
+use Rattle.std.specs.Prelude.{◌≡◌, ℕ, ◌++◌, List, map, flat_map}
+use Rattle.bench_report.specs.Lines.{Line, Holds, Makes, Waits, Notes, Errs, Returns, Leaves, Restarts, Shows, Done, numbered}
+use Rattle.bench_report.specs.Numbers.{IsNumber, HasMoveNumbers, HasEventNumber, Each}
 use Rattle.bench_report.specs.Report.{Numbered, end_of}
 use Rattle.bench_report.specs.declared.rows.RowName.{RowName}
 use Rattle.bench_report.specs.declared.rows.RowName.TheVariants as names
@@ -16,67 +11,6 @@ use Rattle.trace_reader.specs.Told.{told_line}
 use Rattle.trace_reader.specs.declared.told.TraceLine.{TraceLine}
 
 -- ---- the numbers of a line, as a journal can hold them
-
--- a number of 32 bits
-abbrev pub IsNumber : ℕ → Type 0
-IsNumber n = n < 4294967296
-
--- the numbers of a register
-abbrev pub HasNumbers : Reg → Type 0
-HasNumbers (regs.TimerTarget c) = IsNumber c
-HasNumbers (regs.TimerPrescaler c) = IsNumber c
-HasNumbers (regs.TimerLow c) = IsNumber c
-HasNumbers (regs.TimerHigh c) = IsNumber c
-HasNumbers (regs.PulsePeriod c) = IsNumber c
-HasNumbers (regs.PulseDuty c) = IsNumber c
-HasNumbers (regs.PulsePolarity c) = IsNumber c
-HasNumbers (regs.PulseCommit c) = IsNumber c
-HasNumbers (regs.PulseIdle c) = IsNumber c
-HasNumbers (regs.PulseOut c) = IsNumber c
-HasNumbers (regs.CaptureCondition c) = IsNumber c
-HasNumbers (regs.CaptureMode c) = IsNumber c
-HasNumbers (regs.CaptureCountLow c) = IsNumber c
-HasNumbers (regs.CaptureCountHigh c) = IsNumber c
-HasNumbers (regs.CaptureZero c) = IsNumber c
-HasNumbers (regs.CaptureTimeLow c) = IsNumber c
-HasNumbers (regs.CaptureTimeHigh c) = IsNumber c
-HasNumbers (regs.CaptureInfo c) = IsNumber c
-HasNumbers (regs.CapturePop c) = IsNumber c
-HasNumbers (regs.CaptureFlush c) = IsNumber c
-HasNumbers (regs.ConverterList u k) = (u < 256) × (k < 256)
-HasNumbers (regs.ConverterGo u) = IsNumber u
-HasNumbers (regs.ConverterState u) = IsNumber u
-HasNumbers (regs.ConverterResult u k) = (u < 256) × (k < 256)
-HasNumbers (regs.ConverterDone u) = IsNumber u
-HasNumbers (regs.ConverterAbort u) = IsNumber u
-HasNumbers (regs.ConverterAck u) = IsNumber u
-HasNumbers (regs.SerialSelect u) = IsNumber u
-HasNumbers (regs.SerialWidth u) = IsNumber u
-HasNumbers (regs.SerialData u) = IsNumber u
-HasNumbers (regs.SerialReceived u) = IsNumber u
-HasNumbers (regs.SerialState u) = IsNumber u
-HasNumbers (regs.SerialAck u) = IsNumber u
-HasNumbers (regs.PinDirectionSet h) = IsNumber h
-HasNumbers (regs.PinDirectionClear h) = IsNumber h
-HasNumbers (regs.PinOutSet h) = IsNumber h
-HasNumbers (regs.PinOutClear h) = IsNumber h
-HasNumbers (regs.PinMode p) = IsNumber p
-HasNumbers (regs.Ram k) = IsNumber k
-HasNumbers _ = Unit {0}
-
--- the numbers of a move
-abbrev pub HasMoveNumbers : Move → Type 0
-HasMoveNumbers (moves.Read reg) = HasNumbers reg
-HasMoveNumbers (moves.Write reg written) = HasNumbers reg × IsNumber written
-HasMoveNumbers (moves.Load word) = IsNumber word
-HasMoveNumbers (moves.Store word stored) = IsNumber word × IsNumber stored
-HasMoveNumbers (moves.Note notice) = IsNumber notice.id
-HasMoveNumbers _ = Unit {0}
-
--- the number of an event
-abbrev pub HasEventNumber : Option Event → Type 0
-HasEventNumber (Some (events.Serve line)) = IsNumber line
-HasEventNumber _ = Unit {0}
 
 -- the numbers of an object that is shown
 abbrev pub HasNameNumbers : RowName → Type 0
@@ -94,15 +28,11 @@ abbrev pub HasValueNumbers : Value → Type 0
 HasValueNumbers (values.One value) = IsNumber value
 HasValueNumbers (values.Pair sent received) = IsNumber sent × IsNumber received
 
--- each is such
-abbrev pub Each : {T : Type 0} → (T → Type 0) → List T → Type 0
-Each P [] = Unit {0}
-Each P (x ∷ xs) = P x × Each P xs
-
 -- the numbers of a line
 abbrev pub HasLineNumbers : Line → Type 0
 HasLineNumbers (Holds cause) = Unit {0}
 HasLineNumbers (Makes depth made value received event) = IsNumber depth × HasMoveNumbers made × IsNumber value × IsNumber received × HasEventNumber event
+HasLineNumbers (Waits ticks) = IsNumber ticks
 HasLineNumbers (Notes notice) = IsNumber notice.id
 HasLineNumbers (Errs found) = Unit {0}
 HasLineNumbers (Returns service head words) = Each IsNumber words

@@ -216,6 +216,8 @@ fn with_one(word: &[u8], first: &[u8]) -> Option<Line<'static>>
 {
     if is(word, "left") {
         Some(Line::Leaves(number(first)?))
+    } else if is(word, "stall") {
+        Some(Line::Waits(number(first)?))
     } else if is(word, "held") {
         Some(Line::Holds(cause_named(first)?))
     } else {

@@ -2,6 +2,7 @@ ghost use Rattle.std.specs.Prelude.{◌≡◌, ℕ, ◌<◌, ◌^◌, ◌++◌, 
 ghost use Rattle.mcal_base.specs.declared.directive.Directive.{Directive};
 ghost use Rattle.run_model.specs.Entry.{Entry};
 ghost use Rattle.bench_report.specs.Lines.{Line};
+ghost use Rattle.bench_report.specs.Numbers.{Each};
 ghost use Rattle.bench_report.specs.Report.{Numbered, report, report_lines};
 ghost use Rattle.bench_report.specs.Rows.{Row};
 ghost use Rattle.trace_reader.specs.Reading.{line_with, read_line, read_trace};
@@ -15,8 +16,8 @@ ghost use Rattle.trace_reader.specs.declared.told.TraceLine.{TraceLine};
 pub fn reads_traces()
     ensures report_again { (script : List Directive) (entries : List Entry) (shows : List (List Row)) →
         let lines = report_lines true [] shows script entries in
-        spec.Each spec.IsWithin lines → length lines < 2 ^ 32 → read_trace (report true script entries shows) ≡ Ok (map told_line lines) }
-    ensures trace_again { (lines : List Numbered) → spec.Each spec.IsWithin lines → length lines < 2 ^ 32 → read_trace (spec.trace_text lines) ≡ Ok (map told_line lines) }
+        Each spec.IsWithin lines → length lines < 2 ^ 32 → read_trace (report true script entries shows) ≡ Ok (map told_line lines) }
+    ensures trace_again { (lines : List Numbered) → Each spec.IsWithin lines → length lines < 2 ^ 32 → read_trace (spec.trace_text lines) ≡ Ok (map told_line lines) }
     ensures trace_is { (text : List ℕ) (lines : List TraceLine) → read_trace text ≡ Ok lines → spec.IsTraceOf text lines }
     ensures line_again { (line : Numbered) → spec.IsWithin line → read_line (line_with line.number line.says) ≡ Some (told_line line) }
     ensures line_is { (text : List ℕ) (line : TraceLine) → read_line text ≡ Some line → spec.IsLineOf (text ++ codes "\n") line }

@@ -13,5 +13,5 @@ mod tally;
 mod told;
 
 pub use laws::reads_traces;
-pub use read::{TraceFault, read_trace};
+pub use read::{TraceFault, read_line, read_trace};
 pub use told::{Mark, Step, Told, TraceLine};

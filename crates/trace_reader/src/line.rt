@@ -82,6 +82,7 @@ fn told_by(line: Line<'_>) -> Told
             received: incoming(made, received),
             mark: event.map(mark_of),
         }),
+        Line::Waits(ticks) => Told::Waited(ticks),
         Line::Notes(notice) => Told::Noted(notice),
         Line::Errs(found) => Told::Erred(found),
         Line::Returns(service, _, _) => Told::Returned(service),

@@ -102,8 +102,9 @@ fn read_words(alloc: Global, words: &[&[u8]], text: &[u8]) -> Result<Option<Trac
     }
 }
 
-/// What is told by the line that prints a text, but for the line feed at its end.
-fn read_line(alloc: Global, text: &[u8]) -> Result<Option<TraceLine>, AllocError>
+/// What is told by the line that prints a text, but for the line feed at its end; none where no line of a report does.
+/// `reads_traces` says which lines are read.
+pub fn read_line(alloc: Global, text: &[u8]) -> Result<Option<TraceLine>, AllocError>
     ensures { IfOk result (λ r. r ≡ spec.read_line text.now) }
 {
     let words = words(alloc, text)?;

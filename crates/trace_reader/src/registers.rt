@@ -115,6 +115,7 @@ fn serial(letter: &[u8], number: u32, name: &[u8]) -> Option<Reg>
         Row("S", ".DATA", Reg::SerialData(number)),
         Row("S", ".RX", Reg::SerialReceived(number)),
         Row("S", ".STATE", Reg::SerialState(number)),
+        Row("S", ".WAIT", Reg::SerialWait(number)),
         Row("S", ".ACK", Reg::SerialAck(number)),
     ];
     chosen(&rows, letter, name)
@@ -130,11 +131,14 @@ fn pin(letter: &[u8], number: u32, name: &[u8]) -> Option<Reg>
         Row("D.OUTSET", "", Reg::PinOutSet(number)),
         Row("D.OUTCLR", "", Reg::PinOutClear(number)),
         Row("D", ".MODE", Reg::PinMode(number)),
+        Row("Q", ".PUT", Reg::PortPut(number)),
+        Row("Q", ".IN", Reg::PortLevels(number)),
+        Row("F", ".FLIP", Reg::PinFlip(number)),
     ];
     chosen(&rows, letter, name)
 }
 
-/// A register of the clock, of resets or of RAM, by these letters.
+/// A register of the clock, of resets, of the watchdog or of RAM, by these letters.
 fn clock(letter: &[u8], number: u32, name: &[u8]) -> Option<Reg>
     ensures { result ≡ spec.chosen (spec.clocks number) letter.now name.now }
 {
@@ -144,6 +148,7 @@ fn clock(letter: &[u8], number: u32, name: &[u8]) -> Option<Reg>
         Row("M.RATE", "", Reg::ClockRate),
         Row("M.REASON", "", Reg::ResetReason),
         Row("M.RESET", "", Reg::ResetRequest),
+        Row("W.LOAD", "", Reg::WatchdogLoad),
         Row("R", "", Reg::Ram(number)),
     ];
     chosen(&rows, letter, name)

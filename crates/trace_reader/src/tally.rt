@@ -16,7 +16,7 @@ pub(crate) fn tally_of(lines: &[TraceLine]) -> Tally
             Told::Held(_) => tally.held += 1,
             Told::Erred(_) => tally.errors += 1,
             Told::Noted(_) => tally.notes += 1,
-            Told::Step(_) | Told::Reset(_, _) | Told::Shown | Told::Done => {}
+            Told::Step(_) | Told::Waited(_) | Told::Reset(_, _) | Told::Shown | Told::Done => {}
         }
     }
     tally

@@ -36,6 +36,8 @@ pub enum Told {
     Held(Held),
     /// A step was made.
     Step(Step),
+    /// The next step waited for a word in transfer so many ticks.
+    Waited(u32),
     /// A callback was called.
     Noted(Notice),
     /// An error was reported.

@@ -18,7 +18,7 @@ use Rattle.trace_forms.specs.declared.signs.Frame.{Frame}
 use Rattle.trace_forms.specs.declared.signs.Sign.{Sign}
 use Rattle.trace_forms.specs.declared.signs.What.{What}
 use Rattle.trace_forms.specs.declared.signs.What.TheVariants as whats
-use Rattle.trace_signs.specs.Drawing.{Drawing, blank, put, turned, ticked, begun, entered, shut_at, all_ended, all_ended_of, ended_of, before_step, behind_step, counted, stepped, freshly, told, drawn, completed, completed_of, drawing_of}
+use Rattle.trace_signs.specs.Drawing.{Drawing, blank, put, turned, with_ticks, ticked, begun, entered, shut_at, all_ended, all_ended_of, ended_of, before_step, behind_step, counted, stepped, freshly, told, drawn, completed, completed_of, drawing_of}
 use Rattle.trace_signs.specs.Laws.{seen, beginning_of, going_of, IsDrawingOf}
 use Rattle.trace_signs.specs.Moments.{moments_of}
 use Rattle.trace_signs.specs.declared.moments.Moment.{Moment}
@@ -131,6 +131,7 @@ stepped_balanced d number step h =
 told_balanced : (d : Drawing) (number : ℕ) (t : Told) → IsBalanced d → IsBalanced (told d number t)
 told_balanced d number (tells.Held cause) h = put_balanced (freshly d) number (whats.Held cause) refl refl (record { opened = h.opened })
 told_balanced d number (tells.Step step) h = stepped_balanced d number step h
+told_balanced d number (tells.Waited ticks) h = put_balanced (with_ticks d ticks) number (whats.Waited ticks _) refl refl (record { opened = h.opened })
 told_balanced d number (tells.Noted notice) h = put_balanced d number (whats.Noted notice) refl refl h
 told_balanced d number (tells.Erred found) h = put_balanced d number (whats.Erred found) refl refl h
 told_balanced d number (tells.Returned service) h = ended_balanced d number endings.Ended d.frames refl h
@@ -165,6 +166,7 @@ sign_counted : (step number : ℕ) (what : What) →
     cond (is_shape what && nat_le (first_step step what) most_steps) 1 0 + cond (is_shape what && not (nat_le (first_step step what) most_steps)) 1 0 + length (option_to_list (beginning_of number what)) ≡ 1
 sign_counted step number whats.Turn = one_of _
 sign_counted step number (whats.Ticked ticks all) = one_of _
+sign_counted step number (whats.Waited ticks all) = one_of _
 sign_counted step number (whats.Begins frame) = refl
 sign_counted step number (whats.Stepped made fresh) = one_of _
 sign_counted step number (whats.Held cause) = one_of _

@@ -18,7 +18,7 @@ use Rattle.trace_forms.specs.declared.signs.Ending.TheVariants as endings
 use Rattle.trace_forms.specs.declared.signs.Frame.{Frame}
 use Rattle.trace_forms.specs.declared.signs.What.{What}
 use Rattle.trace_forms.specs.declared.signs.What.TheVariants as whats
-use Rattle.trace_signs.specs.Drawing.{Drawing, blank, put, turned, ticked, begun, entered, all_ended, ended_of, freshly, told, is_call_of, is_handler_of, top_of, is_of, fits_frames, fits, drawn, completed}
+use Rattle.trace_signs.specs.Drawing.{Drawing, blank, put, turned, with_ticks, ticked, begun, entered, all_ended, ended_of, freshly, told, is_call_of, is_handler_of, top_of, is_of, fits_frames, fits, drawn, completed}
 use Rattle.trace_signs.specs.Laws.{seen, end_of, line_of, turn_of}
 use Rattle.trace_signs.specs.declared.moments.Moment.{Moment}
 use Rattle.trace_signs.proofs.Seen.{seen-quiet, seen-more, seen-shut, seen-ended, seen-stepped}
@@ -100,6 +100,7 @@ ended_line p t same d number (frame ∷ frames) h =
 told_line : (d : Drawing) (number : ℕ) (t : Told) → fits_frames d t ≡ true → seen line_of (told d number t).signs ≡ seen line_of d.signs ++ record { number = number; told = t } ∷ []
 told_line d number (tells.Held cause) h = seen-more line_of (freshly d) number (whats.Held cause) _ refl
 told_line d number (tells.Step step) h = seen-stepped line_of (λ n s. refl) d number step
+told_line d number (tells.Waited ticks) h = seen-more line_of (with_ticks d ticks) number (whats.Waited ticks _) _ refl
 told_line d number (tells.Noted notice) h = seen-more line_of d number (whats.Noted notice) _ refl
 told_line d number (tells.Erred found) h = seen-more line_of d number (whats.Erred found) _ refl
 told_line d number (tells.Returned service) h = ended_line (is_call_of service) (tells.Returned service) (call_end service) d number d.frames h
@@ -140,6 +141,7 @@ ended_turns d number (frame ∷ frames) = seen-quiet turn_of d number (whats.Gon
 told_turns : (d : Drawing) (number : ℕ) (t : Told) → seen turn_of (told d number t).signs ≡ seen turn_of d.signs
 told_turns d number (tells.Held cause) = seen-quiet turn_of (freshly d) number (whats.Held cause) refl
 told_turns d number (tells.Step step) = seen-stepped turn_of (λ n s. refl) d number step ∙ append-nil (seen turn_of d.signs)
+told_turns d number (tells.Waited ticks) = seen-quiet turn_of (with_ticks d ticks) number (whats.Waited ticks _) refl
 told_turns d number (tells.Noted notice) = seen-quiet turn_of d number (whats.Noted notice) refl
 told_turns d number (tells.Erred found) = seen-quiet turn_of d number (whats.Erred found) refl
 told_turns d number (tells.Returned service) = ended_turns d number d.frames

@@ -26,7 +26,7 @@ pub record Drawing : Type 0 where
   -- the frames that are under way, the topmost first, and how many there were at most
   pub frames : List Frame
   pub deepest : ℕ
-  -- the steps that were made, and the ticks that were asked for
+  -- the steps that were made, and the ticks that were asked for or waited
   pub steps : ℕ
   pub ticks : ℕ
   -- the step that closed the mask, while it is closed
@@ -46,10 +46,11 @@ put d number what = record d { signs = d.signs ++ record { step = d.steps; numbe
 abbrev pub turned : Drawing → Moment → Drawing
 turned d m = if m.first then put d m.number whats.Turn else d
 
+abbrev pub with_ticks : Drawing → ℕ → Drawing
+with_ticks d ticks = record d { ticks = sum_up d.ticks ticks }
+
 abbrev pub ticked : Drawing → Moment → Drawing
-ticked d m =
-    if m.ticks == 0 then d
-    else put (record d { ticks = sum_up d.ticks m.ticks }) m.number (whats.Ticked m.ticks (sum_up d.ticks m.ticks))
+ticked d m = if m.ticks == 0 then d else put (with_ticks d m.ticks) m.number (whats.Ticked m.ticks (sum_up d.ticks m.ticks))
 
 abbrev pub with_frame : Drawing → ℕ → Frame → Drawing
 with_frame d number frame = put (record d { frames = frame ∷ d.frames; deepest = max d.deepest frame.depth }) number (whats.Begins frame)
@@ -110,6 +111,7 @@ freshly d = record d { fresh = true }
 abbrev pub told : Drawing → ℕ → Told → Drawing
 told d number (tells.Held cause) = put (freshly d) number (whats.Held cause)
 told d number (tells.Step step) = stepped d number step
+told d number (tells.Waited ticks) = put (with_ticks d ticks) number (whats.Waited ticks (sum_up d.ticks ticks))
 told d number (tells.Noted notice) = put d number (whats.Noted notice)
 told d number (tells.Erred found) = put d number (whats.Erred found)
 told d number (tells.Returned service) = ended d number endings.Ended

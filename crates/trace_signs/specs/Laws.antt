@@ -34,6 +34,7 @@ gone_line number purpose endings.Open = None
 abbrev pub line_of : ℕ → What → Option TraceLine
 line_of number (whats.Stepped step fresh) = Some (record { number = number; told = tells.Step step })
 line_of number (whats.Held cause) = Some (record { number = number; told = tells.Held cause })
+line_of number (whats.Waited ticks all) = Some (record { number = number; told = tells.Waited ticks })
 line_of number (whats.Noted notice) = Some (record { number = number; told = tells.Noted notice })
 line_of number (whats.Erred found) = Some (record { number = number; told = tells.Erred found })
 line_of number (whats.Gone frame ending) = gone_line number frame.purpose ending

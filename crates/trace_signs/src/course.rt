@@ -1,5 +1,6 @@
 ghost use Rattle.std.specs.Prelude.{◌≡◌, OnOk};
 ghost use Rattle.trace_reader.specs.Reading.{Ends};
+ghost use Rattle.trace_forms.specs.Sums.{sum_up};
 ghost use Rattle.trace_signs.specs.Drawing as spec;
 
 use crate::moments::Moment;
@@ -131,6 +132,15 @@ impl Drawing {
         }
     }
 
+    /// So many ticks pass: how many passed in all.
+    fn pass(&mut self, ticks: u32) -> u64
+        ensures all { result ≡ sum_up self.old.ticks ticks }
+        ensures passed { self.new ≡ spec.with_ticks self.old ticks }
+    {
+        self.ticks = self.ticks.saturating_add(ticks as u64);
+        self.ticks
+    }
+
     /// Adds the ticks of a directive.
     fn tick(&mut self, moment: &Moment) -> Result<(), AllocError>
         ensures { OnOk result (self.new ≡ spec.ticked self.old moment.now) }
@@ -138,8 +148,7 @@ impl Drawing {
         if moment.ticks == 0 {
             return Ok(());
         }
-        self.ticks = self.ticks.saturating_add(moment.ticks as u64);
-        let all = self.ticks;
+        let all = self.pass(moment.ticks);
         self.put(moment.number, What::Ticked(moment.ticks, all))
     }
 
@@ -240,6 +249,14 @@ impl Drawing {
         self.open(number, step.made)
     }
 
+    /// Adds the wait of a step.
+    fn wait(&mut self, number: u32, ticks: u32) -> Result<(), AllocError>
+        ensures { OnOk result (self.new ≡ spec.told self.old number (Told.Waited ticks)) }
+    {
+        let all = self.pass(ticks);
+        self.put(number, What::Waited(ticks, all))
+    }
+
     /// Adds a reset.
     fn reset(&mut self, number: u32, reason: Reason, dropped: u32) -> Result<(), AllocError>
         ensures { OnOk result (self.new ≡ spec.told self.old number (Told.Reset reason dropped)) }
@@ -260,6 +277,7 @@ impl Drawing {
                 self.put(number, What::Held(cause))
             }
             Told::Step(step) => self.step(number, step),
+            Told::Waited(ticks) => self.wait(number, ticks),
             Told::Noted(notice) => self.put(number, What::Noted(notice)),
             Told::Erred(error) => self.put(number, What::Erred(error)),
             Told::Returned(_) | Told::Left(_) => self.end(number, Ending::Ended),

@@ -1,5 +1,5 @@
 -- A cell is lawful, and two cells of different words are apart.
-use Rattle.std.proofs.Common.{◌≡◌, ℕ, ◌+◌, ◌<◌, ◌≤◌, ◌≢◌, ◌==◌, Bool, true, false, length, take, drop, List, [], ◌∷◌, ◌++◌, Some, refl, sym, ◌∙◌, ap, subst, arith}
+use Rattle.std.proofs.Common.{◌≡◌, ℕ, ◌+◌, ◌<◌, ◌≤◌, ◌≢◌, ◌==◌, ◌||◌, Bool, true, false, length, take, drop, List, [], ◌∷◌, ◌++◌, Some, refl, sym, ◌∙◌, ap, subst, arith}
 use Rattle.std.specs.Prelude.{slice_index}
 use Rattle.std.proofs.lemmas.Bool.Decides.{nat_tests}
 use Rattle.std.proofs.lemmas.List.{get_or-set_same, get_or_append_left, get_or-take, length-append, length-take-le}
@@ -96,6 +96,10 @@ call_there : (word : ℕ) (c : CellCall) → word < SOURCES → CanApply (call_m
 call_there word Get h = omega (arith, h)
 call_there word (Put v) h = omega (arith, h)
 
+call_own : (word : ℕ) (c : CellCall) → is_shared (call_move word c) || names word (call_move word c) ≡ true
+call_own word Get = same word
+call_own word (Put v) = same word
+
 module _ (word : ℕ) (fits : word < SOURCES) where
   step_of : (chip : Chip) (w : World) (c : CellCall) (tag : Tag) (ps : List (CellFrame × Open CellCall)) (s received : ℕ) → HasAll chip → word_of chip word ≡ s → AllNew word ps → let f : CellFrame = record { word = word; call = c } in let made = cell_move f in let value = value_of chip made in KeepsStep (cell word) (record { chip = chip; world = w; state = s; opens = []; steps = 0 }) f (opened (Called c) tag) f (stepped made value received (cell_gave f value)) (λ s1 o1. CellRelates word (chip_after chip made received) w ps s1)
   step_of chip w Get tag ps s received all is new = record {
@@ -107,6 +111,8 @@ module _ (word : ℕ) (fits : word < SOURCES) where
     move = tt;
     shows = tt;
     ends = ((ap (λ x. Some (answer_of Get x)) (sym is), refl), refl, refl, refl, refl);
+    writes = refl;
+    starts = refl;
     own = same word;
     reset = refl;
     stays = λ e. cc;
@@ -123,6 +129,8 @@ module _ (word : ℕ) (fits : word < SOURCES) where
     move = tt;
     shows = tt;
     ends = ((refl, refl), refl, refl, refl, refl);
+    writes = refl;
+    starts = refl;
     own = same word;
     reset = refl;
     stays = λ e. cc;
@@ -137,6 +145,12 @@ module _ (word : ℕ) (fits : word < SOURCES) where
   there_of : (f : CellFrame) (o : Open CellCall) (ps : List (CellFrame × Open CellCall)) → AllNew word ((f, o) ∷ ps) → CanApply (cell_move f)
   there_of f o ps (New_frame c tag qs new) = call_there word c fits
 
+  own_of : (f : CellFrame) (o : Open CellCall) (ps : List (CellFrame × Open CellCall)) → AllNew word ((f, o) ∷ ps) → is_shared (cell_move f) || names word (cell_move f) ≡ true
+  own_of f o ps (New_frame c tag qs new) = call_own word c
+
+  open_of : (f : CellFrame) (o : Open CellCall) (ps : List (CellFrame × Open CellCall)) → AllNew word ((f, o) ∷ ps) → o.inside ≡ true → 0 < 0
+  open_of f o ps (New_frame c tag qs new) closed = cc
+
   pub cell_lawful : IsLawful (cell word) cell_move (λ f value. f) cell_gave
   cell_lawful = record {
     starts = λ chip w wired outside. record { all = all-step chip (WasReset PowerOn) tt outside.all; value = slice_index-blank word; frames = No_frame };
@@ -144,11 +158,17 @@ module _ (word : ℕ) (fits : word < SOURCES) where
     enters = λ chip w ps s line f there shut pending out under h. cc;
     steps = λ chip w f o ps s received come few masked out h. steps_of chip w f o ps s received h.all h.value h.frames;
     there = λ chip w f o ps s h. there_of f o ps h.frames;
+    own = λ chip w f o ps s h. own_of f o ps h.frames;
+    lasts = λ f. omega arith;
+    roomy = λ chip w f o ps s h closed. open_of f o ps h.frames closed;
     moves = λ chip w ps s order free out h. let there = fills_there word (is_masked chip) w s (origins_in ps) order free in (outcome s tells_nothing, refl, record { all = all-step chip (Hardware order) there h.all; value = word_event chip word order fits h.all there ∙ h.value; frames = h.frames });
     resets = λ chip w ps s reason h. (outcome 0 tells_nothing, refl, record { all = all-step chip (WasReset reason) tt h.all; value = slice_index-blank word; frames = No_frame });
     undisturbed = λ chip w ps s made received none out h. record { all = all-step chip (Made made received) tt h.all; value = word_left chip word made received (none (Called Get)) ∙ h.value; frames = h.frames };
     may_owns = λ origin made h. h;
     owns_plain = λ origin made h. names_plain word made h;
+    loads = λ origin value h. h;
+    expiry = λ chip w ps s has osc h. cc;
+    unwatched = λ w s none. refl;
     owns_called = λ line made h. (Get, h);
     enables = λ origin bits line h apart. cc;
     used_lines = λ line h. cc;
@@ -186,7 +206,7 @@ cells_apart j k apart = record {
   may_other = λ p q made h. names_apart k j made (λ e. apart (sym e)) h;
   polls = λ w s c. refl;
   polls_other = λ w t c. refl;
-  starts = λ w s t u r some. refl;
+  starts = λ w s t u made_by other r some. refl;
   aborts = λ w s t u some. refl;
   steady = λ chip q made received h. rate_left chip k made received h;
 }

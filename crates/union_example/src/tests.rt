@@ -84,7 +84,7 @@ impl Module for Bells {
       fits = ⊥;
       can_call = λ c. Unit {0};
       setting = record {
-        machine = record { happens = λ w s h. None; ready = λ w s l. false; due = λ w s l. false; startable = λ w s u. false; rate = λ s. 1; expires = λ w s. None; service_of = λ c. GptInit; reporting = λ c. record { detect = false; classification = 1 }; polls = λ w s c. [] };
+        machine = record { happens = λ w s h. None; ready = λ w s l. false; due = λ w s l. false; startable = λ w s u. false; rate = λ s. 1; expires = λ w s. None; service_of = λ c. GptInit; reporting = λ c. record { detect = false; classification = 1 }; polls = λ w s c. []; line_waits = λ w s l. false };
         first = tt {0};
         class_of = λ c. record { kind = Exclusive; «module» = Gpt; key = None };
         level_of = λ l. cond (l == 3) 2 1;
@@ -92,6 +92,7 @@ impl Module for Bells {
         used = λ l. l == 3;
         steps_of = λ o. 4;
         window_of = λ o. 2;
+        must = λ c. [];
         may = λ o made. false;
         halves = λ c. None;
         fills = λ c. false;
@@ -107,6 +108,7 @@ impl Module for Bells {
       fuel = λ f. 0;
       room = λ f. 0;
       lines = λ l. l == 3;
+      watches = false;
       count = λ s. 0;
       owns = λ o made. false;
     } };

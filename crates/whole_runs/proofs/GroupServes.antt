@@ -201,13 +201,13 @@ known_below d u g on = by_test (nat_lt g 16) refl on
     by_test true e f = grind (arith, nat_tests)
     by_test false e f = absurd (cc f)
 
-start_group : (d : AdcTable) (w : World) (s : AdcState) (unit : units.Unit) (received u h g : ℕ) → number_of unit ≡ Some u → starts d s u ≡ Some h → g < 16 → (h ≡ g) ⊎ (h ≢ g)
-    → GroupGoes d g (seen d w (Starts unit received) s (outcome (started w s u h) tells_nothing)) s (group_at s g) (group_at (started w s u h) g)
-start_group d w s unit received u h g num at lt (inl same) =
+start_group : (d : AdcTable) (w : World) (s : AdcState) (unit : units.Unit) (made_by : Option Call) (received u h g : ℕ) → number_of unit ≡ Some u → starts d s u ≡ Some h → g < 16 → (h ≡ g) ⊎ (h ≢ g)
+    → GroupGoes d g (seen d w (Starts unit made_by received) s (outcome (started w s u h) tells_nothing)) s (group_at s g) (group_at (started w s u h) g)
+start_group d w s unit made_by received u h g num at lt (inl same) =
     let own : group_at (started w s u g) g ≡ record (group_at s g) { waiting = None } = group_same s g (record (group_at s g) { waiting = None }) lt in
-    subst (λ k. GroupGoes d g (seen d w (Starts unit received) s (outcome (started w s u k) tells_nothing)) s (group_at s g) (group_at (started w s u k) g)) (sym same)
+    subst (λ k. GroupGoes d g (seen d w (Starts unit made_by received) s (outcome (started w s u k) tells_nothing)) s (group_at s g) (group_at (started w s u k) g)) (sym same)
     (record { waiting = Dropped (ap (λ (x : GroupState). x.waiting) own); rounds = Same refl refl (ap (λ (x : GroupState). x.rounds) own) (λ h. ap (λ (x : GroupState). is_completed x.status) (sym own) ∙ h) })
-start_group d w s unit received u h g num at lt (inr ne) = left_group d g _ s _ _ refl refl refl (rw (num, at, other_number h g ne) refl) (group_other s h (record (group_at s h) { waiting = None }) g lt (λ same. ne (sym same)))
+start_group d w s unit made_by received u h g num at lt (inr ne) = left_group d g _ s _ _ refl refl refl (rw (num, at, other_number h g ne) refl) (group_other s h (record (group_at s h) { waiting = None }) g lt (λ same. ne (sym same)))
 
 -- the unit that starts
 begun_unit : (w : World) (e : Seen) (s : AdcState) (u h : ℕ) (o : Option Request) (p : Option Round) → is_some o ≡ true → (group_at s h).waiting ≡ o → h < 16 → starts_of u h e ≡ true → e.world ≡ w
@@ -234,19 +234,19 @@ start_unit w e s u zero h none stop waits lt start now = start_by w e s u 0 h (r
 start_unit w e s u (suc zero) h none stop waits lt start now = start_by w e s u 1 h (round_at s 1) none stop waits lt start now
 start_unit w e s u (suc (suc v)) h none stop waits lt start now = Freed refl
 
-starting_goes : (d : AdcTable) (w : World) (s : AdcState) (unit : units.Unit) (received u : ℕ) (o : Option ℕ) (out : Outcome AdcState) → number_of unit ≡ Some u → starts d s u ≡ o
-    → starting w s u o ≡ Some out → Goes d w (Starts unit received) s out
-starting_goes d w s unit received u None out num at e = absurd (cc e)
-starting_goes d w s unit received u (Some h) out num at e =
+starting_goes : (d : AdcTable) (w : World) (s : AdcState) (unit : units.Unit) (made_by : Option Call) (received u : ℕ) (o : Option ℕ) (out : Outcome AdcState) → number_of unit ≡ Some u → starts d s u ≡ o
+    → starting w s u o ≡ Some out → Goes d w (Starts unit made_by received) s out
+starting_goes d w s unit made_by received u None out num at e = absurd (cc e)
+starting_goes d w s unit made_by received u (Some h) out num at e =
     let waits = both (is_on u (group_of d h)) (is_some (group_at s h).waiting) (next_is d s u h (next_of (round_at s u) (next_group d s u) h at)).waits in
-    went (Goes d w (Starts unit received) s) (outcome (started w s u h) tells_nothing) out e (record {
-      groups = λ g lt. start_group d w s unit received u h g num at lt (same_or_other h g);
+    went (Goes d w (Starts unit made_by received) s) (outcome (started w s u h) tells_nothing) out e (record {
+      groups = λ g lt. start_group d w s unit made_by received u h g num at lt (same_or_other h g);
       units = λ v. start_unit w _ s u v h (λ ne. rw (num, other_number u v (λ k. ne (sym k))) refl) (λ g. refl) waits.1 (known_below d u h waits.0) (rw (num, at, same_number u, same_number h) refl) refl;
     })
 
-pub start_goes : (d : AdcTable) (w : World) (s : AdcState) (unit : units.Unit) (received : ℕ) (o : Option ℕ) (out : Outcome AdcState) → number_of unit ≡ o → starts_on d w s o ≡ Some out → Goes d w (Starts unit received) s out
-start_goes d w s unit received None out num e = absurd (cc e)
-start_goes d w s unit received (Some u) out num e = starting_goes d w s unit received u (starts d s u) out num refl e
+pub start_goes : (d : AdcTable) (w : World) (s : AdcState) (unit : units.Unit) (made_by : Option Call) (received : ℕ) (o : Option ℕ) (out : Outcome AdcState) → number_of unit ≡ o → starts_on d w s o ≡ Some out → Goes d w (Starts unit made_by received) s out
+start_goes d w s unit made_by received None out num e = absurd (cc e)
+start_goes d w s unit made_by received (Some u) out num e = starting_goes d w s unit made_by received u (starts d s u) out num refl e
 
 -- ---- aborts
 
@@ -289,7 +289,7 @@ moved_goes d w s order = record { groups = λ g lt. left_group d g _ s _ _ refl 
 pub happens_goes : (d : AdcTable) (w : World) (s : AdcState) (h : Happening Call) (out : Outcome AdcState) → happens d w s h ≡ Some out → Goes d w h s out
 happens_goes d w s (Acts call times) out e = went (Goes d w (Acts call times) s) (acts d s call) out e (act_goes d w s call times)
 happens_goes d w s (Serves l received) out e = serve_goes d w s l received (ready d w s l) out e
-happens_goes d w s (Starts u received) out e = start_goes d w s u received (number_of u) out refl e
+happens_goes d w s (Starts u made_by received) out e = start_goes d w s u made_by received (number_of u) out refl e
 happens_goes d w s (Aborts u) out e = abort_goes d w s u (number_of u) out refl e
 happens_goes d w s (Moves order) out e = went (Goes d w (Moves order) s) (outcome (moved d s order) tells_nothing) out e (moved_goes d w s order)
 happens_goes d w s (Restarts reason) out e = went (Goes d w (Restarts reason) s) (outcome first_state tells_nothing) out e (record {

@@ -338,18 +338,18 @@ start_next d past s e u p fits h agrees at named job had =
         let for_unit : is_for d u q ≡ true = ap (λ j. is_on_unit u (job_of d j)) (job_is d past s q h there) ∙ ap (λ n. is_on_unit u (job_of d (job_in d n past))) same ∙ on in
         subst (λ n. GoesFirst d past p.sequence n) same (goes_first d past s q p h there best.among (each_at (λ q. is_for d u q ≡ true → Yields d q p) s.pending q best.first there for_unit))
 
-start_by_next : (d : SpiTable) (w : World) (past : List Seen) (s : SpiState) (unit : units.Unit) (received u : ℕ) (o : Option Pending) (out : Outcome SpiState) → HasPriorities d → Ordered past s → Agrees s
-    → number_of unit ≡ Some u → next_at d s (Some u) ≡ o → start_by d w s (Some u) received o ≡ Some out → StartsNext d u (seen d (Starts unit received) s out) past
-start_by_next d w past s unit received u None out fits h agrees num at e = absurd (cc e)
-start_by_next d w past s unit received u (Some p) out fits h agrees num at e =
-    start_next d past s (seen d (Starts unit received) s out) u p fits h agrees at (rw (num, at) refl) (rw (num, at) refl) (λ q. refl)
+start_by_next : (d : SpiTable) (w : World) (past : List Seen) (s : SpiState) (unit : units.Unit) (made_by : Option Call) (received u : ℕ) (o : Option Pending) (out : Outcome SpiState) → HasPriorities d → Ordered past s → Agrees s
+    → number_of unit ≡ Some u → next_at d s (Some u) ≡ o → start_by d w s (Some u) received o ≡ Some out → StartsNext d u (seen d (Starts unit made_by received) s out) past
+start_by_next d w past s unit made_by received u None out fits h agrees num at e = absurd (cc e)
+start_by_next d w past s unit made_by received u (Some p) out fits h agrees num at e =
+    start_next d past s (seen d (Starts unit made_by received) s out) u p fits h agrees at (rw (num, at) refl) (rw (num, at) refl) (λ q. refl)
 
 in_order : (d : SpiTable) (w : World) (past : List Seen) (s : SpiState) (h : Happening Call) (out : Outcome SpiState) → HasPriorities d → Ordered past s → Agrees s → (spi_machine d).happens w s h ≡ Some out
     → InOrderBy d (seen d h s out) past h
 in_order d w past s (Acts call times) out fits o agrees e = tt
 in_order d w past s (Serves l received) out fits o agrees e = tt
-in_order d w past s (Starts unit received) out fits o agrees e =
-    λ u num. start_by_next d w past s unit received u (next_at d s (Some u)) out fits o agrees num refl (ap (λ k. start_by d w s k received (next_at d s k)) (sym num) ∙ e)
+in_order d w past s (Starts unit made_by received) out fits o agrees e =
+    λ u num. start_by_next d w past s unit made_by received u (next_at d s (Some u)) out fits o agrees num refl (ap (λ k. start_by d w s k received (next_at d s k)) (sym num) ∙ e)
 in_order d w past s (Aborts u) out fits o agrees e = tt
 in_order d w past s (Moves order) out fits o agrees e = tt
 in_order d w past s (Restarts reason) out fits o agrees e = tt

@@ -4,7 +4,7 @@ use Rattle.std.specs.Prelude.{is_some, IsSome}
 use Rattle.run_model.specs.Frame.{state_by}
 use Rattle.run_model.specs.World.{World}
 use Rattle.run_model.specs.Machine.{Happening, Acts, Serves, Starts, Aborts, Moves, Restarts, Outcome, Machine, outcome, outcome_with, tells_nothing}
-use Rattle.step_runner.specs.Union.{union_machine, union_happens, lift_out, in_both, in_first}
+use Rattle.step_runner.specs.Union.{first_call, second_call, union_machine, union_happens, lift_out, in_both, in_first}
 use Rattle.step_runner.specs.declared.either.Either.{Either}
 use Rattle.step_runner.specs.declared.either.Either.TheVariants.{Left, Right}
 use Rattle.whole_runs.specs.Runs.{Event, state_after, AreAllowed}
@@ -123,7 +123,7 @@ module _ {S T C D : Type 0} (ours : ℕ → Bool) (f : Machine S C) (g : Machine
   first_leaves w s (Acts (Right d) times) out at none = (second_lifted s.0 (g.happens w s.1 (Acts d times)) out at).1
   first_leaves w s (Serves l r) out at none =
       (second_lifted s.0 (g.happens w s.1 (Serves l r)) out (ap (λ b. Line w s l r b) (sym (chosen_none (ours l) (Serves l r) none)) ∙ at)).1
-  first_leaves w s (Starts u r) out at none = (from_second s.0 s.1 (f.happens w s.0 (Starts u r)) (g.happens w s.1 (Starts u r)) out at (chosen_none _ (Starts u r) none)).1
+  first_leaves w s (Starts u made_by r) out at none = (from_second s.0 s.1 (f.happens w s.0 (Starts u (first_call made_by) r)) (g.happens w s.1 (Starts u (second_call made_by) r)) out at (chosen_none _ (Starts u (first_call made_by) r) none)).1
   first_leaves w s (Aborts u) out at none = (from_second s.0 s.1 (f.happens w s.0 (Aborts u)) (g.happens w s.1 (Aborts u)) out at (chosen_none _ (Aborts u) none)).1
   first_leaves w s (Moves order) out at none = absurd (cc none)
   first_leaves w s (Restarts reason) out at none = absurd (cc none)
@@ -141,9 +141,9 @@ module _ {S T C D : Type 0} (ours : ℕ → Bool) (f : Machine S C) (g : Machine
   first_does w s (Serves l r) x out at is =
       let own = chosen_some (ours l) (Serves l r) x is in
       subst (λ y. First (f.happens w s.0 y) out) own.1 (first_lifted s.1 (f.happens w s.0 (Serves l r)) out (ap (λ b. Line w s l r b) (sym own.0) ∙ at)).0
-  first_does w s (Starts u r) x out at is =
-      let own = chosen_some (is_some (f.happens w s.0 (Starts u r))) (Starts u r) x is in
-      subst (λ y. First (f.happens w s.0 y) out) own.1 (from_first s.0 s.1 (f.happens w s.0 (Starts u r)) (g.happens w s.1 (Starts u r)) out at own.0).0
+  first_does w s (Starts u made_by r) x out at is =
+      let own = chosen_some (is_some (f.happens w s.0 (Starts u (first_call made_by) r))) (Starts u (first_call made_by) r) x is in
+      subst (λ y. First (f.happens w s.0 y) out) own.1 (from_first s.0 s.1 (f.happens w s.0 (Starts u (first_call made_by) r)) (g.happens w s.1 (Starts u (second_call made_by) r)) out at own.0).0
   first_does w s (Aborts u) x out at is =
       let own = chosen_some (is_some (f.happens w s.0 (Aborts u))) (Aborts u) x is in
       subst (λ y. First (f.happens w s.0 y) out) own.1 (from_first s.0 s.1 (f.happens w s.0 (Aborts u)) (g.happens w s.1 (Aborts u)) out at own.0).0
@@ -170,7 +170,7 @@ module _ {S T C D : Type 0} (ours : ℕ → Bool) (f : Machine S C) (g : Machine
   second_leaves w s (Acts (Right d) times) out at none = absurd (cc none)
   second_leaves w s (Serves l r) out at none =
       (first_lifted s.1 (f.happens w s.0 (Serves l r)) out (ap (λ b. Line w s l r b) (sym (other_none (ours l) (Serves l r) none)) ∙ at)).1
-  second_leaves w s (Starts u r) out at none = (from_first s.0 s.1 (f.happens w s.0 (Starts u r)) (g.happens w s.1 (Starts u r)) out at (other_none _ (Starts u r) none)).1
+  second_leaves w s (Starts u made_by r) out at none = (from_first s.0 s.1 (f.happens w s.0 (Starts u (first_call made_by) r)) (g.happens w s.1 (Starts u (second_call made_by) r)) out at (other_none _ (Starts u (second_call made_by) r) none)).1
   second_leaves w s (Aborts u) out at none = (from_first s.0 s.1 (f.happens w s.0 (Aborts u)) (g.happens w s.1 (Aborts u)) out at (other_none _ (Aborts u) none)).1
   second_leaves w s (Moves order) out at none = absurd (cc none)
   second_leaves w s (Restarts reason) out at none = absurd (cc none)
@@ -188,9 +188,9 @@ module _ {S T C D : Type 0} (ours : ℕ → Bool) (f : Machine S C) (g : Machine
   second_does w s (Serves l r) x out at is =
       let own = other_some (ours l) (Serves l r) x is in
       subst (λ y. Second (g.happens w s.1 y) out) own.1 (second_lifted s.0 (g.happens w s.1 (Serves l r)) out (ap (λ b. Line w s l r b) (sym own.0) ∙ at)).0
-  second_does w s (Starts u r) x out at is =
-      let own = other_some (is_some (f.happens w s.0 (Starts u r))) (Starts u r) x is in
-      subst (λ y. Second (g.happens w s.1 y) out) own.1 (from_second s.0 s.1 (f.happens w s.0 (Starts u r)) (g.happens w s.1 (Starts u r)) out at own.0).0
+  second_does w s (Starts u made_by r) x out at is =
+      let own = other_some (is_some (f.happens w s.0 (Starts u (first_call made_by) r))) (Starts u (second_call made_by) r) x is in
+      subst (λ y. Second (g.happens w s.1 y) out) own.1 (from_second s.0 s.1 (f.happens w s.0 (Starts u (first_call made_by) r)) (g.happens w s.1 (Starts u (second_call made_by) r)) out at own.0).0
   second_does w s (Aborts u) x out at is =
       let own = other_some (is_some (f.happens w s.0 (Aborts u))) (Aborts u) x is in
       subst (λ y. Second (g.happens w s.1 y) out) own.1 (from_second s.0 s.1 (f.happens w s.0 (Aborts u)) (g.happens w s.1 (Aborts u)) out at own.0).0

@@ -71,14 +71,14 @@ waits_quiet d g h e s u o lt (inl same) =
     (kept_quiet d g e s u (group_at s g) _ (record (group_at s g) { waiting = o }) (group_same s g (record (group_at s g) { waiting = o }) lt) refl refl)
 waits_quiet d g h e s u o lt (inr ne) = left_quiet d g e s u _ _ (group_other s h _ g lt (λ same. ne (sym same)))
 
-start_quiet : (d : AdcTable) (w : World) (s : AdcState) (unit : units.Unit) (received g u : ℕ) (o : Option ℕ) (out : Outcome AdcState) → g < 16 → starting w s u o ≡ Some out → Quiet d w s (Starts unit received) g out
-start_quiet d w s unit received g u None out lt e = absurd (cc e)
-start_quiet d w s unit received g u (Some h) out lt e =
-    went (Quiet d w s (Starts unit received) g) (outcome (started w s u h) tells_nothing) out e (waits_quiet d g h _ s _ None lt (same_or_other h g))
+start_quiet : (d : AdcTable) (w : World) (s : AdcState) (unit : units.Unit) (made_by : Option Call) (received g u : ℕ) (o : Option ℕ) (out : Outcome AdcState) → g < 16 → starting w s u o ≡ Some out → Quiet d w s (Starts unit made_by received) g out
+start_quiet d w s unit made_by received g u None out lt e = absurd (cc e)
+start_quiet d w s unit made_by received g u (Some h) out lt e =
+    went (Quiet d w s (Starts unit made_by received) g) (outcome (started w s u h) tells_nothing) out e (waits_quiet d g h _ s _ None lt (same_or_other h g))
 
-starts_quiet : (d : AdcTable) (w : World) (s : AdcState) (unit : units.Unit) (received g : ℕ) (o : Option ℕ) (out : Outcome AdcState) → g < 16 → starts_on d w s o ≡ Some out → Quiet d w s (Starts unit received) g out
-starts_quiet d w s unit received g None out lt e = absurd (cc e)
-starts_quiet d w s unit received g (Some u) out lt e = start_quiet d w s unit received g u (starts d s u) out lt e
+starts_quiet : (d : AdcTable) (w : World) (s : AdcState) (unit : units.Unit) (made_by : Option Call) (received g : ℕ) (o : Option ℕ) (out : Outcome AdcState) → g < 16 → starts_on d w s o ≡ Some out → Quiet d w s (Starts unit made_by received) g out
+starts_quiet d w s unit made_by received g None out lt e = absurd (cc e)
+starts_quiet d w s unit made_by received g (Some u) out lt e = start_quiet d w s unit made_by received g u (starts d s u) out lt e
 
 abort_quiet : (d : AdcTable) (w : World) (s : AdcState) (unit : units.Unit) (g u : ℕ) (o : Option Round) (out : Outcome AdcState) → g < 16 → aborting d w s u o ≡ Some out → Quiet d w s (Aborts unit) g out
 abort_quiet d w s unit g u None out lt e = absurd (cc e)
@@ -101,7 +101,7 @@ moved_quiet d w s order g = left_quiet d g _ s _ _ _ refl
 pub quiet_goes : (d : AdcTable) (w : World) (s : AdcState) (h : Happening Call) (out : Outcome AdcState) (g : ℕ) → g < 16 → happens d w s h ≡ Some out → Quiet d w s h g out
 quiet_goes d w s (Acts call times) out g lt e = went (Quiet d w s (Acts call times) g) (acts d s call) out e (act_quiet d g _ s call lt)
 quiet_goes d w s (Serves l received) out g lt e = serve_quiet d w s l received g (ready d w s l) out lt e
-quiet_goes d w s (Starts u received) out g lt e = starts_quiet d w s u received g (number_of u) out lt e
+quiet_goes d w s (Starts u made_by received) out g lt e = starts_quiet d w s u made_by received g (number_of u) out lt e
 quiet_goes d w s (Aborts u) out g lt e = aborts_quiet d w s u g (number_of u) out lt e
 quiet_goes d w s (Moves order) out g lt e = went (Quiet d w s (Moves order) g) (outcome (moved d s order) tells_nothing) out e (moved_quiet d w s order g)
 quiet_goes d w s (Restarts reason) out g lt e = went (Quiet d w s (Restarts reason) g) (outcome first_state tells_nothing) out e (Emptied refl refl (λ u r at. absurd (cc at)))
@@ -123,8 +123,8 @@ of_is : (n : ℕ) (o : Option ℕ) → is_of n o ≡ true → o ≡ Some n
 of_is n None h = absurd (cc h)
 of_is n (Some m) h = ap (λ k. Some k) (grind (arith, nat_tests, h))
 
-start_on : (d : AdcTable) (w : World) (s : AdcState) (unit : units.Unit) (received : ℕ) (out : Outcome AdcState) (u g : ℕ) → starts_of u g (seen d w (Starts unit received) s out) ≡ true → StartsOn d u g
-start_on d w s unit received out u g h =
+start_on : (d : AdcTable) (w : World) (s : AdcState) (unit : units.Unit) (made_by : Option Call) (received : ℕ) (out : Outcome AdcState) (u g : ℕ) → starts_of u g (seen d w (Starts unit made_by received) s out) ≡ true → StartsOn d u g
+start_on d w s unit made_by received out u g h =
     let parts = both (is_of u (number_of unit)) (is_of g (started_group d s (number_of unit))) h in
     let num : number_of unit ≡ Some u = of_is u (number_of unit) parts.0 in
     let begins : starts d s u ≡ Some g = of_is g (starts d s u) (subst (λ k. is_of g (started_group d s k) ≡ true) num parts.1) in
@@ -134,7 +134,7 @@ start_on d w s unit received out u g h =
     }
 
 starts_there : (d : AdcTable) (w : World) (s : AdcState) (h : Happening Call) (out : Outcome AdcState) (u g : ℕ) → starts_of u g (seen d w h s out) ≡ true → StartsOn d u g
-starts_there d w s (Starts unit received) out u g h = start_on d w s unit received out u g h
+starts_there d w s (Starts unit made_by received) out u g h = start_on d w s unit made_by received out u g h
 starts_there d w s (Acts call times) out u g h = absurd (cc h)
 starts_there d w s (Serves l received) out u g h = absurd (cc h)
 starts_there d w s (Aborts v) out u g h = absurd (cc h)
@@ -171,7 +171,7 @@ start_alone u g e h = record {
     own = (both (is_of u (unit_started e.what)) (is_of g e.group) h).1
 
     none_served : (v : ℕ) (k : Happening Call) (b : Bool) → is_some (unit_started k) ≡ true → (is_of v (unit_served k) && b) ≡ false
-    none_served v (Starts unit received) b f = refl
+    none_served v (Starts unit made_by received) b f = refl
     none_served v (Acts call times) b f = absurd (cc f)
     none_served v (Serves l received) b f = absurd (cc f)
     none_served v (Aborts unit) b f = absurd (cc f)
@@ -179,7 +179,7 @@ start_alone u g e h = record {
     none_served v (Restarts reason) b f = absurd (cc f)
 
     none_aborted : (v : ℕ) (k : Happening Call) (b : Bool) → is_some (unit_started k) ≡ true → (is_of v (unit_aborted k) && b) ≡ false
-    none_aborted v (Starts unit received) b f = refl
+    none_aborted v (Starts unit made_by received) b f = refl
     none_aborted v (Acts call times) b f = absurd (cc f)
     none_aborted v (Serves l received) b f = absurd (cc f)
     none_aborted v (Aborts unit) b f = absurd (cc f)
@@ -187,7 +187,7 @@ start_alone u g e h = record {
     none_aborted v (Restarts reason) b f = absurd (cc f)
 
     none_requested : (k : Happening Call) (o : Option ErrorName) (b : Bool) → is_some (unit_started k) ≡ true → (is_start g (call_by k o) || (is_triggering k && b)) ≡ false
-    none_requested (Starts unit received) o b f = refl
+    none_requested (Starts unit made_by received) o b f = refl
     none_requested (Acts call times) o b f = absurd (cc f)
     none_requested (Serves l received) o b f = absurd (cc f)
     none_requested (Aborts unit) o b f = absurd (cc f)

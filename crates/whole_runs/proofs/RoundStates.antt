@@ -62,7 +62,7 @@ unit_calm e g h = by_what e.what e.told.error h
         → ((is_restart h || is_whole (call_by h o)) || is_stop g (call_by h o)) ≡ false
     by_what (Acts call times) o f = absurd (cc f)
     by_what (Serves l received) o f = refl
-    by_what (Starts u received) o f = refl
+    by_what (Starts u made_by received) o f = refl
     by_what (Aborts u) o f = refl
     by_what (Moves order) o f = absurd (cc f)
     by_what (Restarts reason) o f = absurd (cc f)

@@ -234,12 +234,12 @@ served_goes d w s l received (Some u) (Some r) unit at = served_by_goes d w s l 
 
 -- ---- all else
 
-start_goes : (d : SpiTable) (w : World) (s : SpiState) (unit : units.Unit) (k : Option ℕ) (received : ℕ) (o : Option Pending) (out : Outcome SpiState) → next_at d s (number_of unit) ≡ o
-    → start_by d w s k received o ≡ Some out → Goes d (seen d (Starts unit received) s out) s out.state
-start_goes d w s unit None received o out at e = absurd (cc e)
-start_goes d w s unit (Some u) received None out at e = absurd (cc e)
-start_goes d w s unit (Some u) received (Some p) out at e =
-    subst (λ (x : Outcome SpiState). Goes d (seen d (Starts unit received) s x) s x.state) (some_same (started d w s u received p) out e)
+start_goes : (d : SpiTable) (w : World) (s : SpiState) (unit : units.Unit) (made_by : Option Call) (k : Option ℕ) (received : ℕ) (o : Option Pending) (out : Outcome SpiState) → next_at d s (number_of unit) ≡ o
+    → start_by d w s k received o ≡ Some out → Goes d (seen d (Starts unit made_by received) s out) s out.state
+start_goes d w s unit made_by None received o out at e = absurd (cc e)
+start_goes d w s unit made_by (Some u) received None out at e = absurd (cc e)
+start_goes d w s unit made_by (Some u) received (Some p) out at e =
+    subst (λ (x : Outcome SpiState). Goes d (seen d (Starts unit made_by received) s x) s x.state) (some_same (started d w s u received p) out e)
     (Starting p.sequence (λ q. refl) refl (λ q. rw at refl) (λ q. refl) refl refl refl (λ q. refl))
 
 calm_move : (d : SpiTable) (w : World) (s : SpiState) (order : Order) → (moved d w s order).pending ≡ s.pending → (moved d w s order).sequence_results ≡ s.sequence_results → (moved d w s order).requests ≡ s.requests
@@ -257,7 +257,7 @@ happens_goes d w s (Acts call times) out e =
 happens_goes d w s (Serves l received) out e =
     subst (λ (x : Outcome SpiState). Goes d (seen d (Serves l received) s x) s x.state) (serve_by (ready w s l) (served d w s (unit_of l) received (run_of s (unit_of l))) out e)
     (served_goes d w s l received (unit_of l) (run_of s (unit_of l)) refl refl)
-happens_goes d w s (Starts unit received) out e = start_goes d w s unit (number_of unit) received (next_at d s (number_of unit)) out refl e
+happens_goes d w s (Starts unit made_by received) out e = start_goes d w s unit made_by (number_of unit) received (next_at d s (number_of unit)) out refl e
 happens_goes d w s (Aborts u) out e = absurd (cc e)
 happens_goes d w s (Moves order) out e =
     subst (λ (x : Outcome SpiState). Goes d (seen d (Moves order) s x) s x.state) (some_same (outcome (moved d w s order) tells_nothing) out e) (move_goes d w s order)

@@ -153,7 +153,7 @@ pub made_free : (d : AdcTable) (w : World) (s : AdcState) (h : Happening Call) (
 made_free d w s (Acts call times) out g lt e request =
     went (λ (x : Outcome AdcState). is_start g (call_by (Acts call times) x.told.error) ≡ true → MadeFree d g s (group_at x.state g)) (acts d s call) out e (act_free d s g call times lt) (first_of_or _ request)
 made_free d w s (Serves l received) out g lt e request = serve_free d s l g (group_at out.state g) (is_unit_line l) refl request
-made_free d w s (Starts u received) out g lt e request = absurd (cc request)
+made_free d w s (Starts u made_by received) out g lt e request = absurd (cc request)
 made_free d w s (Aborts u) out g lt e request = absurd (cc request)
 made_free d w s (Moves order) out g lt e request = absurd (cc request)
 made_free d w s (Restarts reason) out g lt e request = absurd (cc request)

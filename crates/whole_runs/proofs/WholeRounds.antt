@@ -85,7 +85,7 @@ reads_by d w (Acts (Group k (Notification on)) times) s out past g values e t is
 reads_by d w (Acts (Group k GetGroupStatus) times) s out past g values e t is answer = absurd is
 reads_by d w (Acts (Group k GetStreamLastPointer) times) s out past g values e t is answer = absurd is
 reads_by d w (Serves l received) s out past g values e t is answer = absurd is
-reads_by d w (Starts u received) s out past g values e t is answer = absurd is
+reads_by d w (Starts u made_by received) s out past g values e t is answer = absurd is
 reads_by d w (Aborts u) s out past g values e t is answer = absurd is
 reads_by d w (Moves order) s out past g values e t is answer = absurd is
 reads_by d w (Restarts reason) s out past g values e t is answer = absurd is
@@ -184,7 +184,7 @@ serve_place d w s l received out past g b p false line e t = Left (ap (λ (x : R
 place_goes : (d : AdcTable) (w : World) (s : AdcState) (h : Happening Call) (out : Outcome AdcState) (past : List Seen) → happens d w s h ≡ Some out → Tells d past s → PlacesGo d (seen d w h s out) past
 place_goes d w s (Acts call times) out past e t g b p = Left (ap (λ (x : Results). held_in x g b p) (leaves_results d w s (Acts call times) out e tt))
 place_goes d w s (Serves l received) out past e t g b p = serve_place d w s l received out past g b p (is_unit_line l) refl e t
-place_goes d w s (Starts u received) out past e t g b p = Left (ap (λ (x : Results). held_in x g b p) (leaves_results d w s (Starts u received) out e tt))
+place_goes d w s (Starts u made_by received) out past e t g b p = Left (ap (λ (x : Results). held_in x g b p) (leaves_results d w s (Starts u made_by received) out e tt))
 place_goes d w s (Aborts u) out past e t g b p = Left (ap (λ (x : Results). held_in x g b p) (leaves_results d w s (Aborts u) out e tt))
 place_goes d w s (Moves order) out past e t g b p = Left (ap (λ (x : Results). held_in x g b p) (leaves_results d w s (Moves order) out e tt))
 place_goes d w s (Restarts reason) out past e t g b p = Reset refl (sym (ap (λ (x : Outcome AdcState). held_in x.state.results g b p) (some_is e)))

@@ -55,7 +55,7 @@ served_group d s l = cond (is_unit_line l) (round_group (round_at s (l - 24))) (
 abbrev pub group_seen : AdcTable → AdcState → Happening Call → Option ℕ
 group_seen d s (Acts call times) = None
 group_seen d s (Serves l received) = served_group d s l
-group_seen d s (Starts u received) = started_group d s (number_of u)
+group_seen d s (Starts u made_by received) = started_group d s (number_of u)
 group_seen d s (Aborts u) = aborted_group s (number_of u)
 group_seen d s (Moves order) = None
 group_seen d s (Restarts reason) = None
@@ -135,7 +135,7 @@ requests g e = is_start g (call_in e) || (is_triggering e.what && is_of g e.grou
 
 -- the unit whose round is started, aborted or served
 abbrev pub unit_started : Happening Call → Option ℕ
-unit_started (Starts u received) = number_of u
+unit_started (Starts u made_by received) = number_of u
 unit_started _ = None
 
 abbrev pub unit_aborted : Happening Call → Option ℕ

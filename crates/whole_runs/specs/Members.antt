@@ -4,6 +4,7 @@ use Rattle.mcal_base.specs.declared.directive.Order.{Order}
 use Rattle.mcal_base.specs.declared.directive.Reason.{Reason}
 use Rattle.run_model.specs.World.{World}
 use Rattle.run_model.specs.Machine.{Happening, Acts, Serves, Starts, Aborts, Moves, Restarts, Outcome, Machine, outcome_with, tells_nothing}
+use Rattle.step_runner.specs.Union.{first_call, second_call}
 use Rattle.step_runner.specs.declared.either.Either.{Either}
 use Rattle.step_runner.specs.declared.either.Either.TheVariants.{Left, Right}
 use Rattle.whole_runs.specs.Runs.{Event, state_after}
@@ -51,7 +52,7 @@ abbrev pub first_own : {S T C D : Type 0} → (ℕ → Bool) → Machine S C →
 first_own ours f w s (Acts (Left c) times) = Some (Acts c times)
 first_own ours f w s (Acts (Right d) times) = None
 first_own ours f w s (Serves l r) = cond (ours l) (Some (Serves l r)) None
-first_own ours f w s (Starts u r) = cond (is_some (f.happens w s.0 (Starts u r))) (Some (Starts u r)) None
+first_own ours f w s (Starts u made_by r) = cond (is_some (f.happens w s.0 (Starts u (first_call made_by) r))) (Some (Starts u (first_call made_by) r)) None
 first_own ours f w s (Aborts u) = cond (is_some (f.happens w s.0 (Aborts u))) (Some (Aborts u)) None
 first_own ours f w s (Moves order) = Some (Moves order)
 first_own ours f w s (Restarts reason) = Some (Restarts reason)
@@ -61,7 +62,7 @@ abbrev pub second_own : {S T C D : Type 0} → (ℕ → Bool) → Machine S C �
 second_own ours f w s (Acts (Left c) times) = None
 second_own ours f w s (Acts (Right d) times) = Some (Acts d times)
 second_own ours f w s (Serves l r) = cond (ours l) None (Some (Serves l r))
-second_own ours f w s (Starts u r) = cond (is_some (f.happens w s.0 (Starts u r))) None (Some (Starts u r))
+second_own ours f w s (Starts u made_by r) = cond (is_some (f.happens w s.0 (Starts u (first_call made_by) r))) None (Some (Starts u (second_call made_by) r))
 second_own ours f w s (Aborts u) = cond (is_some (f.happens w s.0 (Aborts u))) None (Some (Aborts u))
 second_own ours f w s (Moves order) = Some (Moves order)
 second_own ours f w s (Restarts reason) = Some (Restarts reason)

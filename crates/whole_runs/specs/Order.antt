@@ -40,7 +40,7 @@ pub record StartsNext (d : SpiTable) (u : ℕ) (e : Seen) (past : List Seen) : T
 
 -- each start on a serial unit starts the next job
 abbrev pub InOrderBy : SpiTable → Seen → List Seen → Happening Call → Type 0
-InOrderBy d e past (Starts unit received) = (u : ℕ) → number_of unit ≡ Some u → StartsNext d u e past
+InOrderBy d e past (Starts unit made_by received) = (u : ℕ) → number_of unit ≡ Some u → StartsNext d u e past
 InOrderBy d e past _ = Unit {0}
 
 abbrev pub AreInOrder : SpiTable → List Seen → Type 0

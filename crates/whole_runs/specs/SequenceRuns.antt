@@ -44,13 +44,13 @@ sequence_of_run (Some r) = Some r.sequence
 abbrev pub sequence_seen : SpiTable → SpiState → Happening Call → Option ℕ
 sequence_seen d s (Acts call times) = None
 sequence_seen d s (Serves l received) = sequence_of_run (run_of s (unit_of l))
-sequence_seen d s (Starts u received) = sequence_of_next (next_at d s (number_of u))
+sequence_seen d s (Starts u made_by received) = sequence_of_next (next_at d s (number_of u))
 sequence_seen d s (Aborts u) = None
 sequence_seen d s (Moves order) = None
 sequence_seen d s (Restarts reason) = None
 
 abbrev pub job_seen : SpiTable → SpiState → Happening Call → Option ℕ
-job_seen d s (Starts u received) = job_of_next d (next_at d s (number_of u))
+job_seen d s (Starts u made_by received) = job_of_next d (next_at d s (number_of u))
 job_seen d s _ = None
 
 abbrev pub begins_by : Option (Outcome SpiState) → Bool
@@ -101,7 +101,7 @@ is_end q e = not (is_reset e) && (is_pending (e.had q) && not (is_pending (e.has
 
 -- a job starts
 abbrev pub is_starting : Happening Call → Bool
-is_starting (Starts u received) = true
+is_starting (Starts u made_by received) = true
 is_starting _ = false
 
 abbrev pub is_serving : Happening Call → Bool

@@ -20,7 +20,7 @@ module _ (d : AdcTable) (fits : FitsAdc d) where
   free_right = record {
     own = own_right d fits body_fuel body_room;
     turns = turns_right d fits;
-    steps = steps_right d fits body_fuel body_room;
+    steps = λ below chip w s k o y p m free come few stand. steps_right d fits body_fuel body_room below chip w s k o y p m free come.1 few stand;
     later = known_stays d body_fuel body_room;
     calm = calm d fits;
     shortens = shortens d;

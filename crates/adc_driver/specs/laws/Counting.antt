@@ -43,7 +43,7 @@ module _ (d : AdcTable) (fits : FitsAdc d) (f r : AdcBody → ℕ) (below : Hold
   abbrev body : Suspended → AdcBody
   body q = record { table = d; place = Out (outsides.Counts q) }
 
-  module _ (q : Suspended) (o : Origin Call) (p : Past) (has : HasDone o p) (few : q.unit < 2) (at : is_on q.unit (group_of d q.group) ≡ true) (least : q.kept ≤ length (inputs_of (group_of d q.group))) (h : Agrees d (keeper o p.acted q.unit (Keeps q.unit q.group q.kept None 0 None) below) chip w s) where
+  module _ (q : Suspended) (o : Origin Call) (p : Past) (has : HasDone q.unit below o p) (few : q.unit < 2) (at : is_on q.unit (group_of d q.group) ≡ true) (least : q.kept ≤ length (inputs_of (group_of d q.group))) (h : Agrees d (keeper o p.acted q.unit (Keeps q.unit q.group q.kept None 0 None) below) chip w s) where
     abbrev inputs : ℕ
     inputs = length (inputs_of (group_of d q.group))
 

@@ -1,11 +1,10 @@
 -- What a frame may do while its window owes moves, and how it stands after the last of them: it may end, or opens the mask next.
-use Rattle.std.proofs.Common.{◌≡◌, ℕ, ◌==◌, ◌||◌, not, Bool, true, false, [], drop, Option, Some, None, refl, sym, ◌∙◌, ap, subst, arith}
+use Rattle.std.proofs.Common.{◌≡◌, ℕ, not, Bool, true, false, drop, Option, Some, None, refl, sym, ◌∙◌, ap, subst}
 use Rattle.std.specs.Prelude.{is_some, if◌then◌else◌}
-use Rattle.std.proofs.lemmas.Bool.Decides.{nat_tests}
 use Rattle.chip_model.specs.Chip.{Chip}
 use Rattle.mcal_base.specs.declared.moves.Event.{Event}
 use Rattle.mcal_base.specs.declared.moves.Move.{Move}
-use Rattle.run_model.specs.Frame.{Called, Entered, Origin}
+use Rattle.run_model.specs.Frame.{Called, Origin}
 use Rattle.run_model.specs.World.{World}
 use Rattle.service_outline.specs.Owing.{AreWindows, Windows}
 use Rattle.service_outline.specs.Past.{Is_being, Past, nothing_yet}
@@ -18,7 +17,7 @@ use Rattle.adc_machine.specs.declared.call.Call.{Call}
 use Rattle.adc_machine.specs.declared.table.AdcTable.{AdcTable}
 use Rattle.adc_groups.specs.Ground.{Agrees, Holds, bare}
 use Rattle.adc_groups.specs.Owed.{Owed, is_owed, making_owed}
-use Rattle.adc_groups.specs.Places.{AdcGround, MayLeave, Leaves_acted, Leaves_served, adc_bodies, adc_windows, has_served, hold_then, owes_at, place_then}
+use Rattle.adc_groups.specs.Places.{AdcGround, MayLeave, Leaves_acted, adc_bodies, adc_windows, hold_then, owes_at, place_then}
 use Rattle.adc_groups.specs.declared.body.AdcBody.{AdcBody}
 use Rattle.adc_groups.specs.declared.body.Place.{Place}
 use Rattle.adc_groups.specs.declared.body.Place.TheVariants.{Makes, Opens}
@@ -33,15 +32,10 @@ use Rattle.adc_driver.specs.laws.Owes as owes
 
 -- ---- ends
 
-itself : (n : ℕ) → (n == n) ≡ true
-itself n = grind (arith, nat_tests)
-
--- a frame that has acted or served, and owes nothing, may end
+-- a frame that has acted, and owes nothing, may end
 pub leave_stop : (d : AdcTable) (o : Origin Call) (p : Past) (missed : ℕ → Bool) (n : Done) → MayLeave o p n → MayStop (AdcGround d) o p missed n
 leave_stop d _ _ missed n (Leaves_acted c Is_being none) =
     subst (λ z. MayStop (AdcGround d) (Called c) (record nothing_yet { acted = Some n.answer }) missed (record { answer = n.answer; owed = z })) (sym none) (record { may = (refl, refl); served = false; owed = refl; shown = λ i. absurd (cc); report = refl })
-leave_stop d _ _ missed n (Leaves_served l Is_being empty none) =
-    subst (λ z. MayStop (AdcGround d) (Entered l) (has_served l) missed (record { answer = n.answer; owed = z })) (sym none) (record { may = (ap (λ q. (q || false) || missed l) (itself l), empty); served = false; owed = refl; shown = λ i. absurd (cc); report = refl })
 
 module _ (d : AdcTable) (f r : AdcBody → ℕ) (opens : (t : AdcTable) (o : Outside) → r (record { table = t; place = Opens o }) ≡ 0) where
   abbrev V : Windows (bare d) Owed (AdcTable × Then) AdcBody (making_owed d)

@@ -7,7 +7,7 @@ use Rattle.run_model.specs.World.{World}
 use Rattle.service_outline.specs.Services.{AreEndingServices, Services, services_driver}
 use Rattle.service_outline.specs.Short.{ending_gave, short_left, short_move}
 use Rattle.service_outline.specs.declared.short.Short.{Short}
-use Rattle.step_runner.specs.Driver.{Covers, IsLawful}
+use Rattle.step_runner.specs.Driver.{IsLawful}
 use Rattle.step_runner.specs.Whose.{KeepsTo, only}
 use Rattle.adc_machine.specs.Turns.{AdcState}
 use Rattle.adc_machine.specs.declared.call.Call.{Call}
@@ -23,6 +23,7 @@ use Rattle.adc_driver.specs.laws.Initialising.{init_bodies, init_right}
 use Rattle.adc_driver.specs.laws.Keeps.{keeps_by}
 use Rattle.adc_driver.specs.laws.Lawful.{AreRight, adc, adc_right, lawful}
 use Rattle.adc_driver.specs.laws.Measure.{body_fuel, body_room}
+use Rattle.adc_driver.specs.laws.WaitsPlaces.{starts_right}
 
 abbrev pub joined : AdcTable → Services AdcState Call Asked AnyBody
 joined d = adc d body_fuel body_room (init_bodies d)
@@ -35,6 +36,7 @@ all_right d fits = record {
   looks = λ below chip w s call beside h. looks d fits body_fuel body_room (bounded d fits) below chip w s h call beside;
   enters = enters d fits body_fuel body_room (bounded d fits);
   line_steps = line_steps d fits body_fuel body_room (bounded d fits);
+  starts = starts_right d;
 }
 
 pub joined_right : (d : AdcTable) → FitsAdc d → AreEndingServices (joined d) any_ends
@@ -47,9 +49,6 @@ joined_lawful d fits = lawful d body_fuel body_room (init_bodies d) fits (all_ri
 -- it leaves the peripheral rate alone, and has no watchdog
 pub joined_slow : (d : AdcTable) (chip : Chip) (w : World) (ps : List (Short Asked AnyBody × Open Call)) (s : AdcState) → FitsAdc d → (services_driver (joined d)).relates chip w ps s → (services_driver (joined d)).setting.machine.rate s ≤ 16
 joined_slow d chip w ps s fits h = omega arith
-
-pub covers_joined : (d : AdcTable) → Covers (services_driver (joined d))
-covers_joined d = record { unwatched = λ w s. refl }
 
 -- registers, words and lines of other modules are nothing to it
 pub keeps_converters : (d : AdcTable) → FitsAdc d → KeepsTo (only Adc) (services_driver (joined d))

@@ -74,7 +74,7 @@ module _ (d : AdcTable) (fits : FitsAdc d) (f r : AdcBody → ℕ) (below : Hold
   abbrev StepAt : streams.Copied → ℕ → Option ℕ → Suspended → Origin Call → Past → Type 0
   StepAt what i v q o p = RightOr (AdcGround d) (adc_bodies d f r) below chip w s (body what i v q) o y p m (ended_at (adc_bodies d f r) body_ends (body what i v q) (value_of chip (body_work (body what i v q))))
 
-  module _ (q : Suspended) (e n i : ℕ) (o : Origin Call) (p : Past) (all : q.kept ≡ e + n) (most : e + n ≤ length (inputs_of (group_of d q.group))) (less : i < n) (has : HasDone o p) (few : q.unit < 2) (at : is_on q.unit (group_of d q.group) ≡ true) where
+  module _ (q : Suspended) (e n i : ℕ) (o : Origin Call) (p : Past) (all : q.kept ≡ e + n) (most : e + n ≤ length (inputs_of (group_of d q.group))) (less : i < n) (has : HasDone q.unit below o p) (few : q.unit < 2) (at : is_on q.unit (group_of d q.group) ≡ true) where
     abbrev what : streams.Copied
     what = copied.Ended (rounds_of d q.group) q.unit n e
 

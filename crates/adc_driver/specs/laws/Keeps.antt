@@ -21,6 +21,7 @@ use Rattle.service_outline.specs.There.{names_there}
 use Rattle.step_runner.specs.Lifts.{and-left}
 use Rattle.step_runner.specs.Whose.{only, is_of, is_line_of, module_of_register, module_of_line, module_of_unit, module_of_word, EnablesWithin, WritesWithin, NamesWithin, EnablesOthers, WritesOthers, NamesOthers, KeepsTo}
 use Rattle.step_runner.proofs.Whose.{not-unless}
+use Rattle.adc_machine.specs.declared.call.Call.{Call}
 use Rattle.adc_machine.specs.Bounds.{is_used}
 use Rattle.adc_machine.specs.Groups.{inputs_of, samples_of}
 use Rattle.adc_machine.specs.Machine.{adc_machine, is_trigger_line, is_unit_line}
@@ -79,9 +80,10 @@ users_place k low high =
     let fifth : nat_lt k 40960 ≡ false = grind (arith, nat_tests) in
     let sixth : nat_lt k 49152 ≡ false = grind (arith, nat_tests) in
     let seventh : nat_lt k 57344 ≡ false = grind (arith, nat_tests) in
+    let eighth : nat_lt k 65536 ≡ false = grind (arith, nat_tests) in
     let users : nat_lt k 73728 ≡ false = grind (arith, nat_tests) in
     let last : nat_lt k 139264 ≡ true = grind (arith, nat_tests) in
-    rw (first, second, third, fourth, fifth, sixth, seventh, users, last) refl
+    rw (first, second, third, fourth, fifth, sixth, seventh, eighth, users, last) refl
 
 within_at : (from n k : ℕ) → is_within from n k ≡ true → (from ≤ k) × (k < from + n)
 within_at from n k e = (low (first_of (not (nat_lt k from)) (nat_lt k (from + n)) e), high (second_of (not (nat_lt k from)) (nat_lt k (from + n)) e))
@@ -208,11 +210,11 @@ module _ (d : AdcTable) (fits : FitsAdc d) where
       by true e i = own_line l ((bare_right d fits).used_lines l e)
       by false e i = absurd (cc)
 
-  starts : (w : World) (s : AdcState) (u : units.Unit) (r : ℕ) → IsSome ((adc_machine d).happens w s (Starts u r)) → only Adc (module_of_unit u) ≡ true
-  starts w s Adc0 r some = refl
-  starts w s Adc1 r some = refl
-  starts w s Spi0 r some = cc
-  starts w s Spi1 r some = cc
+  starts : (w : World) (s : AdcState) (u : units.Unit) (made_by : Option Call) (r : ℕ) → IsSome ((adc_machine d).happens w s (Starts u made_by r)) → only Adc (module_of_unit u) ≡ true
+  starts w s Adc0 by r some = refl
+  starts w s Adc1 by r some = refl
+  starts w s Spi0 by r some = cc
+  starts w s Spi1 by r some = cc
 
   aborts : (w : World) (s : AdcState) (u : units.Unit) → IsSome ((adc_machine d).happens w s (Aborts u)) → only Adc (module_of_unit u) ≡ true
   aborts w s Adc0 some = refl

@@ -112,7 +112,7 @@ foot_later chip order none =
 
 -- ---- what is known, by the state and the time
 
-later_number : (m n k : ℕ) → n ≤ k → nat_le m n ≡ true → nat_le m k ≡ true
+pub later_number : (m n k : ℕ) → n ≤ k → nat_le m n ≡ true → nat_le m k ≡ true
 later_number m n k le e = grind (arith, nat_tests)
 
 module _ (d : AdcTable) (w x : World) (le : w.now ≤ x.now) (s : AdcState) (ms : List Bool) (kept : (i : ℕ) → i < 4 → mark_at s i ≡ true → slice_index_or ms i false ≡ true) where

@@ -10,11 +10,12 @@ use Rattle.run_model.specs.World.{World}
 use Rattle.service_outline.specs.Both.{both}
 use Rattle.service_outline.specs.Owing.{AreFree, AreWindows}
 use Rattle.service_outline.specs.Seen.{is_windowed, Plain}
-use Rattle.service_outline.specs.Services.{AreEnding, AreEndingServices, AreLong, Beside, CanBegin, Decides, LongBodies, Services, services_driver}
+use Rattle.service_outline.specs.Services.{AreEnding, AreEndingServices, AreLong, Beside, CanBegin, Decides, LongBodies, MakesStarts, Services, services_driver}
 use Rattle.service_outline.specs.Short.{ending_gave, short_left, short_move}
 use Rattle.service_outline.specs.There.{names_there}
 use Rattle.service_outline.specs.declared.sweep.Sweep.{Sweep}
 use Rattle.service_outline.specs.laws.Both.{both_ending}
+use Rattle.service_outline.specs.laws.Duties.{no_duties}
 use Rattle.service_outline.specs.laws.Lawful.{services_lawful}
 use Rattle.service_outline.specs.laws.Seen.{free_windows}
 use Rattle.step_runner.specs.Driver.{IsLawful}
@@ -55,6 +56,7 @@ module _ (d : AdcTable) (fuel room : AdcBody → ℕ) (inits : LongBodies (AdcGr
     basis = AdcGround d;
     bodies = any_bodies;
     seen = λ k. Plain;
+    written = λ k call writes. Unit {0};
     fits = FitsAdc d;
     can = λ call. Unit {0};
     word = STATE;
@@ -65,7 +67,7 @@ module _ (d : AdcTable) (fuel room : AdcBody → ℕ) (inits : LongBodies (AdcGr
     body_of = λ line. handled_by d line (is_used d line);
   }
 
-  -- what is left to show of its bodies, and of how calls and handlers begin
+  -- what is left to show of its bodies, of how calls and handlers begin, and of the units that they leave
   pub record AreRight : Type 0 where
     pub sweeps : AreLong (AdcGround d) inits
     pub windows : AreWindows (adc_windows d fuel room) body_ends
@@ -74,6 +76,7 @@ module _ (d : AdcTable) (fuel room : AdcBody → ℕ) (inits : LongBodies (AdcGr
         → Decides adc below chip w s call (adc_looked (record { call = call; table = d }) (word_of chip STATE))
     pub enters : (line : ℕ) (k : AnyBody) → handled_by d line (is_used d line) ≡ Some k → CanBegin adc k (Entered line)
     pub line_steps : (line : ℕ) (k : AnyBody) → handled_by d line (is_used d line) ≡ Some k → 6 + any_bodies.fuel k ≤ steps_of d (Entered line)
+    pub starts : MakesStarts adc any_ends
 
   module _ (fits : FitsAdc d) (a : AreRight) where
     all_right : AreEnding (AdcGround d) any_bodies any_ends
@@ -115,6 +118,8 @@ module _ (d : AdcTable) (fuel room : AdcBody → ℕ) (inits : LongBodies (AdcGr
       bodies = all_right;
       windows = free_windows adc all_right (λ k. refl) (λ o made m. no_windows made (first_of (may_name d made) (names_there made) m));
       unseen = λ below chip w s k call at. tt;
+      writes = no_duties adc (λ k call writes. tt) (λ call. refl);
+      starts = a.starts;
       looks = λ below chip w s call can lets h. a.looks below chip w s call lets h;
       own_word = λ o. ap (λ q. q && names_there (Load STATE)) (first_words d 0 (omega arith));
       word_there = omega arith;

@@ -42,7 +42,7 @@ StepsAt d f r below chip w s m y o p k = RightOr (AdcGround d) (adc_bodies d f r
 -- ---- the windows
 
 -- a window to start a group is of one of the two units, claimed or not
-convert_unit : (d : AdcTable) (below : Holds) (w : World) (s : AdcState) (o : Origin Call) (p : Past) (u g : ℕ) (c : Bool) → InWindow d (windows.Convert u g c) below w s o p → u < 2
+pub convert_unit : (d : AdcTable) (below : Holds) (w : World) (s : AdcState) (o : Origin Call) (p : Past) (u g : ℕ) (c : Bool) → InWindow d (windows.Convert u g c) below w s o p → u < 2
 convert_unit d below w s o p u g true is = is.1
 convert_unit d below w s o p u g false is = is.1
 

@@ -11,7 +11,7 @@ use Rattle.mcal_base.proofs.BitLaws.{has_bit-or, has_bit-without, has_bit-above}
 use Rattle.mcal_base.specs.declared.moves.Move.{Move}
 use Rattle.mcal_base.specs.declared.moves.Move.TheVariants.{Read, Write, Load, Store}
 use Rattle.mcal_base.specs.declared.register.Reg.{Reg}
-use Rattle.mcal_base.specs.declared.register.Reg.TheVariants.{EnableSet, EnableClear, TimerLow, CaptureCountLow, CaptureTimeLow, ConverterList, ConverterGo, ConverterAbort, ConverterAck, TriggerSet, TriggerClear, TriggerFlags, SerialData, ClockPll, ClockRate, ResetRequest}
+use Rattle.mcal_base.specs.declared.register.Reg.TheVariants.{EnableSet, EnableClear, TimerLow, CaptureCountLow, CaptureTimeLow, ConverterList, ConverterGo, ConverterAbort, ConverterAck, TriggerSet, TriggerClear, TriggerFlags, SerialData, ClockPll, ClockRate, ResetRequest, PinFlip}
 use Rattle.run_model.specs.Frame.{is_shared, resets_chip, begins_word}
 use Rattle.run_model.specs.World.{World}
 use Rattle.run_model.proofs.OutsideLaws.{stands-move}
@@ -74,6 +74,7 @@ line_few = by_line (λ l. l < 32) (omega arith) (omega arith) (omega arith) (ome
 
 read_apart : (chip : Chip) (r : Reg) → is_converter r ≡ false → (after_read chip r).converters ≡ chip.converters
 read_apart chip (ConverterAbort u) e = absurd (cc)
+read_apart chip (PinFlip p) e = refl
 read_apart chip _ e = refl
 
 written_apart : (chip : Chip) (r : Reg) (v received : ℕ) → owns_written r v ≡ false → (chip_after chip (Write r v) received).converters ≡ chip.converters
@@ -112,6 +113,7 @@ read_enabled chip (TimerLow c) = refl
 read_enabled chip (CaptureCountLow c) = refl
 read_enabled chip (CaptureTimeLow c) = refl
 read_enabled chip (ConverterAbort u) = refl
+read_enabled chip (PinFlip p) = refl
 read_enabled chip _ = refl
 
 enabled_apart : (d : AdcTable) (chip : Chip) (made : Move) (received l : ℕ) → adc_owns d made ≡ false → is_unit_line l || is_trigger_line l ≡ true → has_bit (chip_after chip made received).control.enabled l ≡ has_bit chip.control.enabled l

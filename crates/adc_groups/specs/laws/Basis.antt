@@ -331,6 +331,9 @@ module _ (d : AdcTable) (fits : FitsAdc d) where
     owns_plain = λ o made e. owned_plain d made e;
     may_there = λ o made e. move_there made (may_parts d made e).1;
     enables = λ o bits line e other. other_line bits line (first_of (is_for_lines bits) true e) other;
+    loads = λ origin value h. h;
+    watched = λ held gap chip w s has osc h. cc;
+    unwatched = λ w s none. refl;
     owns_called = λ line made e. (Init, e);
     used_lines = λ line e. used_line d line e;
     due_used = λ held chip w s line h e. due_used d fits held chip w s h line (due_line d w s line e) e;

@@ -101,7 +101,7 @@ moved_few d s _ = omega arith
 pub one_more : (d : AdcTable) (w : World) (s : AdcState) (x : Happening Call) (out : Outcome AdcState) → happens d w s x ≡ Some out → out.state.requests ≤ s.requests + 1
 one_more d w s (Acts call times) out e = came (Few s.requests) (acts d s call) out e (act_few d s call (error_by d call (circumstances d s call)))
 one_more d w s (Serves l received) out e = allowed (Few s.requests) (ready d w s l) (served d w s l) out e (served_few d w s l)
-one_more d w s (Starts u received) out e = starts_few d w s (number_of u) out e
+one_more d w s (Starts u made_by received) out e = starts_few d w s (number_of u) out e
 one_more d w s (Aborts u) out e = aborts_few d w s (number_of u) out e
 one_more d w s (Moves order) out e = came (Few s.requests) (outcome (moved d s order) tells_nothing) out e (moved_few d s order)
 one_more d w s (Restarts reason) out e = came (Few s.requests) (outcome first_state tells_nothing) out e (omega arith)

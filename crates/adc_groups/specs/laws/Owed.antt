@@ -7,7 +7,7 @@ use Rattle.chip_converter.specs.Rounds as rounds
 use Rattle.chip_converter.specs.Rounds.{Round}
 use Rattle.chip_converter.specs.declared.converter.Converter.{Converter}
 use Rattle.chip_converter.proofs.StateLaws.{finished-later, finished_not_running}
-use Rattle.chip_model.specs.Chip.{Chip, chip_after, reset_chip}
+use Rattle.chip_model.specs.Chip.{Chip, chip_after, expiry_of, reset_chip}
 use Rattle.chip_model.proofs.HistoryLaws.{words-read, words-write}
 use Rattle.mcal_base.specs.declared.answer.Answer.{Answer}
 use Rattle.mcal_base.specs.declared.directive.Reason.{Reason}
@@ -78,6 +78,9 @@ owed_times w times = by_kind (λ m. committed_after w times m ≡ times) (λ k. 
 
 pub owed_steady : (chip : Chip) (made : Move) → is_owed made ≡ true → (chip_after chip made 0).clock.rate ≡ chip.clock.rate
 owed_steady chip = by_kind (λ m. (chip_after chip m 0).clock.rate ≡ chip.clock.rate) (λ k. refl) (λ k v. refl) (λ u. refl) (λ v. refl) (λ u v. refl) (λ v. refl) (λ v. refl)
+
+pub owed_unwound : (chip : Chip) (made : Move) → is_owed made ≡ true → expiry_of (chip_after chip made 0) ≡ expiry_of chip
+owed_unwound chip = by_kind (λ m. expiry_of (chip_after chip m 0) ≡ expiry_of chip) (λ k. refl) (λ k v. refl) (λ u. refl) (λ v. refl) (λ u v. refl) (λ v. refl) (λ v. refl)
 
 pub owed_reset : (chip : Chip) (made : Move) (reason : Reason) → is_owed made ≡ true → reset_chip (chip_after chip made 0) reason ≡ reset_chip chip reason
 owed_reset chip made reason = by_kind (λ m. reset_chip (chip_after chip m 0) reason ≡ reset_chip chip reason) (λ k. refl) (λ k v. refl) (λ u. refl) (λ v. refl) (λ u v. refl) (λ v. refl) (λ v. refl) made

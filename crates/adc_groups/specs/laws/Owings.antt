@@ -39,7 +39,7 @@ use Rattle.adc_groups.specs.laws.Basis.{bare_right}
 use Rattle.adc_groups.specs.laws.Making.{deed_move, shape_move}
 use Rattle.adc_groups.specs.laws.Onward.{UnitGoes, Onward, Goes_on, Is_left, onward_agrees}
 use Rattle.adc_groups.specs.laws.Own.{first_of, second_of}
-use Rattle.adc_groups.specs.laws.Owed.{kind_of, owed_plain, owed_calm, owed_times, owed_steady, owed_reset, shape_simple, shorter_by, done_later, sound_later, acknowledged_over, done_stays, aborted_list, acknowledged_list, unkept_same}
+use Rattle.adc_groups.specs.laws.Owed.{kind_of, owed_plain, owed_calm, owed_times, owed_steady, owed_unwound, owed_reset, shape_simple, shorter_by, done_later, sound_later, acknowledged_over, done_stays, aborted_list, acknowledged_list, unkept_same}
 
 -- ---- what the hardware leaves of the block
 
@@ -427,6 +427,7 @@ owed_right d fits = record {
   calm = λ made e. owed_calm made (kind_of d made e);
   times = λ w times made e. owed_times w times made (kind_of d made e);
   steady = λ chip made e. owed_steady chip made (kind_of d made e);
+  unwound = λ chip made e. owed_unwound chip made (kind_of d made e);
   resets = λ chip made reason e. owed_reset chip made reason (kind_of d made e);
   shorter = λ x y v e. shorter_by x.table x.order x.banks x.deeds x.after v y e;
   commutes = λ x chip order own fit none. commutes_on d x chip order none own fit;

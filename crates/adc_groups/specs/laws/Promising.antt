@@ -1,14 +1,18 @@
 -- What is promised of units: after a change of one group the other unit has no more to start or to abort than before.
-use Rattle.std.proofs.Common.{◌≡◌, ◌≢◌, ℕ, Bool, true, false, ◌&&◌, ◌||◌, not, nat_lt, cond, List, [], ◌∷◌, Option, Some, None, refl, sym, ◌∙◌, ap, arith, ◌⊎◌, inl, inr}
+use Rattle.std.proofs.Common.{◌≡◌, ◌≢◌, ℕ, ◌+◌, ◌==◌, Bool, true, false, ◌&&◌, ◌||◌, not, nat_lt, cond, List, [], ◌∷◌, Option, Some, None, refl, sym, ◌∙◌, ap, arith, ◌⊎◌, inl, inr}
 use Rattle.std.specs.Prelude.{is_some}
 use Rattle.std.specs.List.{list_any}
+use Rattle.std.proofs.lemmas.Bool.Decides.{nat_tests}
+use Rattle.run_model.specs.Frame.{Origin}
 use Rattle.run_model.specs.World.{World}
 use Rattle.adc_machine.specs.Groups.{Round, is_finished}
+use Rattle.adc_machine.specs.Machine.{is_unit_line}
 use Rattle.adc_machine.specs.Table.{group_of, all_groups}
 use Rattle.adc_machine.specs.Turns.{AdcState, group_at, round_at, is_on, rank_of, priority_of, waits_for, next_group, starts, starts_by, is_outranked, aborts, aborts_by}
+use Rattle.adc_machine.specs.declared.call.Call.{Call}
 use Rattle.adc_machine.specs.declared.table.AdcTable.{AdcTable}
 use Rattle.adc_machine.proofs.Next.{next_is, none_is}
-use Rattle.adc_groups.specs.Ground.{Holds, some_hold, starts_on, yields_on, Promised}
+use Rattle.adc_groups.specs.Ground.{Holds, some_hold, starts_on, is_handler, will_yield, Promised}
 
 any_same : (p q : ℕ → Bool) → ((h : ℕ) → p h ≡ q h) → (gs : List ℕ) → list_any p gs ≡ list_any q gs
 any_same p q same [] = refl
@@ -41,7 +45,7 @@ module _ (d : AdcTable) (w : World) (s t : AdcState) (v : ℕ) (round : round_at
   aborts_before : is_some (aborts d w t v) ≡ true → is_some (aborts d w s v) ≡ true
   aborts_before e = sym (ap (λ q. is_some (aborts_by d w t v q)) round ∙ aborts_in (round_at s v)) ∙ e
 
-  pub promised_same : (before after : Holds) → (some_hold (starts_on v) before ≡ true → some_hold (starts_on v) after ≡ true) → (some_hold (yields_on v) before ≡ true → some_hold (yields_on v) after ≡ true) → Promised d before w s v → Promised d after w t v
+  pub promised_same : (before after : Holds) → (some_hold (starts_on v) before ≡ true → some_hold (starts_on v) after ≡ true) → (will_yield v before ≡ true → will_yield v after ≡ true) → Promised d before w s v → Promised d after w t v
   promised_same before after f h p = record { starts = λ e. f (p.starts (starts_before e)); yields = λ e. h (p.yields (aborts_before e)) }
 
 -- a change of one group leaves how groups wait for another unit
@@ -127,3 +131,24 @@ module _ (d : AdcTable) (w : World) (s t : AdcState) (v : ℕ) (waits : (h : ℕ
           let k = both_parts (not (is_finished w (group_of d r.group) r)) (is_outranked d t v r.group) (holds (not (is_finished w (group_of d r.group) r) && is_outranked d t v r.group) r f) in
           let on = and_on (not (is_finished w (group_of d r.group) r)) (is_outranked d s v r.group) k.0 (outranked_more r.group k.1) in
           ap (λ q. is_some (aborts_by d w s v q)) (round r i) ∙ ap (λ b. is_some (cond b (Some r) None)) on
+
+-- ---- what is yielded below a frame's promise of starts
+
+-- it is promised without that frame, and with it unless the frame is the handler of the unit's own line
+pub yields_below : (own x : Bool) → not own && x ≡ true → x ≡ true
+yields_below true x e = absurd (cc)
+yields_below false x e = e
+
+pub yields_past : (a : Bool) (v : ℕ) (o : Origin Call) (x : Bool) → is_handler v o ≡ false → not (a && is_handler v o) && x ≡ x
+yields_past a v o x e = ap (λ b. not (a && b) && x) e ∙ ap (λ b. not b && x) (and_off a)
+  where
+    and_off : (b : Bool) → b && false ≡ false
+    and_off true = refl
+    and_off false = refl
+
+-- the line of a trigger input is no unit's
+pub no_unit : (i : ℕ) → is_unit_line (28 + i) ≡ false
+no_unit i = ap (λ q. q || 28 + i == 25) (unlike (28 + i) 24 (λ e. omega (arith, e))) ∙ unlike (28 + i) 25 (λ e. omega (arith, e))
+  where
+    unlike : (x y : ℕ) → x ≢ y → (x == y) ≡ false
+    unlike x y ne = grind (arith, nat_tests, ne)

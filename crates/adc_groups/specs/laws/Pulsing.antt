@@ -64,6 +64,7 @@ use Rattle.adc_groups.specs.laws.Alike.{small_without}
 use Rattle.adc_groups.specs.laws.Listening.{bit_is}
 use Rattle.adc_groups.specs.laws.Onward.{Goes_on, Onward, onward_agrees}
 use Rattle.adc_groups.specs.laws.Own.{first_of, second_of}
+use Rattle.adc_groups.specs.laws.Promising.{no_unit}
 use Rattle.adc_groups.specs.laws.Requesting.{sound_past, other_at, none_waits, none_runs, on_own, listener_as, number_few, asking, asking_right, asking_puts, asking_takes, asking_owed, asking_backed, asking_claims, asking_promised}
 
 -- ---- marks
@@ -372,7 +373,7 @@ module _ (d : AdcTable) (fits : FitsAdc d) (f r : AdcBody → ℕ) (below : Hold
       group = group;
       unit = record { running = running ∙ unit_was.running; order = (added g xs, order_last d fits g u may.there few chip whole deed tt c differs deeds (refl, (refl, tt)) (added g xs) holds, order) };
       claims = λ v less. asking_claims line None u below v (word_of b (word_number d (words.Claim v))) d.priorities ∙ (ap (λ x. claim_right below v x) (claims_stay d fits below after chip b w s t h g u at stays claim v less) ∙ (h.settled may.on).claims v less);
-      promised = asking_promised d line None below w s t g u fits at (λ v ne. refl) is_other (h.settled may.on).promised;
+      promised = asking_promised d line None below w s t g u fits at (λ v. ap (λ q. q && 28 + i == 24 + v) (no_unit i)) (λ v ne. refl) is_other (h.settled may.on).promised;
     }
       where
         banks : BanksAgree d after (word_of b) t g
@@ -434,8 +435,8 @@ module _ (d : AdcTable) (fits : FitsAdc d) (f r : AdcBody → ℕ) (below : Hold
   -- ---- the step
 
   closes : (q : Bool) → MayClose d (if q then windows.Yield u else windows.Begin u) below line (has_served (28 + i))
-  closes true = (Has_served (28 + i) Is_being, few)
-  closes false = (Has_served (28 + i) Is_being, few)
+  closes true = (Has_served (28 + i) (λ e. absurd (let none = no_unit i in cc)) Is_being, few)
+  closes false = (Has_served (28 + i) (λ e. absurd (let none = no_unit i in cc)) Is_being, few)
 
   pub request_right : RightOr (AdcGround d) (adc_bodies d f r) below chip w s (record { table = d; place = Makes (pulse_by d i g false) }) line y nothing_yet m (ended_at (adc_bodies d f r) body_ends (record { table = d; place = Makes (pulse_by d i g false) }) (value_of chip (body_work (record { table = d; place = Makes (pulse_by d i g false) }))))
   request_right = record {

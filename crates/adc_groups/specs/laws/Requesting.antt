@@ -43,7 +43,7 @@ use Rattle.adc_machine.specs.declared.call.ResultBuffer.{ResultBuffer}
 use Rattle.adc_machine.specs.declared.table.AdcTable.{AdcTable}
 use Rattle.adc_machine.specs.declared.table.Group as configured
 use Rattle.adc_machine.proofs.Parts.{group_same, group_other}
-use Rattle.adc_groups.specs.Ground.{FitsAdc, Hold, Starts, Yields, Holds, some_hold, starts_on, yields_on, SoundGroup, IsSoundGroup, IsSoundRequest, IsSound, kept_in, kept_by, kept_of_round, number_at, number_by, phase_of, chosen_of, GroupAgrees, UnitAgrees, IsOrder, claim_right, RoundAgrees, IsBlock, TriggersAgree, put_of, take_of, first_held, is_owed, BanksAgree, AllRight, Backed, Promised, Agrees}
+use Rattle.adc_groups.specs.Ground.{FitsAdc, Hold, Starts, Yields, Holds, some_hold, starts_on, is_handler, will_yield, SoundGroup, IsSoundGroup, IsSoundRequest, IsSound, kept_in, kept_by, kept_of_round, number_at, number_by, phase_of, chosen_of, GroupAgrees, UnitAgrees, IsOrder, claim_right, RoundAgrees, IsBlock, TriggersAgree, put_of, take_of, first_held, is_owed, BanksAgree, AllRight, Backed, Promised, Agrees}
 use Rattle.adc_groups.specs.Owed.{making_owed, owed_of, owed_own}
 use Rattle.adc_groups.specs.Places.{AdcGround, MayCall, MayStart, Has_acted, MayClose, adc_bodies, hold_in}
 use Rattle.adc_groups.specs.Stored.{word_number, group_word, order_of, rounds_of, entry}
@@ -62,7 +62,7 @@ use Rattle.adc_groups.specs.laws.Deciding.{start, after_request}
 use Rattle.adc_groups.specs.laws.Making.{deed_move}
 use Rattle.adc_groups.specs.laws.Orders.{order_added}
 use Rattle.adc_groups.specs.laws.Own.{unit_is, within, low_words, order_words, unit_small, some_inputs, none_full}
-use Rattle.adc_groups.specs.laws.Promising.{promised_same, waits_other, none_yields}
+use Rattle.adc_groups.specs.laws.Promising.{promised_same, waits_other, none_yields, yields_past}
 use Rattle.adc_groups.specs.laws.Sequences.{differs_none, low_last, unit_last, other_last, order_first, order_last, whole_first, stands_last}
 use Rattle.adc_groups.specs.laws.ShapeParts.{low_set, lows_set, word_there, own_named, add_part, deeds_listed}
 
@@ -188,8 +188,8 @@ module _ (o : Origin Call) (a : Option Answer) (u : ℕ) (below : Holds) where
   asking_starts true = ap (λ b. b || some_hold (starts_on u) below) (same u)
   asking_starts false = ap (λ b. b || some_hold (starts_on u) below) (same u)
 
-  pub asking_yields : some_hold (yields_on u) (asking true) ≡ true
-  asking_yields = ap (λ b. b || some_hold (yields_on u) below) (same u)
+  pub asking_yields : will_yield u (asking true) ≡ true
+  asking_yields = ap (λ b. b || (not ((u == u) && is_handler u o) && will_yield u below)) (same u)
 
   more : (p q : Bool) → q ≡ true → p || q ≡ true
   more true q e = refl
@@ -199,14 +199,19 @@ module _ (o : Origin Call) (a : Option Answer) (u : ℕ) (below : Holds) where
   asking_more p true e = more (p (Yields u)) (p (Starts u) || some_hold p below) (more (p (Starts u)) (some_hold p below) e)
   asking_more p false e = more (p (Starts u)) (some_hold p below) e
 
+  -- a frame that isn't the handler of a unit's line leaves what is yielded there
+  pub still_yields : (v : ℕ) (q : Bool) → is_handler v o ≡ false → will_yield v below ≡ true → will_yield v (asking q) ≡ true
+  still_yields v true apart e = more (v == u) (not ((v == u) && is_handler v o) && will_yield v below) (yields_past (v == u) v o (will_yield v below) apart ∙ e)
+  still_yields v false apart e = yields_past (v == u) v o (will_yield v below) apart ∙ e
+
 -- what is promised once a group has made a request on its unit
-pub asking_promised : (d : AdcTable) (o : Origin Call) (a : Option Answer) (below : Holds) (w : World) (s t : AdcState) (g u : ℕ) → FitsAdc d → is_on u (group_of d g) ≡ true → ((v : ℕ) → v ≢ u → round_at t v ≡ round_at s v) → ((k : ℕ) → k ≢ g → group_at t k ≡ group_at s k) → ((v : ℕ) → Promised d below w s v) → (v : ℕ) → Promised d (asking o a u below d.priorities) w t v
-asking_promised d o a below w s t g u fits at rounds others was v = by (cases v u)
+pub asking_promised : (d : AdcTable) (o : Origin Call) (a : Option Answer) (below : Holds) (w : World) (s t : AdcState) (g u : ℕ) → FitsAdc d → is_on u (group_of d g) ≡ true → ((v : ℕ) → is_handler v o ≡ false) → ((v : ℕ) → v ≢ u → round_at t v ≡ round_at s v) → ((k : ℕ) → k ≢ g → group_at t k ≡ group_at s k) → ((v : ℕ) → Promised d below w s v) → (v : ℕ) → Promised d (asking o a u below d.priorities) w t v
+asking_promised d o a below w s t g u fits at apart rounds others was v = by (cases v u)
   where
     cases : (x y : ℕ) → (x ≡ y) ⊎ (x ≢ y)
     cases x y = grind arith
 
-    yields : (q : Bool) → d.priorities ≡ q → is_some (aborts d w t u) ≡ true → some_hold (yields_on u) (asking o a u below q) ≡ true
+    yields : (q : Bool) → d.priorities ≡ q → is_some (aborts d w t u) ≡ true → will_yield u (asking o a u below q) ≡ true
     yields true e f = asking_yields o a u below
     yields false e f = absurd (let none = none_yields d w t u e in cc)
 
@@ -222,7 +227,7 @@ asking_promised d o a below w s t g u fits at rounds others was v = by (cases v 
 
     by : (v ≡ u) ⊎ (v ≢ u) → Promised d (asking o a u below d.priorities) w t v
     by (inl e) = subst (λ n. Promised d (asking o a u below d.priorities) w t n) (sym e) here
-    by (inr ne) = promised_same d w s t v (rounds v ne) (waits_other d s t g v (off ne) (λ k nk. ap (λ (x : GroupState). is_some x.waiting) (others k nk))) below (asking o a u below d.priorities) (asking_more o a u below (starts_on v) d.priorities) (asking_more o a u below (yields_on v) d.priorities) (was v)
+    by (inr ne) = promised_same d w s t v (rounds v ne) (waits_other d s t g v (off ne) (λ k nk. ap (λ (x : GroupState). is_some x.waiting) (others k nk))) below (asking o a u below d.priorities) (asking_more o a u below (starts_on v) d.priorities) (still_yields o a u below v d.priorities (apart v)) (was v)
 
 -- ---- Adc_StartGroupConversion
 
@@ -415,7 +420,7 @@ module _ (d : AdcTable) (fits : FitsAdc d) (f r : AdcBody → ℕ) (below : Hold
       group = group;
       unit = record { running = running ∙ unit_was.running; order = (added g xs, order_last d fits g u may.there few chip whole deed refl c differs deeds (refl, (refl, (refl, (refl, tt)))) (added g xs) holds, order) };
       claims = λ v less. asking_claims (Called call) (Some no_answer) u below v (word_of b (word_number d (words.Claim v))) d.priorities ∙ (ap (λ x. claim_right below v x) (claims_stay d fits below after chip b w s t h g u at stays claim v less) ∙ (h.settled may.on).claims v less);
-      promised = asking_promised d (Called call) (Some no_answer) below w s t g u fits at (λ v ne. refl) is_other (h.settled may.on).promised;
+      promised = asking_promised d (Called call) (Some no_answer) below w s t g u fits at (λ v. refl) (λ v ne. refl) is_other (h.settled may.on).promised;
     }
       where
         banks : BanksAgree d after (word_of b) t g

@@ -101,7 +101,7 @@ module _ (d : AdcTable) (fits : FitsAdc d) (f r : AdcBody → ℕ) (below : Hold
   same_order : (u : ℕ) (xs zs : List Entry) → HoldsOrder (order_of u) (word_of chip) xs → HoldsOrder (order_of u) (word_of chip) zs → xs ≡ zs
   same_order u xs zs a b = sym a.is ∙ b.is
 
-  module _ (u : ℕ) (few : u < 2) (on : s.initialised ≡ true) (has : HasDone o p) (xs : List Entry) (holds : HoldsOrder (order_of u) (word_of chip) xs) (K : Place) (k v : ℕ) (ends : place_ends K ≡ None) where
+  module _ (u : ℕ) (few : u < 2) (on : s.initialised ≡ true) (has : HasDone u below o p) (xs : List Entry) (holds : HoldsOrder (order_of u) (word_of chip) xs) (K : Place) (k v : ℕ) (ends : place_ends K ≡ None) where
     abbrev Decides : Decided → Type 0
     Decides x = DecidedRight d f r below chip w s o (Load k) false v y p missed K x
 
@@ -117,7 +117,7 @@ module _ (d : AdcTable) (fits : FitsAdc d) (f r : AdcBody → ℕ) (below : Hold
     begin_sought h unclaimed free = by (next_group d s u) refl
       where
         by : (q : Option ℕ) → next_group d s u ≡ q → Decides (sought d (windows.Begin u) (choice (ranks_of d) xs))
-        by None e = subst (λ x. Decides (sought d (windows.Begin u) x)) (sym (next_none ((h.settled on).units u few) e)) ((drop_starts d chip w s o p.acted u below h (λ i. absurd (let none : starts d s u ≡ None = ap (λ z. starts_by z (next_group d s u)) free ∙ e in cc)), may_end d o p missed has), ends)
+        by None e = subst (λ x. Decides (sought d (windows.Begin u) x)) (sym (next_none ((h.settled on).units u few) e)) ((drop_starts d chip w s o p.acted u below h (λ i. absurd (let none : starts d s u ≡ None = ap (λ z. starts_by z (next_group d s u)) free ∙ e in cc)), may_end d u below o p missed has), ends)
         by (Some g) e =
             let x = next_there ((h.settled on).units u few) g e in
             let waits = both (is_on u (group_of d g)) (is_some (group_at s g).waiting) (next_is d s u g e).waits in

@@ -39,7 +39,7 @@ use Rattle.adc_machine.specs.declared.call.GroupCall.{GroupCall}
 use Rattle.adc_machine.specs.declared.call.GroupCall.TheVariants.{StopGroupConversion, DisableHardwareTrigger}
 use Rattle.adc_machine.specs.declared.table.AdcTable.{AdcTable}
 use Rattle.adc_machine.proofs.Stopped.{off}
-use Rattle.adc_groups.specs.Ground.{FitsAdc, Hold, Holds, starts_on, yields_on, SoundGroup, IsSoundGroup, number_at, number_by, phase_of, chosen_of, running_of, GroupAgrees, UnitAgrees, IsOrder, claim_right, RoundAgrees, IsBlock, TriggersAgree, BanksAgree, AllRight, Promised, Agrees}
+use Rattle.adc_groups.specs.Ground.{FitsAdc, Hold, Holds, starts_on, SoundGroup, IsSoundGroup, number_at, number_by, phase_of, chosen_of, running_of, GroupAgrees, UnitAgrees, IsOrder, claim_right, RoundAgrees, IsBlock, TriggersAgree, BanksAgree, AllRight, Promised, Agrees}
 use Rattle.adc_groups.specs.Owed.{making_owed, owed_of, IsSound, Is_open}
 use Rattle.adc_groups.specs.Places.{AdcGround, MayCall, IsStop, Has_acted, Leaves_acted, adc_bodies}
 use Rattle.adc_groups.specs.Stored.{word_number, group_word, order_of, rounds_of, entry}
@@ -66,7 +66,7 @@ use Rattle.adc_groups.specs.laws.Making.{making, deed_move}
 use Rattle.adc_groups.specs.laws.Orders.{order_without, order_kept}
 use Rattle.adc_groups.specs.laws.Own.{unit_is, within, order_words, unit_small}
 use Rattle.adc_groups.specs.laws.Promising.{promised_same, waits_other, aborts_fewer}
-use Rattle.adc_groups.specs.laws.Requesting.{sound_past, none_waits, none_runs, on_own, asking, asking_starts, asking_more}
+use Rattle.adc_groups.specs.laws.Requesting.{sound_past, none_waits, none_runs, on_own, asking, asking_starts, asking_more, still_yields}
 use Rattle.adc_groups.specs.laws.Sequences.{differs_none, low_last, unit_last, other_last, order_first, order_last, whole_first, stands_last}
 use Rattle.adc_groups.specs.laws.ShapeParts.{AllOf, set_at, word_there, drop_part, deeds_listed}
 use Rattle.adc_groups.specs.laws.Switched.{marks_off, triggers_off}
@@ -410,11 +410,11 @@ module _ (d : AdcTable) (fits : FitsAdc d) (f r : AdcBody → ℕ) (below : Hold
       promised true e v = by (same_or v u)
         where
           here : Promised d (asking line (Some no_answer) u below false) w t u
-          here = record { starts = λ i. asking_starts line (Some no_answer) u below false; yields = λ i. asking_more line (Some no_answer) u below (yields_on u) false (((h.settled may.on).promised u).yields (aborts_fewer d w s t u waits_fewer (round_from u) i)) }
+          here = record { starts = λ i. asking_starts line (Some no_answer) u below false; yields = λ i. still_yields line (Some no_answer) u below u false refl (((h.settled may.on).promised u).yields (aborts_fewer d w s t u waits_fewer (round_from u) i)) }
 
           by : (v ≡ u) ⊎ (v ≢ u) → Promised d (asking line (Some no_answer) u below false) w t v
           by (inl i) = subst (λ n. Promised d (asking line (Some no_answer) u below false) w t n) (sym i) here
-          by (inr ne) = promised_same d w s t v (rounds_as v (none_elsewhere v ne)) (waits_other d s t g v (off_unit_of v ne) waits) below (asking line (Some no_answer) u below false) (asking_more line (Some no_answer) u below (starts_on v) false) (asking_more line (Some no_answer) u below (yields_on v) false) ((h.settled may.on).promised v)
+          by (inr ne) = promised_same d w s t v (rounds_as v (none_elsewhere v ne)) (waits_other d s t g v (off_unit_of v ne) waits) below (asking line (Some no_answer) u below false) (asking_more line (Some no_answer) u below (starts_on v) false) (still_yields line (Some no_answer) u below v false refl) ((h.settled may.on).promised v)
 
       claims : (v : ℕ) → v < 2 → claim_right below v (word_of b (word_number d (words.Claim v))) ≡ true
       claims v less = by (same_or v u)

@@ -19,7 +19,7 @@ use Rattle.adc_machine.specs.Table.{group_of}
 use Rattle.adc_machine.specs.Turns.{AdcState, round_at, starts, starts_by, next_group, is_outranked, aborts, aborts_by}
 use Rattle.adc_machine.specs.declared.call.Call.{Call}
 use Rattle.adc_machine.specs.declared.table.AdcTable.{AdcTable}
-use Rattle.adc_groups.specs.Ground.{FitsAdc, Hold, Clears, Starts, Yields, Fills, Full, Keeps, Whole, Claims, Copies, Reads, Holds, some_hold, starts_on, yields_on, claims_on, claim_fits, claim_right, HeldRight, AllRight, Backed, Promised, running_of, Agrees}
+use Rattle.adc_groups.specs.Ground.{FitsAdc, Hold, Clears, Starts, Yields, Fills, Full, Keeps, Whole, Claims, Copies, Reads, Holds, some_hold, starts_on, is_handler, will_yield, claims_on, claim_fits, claim_right, HeldRight, AllRight, Backed, Promised, running_of, Agrees}
 use Rattle.adc_groups.specs.Places.{AdcGround, HasDone, Has_acted, Has_served, hold_in}
 use Rattle.adc_groups.specs.Stored.{word_number, order_of, group_in}
 use Rattle.adc_groups.specs.declared.body.AdcBody.{AdcBody}
@@ -33,6 +33,7 @@ use Rattle.adc_groups.specs.laws.Body.{place_ends}
 use Rattle.adc_groups.specs.laws.Deciding.{over, done, begins, begins_next, yields, yields_by}
 use Rattle.adc_groups.specs.laws.Looking.{DecidedRight}
 use Rattle.adc_groups.specs.laws.Own.{within, on_there}
+use Rattle.adc_groups.specs.laws.Promising.{yields_below}
 
 same_or : (x y : ℕ) → (x ≡ y) ⊎ (x ≢ y)
 same_or x y = grind arith
@@ -66,10 +67,10 @@ module _ (d : AdcTable) (chip : Chip) (w : World) (s : AdcState) (o : Origin Cal
   }
     where
       promised : (v : ℕ) → Promised d (record { by = o; what = Starts u; acted = a } ∷ hs) w s v → (v ≡ u) ⊎ (v ≢ u) → Promised d hs w s v
-      promised v q (inl e) = subst (λ n. Promised d hs w s n) (sym e) (record { starts = more; yields = subst (λ n. is_some (aborts d w s n) ≡ true → some_hold (yields_on n) hs ≡ true) e q.yields })
-      promised v q (inr ne) = record { starts = λ e. skip v (some_hold (starts_on v) hs) ne (q.starts e); yields = q.yields }
+      promised v q (inl e) = subst (λ n. Promised d hs w s n) (sym e) (record { starts = more; yields = subst (λ n. is_some (aborts d w s n) ≡ true → will_yield n hs ≡ true) e (λ f. yields_below ((v == u) && is_handler v o) (will_yield v hs) (q.yields f)) })
+      promised v q (inr ne) = record { starts = λ e. skip v (some_hold (starts_on v) hs) ne (q.starts e); yields = λ e. yields_below ((v == u) && is_handler v o) (will_yield v hs) (q.yields e) }
 
-  pub drop_yields : Agrees d (record { by = o; what = Yields u; acted = a } ∷ hs) chip w s → (is_some (aborts d w s u) ≡ true → some_hold (yields_on u) hs ≡ true) → Agrees d hs chip w s
+  pub drop_yields : Agrees d (record { by = o; what = Yields u; acted = a } ∷ hs) chip w s → (is_some (aborts d w s u) ≡ true → will_yield u hs ≡ true) → Agrees d hs chip w s
   drop_yields h more = record {
     sound = h.sound;
     outside = h.outside;
@@ -87,7 +88,7 @@ module _ (d : AdcTable) (chip : Chip) (w : World) (s : AdcState) (o : Origin Cal
     where
       promised : (v : ℕ) → Promised d (record { by = o; what = Yields u; acted = a } ∷ hs) w s v → (v ≡ u) ⊎ (v ≢ u) → Promised d hs w s v
       promised v q (inl e) = subst (λ n. Promised d hs w s n) (sym e) (record { starts = subst (λ n. is_some (starts d s n) ≡ true → some_hold (starts_on n) hs ≡ true) e q.starts; yields = more })
-      promised v q (inr ne) = record { starts = q.starts; yields = λ e. skip v (some_hold (yields_on v) hs) ne (q.yields e) }
+      promised v q (inr ne) = record { starts = q.starts; yields = λ e. skip v (will_yield v hs) ne (q.yields e) }
 
 -- ---- claims
 
@@ -136,7 +137,7 @@ unclaimed u v (x ∷ xs) e = by (claims_on u x.what) e (unclaimed u v xs)
     by false f rest = rest f
 
 -- a claimed unit has nothing to abort: it is free, or its round is finished
-none_aborted : (d : AdcTable) (w : World) (s : AdcState) (u : ℕ) → ((x : Round) → round_at s u ≡ Some x → is_finished w (group_of d x.group) x ≡ true) → is_some (aborts d w s u) ≡ false
+pub none_aborted : (d : AdcTable) (w : World) (s : AdcState) (u : ℕ) → ((x : Round) → round_at s u ≡ Some x → is_finished w (group_of d x.group) x ≡ true) → is_some (aborts d w s u) ≡ false
 none_aborted d w s u h = by (round_at s u) refl
   where
     by : (q : Option Round) → round_at s u ≡ q → is_some (aborts_by d w s u q) ≡ false
@@ -169,13 +170,13 @@ claimed_calm d chip w s u (x ∷ xs) r e = one x.what r.0 (claimed_calm d chip w
 
 -- ---- a frame that has done its work may end
 
-pub may_end : (d : AdcTable) (o : Origin Call) (p : Past) (missed : ℕ → Bool) → HasDone o p → MayStop (AdcGround d) o p missed (done no_answer)
-may_end d _ _ missed (Has_acted c Is_being) = record { may = (refl, refl); served = false; owed = refl; shown = λ e. absurd (cc); report = refl }
-may_end d _ _ missed (Has_served l Is_being) = record { may = (ap (λ q. q || missed l) (same_line l), refl); served = true; owed = refl; shown = λ e. tt; report = refl }
+pub may_end : (d : AdcTable) (u : ℕ) (below : Holds) (o : Origin Call) (p : Past) (missed : ℕ → Bool) → HasDone u below o p → MayStop (AdcGround d) o p missed (done no_answer)
+may_end d u below _ _ missed (Has_acted c Is_being) = record { may = (refl, refl); served = false; owed = refl; shown = λ e. absurd (cc); report = refl }
+may_end d u below _ _ missed (Has_served l own Is_being) = record { may = (ap (λ q. q || missed l) (same_line l), refl); served = true; owed = refl; shown = λ e. tt; report = refl }
 
 -- ---- what is decided
 
-module _ (d : AdcTable) (fits : FitsAdc d) (f r : AdcBody → ℕ) (below : Holds) (chip : Chip) (w : World) (s : AdcState) (m : ℕ → Bool) (y : ℕ) (u : ℕ) (few : u < 2) (on : s.initialised ≡ true) (o : Origin Call) (p : Past) (has : HasDone o p) (K : Place) (k v : ℕ) (ends : place_ends K ≡ None) where
+module _ (d : AdcTable) (fits : FitsAdc d) (f r : AdcBody → ℕ) (below : Holds) (chip : Chip) (w : World) (s : AdcState) (m : ℕ → Bool) (y : ℕ) (u : ℕ) (few : u < 2) (on : s.initialised ≡ true) (o : Origin Call) (p : Past) (has : HasDone u below o p) (K : Place) (k v : ℕ) (ends : place_ends K ≡ None) where
   abbrev Decides : Decided → Type 0
   Decides x = DecidedRight d f r below chip w s o (Load k) false v y p m K x
 
@@ -199,7 +200,7 @@ module _ (d : AdcTable) (fits : FitsAdc d) (f r : AdcBody → ℕ) (below : Hold
     claimed = unclaimed u (word_of chip (word_number d (words.Claim u))) below ((h.settled on).claims u few)
 
     ends_here : (is_some (starts d s u) ≡ true → some_hold (starts_on u) below ≡ true) → Decides over
-    ends_here more = ((drop_starts d chip w s o p.acted u below h more, may_end d o p m has), ends)
+    ends_here more = ((drop_starts d chip w s o p.acted u below h more, may_end d u below o p m has), ends)
 
     pub begins_right : Decides (begins d u (word_of chip (word_number d (words.Running u))) (word_of chip (word_number d (words.Claim u))))
     begins_right = subst (λ n. Decides (begins d u n (word_of chip (word_number d (words.Claim u))))) (sym ((h.settled on).units u few).running) (by (round_at s u) refl (word_of chip (word_number d (words.Claim u)) == 0) refl)

@@ -40,7 +40,7 @@ use Rattle.adc_machine.specs.declared.call.Call.{Call}
 use Rattle.adc_machine.specs.declared.table.AdcTable.{AdcTable}
 use Rattle.adc_groups.specs.Ground.{FitsAdc, Full, Copies, Holds, Agrees, phase_of, buffer_by}
 use Rattle.adc_groups.specs.Owed.{Owed, making_owed, owed_of}
-use Rattle.adc_groups.specs.Places.{AdcGround, IsAlone, MayCopy, adc_bodies}
+use Rattle.adc_groups.specs.Places.{AdcGround, IsAlone, IsAtUnit, MayCopy, adc_bodies}
 use Rattle.adc_groups.specs.Stored.{order_of, rounds_of, entry}
 use Rattle.adc_groups.specs.declared.body.AdcBody.{AdcBody}
 use Rattle.adc_groups.specs.declared.body.Place.TheVariants.{Makes}
@@ -61,7 +61,7 @@ use Rattle.adc_groups.specs.laws.Own.{order_words, trio_words, some_inputs, some
 use Rattle.adc_groups.specs.laws.Sequences.{differs_none, order_first}
 use Rattle.adc_groups.specs.laws.ShapeParts.{own_named, word_there, again_part, drop_part, deeds_listed}
 use Rattle.adc_serving.specs.laws.Acting.{there, lt, past, unit_was, turn_was, group_is, finished, acts_agree}
-use Rattle.adc_serving.specs.laws.Claiming.{claiming}
+use Rattle.adc_serving.specs.laws.Claiming.{claiming, none_claims}
 use Rattle.adc_serving.specs.laws.Moves.{serves_of, may_serves}
 use Rattle.adc_serving.specs.laws.Served.{served, serves_round}
 
@@ -95,6 +95,9 @@ module _ (d : AdcTable) (fits : FitsAdc d) (f r : AdcBody → ℕ) (below : Hold
 
   in_group : is_on u (group_of d g) ≡ true
   in_group = h.right.0.2
+
+  at_unit : IsAtUnit u below
+  at_unit = (alone, none_claims d chip w s u x below h.right.1.1 alone is)
 
   here : is_some (group_of d g) ≡ true
   here = there d fits below chip w s u g b few alone x is h
@@ -203,8 +206,8 @@ module _ (d : AdcTable) (fits : FitsAdc d) (f r : AdcBody → ℕ) (below : Hold
       ∙ ap (λ q. Some (outcome t (record { answer = no_answer; error = None; notices = notes q g }))) notified))
 
   may_copy : (q : Bool) → MayCopy d below (Tells u g q) (Entered (24 + u)) (past_after (adc_machine d) w s (Entered (24 + u)) (events.Serve (24 + u)) (record { answer = no_answer; error = None; notices = notes q g }) nothing_yet)
-  may_copy true = (Is_being, alone, few, in_group)
-  may_copy false = (Is_being, alone, few, in_group)
+  may_copy true = (Is_being, at_unit, few, in_group)
+  may_copy false = (Is_being, at_unit, few, in_group)
 
   abbrev body : Making → AdcBody
   body k = record { table = d; place = Makes k }

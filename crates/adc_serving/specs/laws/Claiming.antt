@@ -25,13 +25,13 @@ use Rattle.adc_machine.specs.Configured.{unit_of}
 use Rattle.adc_machine.specs.Groups.{Round, inputs_of, is_finished}
 use Rattle.adc_machine.specs.Machine.{adc_machine}
 use Rattle.adc_machine.specs.Table.{group_of}
-use Rattle.adc_machine.specs.Turns.{AdcState, group_at, round_at, has_turn, is_on, is_round_of}
+use Rattle.adc_machine.specs.Turns.{AdcState, group_at, round_at, has_turn, is_on, is_round_of, aborts}
 use Rattle.adc_machine.specs.Words.{is_word, result_word}
 use Rattle.adc_machine.specs.declared.call.Call.{Call}
 use Rattle.adc_machine.specs.declared.call.ResultBuffer.{ResultBuffer}
 use Rattle.adc_machine.specs.declared.call.ResultBuffer.TheVariants as buffers
 use Rattle.adc_machine.specs.declared.table.AdcTable.{AdcTable}
-use Rattle.adc_groups.specs.Ground.{FitsAdc, Hold, Clears, Starts, Yields, Fills, Full, Keeps, Whole, Claims, Copies, Reads, Holds, HeldRight, AllRight, BanksAgree, Agrees, some_hold, starts_on, claims_on, claim_right, put_of, first_held, or_else, kept_in, kept_by, kept_of_round, foot_of}
+use Rattle.adc_groups.specs.Ground.{FitsAdc, Hold, Clears, Starts, Yields, Fills, Full, Keeps, Whole, Claims, Copies, Reads, Holds, HeldRight, AllRight, BanksAgree, Agrees, some_hold, starts_on, claims_on, is_handler, will_yield, claim_right, put_of, first_held, or_else, kept_in, kept_by, kept_of_round, foot_of}
 use Rattle.adc_groups.specs.Owed.{Owed, making_owed}
 use Rattle.adc_groups.specs.Places.{AdcGround, InWindow, IsAlone, IsTaken, IsChosen, adc_bodies}
 use Rattle.adc_groups.specs.Stored.{word_number, rounds_of}
@@ -54,7 +54,7 @@ use Rattle.adc_groups.specs.laws.Making.{making}
 use Rattle.adc_groups.specs.laws.Own.{on_there, unit_is, bank_below, few_inputs, some_inputs, claim_words, or_first, or_second}
 use Rattle.adc_groups.specs.laws.ShapeParts.{own_named, word_there}
 use Rattle.adc_groups.specs.laws.Steps.{held}
-use Rattle.adc_groups.specs.laws.Yielding.{unclaimed}
+use Rattle.adc_groups.specs.laws.Yielding.{unclaimed, none_aborted}
 use Rattle.adc_serving.specs.laws.Taking.{round_on}
 use Rattle.adc_serving.specs.laws.Words.{same_or, itself, equal, unlike, BankStays, HoldStays, AllStay, CoreStays, all_stay, stays_agree, trio_place, core_claim}
 
@@ -304,6 +304,14 @@ module _ (d : AdcTable) (fits : FitsAdc d) (below : Holds) (chip : Chip) (w : Wo
     claimed_by k (inl e) ne same = let zero = ap (λ n. word_of chip (word_number d (words.Claim n))) e ∙ zero_claim in omega (arith, same, zero)
     claimed_by k (inr off) ne same = ne (claim_other d fits u few chip whole 1 (unit_of (group_of d k)) off ∙ same)
 
+    -- its round is finished, so there is nothing to abort on its unit
+    calm : is_some (aborts d w s u) ≡ false
+    calm = none_aborted d w s u (λ z e. subst (λ (q : Round). is_finished w (group_of d q.group) q ≡ true) (same_round z e) (ap (λ n. is_finished w (group_of d n) taken.round) taken.group ∙ taken.finished))
+
+    yields_by : (v : ℕ) → (v ≡ u) ⊎ (v ≢ u) → is_some (aborts d w s v) ≡ true → will_yield v below ≡ true → will_yield v after ≡ true
+    yields_by v (inl e) some i = absurd (let here : is_some (aborts d w s u) ≡ true = subst (λ n. is_some (aborts d w s n) ≡ true) e some in let none = calm in cc)
+    yields_by v (inr ne) some i = ap (λ q. not (q && is_handler v (Entered (24 + t.unit))) && will_yield v below) (unlike v u ne) ∙ i
+
     pub claims_agree : Agrees d (claiming t.unit (Fills t.unit t.group (length taken.round.request.kept) t.bank 0 None) below) (chip_after chip (Store (word_number d (words.Claim t.unit)) 1) 0) w s
     claims_agree = stays_agree d fits below chip now w s h on core after (record {
       right = (
@@ -324,7 +332,7 @@ module _ (d : AdcTable) (fits : FitsAdc d) (below : Holds) (chip : Chip) (w : Wo
       backed = (λ v e. or_first (v == u) (some_hold (starts_on v) below) e, (λ v e. absurd (cc), h.backed));
       claimed = λ k here. claimed_by k (same_or (unit_of (group_of d k)) u);
       claims = λ v less. claims_by v less (same_or v u);
-      promised = λ v. (let q = (h.settled on).promised v in record { starts = λ e. or_second (v == u) (some_hold (starts_on v) below) (q.starts e); yields = q.yields });
+      promised = λ v. (let q = (h.settled on).promised v in record { starts = λ e. or_second (v == u) (some_hold (starts_on v) below) (q.starts e); yields = λ e. yields_by v (same_or v u) e (q.yields e) });
     })
 
 -- ---- the window

@@ -21,7 +21,7 @@ use Rattle.adc_machine.specs.declared.call.Call.{Call}
 use Rattle.adc_machine.specs.declared.call.ResultBuffer.{ResultBuffer}
 use Rattle.adc_machine.specs.declared.table.AdcTable.{AdcTable}
 use Rattle.adc_groups.specs.Ground.{FitsAdc, Hold, Clears, Starts, Yields, Fills, Full, Keeps, Whole, Claims, Copies, Reads, Holds, HeldRight, AllRight, Agrees, buffer_in, is_owed, some_hold}
-use Rattle.adc_groups.specs.Places.{AdcGround, IsAlone, MayCopy, Has_served, has_served, owes_note, adc_bodies, place_out}
+use Rattle.adc_groups.specs.Places.{AdcGround, IsAlone, IsAtUnit, MayCopy, Has_served, has_served, owes_note, adc_bodies, place_out}
 use Rattle.adc_groups.specs.Stored.{rounds_of}
 use Rattle.adc_groups.specs.declared.body.AdcBody.{AdcBody}
 use Rattle.adc_groups.specs.declared.body.Place.TheVariants.{Out}
@@ -47,7 +47,7 @@ module _ (d : AdcTable) (fits : FitsAdc d) (f r : AdcBody → ℕ) (below : Hold
   abbrev StepRight : ℕ → Option ℕ → Bool → Type 0
   StepRight i v on = RightOr (AdcGround d) (adc_bodies d f r) below chip w s (body i v on) (Entered (24 + u)) y (told u c.group on) m (ended_at (adc_bodies d f r) body_ends (body i v on) (value_of chip (body_work (body i v on))))
 
-  module _ (few : u < 2) (alone : IsAlone (24 + u) below) (at : is_on u (group_of d c.group) ≡ true) (samples : c.samples ≡ samples_of (group_of d c.group)) (within : c.place < c.samples) (i : ℕ) (lt : i < length (inputs_of (group_of d c.group))) where
+  module _ (few : u < 2) (alone : IsAtUnit u below) (at : is_on u (group_of d c.group) ≡ true) (samples : c.samples ≡ samples_of (group_of d c.group)) (within : c.place < c.samples) (i : ℕ) (lt : i < length (inputs_of (group_of d c.group))) where
     may_copy : (on : Bool) → MayCopy d below (Tells u c.group on) (Entered (24 + u)) (told u c.group on)
     may_copy true = (Is_being, alone, few, at)
     may_copy false = (Is_being, alone, few, at)
@@ -84,7 +84,7 @@ module _ (d : AdcTable) (fits : FitsAdc d) (f r : AdcBody → ℕ) (below : Hold
       stands_told true true z = (now, (refl, ((refl, refl, samples, within), is_below (i + 1) (length (inputs_of (group_of d c.group))) z, may_copy true)))
       stands_told false true z = (now, (refl, ((refl, refl, samples, within), is_below (i + 1) (length (inputs_of (group_of d c.group))) z, may_copy false)))
       stands_told true false z = (all_told z, (refl, (Is_being, alone, few, at)))
-      stands_told false false z = (all_told z, (refl, (Has_served (24 + u) Is_being, few)))
+      stands_told false false z = (all_told z, (refl, (Has_served (24 + u) (λ e. (refl, alone.1)) Is_being, few)))
 
       pub puts_told : (on : Bool) → StepRight i (Some x) on
       puts_told true = stands_told true (nat_lt (i + 1) (length (inputs_of (group_of d c.group)))) refl
@@ -128,6 +128,6 @@ notes_step d fits f r below chip w s m y u g _ _ (Is_being, alone, few, at) h = 
   served = true;
   others = [];
   is = refl;
-  shown = λ e n p lt. h.places g n p lt (none_owed d fits chip w s u g at below n p h.right.1 alone);
-  next = (h, (refl, (Has_served (24 + u) Is_being, few)));
+  shown = λ e n p lt. h.places g n p lt (none_owed d fits chip w s u g at below n p h.right.1 alone.0);
+  next = (h, (refl, (Has_served (24 + u) (λ e. (refl, alone.1)) Is_being, few)));
 }

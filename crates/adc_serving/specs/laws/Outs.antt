@@ -16,7 +16,7 @@ use Rattle.adc_machine.specs.Turns.{AdcState, is_on}
 use Rattle.adc_machine.specs.declared.call.Call.{Call}
 use Rattle.adc_machine.specs.declared.table.AdcTable.{AdcTable}
 use Rattle.adc_groups.specs.Ground.{FitsAdc, Holds, Agrees}
-use Rattle.adc_groups.specs.Places.{AdcGround, IsAlone, adc_bodies}
+use Rattle.adc_groups.specs.Places.{AdcGround, IsAtUnit, adc_bodies}
 use Rattle.adc_groups.specs.Stored.{rounds_of}
 use Rattle.adc_groups.specs.declared.body.AdcBody.{AdcBody}
 use Rattle.adc_groups.specs.declared.body.Place.TheVariants.{Out}
@@ -50,7 +50,7 @@ module _ (d : AdcTable) (fits : FitsAdc d) (f r : AdcBody → ℕ) (below : Hold
   serves_step (copied.Ended q u n e) i v t o p (h, (same, (none, less, may))) = absurd none
 
   -- a served round is copied to the user's buffer
-  tells_of : (q : Rounds) (b : Bank) (c : Column) (i : ℕ) (v : Option ℕ) (u g : ℕ) (on : Bool) → q ≡ rounds_of d g → c.group ≡ g → c.samples ≡ samples_of (group_of d g) → c.place < c.samples → i < q.inputs → IsAlone (24 + u) below → u < 2 → is_on u (group_of d g) ≡ true → Agrees d (teller u b c i v below) chip w s → StepAt (copied.Bank q b c) i v (Tells u g on) (Entered (24 + u)) (told u g on)
+  tells_of : (q : Rounds) (b : Bank) (c : Column) (i : ℕ) (v : Option ℕ) (u g : ℕ) (on : Bool) → q ≡ rounds_of d g → c.group ≡ g → c.samples ≡ samples_of (group_of d g) → c.place < c.samples → i < q.inputs → IsAtUnit u below → u < 2 → is_on u (group_of d g) ≡ true → Agrees d (teller u b c i v below) chip w s → StepAt (copied.Bank q b c) i v (Tells u g on) (Entered (24 + u)) (told u g on)
   tells_of q b c i v u g on er eg samples within less alone few at h =
       subst (λ z. StepAt (copied.Bank q b c) i v (Tells u z on) (Entered (24 + u)) (told u z on)) eg
       (subst (λ z. StepAt (copied.Bank z b c) i v (Tells u c.group on) (Entered (24 + u)) (told u c.group on)) (sym (er ∙ ap (λ z. rounds_of d z) (sym eg)))

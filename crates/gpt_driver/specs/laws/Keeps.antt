@@ -88,6 +88,6 @@ keeps_timers d = record {
   owns = λ o made h. others made h;
   handlers = λ l h. own_line l (within_eight d l (handled (channel_of d l) h));
   polls = λ w s c. refl;
-  starts = λ w s u r some. cc;
+  starts = λ w s u by r some. cc;
   aborts = λ w s u some. cc;
 }

@@ -8,7 +8,6 @@ use Rattle.service_outline.specs.Outline.{Outlined, IsOutlined, LooksRight, CanE
 use Rattle.service_outline.specs.Seen.{is_windowed}
 use Rattle.service_outline.specs.laws.Seen.{plain_sees}
 use Rattle.service_outline.specs.laws.Either.{either_right}
-use Rattle.step_runner.specs.Driver.{Covers}
 use Rattle.gpt_driver.specs.laws.Base.{nat_tests, Chip, word_of, bits_of-zero, ErrorName, World, tells_nothing, Called, Entered, tells_error, error_told, Bodies, At, AreRight, Is_before, Is_serving, error_by, allows, answer_refused, has_value, settled, TheState, GptAgrees, gpt_ground, GptState, is_off, is_asleep, prescaler_of, is_busy, acts_by, gpt_machine, switches, channel_of, one_shot_of, FitsGpt, Call, Init, DeInit, SetMode, OfChannel, ChannelCall, GetTimeElapsed, GetTimeRemaining, StartTimer, StopTimer, Changes, Channel, GptDriver, STATE, Asked, Check, ToNormal, ToSleep, Plain, Seen, SeesTo, Starts, driver_of, Looked, Goes, First, Second, Passed, MayRun}
 use Rattle.gpt_driver.specs.Ground.{gpt_steps}
 use Rattle.gpt_driver.specs.declared.service.serve.ServeBody.TheVariants.{Look}
@@ -169,12 +168,11 @@ module _ (d : GptDriver) (fits : FitsGpt d) where
     enters = λ line k is. enter_by line k (entered_by line k (channel_of d line) refl is);
     call_steps = λ call can. call_steps_by call;
     call_window = λ call can. omega arith;
+    must_none = λ call. refl;
+    units_none = λ w s line. refl;
     line_steps = λ line k is. steps_by line k (entered_by line k (channel_of d line) refl is);
   }
 
 -- it leaves the peripheral rate alone, and has no watchdog
 pub slow_timers : (d : GptDriver) (chip : Chip) (w : World) (ps : List (Short Asked GptBody × Open Call)) (s : GptState) → FitsGpt d → (driver_of (gpt d)).relates chip w ps s → (driver_of (gpt d)).setting.machine.rate s ≤ 16
 slow_timers d chip w ps s fits h = omega arith
-
-pub covers_timers : (d : GptDriver) → Covers (driver_of (gpt d))
-covers_timers d = record { unwatched = λ w s. refl }

@@ -17,7 +17,7 @@ use Rattle.mcal_base.specs.declared.error_name.ErrorName.{ErrorName}
 use Rattle.mcal_base.specs.declared.moves.Move.{Move}
 use Rattle.mcal_base.specs.declared.moves.Move.TheVariants.{Read, Write, Load, Store}
 use Rattle.mcal_base.specs.declared.register.Reg.{Reg}
-use Rattle.mcal_base.specs.declared.register.Reg.TheVariants.{EnableSet, EnableClear, TimerLow, CaptureCondition, CaptureMode, CaptureGateSet, CaptureGateClear, CaptureCountLow, CaptureTimeLow, CaptureZero, CapturePop, CaptureFlush, ConverterAbort, SerialData, ClockPll, ClockRate, ResetRequest}
+use Rattle.mcal_base.specs.declared.register.Reg.TheVariants.{EnableSet, EnableClear, TimerLow, CaptureCondition, CaptureMode, CaptureGateSet, CaptureGateClear, CaptureCountLow, CaptureTimeLow, CaptureZero, CapturePop, CaptureFlush, ConverterAbort, SerialData, ClockPll, ClockRate, ResetRequest, PinFlip}
 use Rattle.run_model.specs.Frame.{Called, is_shared, resets_chip, begins_word, is_reset_service}
 use Rattle.run_model.specs.Machine.{Acts, Outcome, ErrorLeaves, tells_nothing, outcome}
 use Rattle.run_model.specs.World.{World}
@@ -148,6 +148,7 @@ read_enabled chip (TimerLow c) = refl
 read_enabled chip (CaptureCountLow c) = refl
 read_enabled chip (CaptureTimeLow c) = refl
 read_enabled chip (ConverterAbort u) = refl
+read_enabled chip (PinFlip p) = refl
 read_enabled chip _ = refl
 
 enabled_apart : (d : IcuDriver) (chip : Chip) (made : Move) (received c : ℕ) → icu_owns d made ≡ false → c < 8 → has_bit (chip_after chip made received).control.enabled (16 + c) ≡ has_bit chip.control.enabled (16 + c)
@@ -381,6 +382,9 @@ ground_right d fits = record {
   polls_none = λ w s c. refl;
   resets_none = λ o made e. (plain d made e).0;
   words_none = λ o made e. (plain d made e).1;
+  loads = λ origin value h. h;
+  watched = λ gap chip w s has osc h. cc;
+  unwatched = λ w s none. refl;
   owns_called = λ line made e. (Init, e);
   used_lines = λ line e. used_line d line e;
   due_used = λ chip w s line h e. ready_used (channel_of_line d line) s (channel_number line) e;

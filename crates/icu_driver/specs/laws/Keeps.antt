@@ -59,10 +59,11 @@ stamp_place k low high =
     let fifth : nat_lt k 40960 ≡ false = grind (arith, nat_tests) in
     let sixth : nat_lt k 49152 ≡ false = grind (arith, nat_tests) in
     let seventh : nat_lt k 57344 ≡ false = grind (arith, nat_tests) in
+    let eighth : nat_lt k 65536 ≡ false = grind (arith, nat_tests) in
     let users : nat_lt k 73728 ≡ false = grind (arith, nat_tests) in
     let stamps : nat_lt k 139264 ≡ false = grind (arith, nat_tests) in
     let last : nat_lt k 139776 ≡ true = grind (arith, nat_tests) in
-    rw (first, second, third, fourth, fifth, sixth, seventh, users, stamps, last) refl
+    rw (first, second, third, fourth, fifth, sixth, seventh, eighth, users, stamps, last) refl
 
 bit_few : (q : Bool) → bit_of q ≤ 1
 bit_few true = omega arith
@@ -211,6 +212,6 @@ keeps_captures d = record {
   owns = λ o made h. others d made h;
   handlers = λ l h. line_of d l (handled (channel_of_line d l) h);
   polls = λ w s c. refl;
-  starts = λ w s u r some. cc;
+  starts = λ w s u by r some. cc;
   aborts = λ w s u some. cc;
 }

@@ -19,7 +19,6 @@ use Rattle.service_outline.specs.declared.body.Looked.{Looked}
 use Rattle.service_outline.specs.declared.short.Short.{Short}
 use Rattle.service_outline.specs.laws.Either.{either_right}
 use Rattle.service_outline.specs.laws.Reports.{error_told}
-use Rattle.step_runner.specs.Driver.{Covers}
 use Rattle.icu_driver.specs.Bounds.{is_stamp, steps_of}
 use Rattle.mcal_base.specs.declared.config.icu.IcuSignalMeasurementProperty.TheVariants.{LowTime, HighTime, PeriodTime, DutyCycle}
 use Rattle.icu_driver.specs.Checks.{error_by, allows, suits, answer_refused}
@@ -237,12 +236,11 @@ module _ (d : IcuDriver) (fits : FitsIcu d) where
     enters = λ line k is. enters line k (entered_by line k (channel_of_line d line) refl is);
     call_steps = λ call can. call_steps call;
     call_window = λ call can. omega arith;
+    must_none = λ call. refl;
+    units_none = λ w s line. refl;
     line_steps = λ line k is. line_steps line k (entered_by line k (channel_of_line d line) refl is);
   }
 
 -- it leaves the peripheral rate alone, and has no watchdog
 pub slow_captures : (d : IcuDriver) (chip : Chip) (w : World) (ps : List (Short Asked IcuBody × Open Call)) (s : IcuState) → FitsIcu d → (driver_of (icu d)).relates chip w ps s → (driver_of (icu d)).setting.machine.rate s ≤ 16
 slow_captures d chip w ps s fits h = omega arith
-
-pub covers_captures : (d : IcuDriver) → Covers (driver_of (icu d))
-covers_captures d = record { unwatched = λ w s. refl }

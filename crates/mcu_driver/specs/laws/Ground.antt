@@ -17,7 +17,7 @@ use Rattle.mcal_base.specs.declared.layout.TheConstants.{SOURCES}
 use Rattle.mcal_base.specs.declared.moves.Move.{Move}
 use Rattle.mcal_base.specs.declared.moves.Move.TheVariants.{Read, Write, Load, Store}
 use Rattle.mcal_base.specs.declared.register.Reg.{Reg}
-use Rattle.mcal_base.specs.declared.register.Reg.TheVariants.{EnableSet, TimerLow, CaptureCountLow, CaptureTimeLow, ConverterAbort, ClockPll, ClockRate, Ram}
+use Rattle.mcal_base.specs.declared.register.Reg.TheVariants.{EnableSet, TimerLow, CaptureCountLow, CaptureTimeLow, ConverterAbort, ClockPll, ClockRate, Ram, PinFlip}
 use Rattle.run_model.specs.World.{World, world_after}
 use Rattle.run_model.specs.Machine.{Acts, Outcome, ErrorLeaves, tells_nothing, outcome}
 use Rattle.run_model.specs.Frame.{Called, is_shared}
@@ -92,6 +92,7 @@ ram_read chip (TimerLow c) = refl
 ram_read chip (CaptureCountLow c) = refl
 ram_read chip (CaptureTimeLow c) = refl
 ram_read chip (ConverterAbort u) = refl
+ram_read chip (PinFlip p) = refl
 ram_read chip _ = refl
 
 ram_written : (chip : Chip) (r : Reg) (v received : ℕ) → is_register r ≡ false → (chip_after chip (Write r v) received).ram ≡ chip.ram
@@ -172,6 +173,9 @@ basis_right d = record {
   owns_plain = λ o made e. owned_plain made e;
   may_there = λ o made e. move_there made (may_parts made e).1;
   enables = λ o bits line e other. enables_none bits e;
+  loads = λ origin value h. h;
+  watched = λ held gap chip w s has osc h. cc;
+  unwatched = λ w s none. refl;
   owns_called = λ line made e. (Init, e);
   used_lines = λ line e. absurd (cc);
   due_used = λ held chip w s line h e. absurd (cc);

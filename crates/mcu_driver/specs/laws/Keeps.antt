@@ -59,6 +59,6 @@ keeps_clock d = record {
   owns = λ o made h. others made h;
   handlers = λ l h. cc;
   polls = λ w s c. refl;
-  starts = λ w s u r some. cc;
+  starts = λ w s u by r some. cc;
   aborts = λ w s u some. cc;
 }

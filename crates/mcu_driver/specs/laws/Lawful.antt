@@ -9,12 +9,12 @@ use Rattle.mcal_base.specs.declared.moves.Move.{Move}
 use Rattle.mcal_base.specs.declared.moves.Move.TheVariants.{Read, Write}
 use Rattle.mcal_base.specs.declared.register.Reg.TheVariants.{TimerHigh, PulseCommit, PulseIdle, CaptureCountHigh, CaptureTimeHigh}
 use Rattle.service_outline.specs.Seen.{is_windowed, Plain}
+use Rattle.service_outline.specs.laws.Duties.{no_duties, no_units}
 use Rattle.service_outline.specs.laws.Seen.{free_windows}
 use Rattle.step_runner.specs.Lifts.{and-left}
 use Rattle.run_model.specs.World.{World}
 use Rattle.run_model.specs.Machine.{outcome}
 use Rattle.run_model.specs.Frame.{Called, Open, asks_reset}
-use Rattle.step_runner.specs.Driver.{Covers}
 use Rattle.service_outline.specs.Both.{both}
 use Rattle.service_outline.specs.Done.{tells_error}
 use Rattle.service_outline.specs.Past.{Is_being}
@@ -68,6 +68,7 @@ mcu d = record {
   basis = mcu_basis d;
   bodies = mcu_bodies d;
   seen = λ k. Plain;
+  written = λ k call writes. Unit {0};
   fits = FitsMcu d;
   can = λ call. Unit {0};
   word = STATE;
@@ -174,6 +175,8 @@ lawful d fits = record {
   bodies = bodies_right d fits;
   windows = free_windows (mcu d) (bodies_right d fits) (λ k. refl) (λ o made h. no_windows made (and-left (owns made) (names_there made) h));
   unseen = λ below chip w s k call h. tt;
+  writes = no_duties (mcu d) (λ k call writes. tt) (λ call. refl);
+  starts = no_units (mcu d) (λ w s line. refl);
   looks = λ below chip w s call can l h. looks d fits below chip w s h call l;
   own_word = λ o. refl;
   word_there = omega arith;
@@ -197,6 +200,3 @@ top_slow d chip w (Returning a) o ps s h = h.0.0.rate
 pub slow_clock : (d : McuDriver) (chip : Chip) (w : World) (ps : List (Short Asked McuBody × Open Call)) (s : McuState) → FitsMcu d → (services_driver (mcu d)).relates chip w ps s → (services_driver (mcu d)).setting.machine.rate s ≤ 16
 slow_clock d chip w [] s fits h = h.rate
 slow_clock d chip w (p ∷ ps) s fits h = top_slow d chip w p.0 p.1 ps s h
-
-pub covers_clock : (d : McuDriver) → Covers (services_driver (mcu d))
-covers_clock d = record { unwatched = λ w s. refl }

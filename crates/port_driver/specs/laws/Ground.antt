@@ -23,7 +23,7 @@ use Rattle.mcal_base.specs.declared.layout.TheConstants.{SOURCES}
 use Rattle.mcal_base.specs.declared.moves.Move.{Move}
 use Rattle.mcal_base.specs.declared.moves.Move.TheVariants.{Read, Write, Load, Store}
 use Rattle.mcal_base.specs.declared.register.Reg.{Reg}
-use Rattle.mcal_base.specs.declared.register.Reg.TheVariants.{TimerLow, CaptureCountLow, CaptureTimeLow, ConverterAbort, PinDirectionSet, PinDirectionClear, PinOutSet, PinOutClear, PinMode}
+use Rattle.mcal_base.specs.declared.register.Reg.TheVariants.{TimerLow, CaptureCountLow, CaptureTimeLow, ConverterAbort, PinDirectionSet, PinDirectionClear, PinOutSet, PinOutClear, PinMode, PortPut, PinFlip}
 use Rattle.run_model.specs.World.{World, world_after}
 use Rattle.run_model.specs.Machine.{Acts, Outcome, ErrorLeaves, tells_nothing, outcome}
 use Rattle.run_model.specs.Frame.{Origin, Called, is_shared, resets_chip, begins_word}
@@ -113,12 +113,13 @@ low_word = omega arith
 later_agrees : (d : PortDriver) (held : Holds) (n : ℕ) (chip : Chip) (w : World) (s : PortState) (order : Order) → HasAll (happened chip order) → PortAgrees d held n chip w s → PortAgrees d held n (happened chip order) (world_after w chip.clock.rate order) s
 later_agrees d held n chip w s order all h = same_agrees d held n chip (happened chip order) w (world_after w chip.clock.rate order) s all (pins_event chip order) (word_later chip order STATE h.all.words low_word) h
 
-pins_read : (chip : Chip) (r : Reg) → (after_read chip r).pins ≡ chip.pins
-pins_read chip (TimerLow c) = refl
-pins_read chip (CaptureCountLow c) = refl
-pins_read chip (CaptureTimeLow c) = refl
-pins_read chip (ConverterAbort u) = refl
-pins_read chip _ = refl
+pins_read : (chip : Chip) (r : Reg) → is_register r ≡ false → (after_read chip r).pins ≡ chip.pins
+pins_read chip (TimerLow c) e = refl
+pins_read chip (CaptureCountLow c) e = refl
+pins_read chip (CaptureTimeLow c) e = refl
+pins_read chip (ConverterAbort u) e = refl
+pins_read chip (PinFlip p) e = absurd (cc)
+pins_read chip _ e = refl
 
 pins_write : (chip : Chip) (r : Reg) (v received : ℕ) → is_register r ≡ false → (chip_after chip (Write r v) received).pins ≡ chip.pins
 pins_write chip (PinDirectionSet half) v received e = absurd (cc)
@@ -126,10 +127,11 @@ pins_write chip (PinDirectionClear half) v received e = absurd (cc)
 pins_write chip (PinOutSet half) v received e = absurd (cc)
 pins_write chip (PinOutClear half) v received e = absurd (cc)
 pins_write chip (PinMode p) v received e = absurd (cc)
+pins_write chip (PortPut q) v received e = absurd (cc)
 pins_write chip _ v received e = refl
 
 pins_apart : (chip : Chip) (made : Move) (received : ℕ) → owns made ≡ false → (chip_after chip made received).pins ≡ chip.pins
-pins_apart chip (Read r) received e = pins_read chip r
+pins_apart chip (Read r) received e = pins_read chip r e
 pins_apart chip (Write r v) received e = pins_write chip r v received e
 pins_apart chip _ received e = refl
 
@@ -160,6 +162,8 @@ written_steady (PinDirectionClear half) v e = refl
 written_steady (PinOutSet half) v e = refl
 written_steady (PinOutClear half) v e = refl
 written_steady (PinMode p) v e = refl
+written_steady (PortPut q) v e = refl
+written_steady (PinFlip p) v e = refl
 written_steady _ v e = absurd (cc)
 
 steady : (made : Move) → owns made ≡ true → sets_rate made ≡ false
@@ -207,6 +211,9 @@ basis_right d = record {
   owns_plain = λ o made e. plain made e;
   may_there = λ o made e. move_there made (both_of (owns made) (names_there made) (may_of o made e)).1;
   enables = λ o bits line e other. absurd (cc);
+  loads = λ origin value h. h;
+  watched = λ held gap chip w s has osc h. cc;
+  unwatched = λ w s none. refl;
   owns_called = λ line made e. (Init, e);
   used_lines = λ line e. absurd (cc);
   due_used = λ held chip w s line h e. absurd (cc);

@@ -139,7 +139,7 @@ place_of_pin : (p : ℕ) → 32 * (p / 32) + p % 32 ≡ p
 place_of_pin p = omega arith
 
 -- the bits of a write are those of the pins that ask for it
-asked_bit : (want : ℕ → Option Bool) (n p : ℕ) → (n / 2 == p / 32 && has_bit (ones want n) (p % 32)) ≡ (n / 2 == p / 32 && asks (sets n) (want p))
+pub asked_bit : (want : ℕ → Option Bool) (n p : ℕ) → (n / 2 == p / 32 && has_bit (ones want n) (p % 32)) ≡ (n / 2 == p / 32 && asks (sets n) (want p))
 asked_bit want n p = by (n / 2 == p / 32) refl
   where
     within : p % 32 < 32

@@ -6,7 +6,7 @@ use Rattle.mcal_base.specs.declared.module_name.ModuleName.TheVariants.{Port}
 use Rattle.mcal_base.specs.declared.moves.Move.{Move}
 use Rattle.mcal_base.specs.declared.moves.Move.TheVariants.{Read, Write, Load, Store}
 use Rattle.mcal_base.specs.declared.register.Reg.{Reg}
-use Rattle.mcal_base.specs.declared.register.Reg.TheVariants.{EnableSet, EnableClear, PinDirectionSet, PinDirectionClear, PinOutSet, PinOutClear, PinMode}
+use Rattle.mcal_base.specs.declared.register.Reg.TheVariants.{EnableSet, EnableClear, PinDirectionSet, PinDirectionClear, PinOutSet, PinOutClear, PinMode, PortPut, PinFlip}
 use Rattle.service_outline.specs.Services.{services_driver}
 use Rattle.service_outline.specs.There.{names_there}
 use Rattle.step_runner.specs.Lifts.{and-left}
@@ -22,6 +22,8 @@ own_register (PinDirectionClear half) e = refl
 own_register (PinOutSet half) e = refl
 own_register (PinOutClear half) e = refl
 own_register (PinMode p) e = refl
+own_register (PortPut q) e = refl
+own_register (PinFlip p) e = refl
 own_register _ e = cc
 
 own_word : (k : ℕ) → is_own_word k ≡ true → is_of (only Port) (module_of_word k) ≡ true
@@ -61,6 +63,6 @@ keeps_pins d = record {
   owns = λ o made h. others made h;
   handlers = λ l h. cc;
   polls = λ w s c. refl;
-  starts = λ w s u r some. cc;
+  starts = λ w s u by r some. cc;
   aborts = λ w s u some. cc;
 }

@@ -1,22 +1,29 @@
 -- The driver of the pins, as the outline and the runner see it, and that it is lawful.
-use Rattle.std.proofs.Common.{◌≡◌, ℕ, List, ◌+◌, ◌≤◌, true, false, ◌==◌, ◌||◌, not, [], ◌∷◌, Option, Some, None, refl, sym, ◌∙◌, ap, subst, arith}
-use Rattle.chip_model.specs.Chip.{Chip, word_of}
+use Rattle.std.proofs.Common.{◌≡◌, ℕ, List, ◌+◌, ◌≤◌, true, false, ◌==◌, nat_lt, ◌||◌, not, [], ◌∷◌, Option, Some, None, refl, sym, ◌∙◌, ap, subst, arith}
+use Rattle.chip_model.specs.Chip.{Chip, value_of, word_of}
 use Rattle.mcal_base.specs.declared.error_name.ErrorName.{ErrorName}
 use Rattle.mcal_base.specs.declared.moves.Event.TheVariants.{Act}
 use Rattle.run_model.specs.Causes.{blocks}
 use Rattle.run_model.specs.World.{World}
 use Rattle.run_model.specs.Machine.{no_answer, outcome}
-use Rattle.run_model.specs.Frame.{Origin, Open, Called, asks_reset}
+use Rattle.run_model.specs.Frame.{Origin, Open, Called, writes_after, asks_reset}
+use Rattle.run_model.specs.Legal.{AllMade, MadeUnless}
 use Rattle.service_outline.specs.declared.short.Short.{Short}
 use Rattle.service_outline.specs.Both.{both}
 use Rattle.service_outline.specs.Done.{tells_error}
-use Rattle.service_outline.specs.Past.{Is_being}
-use Rattle.service_outline.specs.Services.{Services, LongBodies, AreLong, AreServices, AllLet, Beside, Decides, mark_of, services_driver}
+use Rattle.service_outline.specs.Past.{Past, Is_being}
+use Rattle.service_outline.specs.Services.{Services, LongBodies, Stand, AreLong, WritesOn, MakesWrites, AreServices, AllLet, Beside, Decides, mark_of, services_driver}
 use Rattle.service_outline.specs.Short.{short_move, short_left, short_gave}
+use Rattle.service_outline.specs.declared.body.Looked.TheVariants.{Refused, Goes}
+use Rattle.service_outline.specs.declared.body.Or.TheVariants.{First, Second}
+use Rattle.service_outline.specs.declared.done.Done.{Done}
+use Rattle.service_outline.specs.declared.sweep.Place.{Place}
+use Rattle.service_outline.specs.declared.sweep.Place.TheVariants.{Opens, At, Closes, Follows}
 use Rattle.service_outline.specs.laws.Both.{both_right}
+use Rattle.service_outline.specs.laws.Duties.{none_unless, none_on, no_units}
 use Rattle.service_outline.specs.laws.Lawful.{services_lawful}
 use Rattle.service_outline.specs.laws.Reports.{error_told}
-use Rattle.step_runner.specs.Driver.{IsLawful, Covers}
+use Rattle.step_runner.specs.Driver.{IsLawful}
 use Rattle.mcal_base.specs.declared.moves.Move.{Move}
 use Rattle.mcal_base.specs.declared.moves.Move.TheVariants.{Read, Write, Load}
 use Rattle.mcal_base.specs.declared.register.Reg.TheVariants.{TimerHigh, PulseCommit, PulseIdle, CaptureCountHigh, CaptureTimeHigh}
@@ -24,7 +31,7 @@ use Rattle.service_outline.specs.Seen.{is_windowed, Plain}
 use Rattle.service_outline.specs.laws.Seen.{free_windows}
 use Rattle.step_runner.specs.Lifts.{and-left}
 use Rattle.service_outline.specs.There.{names_there}
-use Rattle.port_driver.specs.Bounds.{class_of, owns, may, is_of_init, writes_latches, call_steps, port_setting}
+use Rattle.port_driver.specs.Bounds.{class_of, owns, may, is_of_init, writes_latches, call_steps, must_by, port_setting}
 use Rattle.port_driver.specs.Checks.{error_by}
 use Rattle.port_driver.specs.Ground.{Holds, HeldRight, Alone, Is_alone, PortAgrees, port_basis}
 use Rattle.port_driver.specs.Machine.{PortState, acts_by, port_machine}
@@ -37,9 +44,13 @@ use Rattle.port_driver.specs.declared.call.Call.TheVariants as calls
 use Rattle.port_driver.specs.declared.call.PinCall.TheVariants.{SetPinDirection, SetPinMode}
 use Rattle.port_driver.specs.declared.driver.PortDriver.{PortDriver}
 use Rattle.port_driver.specs.declared.words.TheConstants.{STATE}
-use Rattle.port_driver.specs.laws.Bodies.{PortBody}
+use Rattle.port_driver.specs.declared.service.init.InitDone.{InitDone}
+use Rattle.port_driver.specs.declared.service.init.InitDone.TheVariants as inits
+use Rattle.port_driver.specs.declared.service.init.Setup.{Setup}
+use Rattle.port_driver.specs.laws.Bodies.{PortBody, init_body}
 use Rattle.port_driver.specs.laws.Ground.{basis_right, may_dry}
-use Rattle.port_driver.specs.laws.Init.{init_bodies, init_right, begins_init, Is_setup}
+use Rattle.port_driver.specs.laws.Init.{init_bodies, init_right, begins_init, setup_at, Is_setup}
+use Rattle.port_driver.specs.laws.Latches.{written_at, next_written, level_more, all_latches}
 use Rattle.port_driver.specs.laws.Look.{port_looked, looked_by, begins, direction_within, mode_within, mode_given, asked_word}
 use Rattle.port_driver.specs.laws.Pins.{pin_bodies, pin_right}
 use Rattle.port_driver.specs.laws.Ranks.{configured_few}
@@ -53,11 +64,17 @@ abbrev pub most_by : PortDriver → Call → ℕ
 most_by d Init = 12 + configured d
 most_by d _ = 4
 
+-- Port_Init has made the writes of levels that lie before its place, and another call owes none
+abbrev pub port_written : PortDriver → PortBody → Call → List Move → Type 0
+port_written d (First k) c writes = (c ≡ Init) × written_at d k.place writes
+port_written d (Second k) c writes = must_by d c ≡ []
+
 abbrev pub port : PortDriver → Services PortState Call Asked PortBody
 port d = record {
   basis = port_basis d;
   bodies = port_bodies d;
   seen = λ k. Plain;
+  written = port_written d;
   fits = FitsPort d;
   can = λ c. Unit {0};
   word = STATE;
@@ -67,6 +84,9 @@ port d = record {
   wide = λ q. 4;
   body_of = λ l. None;
 }
+
+goes_to : {Body : Type 0} {x y : Body} → Goes x ≡ Goes y → x ≡ y
+goes_to e = cc
 
 -- beside what holds anything no call of the module begins
 blocked : (d : PortDriver) (call : Call) (o : Origin Call) → o ≡ Called Init → blocks (class_of call) (mark_of (port_setting d) o) ≡ true
@@ -126,12 +146,46 @@ module _ (d : PortDriver) where
   steps_by RefreshPortDirection = omega arith
   steps_by (calls.Pin p call) = omega arith
 
+  -- what a call has written that goes on, and one that doesn't
+  begun_written : (c : Call) (e : Option ErrorName) (k : PortBody) → looked_by (record { call = c; driver = d }) e ≡ Goes k → port_written d k c []
+  begun_written Init None k e = subst (λ b. port_written d b Init []) (goes_to e) (refl, tt)
+  begun_written RefreshPortDirection None k e = subst (λ b. port_written d b RefreshPortDirection []) (goes_to e) refl
+  begun_written (calls.Pin p (SetPinDirection x)) None k e = subst (λ b. port_written d b (calls.Pin p (SetPinDirection x)) []) (goes_to e) refl
+  begun_written (calls.Pin p (SetPinMode (Some m))) None k e = subst (λ b. port_written d b (calls.Pin p (SetPinMode (Some m))) []) (goes_to e) refl
+  begun_written (calls.Pin p (SetPinMode None)) None k e = absurd (cc)
+  begun_written c (Some x) k e = absurd (cc)
+
+  refused_written : (c : Call) (x : ℕ) (n : Done) (error : Option ErrorName) → port_looked (record { call = c; driver = d }) x ≡ Refused n → MadeUnless error (must_by d c) []
+  refused_written Init x n error e = let goes : Goes (init_body (record { driver = d })) ≡ Refused n = e in absurd (cc)
+  refused_written RefreshPortDirection x n error e = none_unless error [] [] refl
+  refused_written (calls.Pin p call) x n error e = none_unless error [] [] refl
+
+  init_steps : (below : Holds) (chip : Chip) (w : World) (s : PortState) (a : Setup) (p : Place InitDone) (c : Call) (past : Past) (writes : List Move) → Stand (port_basis d) (init_bodies d) below chip w s (record { objects = a; place = p }) (Called c) past → c ≡ Init → written_at d p writes → let x = (init_bodies d).takes (record { objects = a; place = p }) (value_of chip ((init_bodies d).work_of (record { objects = a; place = p }))) in WritesOn (port d) c (writes_after writes ((init_bodies d).work_of (record { objects = a; place = p }))) (First x.0) x.1.done
+  init_steps below chip w s a Opens c past writes h is has = (is, next_written d (8 + configured a.driver) 0 writes (omega arith) (omega arith) (λ j lt four. absurd (omega (arith, lt))))
+  init_steps below chip w s a (At i) c past writes (agrees, ((Is_setup, held), lt)) is has = (is, next_written d (8 + configured d) (i + 1) (writes_after writes (setup_at d i (nat_lt i 4) (nat_lt i (4 + configured d)))) (omega arith) (omega (arith, lt)) (level_more d i (nat_lt i (4 + configured d)) writes has))
+  init_steps below chip w s a Closes c past writes h is has = (is, has)
+  init_steps below chip w s a (Follows inits.Store) c past writes h is has = subst (λ x. AllMade (must_by d x) writes) (sym is) (all_latches d writes has)
+
+  steps_at : (below : Holds) (chip : Chip) (w : World) (s : PortState) (k : PortBody) (c : Call) (past : Past) (writes : List Move) → Stand (port_basis d) (port_bodies d) below chip w s k (Called c) past → port_written d k c writes → let p = (port_bodies d).takes k (value_of chip ((port_bodies d).work_of k)) in WritesOn (port d) c (writes_after writes ((port_bodies d).work_of k)) p.0 p.1.done
+  steps_at below chip w s (First k) c past writes h has = init_steps below chip w s k.objects k.place c past writes h has.0 has.1
+  steps_at below chip w s (Second k) c past writes h has = let p = (both (refresh_bodies d) (pin_bodies d)).takes k (value_of chip ((both (refresh_bodies d) (pin_bodies d)).work_of k)) in none_on (port d) c (writes_after writes ((both (refresh_bodies d) (pin_bodies d)).work_of k)) (Second p.0) p.1.done has has
+
+  port_writes : MakesWrites (port d) (λ k. None)
+  port_writes = record {
+    begins = λ c x k can looks. begun_written c (error_by d c (x == 0)) k looks;
+    refuses = λ below chip w s c n told can agrees looks is. refused_written c (value_of chip (Load STATE)) n told.error looks;
+    steps = steps_at;
+    stops = λ below chip w s k c past writes a at has ends. let none : None ≡ Some a = ends in absurd (cc);
+  }
+
   pub port_right : AreServices (port d)
   port_right = record {
     basis = basis_right d;
     bodies = bodies_right;
     windows = free_windows (port d) bodies_right (λ k. refl) (λ o made h. no_windows made (and-left (owns made) (names_there made) (and-left (may made) (is_of_init o || not (writes_latches made)) h)));
     unseen = λ below chip w s k c h. tt;
+    writes = port_writes;
+    starts = no_units (port d) (λ w s line. refl);
     looks = λ below chip w s c can beside h. looks d below chip w s h c beside;
     own_word = λ o. may_dry o (Load STATE) refl refl;
     word_there = omega arith;
@@ -149,6 +203,3 @@ module _ (d : PortDriver) where
 -- it leaves the peripheral rate alone, and has no watchdog
 pub slow_pins : (d : PortDriver) (chip : Chip) (w : World) (ps : List (Short Asked PortBody × Open Call)) (s : PortState) → FitsPort d → (services_driver (port d)).relates chip w ps s → (services_driver (port d)).setting.machine.rate s ≤ 16
 slow_pins d chip w ps s fits h = omega arith
-
-pub covers_pins : (d : PortDriver) → Covers (services_driver (port d))
-covers_pins d = record { unwatched = λ w s. refl }

@@ -21,7 +21,7 @@ use Rattle.mcal_base.specs.declared.layout.TheConstants.{SOURCES}
 use Rattle.mcal_base.specs.declared.moves.Move.{Move}
 use Rattle.mcal_base.specs.declared.moves.Move.TheVariants.{Read, Write, Load, Store}
 use Rattle.mcal_base.specs.declared.register.Reg.{Reg}
-use Rattle.mcal_base.specs.declared.register.Reg.TheVariants.{EnableSet, EnableClear, TimerLow, PulsePeriod, PulseDuty, PulsePolarity, PulseCommit, PulseIdle, PulseOut, PulseEdges, PulseFlags, CaptureCountLow, CaptureTimeLow, ConverterAbort, SerialData, ClockPll, ClockRate, ResetRequest}
+use Rattle.mcal_base.specs.declared.register.Reg.TheVariants.{EnableSet, EnableClear, TimerLow, PulsePeriod, PulseDuty, PulsePolarity, PulseCommit, PulseIdle, PulseOut, PulseEdges, PulseFlags, CaptureCountLow, CaptureTimeLow, ConverterAbort, SerialData, ClockPll, ClockRate, ResetRequest, PinFlip}
 use Rattle.run_model.specs.Frame.{Called, is_shared, resets_chip, begins_word}
 use Rattle.run_model.specs.Machine.{Acts, Outcome, ErrorLeaves, tells_nothing, outcome}
 use Rattle.run_model.specs.Outside.{StandsIn}
@@ -123,6 +123,7 @@ read_apart chip (TimerLow c) = refl
 read_apart chip (CaptureCountLow c) = refl
 read_apart chip (CaptureTimeLow c) = refl
 read_apart chip (ConverterAbort u) = refl
+read_apart chip (PinFlip p) = refl
 read_apart chip _ = refl
 
 written_apart : (chip : Chip) (r : Reg) (v received : ℕ) → owns_written r v ≡ false → (chip_after chip (Write r v) received).pulses ≡ chip.pulses
@@ -172,6 +173,7 @@ read_enabled chip (TimerLow c) = refl
 read_enabled chip (CaptureCountLow c) = refl
 read_enabled chip (CaptureTimeLow c) = refl
 read_enabled chip (ConverterAbort u) = refl
+read_enabled chip (PinFlip p) = refl
 read_enabled chip _ = refl
 
 enabled_apart : (chip : Chip) (made : Move) (received c : ℕ) → pwm_owns made ≡ false → c < 8 → has_bit (chip_after chip made received).control.enabled (c + 8) ≡ has_bit chip.control.enabled (c + 8)
@@ -388,6 +390,9 @@ basis_right d = record {
   owns_plain = λ o made e. owned_plain made e;
   may_there = λ o made e. move_there made (may_parts made e).1;
   enables = λ o bits line e other. other_line bits line (both_of (is_for_lines bits) true e).0 other;
+  loads = λ origin value h. h;
+  watched = λ held gap chip w s has osc h. cc;
+  unwatched = λ w s none. refl;
   owns_called = λ line made e. (Init, e);
   used_lines = λ line e. used_line d line e;
   due_used = λ held chip w s line h e. ready_used (channel_of_line d line) w s (channel_number line) e;

@@ -136,6 +136,6 @@ keeps_pulses d = record {
   owns = λ o made h. others made h;
   handlers = λ l h. line_of d l (handled (channel_of_line d l) h);
   polls = λ w s c. refl;
-  starts = λ w s u r some. cc;
+  starts = λ w s u by r some. cc;
   aborts = λ w s u some. cc;
 }

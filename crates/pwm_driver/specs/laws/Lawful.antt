@@ -1,31 +1,43 @@
 -- The pulse driver, as the outline and the runner see it, and that it is lawful.
-use Rattle.std.proofs.Common.{◌≡◌, ℕ, ◌+◌, ◌-◌, ◌≤◌, Bool, true, false, not, nat_lt, List, [], ◌∷◌, Option, Some, None, refl, sym, ◌∙◌, ap, subst, arith}
+use Rattle.std.proofs.Common.{◌≡◌, ℕ, ◌+◌, ◌-◌, ◌<◌, ◌≤◌, ◌==◌, Bool, true, false, not, nat_lt, List, [], ◌∷◌, Option, Some, None, refl, sym, ◌∙◌, ap, subst, arith}
 use Rattle.std.specs.Prelude.{if◌then◌else◌, is_some}
 use Rattle.std.proofs.lemmas.Bool.Decides.{nat_tests}
-use Rattle.chip_model.specs.Chip.{Chip, word_of}
+use Rattle.chip_model.specs.Chip.{Chip, value_of, word_of}
 use Rattle.mcal_base.specs.declared.error_name.ErrorName.{ErrorName}
 use Rattle.mcal_base.specs.declared.moves.Event.TheVariants.{Act}
 use Rattle.run_model.specs.Causes.{blocks}
 use Rattle.run_model.specs.World.{World}
-use Rattle.run_model.specs.Machine.{outcome}
-use Rattle.run_model.specs.Frame.{Origin, Open, Called, Entered}
+use Rattle.run_model.specs.Machine.{Acts, Told, Outcome, no_answer, outcome}
+use Rattle.run_model.specs.Frame.{Origin, Open, Called, Entered, writes_after}
+use Rattle.run_model.specs.Legal.{MadeUnless}
+use Rattle.mcal_base.specs.declared.moves.Move.{Move}
+use Rattle.mcal_base.specs.declared.moves.Move.TheVariants.{Write}
+use Rattle.mcal_base.specs.declared.register.Reg.TheVariants.{EnableSet}
+use Rattle.service_outline.specs.declared.body.Looked.TheVariants.{Refused, Goes}
+use Rattle.service_outline.specs.declared.done.BodyTaken.{BodyTaken}
+use Rattle.service_outline.specs.declared.done.Done.{Done}
+use Rattle.service_outline.specs.declared.done.Owed.TheVariants.{Nothing}
+use Rattle.service_outline.specs.declared.sweep.Place.{Place}
+use Rattle.service_outline.specs.declared.sweep.Place.TheVariants.{Opens, At, Closes, Follows}
+use Rattle.service_outline.specs.declared.sweep.Sweep.{Sweep}
+use Rattle.service_outline.specs.laws.Duties.{none_unless, none_on, no_units}
 use Rattle.service_outline.specs.declared.body.Looked.{Looked}
 use Rattle.service_outline.specs.declared.short.Short.{Short}
 use Rattle.service_outline.specs.Both.{both}
-use Rattle.service_outline.specs.Done.{tells_error}
+use Rattle.service_outline.specs.Done.{goes, ends, tells_error}
 use Rattle.service_outline.specs.Outline.{Is_before, Is_serving}
-use Rattle.service_outline.specs.Past.{nothing_yet, Is_being}
+use Rattle.service_outline.specs.Past.{Past, nothing_yet, Is_being}
 use Rattle.service_outline.specs.Seen.{Starts, SeesTo}
 use Rattle.service_outline.specs.declared.body.Or.TheVariants.{First, Second}
-use Rattle.service_outline.specs.Services.{Services, LongBodies, Stand, is_closed, AreLong, AreServices, AllLet, Beside, CanBegin, Decides, mark_of, services_driver}
+use Rattle.service_outline.specs.Services.{Services, LongBodies, Stand, is_closed, AreLong, WritesOn, MakesWrites, AreServices, AllLet, Beside, CanBegin, Decides, mark_of, services_driver}
 use Rattle.service_outline.specs.Short.{short_move, short_left, short_gave}
 use Rattle.service_outline.specs.laws.Both.{both_right}
 use Rattle.service_outline.specs.laws.Lawful.{services_lawful}
 use Rattle.service_outline.specs.laws.Reports.{error_told}
 use Rattle.service_outline.specs.laws.StepKinds.{asks_no}
 use Rattle.service_outline.specs.laws.Seen.{plain_sees, begun_after}
-use Rattle.step_runner.specs.Driver.{IsLawful, Covers}
-use Rattle.pwm_driver.specs.Bounds.{class_of, steps_of, pwm_setting}
+use Rattle.step_runner.specs.Driver.{IsLawful}
+use Rattle.pwm_driver.specs.Bounds.{class_of, steps_of, commits_at, idles_at, must_by, pwm_setting}
 use Rattle.pwm_driver.specs.Checks.{error_by, answer_refused}
 use Rattle.pwm_driver.specs.Ground.{settled, Holds, AllRight, PwmAgrees, pwm_basis}
 use Rattle.pwm_driver.specs.Machine.{PwmState, acts_by, pwm_machine}
@@ -40,14 +52,19 @@ use Rattle.pwm_driver.specs.declared.driver.PwmDriver.{PwmDriver}
 use Rattle.pwm_driver.specs.declared.service.deinit.DeInitBody.TheVariants as deinits
 use Rattle.pwm_driver.specs.declared.service.output.OutputBody.TheVariants as outputs
 use Rattle.pwm_driver.specs.declared.service.serve.ServeBody.TheVariants.{Kinds}
-use Rattle.pwm_driver.specs.declared.words.TheConstants.{STATE}
+use Rattle.pwm_driver.specs.declared.words.TheConstants.{STATE, LINES}
 use Rattle.pwm_driver.specs.laws.Base.{asks_none}
 use Rattle.pwm_driver.specs.laws.Bodies.{PwmBody, serve_body}
-use Rattle.pwm_driver.specs.laws.DeInit.{deinit_bodies, deinit_right}
+use Rattle.pwm_driver.specs.declared.service.deinit.DeInitBody.{DeInitBody}
+use Rattle.pwm_driver.specs.declared.service.init.InitBody.{InitBody}
+use Rattle.pwm_driver.specs.declared.service.init.InitBody.TheVariants as inits
+use Rattle.pwm_driver.specs.declared.service.init.Setup.{Setup}
+use Rattle.pwm_driver.specs.laws.DeInit.{rest, deinit_work, deinit_takes, deinit_holds, deinit_bodies, deinit_right}
 use Rattle.pwm_driver.specs.laws.Ground.{basis_right}
-use Rattle.pwm_driver.specs.laws.Init.{Alone, Is_alone, Is_setup, begin_bodies}
+use Rattle.pwm_driver.specs.laws.Init.{Alone, Is_alone, Is_setup, setup_move, commit, begin_bodies}
+use Rattle.pwm_driver.specs.laws.Made.{HaveBelow, none_below, below_on, commit_more, rest_more, to_last, all_made, init_written, deinit_written, next_unwritten}
 use Rattle.pwm_driver.specs.laws.InitRight.{init_right, begins_setup}
-use Rattle.pwm_driver.specs.laws.Look.{pwm_looked, looked_by, begins, begun_on, begun_asking, Passed, MayAct, off_of, on_of, asked_there, channel_there, asked_word}
+use Rattle.pwm_driver.specs.laws.Look.{pwm_looked, looked_by, begins, begun_with, begun_on, begun_asking, Passed, MayAct, off_of, on_of, asked_there, channel_there, asked_word}
 use Rattle.pwm_driver.specs.laws.Notify.{notify_work, notify_takes, notify_bodies, notify_right}
 use Rattle.pwm_driver.specs.laws.Output.{output_bodies, output_right}
 use Rattle.pwm_driver.specs.laws.Parts.{Is_own, known_within}
@@ -69,12 +86,19 @@ abbrev pub body_by : Option Channel → Option PwmBody
 body_by None = None
 body_by (Some k) = Some (serve_body (Kinds k.number))
 
+-- Pwm_Init and Pwm_DeInit have made the writes that lie before their place, and another call owes none
+abbrev pub pwm_written : PwmDriver → PwmBody → Call → List Move → Type 0
+pwm_written d (First (First k)) c writes = (c ≡ calls.Init) × init_written d k.place writes
+pwm_written d (First (Second k)) c writes = (c ≡ calls.DeInit) × deinit_written d k writes
+pwm_written d (Second k) c writes = must_by d c ≡ []
+
 -- the driver; any call may be made
 abbrev pub pwm : PwmDriver → Services PwmState Call Asked PwmBody
 pwm d = record {
   basis = pwm_basis d;
   bodies = pwm_bodies d;
   seen = pwm_seen;
+  written = pwm_written d;
   fits = FitsPwm d;
   can = λ call. Unit {0};
   word = STATE;
@@ -116,6 +140,13 @@ unseen d below chip w s (Second (First (First (outputs.Keep r)))) call h = begun
 unseen d below chip w s _ call h = tt
 
 -- ---- what the load of the state word decides
+
+goes_to : {Body : Type 0} {x y : Body} → Goes x ≡ Goes y → x ≡ y
+goes_to e = cc
+
+abbrev error_in_out : Option (Outcome PwmState) → Option ErrorName
+error_in_out None = None
+error_in_out (Some out) = out.told.error
 
 -- beside a Pwm_Init no Pwm_Init begins
 blocked : (d : PwmDriver) (o : Origin Call) → o ≡ Called calls.Init → blocks (class_of calls.Init) (mark_of (pwm_setting d) o) ≡ true
@@ -216,12 +247,104 @@ module _ (d : PwmDriver) (fits : FitsPwm d) where
   call_steps calls.DeInit = omega arith
   call_steps _ = omega arith
 
+  -- ---- what its calls write
+
+  begun_written : (c : Call) (e : Option ErrorName) (k : PwmBody) → looked_by (record { call = c; driver = d }) e ≡ Goes k → pwm_written d k c []
+  begun_written calls.Init None k e = subst (λ b. pwm_written d b calls.Init []) (goes_to e) (refl, tt)
+  begun_written calls.DeInit None k e = subst (λ b. pwm_written d b calls.DeInit []) (goes_to e) (refl, tt)
+  begun_written (calls.GetOutputState c) None k e = by (channel_of d c) e
+    where
+      by : (o : Option Channel) → begun_asking o ≡ Goes k → pwm_written d k (calls.GetOutputState c) []
+      by None f = absurd (cc)
+      by (Some x) f = subst (λ b. pwm_written d b (calls.GetOutputState c) []) (goes_to f) refl
+  begun_written (calls.Channel c call) None k e = by (channel_of d c) e
+    where
+      with_body : (x : Channel) (call : ChannelCall) → pwm_written d (begun_with x call) (calls.Channel c call) []
+      with_body x (SetDutyCycle duty) = refl
+      with_body x (SetPeriodAndDuty period duty) = refl
+      with_body x SetOutputToIdle = refl
+      with_body x (EnableNotification edge) = refl
+      with_body x DisableNotification = refl
+
+      by : (o : Option Channel) → begun_on call o ≡ Goes k → pwm_written d k (calls.Channel c call) []
+      by None f = absurd (cc)
+      by (Some x) f = subst (λ b. pwm_written d b (calls.Channel c call) []) (goes_to f) (with_body x call)
+  begun_written c (Some x) k e = absurd (cc)
+
+  -- a call about all channels that is refused found an error
+  refused_error : (w : World) (s : PwmState) (c : Call) (l : PwmBody) (n : Done) (told : Told) (e : Option ErrorName) → error_by d c (not s.initialised) ≡ e → begins d c ≡ Goes l → looked_by (record { call = c; driver = d }) e ≡ Refused n → ((times : ℕ → ℕ) → (pwm_machine d).happens w s (Acts c times) ≡ Some (outcome s told)) → MadeUnless told.error (must_by d c) []
+  refused_error w s c l n told None f goes e is = let k : Goes l ≡ Refused n = sym goes ∙ e in absurd (cc)
+  refused_error w s c l n told (Some x) f goes e is =
+      let out : Some (acts_by d w s c (λ k. 0) (Some x)) ≡ Some (outcome s told) = ap (λ y. Some (acts_by d w s c (λ k. 0) y)) (sym f) ∙ is (λ k. 0) in
+      let error : Some x ≡ told.error = ap (λ o. error_in_out o) out in
+      subst (λ y. MadeUnless y (must_by d c) []) error tt
+
+  refused_written : (below : Holds) (chip : Chip) (w : World) (s : PwmState) (c : Call) (n : Done) (told : Told) → PwmAgrees d below settled chip w s → pwm_looked (record { call = c; driver = d }) (word_of chip STATE) ≡ Refused n → ((times : ℕ → ℕ) → (pwm_machine d).happens w s (Acts c times) ≡ Some (outcome s told)) → MadeUnless told.error (must_by d c) []
+  refused_written below chip w s calls.Init n told h e is = refused_error w s calls.Init _ n told (error_by d calls.Init (not s.initialised)) refl refl (sym (asked_word d calls.Init s.initialised) ∙ (sym (ap (λ v. pwm_looked (record { call = calls.Init; driver = d }) v) (h.words.state refl)) ∙ e)) is
+  refused_written below chip w s calls.DeInit n told h e is = refused_error w s calls.DeInit _ n told (error_by d calls.DeInit (not s.initialised)) refl refl (sym (asked_word d calls.DeInit s.initialised) ∙ (sym (ap (λ v. pwm_looked (record { call = calls.DeInit; driver = d }) v) (h.words.state refl)) ∙ e)) is
+  refused_written below chip w s (calls.GetOutputState c) n told h e is = none_unless told.error [] [] refl
+  refused_written below chip w s (calls.Channel c call) n told h e is = none_unless told.error [] [] refl
+
+  -- the commits
+  commit_goes : (a : Setup) (c : ℕ) (writes : List Move) → c < 8 → HaveBelow d commits_at (c + 1) writes → (q : Bool) → nat_lt c 7 ≡ q → let x : InitBody × BodyTaken = if q then (inits.Commit d (c + 1), goes) else (inits.Enable, goes) in WritesOn (pwm d) calls.Init writes (First (First (record { objects = a; place = Follows x.0 }))) x.1.done
+  commit_goes a c writes lt h true e = (refl, h)
+  commit_goes a c writes lt h false e = (refl, to_last d commits_at c writes lt e h)
+
+  init_steps : (below : Holds) (chip : Chip) (w : World) (s : PwmState) (a : Setup) (p : Place InitBody) (past : Past) (writes : List Move) → Stand (pwm_basis d) (begin_bodies d) below chip w s (record { objects = a; place = p }) (Called calls.Init) past → init_written d p writes → let x = (begin_bodies d).takes (record { objects = a; place = p }) (value_of chip ((begin_bodies d).work_of (record { objects = a; place = p }))) in WritesOn (pwm d) calls.Init (writes_after writes ((begin_bodies d).work_of (record { objects = a; place = p }))) (First (First x.0)) x.1.done
+  init_steps below chip w s a Opens past writes h has = (refl, next_unwritten d 32 0 writes)
+  init_steps below chip w s a (At i) past writes h has = (refl, next_unwritten d 32 (i + 1) (writes_after writes (setup_move a i)))
+  init_steps below chip w s a Closes past writes h has = (refl, none_below d commits_at writes)
+  init_steps below chip w s a (Follows (inits.Commit e c)) past writes (agrees, (begun, Is_own, lt)) has = commit_goes a c (writes_after writes (commit d c)) lt (commit_more d c writes has) (nat_lt c 7) refl
+  init_steps below chip w s a (Follows inits.Enable) past writes h has = (refl, below_on d commits_at 8 writes (Write EnableSet LINES) has)
+  init_steps below chip w s a (Follows inits.Store) past writes h has = all_made d commits_at writes has
+
+  -- the idle levels
+  rest_goes : (c : ℕ) (writes : List Move) → c < 8 → HaveBelow d idles_at (c + 1) writes → (q : Bool) → nat_lt c 7 ≡ q → let x : DeInitBody × BodyTaken = if q then (deinits.Rest d (c + 1), goes) else (deinits.Rest d c, ends None no_answer Nothing) in WritesOn (pwm d) calls.DeInit writes (First (Second x.0)) x.1.done
+  rest_goes c writes lt h true e = (refl, h)
+  rest_goes c writes lt h false e = all_made d idles_at writes (to_last d idles_at c writes lt e h)
+
+  deinit_at : (chip : Chip) (w : World) (s : PwmState) (k : DeInitBody) (told : Option Told) (writes : List Move) (x : ℕ) → deinit_holds d chip.pulses w.now s k (Called calls.DeInit) told → deinit_written d k writes → let p = deinit_takes k x in WritesOn (pwm d) calls.DeInit (writes_after writes (deinit_work k)) (First (Second p.0)) p.1.done
+  deinit_at chip w s (deinits.Store e) told writes x at has = (refl, tt)
+  deinit_at chip w s (deinits.Disable e) told writes x at has = (refl, tt)
+  deinit_at chip w s (deinits.Choose e) told writes x at has = (refl, tt)
+  deinit_at chip w s (deinits.Keep e) told writes x at has = (refl, none_below d idles_at writes)
+  deinit_at chip w s (deinits.Rest e c) told writes x (after, Is_own, ended, lt) has = rest_goes c (writes_after writes (rest d c)) lt (rest_more d c writes has) (nat_lt c 7) refl
+
+  steps_init : (below : Holds) (chip : Chip) (w : World) (s : PwmState) (k : Sweep Setup InitBody) (c : Call) (past : Past) (writes : List Move) → c ≡ calls.Init → Stand (pwm_basis d) (begin_bodies d) below chip w s k (Called c) past → init_written d k.place writes → let p = (begin_bodies d).takes k (value_of chip ((begin_bodies d).work_of k)) in WritesOn (pwm d) c (writes_after writes ((begin_bodies d).work_of k)) (First (First p.0)) p.1.done
+  steps_init below chip w s k c past writes is h has =
+      let p = (begin_bodies d).takes k (value_of chip ((begin_bodies d).work_of k)) in
+      subst (λ x. WritesOn (pwm d) x (writes_after writes ((begin_bodies d).work_of k)) (First (First p.0)) p.1.done) (sym is) (init_steps below chip w s k.objects k.place past writes (subst (λ x. Stand (pwm_basis d) (begin_bodies d) below chip w s k (Called x) past) is h) has)
+
+  steps_deinit : (below : Holds) (chip : Chip) (w : World) (s : PwmState) (k : DeInitBody) (c : Call) (past : Past) (writes : List Move) → c ≡ calls.DeInit → Stand (pwm_basis d) (deinit_bodies d) below chip w s k (Called c) past → deinit_written d k writes → let p = deinit_takes k (value_of chip (deinit_work k)) in WritesOn (pwm d) c (writes_after writes (deinit_work k)) (First (Second p.0)) p.1.done
+  steps_deinit below chip w s k c past writes is h has =
+      let p = deinit_takes k (value_of chip (deinit_work k)) in
+      let h1 = subst (λ x. Stand (pwm_basis d) (deinit_bodies d) below chip w s k (Called x) past) is h in
+      subst (λ x. WritesOn (pwm d) x (writes_after writes (deinit_work k)) (First (Second p.0)) p.1.done) (sym is) (deinit_at chip w s k h1.1.told writes (value_of chip (deinit_work k)) h1.1.at has)
+
+  steps_at : (below : Holds) (chip : Chip) (w : World) (s : PwmState) (k : PwmBody) (c : Call) (past : Past) (writes : List Move) → Stand (pwm_basis d) (pwm_bodies d) below chip w s k (Called c) past → pwm_written d k c writes → let p = (pwm_bodies d).takes k (value_of chip ((pwm_bodies d).work_of k)) in WritesOn (pwm d) c (writes_after writes ((pwm_bodies d).work_of k)) p.0 p.1.done
+  steps_at below chip w s (First (First k)) c past writes h has = steps_init below chip w s k c past writes has.0 h has.1
+  steps_at below chip w s (First (Second k)) c past writes h has = steps_deinit below chip w s k c past writes has.0 h has.1
+  steps_at below chip w s (Second k) c past writes h has =
+      let b = both (both (output_bodies d) (both (rest_bodies d) (notify_bodies d))) (serve_bodies d) in
+      let p = b.takes k (value_of chip (b.work_of k)) in
+      none_on (pwm d) c (writes_after writes (b.work_of k)) (Second p.0) p.1.done has has
+
+  pwm_writes : MakesWrites (pwm d) (λ k. None)
+  pwm_writes = record {
+    begins = λ c x k can looks. begun_written c (error_by d c (x == 0)) k looks;
+    refuses = λ below chip w s c n told can agrees looks is. refused_written below chip w s c n told agrees looks is;
+    steps = steps_at;
+    stops = λ below chip w s k c past writes a at has ends. let none : None ≡ Some a = ends in absurd (cc);
+  }
+
   pub pwm_right : AreServices (pwm d)
   pwm_right = record {
     basis = basis_right d;
     bodies = bodies_right d;
     windows = λ below chip w s k o past h. sees d k _;
     unseen = unseen d;
+    writes = pwm_writes;
+    starts = no_units (pwm d) (λ w s line. refl);
     looks = λ below chip w s call can beside h. looks d fits below chip w s h call beside;
     own_word = λ o. refl;
     word_there = omega arith;
@@ -239,6 +362,3 @@ module _ (d : PwmDriver) (fits : FitsPwm d) where
 -- it leaves the peripheral rate alone, and has no watchdog
 pub slow_pulses : (d : PwmDriver) (chip : Chip) (w : World) (ps : List (Short Asked PwmBody × Open Call)) (s : PwmState) → FitsPwm d → (services_driver (pwm d)).relates chip w ps s → (services_driver (pwm d)).setting.machine.rate s ≤ 16
 slow_pulses d chip w ps s fits h = omega arith
-
-pub covers_pulses : (d : PwmDriver) → Covers (services_driver (pwm d))
-covers_pulses d = record { unwatched = λ w s. refl }

@@ -12,6 +12,7 @@ use Rattle.run_model.specs.Stops.{FollowsToStop, steps_in}
 use Rattle.run_model.proofs.Following.{FollowsTo}
 use Rattle.step_runner.specs.Driver.{Driver}
 use Rattle.step_runner.specs.Kept.{Kept}
+use Rattle.script_runner.specs.Busy.{busies}
 use Rattle.script_runner.specs.Scripts.{IsScript, AllOffered, words_given, chip_for, script_bound}
 use Rattle.script_runner.specs.Standing.{moment_of, IsStanding, room_on, work_of}
 
@@ -22,10 +23,10 @@ pub record Going {State Call Frame : Type 0} (d : Driver State Call Frame) (firs
   pub steps : k.steps ≤ most
   pub counted : steps_in w.entries ≡ k.steps
   pub spent : work_of d k ≤ script_bound d.setting call_of (take at script)
-  pub items : length w.entries + (most - k.steps) + 2 * (length script - at) ≤ w.room
+  pub items : 2 * length w.entries + 3 * (most - k.steps) + busies chip + 6 * (length script - at) ≤ 2 * w.room
   pub words : length w.words + 64 * (length script - at) ≤ w.words_room
-  pub osc : chip.clock.osc ≤ 1000000 * at
-  pub now : now_of chip ≤ 16000000 * at
+  pub osc : chip.clock.osc ≤ 1000008 * at + 8 * k.steps
+  pub now : now_of chip ≤ 16000128 * at + 128 * k.steps
   pub given : (u : ℕ) → u < 2 → words_given script ≤ room_on chip u + words_given (take at script)
 
 -- The run stopped in the next directive.

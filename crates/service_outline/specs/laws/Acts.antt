@@ -86,7 +86,7 @@ pub fresh_behaves : {State Call : Type 0} (g : Setting State Call) (clean : Bool
 fresh_behaves g clean o h = record { wrote = λ e. h.wrote; reads = λ e. h.reads; acted = subst (λ x. IsSound (halves_of g o.origin) x) (sym h.acted) tt }
 
 pub fresh_on : {Call : Type 0} (o : Open Call) → IsFresh o → IsFresh (record o { wrote = o.wrote || false })
-fresh_on o h = record { wrote = neither o.wrote false h.wrote refl; reads = h.reads; acted = h.acted; since = h.since }
+fresh_on o h = record { wrote = neither o.wrote false h.wrote refl; reads = h.reads; writes = h.writes; acted = h.acted; since = h.since }
 
 pub fresh_leaves : {State Call : Type 0} (g : Setting State Call) (origin : Origin Call) (o : Open Call) → IsFresh o → LeavesRight g origin o.reads (o.wrote || false) o.acted_at
 fresh_leaves g origin o h = sound_leaves g origin o.reads (o.wrote || false) o.acted_at (subst (λ x. IsSound (halves_of g origin) x) (sym h.acted) tt)

@@ -9,8 +9,7 @@ use Rattle.mcal_base.specs.declared.moves.Move.{Move}
 use Rattle.mcal_base.specs.declared.moves.Move.TheVariants.{Read, Write, Load, Store, Mask, Unmask, Note, Report}
 use Rattle.run_model.specs.World.{World, world_after}
 use Rattle.run_model.specs.Frame.{Origin, missed_after, is_shared, resets_chip, begins_word}
-use Rattle.run_model.specs.Legal.{ReceivedRight}
-use Rattle.step_runner.specs.Driver.{most_steps}
+use Rattle.step_runner.specs.Driver.{most_steps, ComesRight}
 use Rattle.service_outline.specs.declared.done.Done.{Done}
 use Rattle.service_outline.specs.declared.body.Or.{Or}
 use Rattle.service_outline.specs.declared.body.Or.TheVariants.{First, Second}
@@ -70,7 +69,7 @@ module _ {State Call A B : Type 0} (g : Basis State Call) (v : LongBodies g A) (
       adding_on (u.spot k) (g.setting.machine.ready w s) t (λ t1 made. makes_lift g u (both v u) (λ i. Second i) below (λ chip w s k o t h. h) chip (chip_after chip (u.work_of k) received) w s o (u.work_of k) (u.clean k) y received t1 (missed_after g.setting.machine w s m) x.0 x.1.event x.1.done made) h
   second_by below chip w s k o received t m (Some a) h = h
 
-  steps : (below : List (Held Call g.Hold)) (chip : Chip) (w : World) (s : State) (k : Or A B) (o : Origin Call) (received : ℕ) (t : Past) (m : ℕ → Bool) → ReceivedRight chip w ((both v u).work_of k) received → g.count s < most_steps → Stand g (both v u) below chip w s k o t → RightOr g (both v u) below chip w s k o received t m (ended_at (both v u) ends_with k (value_of chip ((both v u).work_of k)))
+  steps : (below : List (Held Call g.Hold)) (chip : Chip) (w : World) (s : State) (k : Or A B) (o : Origin Call) (received : ℕ) (t : Past) (m : ℕ → Bool) → ComesRight chip w ((both v u).work_of k) received → g.count s < most_steps → Stand g (both v u) below chip w s k o t → RightOr g (both v u) below chip w s k o received t m (ended_at (both v u) ends_with k (value_of chip ((both v u).work_of k)))
   steps below chip w s (First k) o received t m come few h = first_by below chip w s k o received t m (ended_at v (λ i. ends_with (First i)) k (value_of chip (v.work_of k))) (p.steps below chip w s k o received t m come few h)
   steps below chip w s (Second k) o received t m come few h = second_by below chip w s k o received t m (ended_at u (λ i. ends_with (Second i)) k (value_of chip (u.work_of k))) (q.steps below chip w s k o received t m come few h)
 

@@ -1,7 +1,7 @@
 -- A driver whose frames follow the outline is lawful.
-use Rattle.std.proofs.Common.{◌≡◌, ℕ, ◌≤◌, nat_lt, Bool, ◌&&◌, ◌||◌, not, true, false, List, [], ◌∷◌, Option, Some, None, refl, sym, ◌∙◌, ap, subst}
+use Rattle.std.proofs.Common.{◌≡◌, ℕ, ◌<◌, ◌≤◌, arith, nat_lt, Bool, ◌&&◌, ◌||◌, not, true, false, List, [], ◌∷◌, Option, Some, None, refl, sym, ◌∙◌, ap, subst}
 use Rattle.std.specs.Prelude.{is_some}
-use Rattle.chip_model.specs.Chip.{Chip, value_of, chip_after, happened, reset_chip, is_masked, is_pending}
+use Rattle.chip_model.specs.Chip.{Chip, value_of, chip_after, expiry_of, happened, reset_chip, is_masked, is_pending}
 use Rattle.mcal_base.specs.Reach.{CanApply}
 use Rattle.mcal_base.specs.declared.answer.Answer.{Answer}
 use Rattle.mcal_base.specs.declared.directive.Order.{Order}
@@ -13,17 +13,19 @@ use Rattle.run_model.specs.Machine.{Happening, Moves, Restarts, Outcome, tells_n
 use Rattle.run_model.specs.Frame.{Origin, Called, Entered, Open, opened, is_shared, brought_by, state_after, state_by, outcome_of, happening_at}
 use Rattle.run_model.specs.declared.class.Class.{Class}
 use Rattle.run_model.specs.declared.class.Tag.{Tag}
+use Rattle.run_model.specs.Legal.{has_line, is_left_waiting, LeavesNone}
 use Rattle.run_model.specs.Causes.{blocks, may_reenter, all_below}
 use Rattle.run_model.specs.Moment.{Setting, call_tag, line_tag}
-use Rattle.std.specs.List.{list_any}
+use Rattle.std.specs.List.{list_any, list_all}
 use Rattle.step_runner.specs.Driver.{IsLawful, IsFree, AllOutside, tags_in, origins_in}
 use Rattle.step_runner.specs.Lifts.{and-left, and-right}
 use Rattle.service_outline.specs.declared.done.Owed.{Owed}
 use Rattle.service_outline.specs.declared.done.Owed.TheVariants.{Nothing, Error, One, Two}
 use Rattle.service_outline.specs.declared.short.Short.{Short}
 use Rattle.service_outline.specs.declared.short.Short.TheVariants.{Calling, Loading, Entering, Inside, Opening, Telling, Returning}
+use Rattle.service_outline.specs.Fuel.{tell_fuel, short_fuel, short_room}
 use Rattle.service_outline.specs.Short.{short_move, short_left, ending_gave, tells}
-use Rattle.service_outline.specs.Services.{Held, MayCome, Rates, Steady, Agreed, owners, IsLower, AllLower, IsLeveled, is_closed, holds_at, gap_at, Elsewhere, AllLet, mark_of, Services, AreEndingServices, Waits, AllWait, IsTop, Relates, with_holds, holds_by, holds_in, services_driver, entering}
+use Rattle.service_outline.specs.Services.{Held, MayCome, Rates, Steady, Agreed, owners, IsLower, AllLower, IsLeveled, is_closed, holds_at, gap_at, Elsewhere, AllLet, mark_of, Services, AreEndingServices, Leaves, Waits, AllWait, IsTop, Relates, with_holds, holds_by, holds_in, services_driver, entering}
 use Rattle.service_outline.specs.laws.Steps.{KeepsAt, short_steps, settled_at, stays_at}
 
 entering_same : (Asked : Type 0) {Body : Type 0} (q : Option Body) → is_some (entering {Asked = Asked} q) ≡ is_some q
@@ -39,7 +41,7 @@ module _ {State Call Asked Body : Type 0} (d : Services State Call Asked Body) {
   wait_at held chip w s (Inside k) o e h =
       let outside : is_closed (d.bodies.spot k) ≡ false = sym (ap (λ x. x.inside) h.form) ∙ e in (
         subst (λ x. d.basis.agrees (with_holds o.origin x (holds_at (d.bodies.spot k)) held) d.basis.settled chip w s) (sym (ap (λ x. x.acted) h.form)) (subst (λ x. d.basis.agrees (with_holds o.origin h.past.acted (holds_at (d.bodies.spot k)) held) x chip w s) (settled_at (d.bodies.spot k) outside) h.at.0),
-        record { past = h.past; form = h.form; behaves = h.behaves; window = h.window; missed = h.missed; opened = outside; place = λ f1 w1 s1. stays_at (d.bodies.spot k) held (d.basis.foot chip) f1 w w1 s s1 o.origin h.past outside h.at.1 },
+        record { past = h.past; form = h.form; behaves = h.behaves; window = h.window; written = h.written; missed = h.missed; opened = outside; place = λ f1 w1 s1. stays_at (d.bodies.spot k) held (d.basis.foot chip) f1 w w1 s s1 o.origin h.past outside h.at.1 },
       )
   wait_at held chip w s (Opening n) o e h = let i = h.1.inside in absurd (cc)
   wait_at held chip w s (Telling n) o e h = (h.0, h.1)
@@ -100,14 +102,14 @@ module _ {State Call Asked Body : Type 0} (d : Services State Call Asked Body) {
   begins : (chip : Chip) (w : World) (ps : List (Short Asked Body × Open Call)) (s : State) (c : Call) (level : ℕ) → d.can c → AllOutside ps → may_reenter (d.basis.setting.class_of c) (tags_in ps) ≡ true → Relates d chip w ps s → Relates d chip w ((Calling (d.asked c), opened (Called c) (call_tag d.basis.setting c level)) ∷ ps) s
   begins chip w ps s c level can out enter h =
       let k = all_wait chip w ps s out h in
-      ((k.0, record { call = c; asks = refl; form = refl; fresh = record { wrote = refl; reads = refl; acted = refl; since = refl }; can = can }), record { tagged = λ new. refl; leveled = tt; beside = all_let (d.basis.setting.class_of c) ps enter k.1 }, k.1)
+      ((k.0, record { call = c; asks = refl; form = refl; fresh = record { wrote = refl; reads = refl; writes = refl; acted = refl; since = refl }; can = can }), record { tagged = λ new. refl; leveled = tt; beside = all_let (d.basis.setting.class_of c) ps enter k.1 }, k.1)
 
   enters_by : (chip : Chip) (w : World) (ps : List (Short Asked Body × Open Call)) (s : State) (line : ℕ) (f : Short Asked Body) (q : Option Body) → d.body_of line ≡ q → entering q ≡ Some f → AllOutside ps → all_below (tags_in ps) (d.basis.setting.level_of line) ≡ true → Relates d chip w ps s → Relates d chip w ((f, opened (Entered line) (line_tag d.basis.setting line)) ∷ ps) s
   enters_by chip w ps s line f None e is out under h = absurd (cc)
   enters_by chip w ps s line f (Some k) e is out under h =
       let i = all_wait chip w ps s out h in
       let at : Entering k ≡ f = cc in
-      subst (λ x. Relates d chip w ((x, opened (Entered line) (line_tag d.basis.setting line)) ∷ ps) s) at ((i.0, record { form = refl; fresh = record { wrote = refl; reads = refl; acted = refl; since = refl }; can = law.enters line k e }), record { tagged = λ new. refl; leveled = refl; beside = all_lower (d.basis.setting.level_of line) ps under i.1 }, i.1)
+      subst (λ x. Relates d chip w ((x, opened (Entered line) (line_tag d.basis.setting line)) ∷ ps) s) at ((i.0, record { form = refl; fresh = record { wrote = refl; reads = refl; writes = refl; acted = refl; since = refl }; written = tt; can = law.enters line k e }), record { tagged = λ new. refl; leveled = refl; beside = all_lower (d.basis.setting.level_of line) ps under i.1 }, i.1)
 
   -- the hardware moves. What is held is held by frames under way
   nothing_among : (p : Origin Call → Bool) → list_any p (owners {Hold = d.basis.Hold} []) ≡ false
@@ -140,6 +142,37 @@ module _ {State Call Asked Body : Type 0} (d : Services State Call Asked Body) {
   comes : (chip : Chip) (w : World) (s : State) (order : Order) (f : Short Asked Body) (o : Open Call) (ps : List (Short Asked Body × Open Call)) (held : List (Held Call d.basis.Hold)) → IsFree d.basis.setting (is_masked chip) w s (origins_in ((f, o) ∷ ps)) order → holds_by d f o (holds_in d ps) ≡ held → MayCome d.basis.setting held chip w s order
   comes chip w s order f o ps held free is = record { frames = origins_in ((f, o) ∷ ps); free = free; among = λ p h. subst (λ x. list_any p (owners x) ≡ false) is (none_in p ((f, o) ∷ ps) h) }
 
+  -- the hardware lets no unit wait
+  none_later : (rate : ℕ) (w : World) (s : State) (order : Order) (served : List ℕ) (l : ℕ) → is_left_waiting d.basis.setting.machine w s served l ≡ false → is_left_waiting d.basis.setting.machine (world_after w rate order) (d.basis.later w s order) served l ≡ false
+  none_later rate w s order served l h = by (has_line served l) (d.basis.setting.machine.line_waits w s l) refl h
+    where
+      by : (a b : Bool) → d.basis.setting.machine.line_waits w s l ≡ b → a && b ≡ false → a && d.basis.setting.machine.line_waits (world_after w rate order) (d.basis.later w s order) l ≡ false
+      by true true e i = absurd (cc)
+      by true false e i = law.starts.later w s order rate l e
+      by false b e i = refl
+
+  not_yes : (b : Bool) → not b ≡ true → b ≡ false
+  not_yes true e = absurd (cc)
+  not_yes false e = refl
+
+  all_later_none : (rate : ℕ) (w : World) (s : State) (order : Order) (served ls : List ℕ) → list_all (λ l. not (is_left_waiting d.basis.setting.machine w s served l)) ls ≡ true → list_all (λ l. not (is_left_waiting d.basis.setting.machine (world_after w rate order) (d.basis.later w s order) served l)) ls ≡ true
+  all_later_none rate w s order served [] h = refl
+  all_later_none rate w s order served (l ∷ ls) h =
+      let here = not (is_left_waiting d.basis.setting.machine w s served l) in
+      let rest = list_all (λ l. not (is_left_waiting d.basis.setting.machine w s served l)) ls in
+      let still = none_later rate w s order served l (not_yes (is_left_waiting d.basis.setting.machine w s served l) (and-left here rest h)) in
+      rw still (all_later_none rate w s order served ls (and-right here rest h))
+
+  lines_later : (rate : ℕ) (w : World) (s : State) (order : Order) (origin : Origin Call) (polled served : List ℕ) → LeavesNone d.basis.setting.machine w s origin polled served → LeavesNone d.basis.setting.machine (world_after w rate order) (d.basis.later w s order) origin polled served
+  lines_later rate w s order (Called c) polled served h = all_later_none rate w s order served polled h
+  lines_later rate w s order (Entered l) polled served h = none_later rate w s order served l h
+
+  leaves_later : (rate : ℕ) (w : World) (s : State) (order : Order) (origin : Origin Call) (polled served : List ℕ) (owed : Owed) → Leaves d.basis.setting.machine w s origin polled served owed → Leaves d.basis.setting.machine (world_after w rate order) (d.basis.later w s order) origin polled served owed
+  leaves_later rate w s order origin polled served Nothing h = lines_later rate w s order origin polled served h
+  leaves_later rate w s order origin polled served (Error e) h = h
+  leaves_later rate w s order origin polled served (One k) h = h
+  leaves_later rate w s order origin polled served (Two k j) h = h
+
   top_later : (ps : List (Short Asked Body × Open Call)) (chip : Chip) (w : World) (s : State) (order : Order) (f : Short Asked Body) (o : Open Call) → IsFree d.basis.setting (is_masked chip) w s (origins_in ((f, o) ∷ ps)) order → (is_masked chip ≡ false → o.inside ≡ false) → IsTop d (holds_in d ps) chip w s f o → IsTop d (holds_in d ps) (happened chip order) (world_after w chip.clock.rate order) (d.basis.later w s order) f o
   top_later ps chip w s order (Inside k) o free shut h =
       let held = holds_in d ps in
@@ -150,13 +183,14 @@ module _ {State Call Asked Body : Type 0} (d : Services State Call Asked Body) {
         form = h.form;
         behaves = h.behaves;
         window = h.window;
+        written = h.written;
         missed = h.missed;
         at = (law.basis.agrees_later (with_holds o.origin h.past.acted (holds_at (d.bodies.spot k)) held) (gap_at (d.bodies.spot k)) chip w s order come (λ e. settled_at (d.bodies.spot k) (opened e)) h.at.0, law.bodies.later held chip w s order k o.origin h.past come opened h.at);
       }
   top_later ps chip w s order (Calling c) o free shut h = (law.basis.agrees_later (holds_in d ps) d.basis.settled chip w s order (comes chip w s order (Calling c) o ps _ free refl) (λ e. refl) h.0, h.1)
   top_later ps chip w s order (Loading c) o free shut h = (law.basis.agrees_later (holds_in d ps) d.basis.settled chip w s order (comes chip w s order (Loading c) o ps _ free refl) (λ e. refl) h.0, h.1)
   top_later ps chip w s order (Entering c) o free shut h = (law.basis.agrees_later (holds_in d ps) d.basis.settled chip w s order (comes chip w s order (Entering c) o ps _ free refl) (λ e. refl) h.0, h.1)
-  top_later ps chip w s order (Opening c) o free shut h = (law.basis.agrees_later (holds_in d ps) d.basis.settled chip w s order (comes chip w s order (Opening c) o ps _ free refl) (λ e. refl) h.0, h.1)
+  top_later ps chip w s order (Opening c) o free shut h = (law.basis.agrees_later (holds_in d ps) d.basis.settled chip w s order (comes chip w s order (Opening c) o ps _ free refl) (λ e. refl) h.0, h.1, leaves_later chip.clock.rate w s order o.origin o.polled o.served c.owed h.2)
   top_later ps chip w s order (Telling c) o free shut h = (law.basis.agrees_later (holds_in d ps) d.basis.settled chip w s order (comes chip w s order (Telling c) o ps _ free refl) (λ e. refl) h.0, h.1)
   top_later ps chip w s order (Returning c) o free shut h = (law.basis.agrees_later (holds_in d ps) d.basis.settled chip w s order (comes chip w s order (Returning c) o ps _ free refl) (λ e. refl) h.0, h.1)
 
@@ -202,13 +236,14 @@ module _ {State Call Asked Body : Type 0} (d : Services State Call Asked Body) {
         form = h.form;
         behaves = h.behaves;
         window = h.window;
+        written = h.written;
         missed = h.missed;
         at = (
           subst (λ x. d.basis.agrees all x (chip_after chip made received) w s) settled (law.basis.agrees_apart all chip w s made received e (subst (λ x. d.basis.agrees all x chip w s) (sym settled) h.at.0)),
           stays_at (d.bodies.spot k) held (d.basis.foot chip) (d.basis.foot (chip_after chip made received)) w w s s o.origin h.past outside h.at.1,
         );
       }
-  top_apart held chip w s made received e (Opening n) o out h = (law.basis.agrees_apart held chip w s made received e h.0, h.1)
+  top_apart held chip w s made received e (Opening n) o out h = (law.basis.agrees_apart held chip w s made received e h.0, h.1, h.2)
   top_apart held chip w s made received e (Telling n) o out h = (law.basis.agrees_apart held chip w s made received e h.0, h.1)
   top_apart held chip w s made received e (Returning a) o out h = (law.basis.agrees_apart held chip w s made received e h.0, h.1)
 
@@ -238,6 +273,47 @@ module _ {State Call Asked Body : Type 0} (d : Services State Call Asked Body) {
   there held chip w (Opening n) o s h = tt
   there held chip w (Telling n) o s h = tells_there n.owed
   there held chip w (Returning a) o s h = law.word_there
+
+  -- and the frame may make them
+  own_tells : (origin : Origin Call) (owed : Owed) → is_shared (tells d.word owed) || d.basis.setting.may origin (tells d.word owed) ≡ true
+  own_tells origin Nothing = law.own_word origin
+  own_tells origin (Error e) = refl
+  own_tells origin (One k) = refl
+  own_tells origin (Two k j) = refl
+
+  own : (held : List (Held Call d.basis.Hold)) (chip : Chip) (w : World) (f : Short Asked Body) (o : Open Call) (s : State) → IsTop d held chip w s f o → is_shared (short_move d.word d.bodies.work_of f) || d.basis.setting.may o.origin (short_move d.word d.bodies.work_of f) ≡ true
+  own held chip w (Calling c) o s h = refl
+  own held chip w (Loading c) o s h = law.own_word o.origin
+  own held chip w (Entering k) o s h = refl
+  own held chip w (Inside k) o s h = law.bodies.own held chip w s k o.origin h.past h.at
+  own held chip w (Opening n) o s h = refl
+  own held chip w (Telling n) o s h = own_tells o.origin n.owed
+  own held chip w (Returning a) o s h = law.own_word o.origin
+
+  -- a frame has steps left, and in a window moves of that
+  tells_some : (owed : Owed) → 0 < tell_fuel owed
+  tells_some Nothing = omega arith
+  tells_some (Error e) = omega arith
+  tells_some (One k) = omega arith
+  tells_some (Two k j) = omega arith
+
+  lasts : (f : Short Asked Body) → 0 < short_fuel d.most d.bodies.fuel f
+  lasts (Calling c) = omega arith
+  lasts (Loading c) = omega arith
+  lasts (Entering k) = omega arith
+  lasts (Inside k) = omega arith
+  lasts (Opening n) = omega arith
+  lasts (Telling n) = tells_some n.owed
+  lasts (Returning a) = omega arith
+
+  roomy : (held : List (Held Call d.basis.Hold)) (chip : Chip) (w : World) (f : Short Asked Body) (o : Open Call) (s : State) → IsTop d held chip w s f o → o.inside ≡ true → 0 < short_room d.wide d.bodies.room f
+  roomy held chip w (Calling c) o s h e = omega arith
+  roomy held chip w (Loading c) o s h e = omega arith
+  roomy held chip w (Entering k) o s h e = omega arith
+  roomy held chip w (Inside k) o s h e = omega arith
+  roomy held chip w (Opening n) o s h e = omega arith
+  roomy held chip w (Telling n) o s h e = let i = h.1.inside in absurd (cc)
+  roomy held chip w (Returning a) o s h e = let i = h.1.inside in absurd (cc)
 
   -- the rate, where the frames and what happens leave it
   abbrev Steadies : Type 0
@@ -285,6 +361,20 @@ module _ {State Call Asked Body : Type 0} (d : Services State Call Asked Body) {
   rate_by (Steady p q) chip w received f o ps s h e = let made = short_move d.word d.bodies.work_of f in steady_move p chip o.origin made received h.own ∙ (e ∙ sym (steady_state q w s (happening_at o.origin (brought_by w o.committed made received) (ending_gave d.looked d.bodies.takes ends_with f (value_of chip made)).event)))
   rate_by (Agreed p) chip w received f o ps s h e = agreed_all p _ w _ _ h.kept
 
+  -- the watchdog's time
+  watched_top : (held : List (Held Call d.basis.Hold)) (chip : Chip) (w : World) (s : State) (f : Short Asked Body) (o : Open Call) → d.basis.watches ≡ true → chip.clock.osc ≡ w.osc → IsTop d held chip w s f o → d.basis.setting.machine.expires w s ≡ expiry_of chip
+  watched_top held chip w s (Calling c) o has osc h = law.basis.watched held d.basis.settled chip w s has osc h.0
+  watched_top held chip w s (Loading c) o has osc h = law.basis.watched held d.basis.settled chip w s has osc h.0
+  watched_top held chip w s (Entering k) o has osc h = law.basis.watched held d.basis.settled chip w s has osc h.0
+  watched_top held chip w s (Inside k) o has osc h = law.basis.watched _ _ chip w s has osc h.at.0
+  watched_top held chip w s (Opening n) o has osc h = law.basis.watched held d.basis.settled chip w s has osc h.0
+  watched_top held chip w s (Telling n) o has osc h = law.basis.watched held d.basis.settled chip w s has osc h.0
+  watched_top held chip w s (Returning a) o has osc h = law.basis.watched held d.basis.settled chip w s has osc h.0
+
+  watched_all : (chip : Chip) (w : World) (ps : List (Short Asked Body × Open Call)) (s : State) → d.basis.watches ≡ true → chip.clock.osc ≡ w.osc → Relates d chip w ps s → d.basis.setting.machine.expires w s ≡ expiry_of chip
+  watched_all chip w [] s has osc h = law.basis.watched [] d.basis.settled chip w s has osc h
+  watched_all chip w (q ∷ ps) s has osc h = watched_top (holds_in d ps) chip w s q.0 q.1 has osc h.0
+
   -- the bounds of steps
   line_by : (line : ℕ) (f : Short Asked Body) (q : Option Body) → d.body_of line ≡ q → entering q ≡ Some f → (services_driver d).fuel f ≤ d.basis.setting.steps_of (Entered line)
   line_by line f None e is = absurd (cc)
@@ -302,6 +392,9 @@ module _ {State Call Asked Body : Type 0} (d : Services State Call Asked Body) {
     enters = λ chip w ps s line f is unmasked pending out under h. enters_by chip w ps s line f (d.body_of line) refl is out under h;
     steps = λ chip w f o ps s received come few masked out h. short_steps d law chip w received f o ps s come few h;
     there = λ chip w f o ps s h. there (holds_in d ps) chip w f o s h.0;
+    own = λ chip w f o ps s h. own (holds_in d ps) chip w f o s h.0;
+    lasts = lasts;
+    roomy = λ chip w f o ps s h e. roomy (holds_in d ps) chip w f o s h.0 e;
     moves = moves;
     resets = resets;
     undisturbed = undisturbed;
@@ -326,6 +419,9 @@ module _ {State Call Asked Body : Type 0} (d : Services State Call Asked Body) {
     rate = λ chip w f o ps s received come few masked out h e. rate_by law.basis.rated chip w received f o ps s (short_steps d law chip w received f o ps s come few h) e;
     rate_moves = law.basis.rate_moves;
     rate_resets = law.basis.rate_resets;
+    loads = law.basis.loads;
+    expiry = λ chip w ps s has osc h. watched_all chip w ps s has osc h;
+    unwatched = law.basis.unwatched;
     handled = λ line. entering_same Asked (d.body_of line) ∙ law.handled line;
     call_fuel = law.call_steps;
     line_fuel = λ line f is. line_by line f (d.body_of line) refl is;

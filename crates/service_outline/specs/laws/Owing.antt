@@ -1,7 +1,8 @@
 -- While moves are owed, the agreement after them stays what it was: each of them leaves one less, the hardware leaves it, and a
 -- reset forgets it. So a basis with moves that are owed is a basis, and bodies owe nothing more at the places that owe moves.
 use Rattle.std.proofs.Common.{◌≡◌, ℕ, zero, suc, ◌+◌, ◌<◌, Bool, true, false, ◌||◌, List, [], Option, Some, None, refl, sym, ◌∙◌, ap, subst, arith}
-use Rattle.chip_model.specs.Chip.{Chip, value_of, chip_after, happened, reset_chip, is_masked}
+use Rattle.chip_model.specs.Chip.{Chip, value_of, chip_after, expiry_of, happened, reset_chip, is_masked}
+use Rattle.chip_model.proofs.HistoryLaws.{osc-move}
 use Rattle.mcal_base.specs.declared.answer.Answer.{Answer}
 use Rattle.mcal_base.specs.declared.directive.Order.{Order}
 use Rattle.mcal_base.specs.declared.directive.Order.TheVariants.{Fill}
@@ -14,9 +15,8 @@ use Rattle.run_model.specs.World.{World, world_after}
 use Rattle.run_model.specs.Machine.{Restarts, Outcome}
 use Rattle.run_model.specs.Moment.{Setting}
 use Rattle.run_model.specs.Frame.{Origin, missed_after, is_shared, resets_chip, begins_word, inside_after}
-use Rattle.run_model.specs.Legal.{ReceivedRight}
 use Rattle.step_runner.proofs.ChipFacts.{mask-after}
-use Rattle.step_runner.specs.Driver.{IsFree, most_steps}
+use Rattle.step_runner.specs.Driver.{IsFree, most_steps, ComesRight}
 use Rattle.service_outline.specs.Acts.{Cleans, KeepsClean}
 use Rattle.service_outline.specs.Fuel.{Shortens, ShortensTo}
 use Rattle.service_outline.specs.Owing.{Owing, Either, Settles, Work, Under, Owes, owing, is_fill, Likeness, AreOwed, Windows, or_owed, spot_or, windows, GoesOwing, GoesFree, AreWindows, AreFree}
@@ -90,6 +90,8 @@ module _ {State Call Owed : Type 0} (g : Basis State Call) (p : Owing Owed) (ali
     pub last : Chip
     pub same : reset_chip last reason ≡ reset_chip chip reason
     pub rate : last.clock.rate ≡ chip.clock.rate
+    pub osc : last.clock.osc ≡ chip.clock.osc
+    pub expiry : expiry_of last ≡ expiry_of chip
     pub done : Done last
 
   settles_reset : (reason : Reason) (Done : Chip → Type 0) (n : ℕ) (x : Owed) (chip : Chip) → Settles p n x chip Done → Forgotten reason chip Done
@@ -97,8 +99,8 @@ module _ {State Call Owed : Type 0} (g : Basis State Call) (p : Owing Owed) (ali
   settles_reset reason Done (suc n) x chip h = by (settles_reset reason Done n) (p.left x (value_of chip (p.move x))) h.2
     where
       by : ((y : Owed) (c : Chip) → Settles p n y c Done → Forgotten reason c Done) → (q : Option Owed) → AfterOne n (chip_after chip (p.move x) 0) Done q → Forgotten reason chip Done
-      by more None d = record { last = chip_after chip (p.move x) 0; same = law.resets chip (p.move x) reason h.0; rate = law.steady chip (p.move x) h.0; done = d }
-      by more (Some y) d = let i = more y (chip_after chip (p.move x) 0) d in record { last = i.last; same = i.same ∙ law.resets chip (p.move x) reason h.0; rate = i.rate ∙ law.steady chip (p.move x) h.0; done = i.done }
+      by more None d = record { last = chip_after chip (p.move x) 0; same = law.resets chip (p.move x) reason h.0; rate = law.steady chip (p.move x) h.0; osc = osc-move chip (p.move x) 0; expiry = law.unwound chip (p.move x) h.0; done = d }
+      by more (Some y) d = let i = more y (chip_after chip (p.move x) 0) d in record { last = i.last; same = i.same ∙ law.resets chip (p.move x) reason h.0; rate = i.rate ∙ law.steady chip (p.move x) h.0; osc = i.osc ∙ osc-move chip (p.move x) 0; expiry = i.expiry ∙ law.unwound chip (p.move x) h.0; done = i.done }
 
   -- ---- the basis
 
@@ -128,6 +130,10 @@ module _ {State Call Owed : Type 0} (g : Basis State Call) (p : Owing Owed) (ali
     rate_by f held (Under gap) chip w s h = f held gap chip w s h
     rate_by f held (Owes x) chip w s h = let i = settles_reset PowerOn (λ c. g.agrees held g.settled c w s) h.0 x chip h.1 in sym i.rate ∙ f held g.settled i.last w s i.done
 
+    watched_by : (held : List (Held Call g.Hold)) (gap : Work g.Gap Owed) (chip : Chip) (w : World) (s : State) → g.watches ≡ true → chip.clock.osc ≡ w.osc → (owing g p).agrees held gap chip w s → g.setting.machine.expires w s ≡ expiry_of chip
+    watched_by held (Under gap) chip w s has osc h = basis.watched held gap chip w s has osc h
+    watched_by held (Owes x) chip w s has osc h = let i = settles_reset PowerOn (λ c. g.agrees held g.settled c w s) h.0 x chip h.1 in basis.watched held g.settled i.last w s has (i.osc ∙ osc) i.done ∙ i.expiry
+
     rates_by : Rates g → Rates (owing g p)
     rates_by (Steady a b) = Steady a b
     rates_by (Agreed f) = Agreed (rate_by f)
@@ -143,6 +149,9 @@ module _ {State Call Owed : Type 0} (g : Basis State Call) (p : Owing Owed) (ali
       owns_plain = basis.owns_plain;
       may_there = basis.may_there;
       enables = basis.enables;
+      loads = basis.loads;
+      watched = watched_by;
+      unwatched = basis.unwatched;
       owns_called = basis.owns_called;
       used_lines = basis.used_lines;
       due_used = basis.due_used;
@@ -293,7 +302,7 @@ module _ {State Call Owed About Body : Type 0} (g : Basis State Call) (p : Owing
             let stand : StandsBy below later w s taken.0 o t (Some y) = subst (λ a. ((m : ℕ) × Settles p m y later (Over a)) × v.place a below o t) (sym next.2) ((n, d), place) in
             subst (λ (b : BodyTaken). Continues (owing g p) (windows v) below later w s o t missed taken.0 b.done) (sym next.1) (subst (StandsBy below later w s taken.0 o t) (sym next.0) stand)
 
-  owed_steps : (below : List (Held Call g.Hold)) (chip : Chip) (w : World) (s : State) (k : Body) (o : Origin Call) (received : ℕ) (t : Past) (m : ℕ → Bool) (x : Owed) → v.owes k ≡ Some x → ReceivedRight chip w (v.bodies.work_of k) received → Stand (owing g p) (windows v) below chip w s k o t
+  owed_steps : (below : List (Held Call g.Hold)) (chip : Chip) (w : World) (s : State) (k : Body) (o : Origin Call) (received : ℕ) (t : Past) (m : ℕ → Bool) (x : Owed) → v.owes k ≡ Some x → ComesRight chip w (v.bodies.work_of k) received → Stand (owing g p) (windows v) below chip w s k o t
       → RightOr (owing g p) (windows v) below chip w s k o received t m (ended_at (windows v) ends_with k (value_of chip (v.bodies.work_of k)))
   owed_steps below chip w s k o received t m x owes come h =
       let V = windows v in
@@ -305,7 +314,7 @@ module _ {State Call Owed About Body : Type 0} (g : Basis State Call) (p : Owing
       let value = value_of chip made in
       let next = v.bodies.takes k value in
       let missed = missed_after g.setting.machine w s m in
-      let none = silent_received chip w made received (law.calm made own).1 (subst (λ q. ReceivedRight chip w q received) is come) in
+      let none = silent_received chip w made received (law.calm made own).1 (subst (λ q. ComesRight chip w q received) is come).1 in
       let same = ap (λ c. record t { committed = c }) (law.times w t.committed made own) in
       let stands = after_stands below chip w s k o t missed x owes stand.0.0 stand.0.1 stand.1 in
       let stands_at = subst (λ r. Continues G V below (chip_after chip made r) w s o (past_wrote w made t) missed next.0 next.1.done) (sym none) (subst (λ q. Continues G V below (chip_after chip made 0) w s o q missed next.0 next.1.done) (sym same) stands) in
@@ -342,7 +351,7 @@ module _ {State Call Owed About Body : Type 0} (g : Basis State Call) (p : Owing
     turns below chip w s k o t None e h = free.turns below chip w s k o t e h
     turns below chip w s k o t (Some x) e h = owed_turns below chip w s k o t x e h
 
-    steps : (below : List (Held Call g.Hold)) (chip : Chip) (w : World) (s : State) (k : Body) (o : Origin Call) (received : ℕ) (t : Past) (m : ℕ → Bool) (q : Option Owed) → v.owes k ≡ q → ReceivedRight chip w (v.bodies.work_of k) received → g.count s < most_steps → Stand G V below chip w s k o t → RightOr G V below chip w s k o received t m (ended_at V ends_with k (value_of chip (v.bodies.work_of k)))
+    steps : (below : List (Held Call g.Hold)) (chip : Chip) (w : World) (s : State) (k : Body) (o : Origin Call) (received : ℕ) (t : Past) (m : ℕ → Bool) (q : Option Owed) → v.owes k ≡ q → ComesRight chip w (v.bodies.work_of k) received → g.count s < most_steps → Stand G V below chip w s k o t → RightOr G V below chip w s k o received t m (ended_at V ends_with k (value_of chip (v.bodies.work_of k)))
     steps below chip w s k o received t m None e come few h = free.steps below chip w s k o received t m e come few h
     steps below chip w s k o received t m (Some x) e come few h = owed_steps below chip w s k o received t m x e come h
 

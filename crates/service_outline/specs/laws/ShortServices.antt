@@ -9,9 +9,8 @@ use Rattle.mcal_base.specs.declared.moves.Move.TheVariants.{Read, Write, Load, S
 use Rattle.run_model.specs.World.{World}
 use Rattle.run_model.specs.Machine.{Moves, Told, Outcome, outcome}
 use Rattle.run_model.specs.Frame.{Origin, Called, Entered, owing, committed_after, brought_by, is_shared, missed_after, resets_chip, begins_word, is_reset_service, report_of, asks_reset}
-use Rattle.run_model.specs.Legal.{ReceivedRight}
 use Rattle.run_model.specs.Moment.{Setting}
-use Rattle.step_runner.specs.Driver.{most_steps, IsLawful}
+use Rattle.step_runner.specs.Driver.{most_steps, IsLawful, ComesRight}
 use Rattle.service_outline.specs.declared.body.Looked.{Looked}
 use Rattle.service_outline.specs.declared.body.Looked.TheVariants.{Refused, Goes}
 use Rattle.service_outline.specs.declared.done.Done.{Done}
@@ -23,6 +22,7 @@ use Rattle.service_outline.specs.Past.{Past, nothing_yet, past_of}
 use Rattle.service_outline.specs.Seen.{Starts}
 use Rattle.service_outline.specs.Services.{Held, Basis, Shown, AreShown, MayStop, over, IsBasis, Steady, LongBodies, Stand, AreLong, Continues, Works, Makes, Right, KeepsMask, TurnsMask, TurnsTo, AreServices, Decides, CanBegin}
 use Rattle.service_outline.specs.Short.{short_move, short_left, short_gave}
+use Rattle.service_outline.specs.laws.Duties.{no_duties, no_units}
 use Rattle.service_outline.specs.laws.StepKinds.{or_true, same_line, asks_no, silent_sends, silent_received}
 
 shown_all : {State Call : Type 0} (g : Basis State Call) (l : ℕ) (ns : List Notice) → ((n : Notice) → Shown g (Entered l) n) → AreShown g (Entered l) ns
@@ -132,7 +132,7 @@ module _ {State Call Body : Type 0} (g : Basis State Call) (law : IsBasis g) (b 
       let x = b.takes k (value_of chip (b.work_of k)) in
       plain_turns (g.setting.window_of o) true true (b.fuel k) (b.fuel x.0) (b.work_of k) x.1.event x.1.done (plain below chip w s k o t h) (stays_closed (b.fuel k) (b.fuel x.0) x.1.event x.1.done ((p below).shortens k (value_of chip (b.work_of k))))
 
-  steps : (below : List (Held Call g.Hold)) (chip : Chip) (w : World) (s : State) (k : Body) (o : Origin Call) (received : ℕ) (t : Past) (m : ℕ → Bool) → ReceivedRight chip w (b.work_of k) received → g.count s < most_steps → Stand g (short g b place) below chip w s k o t → Right g (short g b place) below chip w s k o received t m
+  steps : (below : List (Held Call g.Hold)) (chip : Chip) (w : World) (s : State) (k : Body) (o : Origin Call) (received : ℕ) (t : Past) (m : ℕ → Bool) → ComesRight chip w (b.work_of k) received → g.count s < most_steps → Stand g (short g b place) below chip w s k o t → Right g (short g b place) below chip w s k o received t m
   steps below chip w s k o received t m come few h =
       let made = b.work_of k in
       let v = value_of chip made in
@@ -141,7 +141,7 @@ module _ {State Call Body : Type 0} (g : Basis State Call) (law : IsBasis g) (b 
       let past = past_of g.setting.machine i.told o t.committed in
       let missed = missed_after g.setting.machine w s m in
       let quiet = calm below chip w s k o i.told (h.0, i.at) in
-      let none = silent_received chip w made received quiet.silent come in
+      let none = silent_received chip w made received quiet.silent come.1 in
       let right = subst (λ n. StepsTo (over g below) (above g b place below) (chip_after chip made n) w s o made (b.clean k) i.told missed x) (sym none) ((p below).steps chip w s k o i.told m (h.0, i.at)) in
       subst (λ y. Right g (short g b place) below chip w s k o received y m) (sym i.is) (plain_makes g (short g b place) below chip (chip_after chip made received) w s o (b.clean k) v received past missed x.0 x.1.event x.1.done made (plain below chip w s k o t h) (works_same g b place below chip (chip_after chip made received) w s o made (b.clean k) v received i.told t.committed missed x.0 x.1.event x.1.done quiet right))
 
@@ -174,6 +174,9 @@ unheld_right g law = record {
   owns_plain = law.owns_plain;
   may_there = law.may_there;
   enables = law.enables;
+  loads = law.loads;
+  watched = λ held. law.watched;
+  unwatched = law.unwatched;
   owns_called = law.owns_called;
   used_lines = law.used_lines;
   due_used = λ held. law.due_used;
@@ -222,6 +225,8 @@ module _ {State Call Asked Body : Type 0} (d : Outlined State Call Asked Body) (
     bodies = short_right (unheld d.basis) (unheld_right d.basis law.basis) d.bodies (λ below. d.bodies.place) (λ below. law.bodies) (λ below. calm);
     windows = λ below chip w s k o t h. law.windows chip w s k o h.1.told (h.0, h.1.at);
     unseen = λ below chip w s k c h. unseen_by chip w s k c h.1.told h.0 h.1.is h.1.at;
+    writes = no_duties (services_of d) (λ k c writes. tt) law.must_none;
+    starts = no_units (services_of d) law.units_none;
     looks = λ below chip w s c can beside h. decides below chip w s c (d.looked (d.asked c) (value_of chip (Load d.word))) (law.looks chip w s c can h);
     own_word = law.own_word;
     word_there = law.word_there;

@@ -2,7 +2,7 @@
 -- enable or disable lines.
 use Rattle.std.proofs.Common.{◌≡◌, ℕ, ◌<◌, Bool, true, false, Option, Some, refl, sym, ap, subst}
 use Rattle.std.specs.Prelude.{if◌then◌else◌, slice_index}
-use Rattle.chip_model.specs.Chip.{Chip, value_of, chip_after, happened, reset_chip, levelled, is_other, outside_at}
+use Rattle.chip_model.specs.Chip.{Chip, value_of, chip_after, expiry_of, happened, reset_chip, levelled, is_other, outside_at}
 use Rattle.chip_model.proofs.HistoryLaws.{edged, level_leaves}
 use Rattle.mcal_base.specs.declared.directive.Order.{Order}
 use Rattle.mcal_base.specs.declared.directive.Order.TheVariants.{Tick, Level, Analog, Trigger, Miso, SpiFault, Detach, Fill}
@@ -54,6 +54,9 @@ simple_times w times = simple_by (λ m. committed_after w times m ≡ times) (λ
 pub simple_steady : (chip : Chip) (made : Move) → is_simple made ≡ true → (chip_after chip made 0).clock.rate ≡ chip.clock.rate
 simple_steady chip = simple_by (λ m. (chip_after chip m 0).clock.rate ≡ chip.clock.rate) (λ k. refl) (λ k v. refl) (λ v. refl) (λ v. refl)
 
+pub simple_unwound : (chip : Chip) (made : Move) → is_simple made ≡ true → expiry_of (chip_after chip made 0) ≡ expiry_of chip
+simple_unwound chip = simple_by (λ m. expiry_of (chip_after chip m 0) ≡ expiry_of chip) (λ k. refl) (λ k v. refl) (λ v. refl) (λ v. refl)
+
 pub simple_reset : (chip : Chip) (made : Move) (reason : Reason) → is_simple made ≡ true → reset_chip (chip_after chip made 0) reason ≡ reset_chip chip reason
 simple_reset chip made reason = simple_by (λ m. reset_chip (chip_after chip m 0) reason ≡ reset_chip chip reason) (λ k. refl) (λ k v. refl) (λ v. refl) (λ v. refl) made
 
@@ -104,6 +107,7 @@ simple_owed g p simple fits shorter = record {
   calm = λ made e. simple_calm made (simple made e);
   times = λ w times made e. simple_times w times made (simple made e);
   steady = λ chip made e. simple_steady chip made (simple made e);
+  unwound = λ chip made e. simple_unwound chip made (simple made e);
   resets = λ chip made reason e. simple_reset chip made reason (simple made e);
   shorter = shorter;
   commutes = λ x chip order e i none. (ap (p.left x) (simple_value chip order (p.move x) (simple (p.move x) e) none), simple_commutes chip order (p.move x) (simple (p.move x) e) none);

@@ -15,9 +15,9 @@ use Rattle.mcal_base.specs.declared.register.Reg.TheVariants.{SerialData}
 use Rattle.mcal_base.specs.declared.routine.Taken.{Taken}
 use Rattle.run_model.specs.World.{World}
 use Rattle.run_model.specs.Machine.{Told, Begun, Outcome, Machine, no_answer, outcome_with}
-use Rattle.run_model.specs.Frame.{Origin, Called, Entered, Owing, Open, brought_by, happening_of, outcome_of, state_by, begun_by, acted_by, polled_by, committed_after, served_by, owed_by, owed_after, ActedAt, acted_at_by, reads_after, is_write, report_by, report_after, inside_after, since_after, is_act, acts_after, window_after, is_note, missed_after, is_shared, resets_chip, begins_word, is_reset_service, asks_reset}
+use Rattle.run_model.specs.Frame.{Origin, Called, Entered, Owing, Open, brought_by, happening_of, outcome_of, state_by, begun_by, acted_by, polled_by, committed_after, served_by, owed_by, owed_after, ActedAt, acted_at_by, reads_after, is_write, writes_after, report_by, report_after, inside_after, since_after, is_act, acts_after, window_after, is_note, missed_after, is_shared, resets_chip, begins_word, is_reset_service, asks_reset}
 use Rattle.run_model.specs.Moment.{Setting}
-use Rattle.run_model.specs.Legal.{has_line, MayEnd, ReceivedRight, MoveRight, ShowsRight, StandsAt, SendsRight, IsOwnEvent, is_beside_act, WindowRight, HalvesRight, halves_of, ErrorsRight}
+use Rattle.run_model.specs.Legal.{has_line, MayEnd, ReceivedRight, MoveRight, ShowsRight, StandsAt, SendsRight, IsOwnEvent, is_beside_act, WindowRight, HalvesRight, halves_of, ErrorsRight, HasMade, LeavesNone}
 use Rattle.step_runner.specs.Driver.{Driver, KeepsStep, RoomRight, stepped}
 use Rattle.step_runner.specs.Lifts.{and-left, and-right}
 use Rattle.service_outline.specs.Short.{goes, does, ends}
@@ -38,6 +38,7 @@ open_with mac w s o made e out = record {
   committed = committed_after w o.committed made;
   reads = reads_after o.reads made;
   wrote = o.wrote || is_write made;
+  writes = writes_after o.writes made;
   owed = owed_after (owed_by o.owed e out) made;
   report = report_after (report_by mac o.origin o.report e out) made;
   inside = inside_after o.inside made;
@@ -61,6 +62,7 @@ open_plain mac w s o made e out = record {
   committed = committed_after w o.committed made;
   reads = reads_after o.reads made;
   wrote = o.wrote || is_write made;
+  writes = writes_after o.writes made;
   owed = owed_by o.owed e out;
   report = report_by mac o.origin o.report e out;
   inside = o.inside;
@@ -73,7 +75,7 @@ open_plain mac w s o made e out = record {
 
 -- the level, misses, commits, reads, writes, window and counts after a step without an event
 abbrev pub rest_after : {State Call : Type 0} → Machine State Call → World → State → Open Call → Move → Open Call
-rest_after mac w s o made = record o { missed = missed_after mac w s o.missed; committed = committed_after w o.committed made; reads = reads_after o.reads made; wrote = o.wrote || is_write made; since = since_after o.since made; acts_since = acts_after o.acts_since made None; steps = o.steps + 1; window = window_after o.inside o.window made; noted = is_note made }
+rest_after mac w s o made = record o { missed = missed_after mac w s o.missed; committed = committed_after w o.committed made; reads = reads_after o.reads made; wrote = o.wrote || is_write made; writes = writes_after o.writes made; since = since_after o.since made; acts_since = acts_after o.acts_since made None; steps = o.steps + 1; window = window_after o.inside o.window made; noted = is_note made }
 
 -- where a frame acted, after an event that told this
 abbrev pub acted_then : {Call : Type 0} → Origin Call → Move → Event → Told → Option ActedAt → Option ActedAt
@@ -212,6 +214,8 @@ module _ {State Call Frame : Type 0} (d : Driver State Call Frame) (chip : Chip)
     stays = λ e. refl;
     move = move_plain inside owed report made p;
     ends = tt;
+    writes = tt;
+    starts = tt;
     own = or_true (is_shared made) own;
     reset = still;
     fuel = fuel;
@@ -228,6 +232,8 @@ module _ {State Call Frame : Type 0} (d : Driver State Call Frame) (chip : Chip)
     stays = λ e. refl;
     move = move_plain inside owed report made p;
     ends = tt;
+    writes = tt;
+    starts = tt;
     own = or_true (is_shared made) own;
     reset = still;
     fuel = fuel;
@@ -236,8 +242,8 @@ module _ {State Call Frame : Type 0} (d : Driver State Call Frame) (chip : Chip)
   }
 
   -- a plain move with the mask open, the last step of its frame
-  pub last_step : (r : Open Call) (origin : Origin Call) (acted : Option Answer) (served : List ℕ) (word value : ℕ) (a : Answer) → d.setting.may origin (Load word) ≡ true → MayEnd origin (form r origin acted served [] None false) a → 1 ≤ d.fuel f → LeavesRight d.setting origin (reads_after r.reads (Load word)) (r.wrote || is_write (Load word)) r.acted_at → Kept s (form (rest_after d.setting.machine w s (form r origin acted served [] None false) (Load word)) origin acted served [] None false) → Keeps (form r origin acted served [] None false) (Load word) value (ends a)
-  last_step r (Called c) acted served word value a own m fuel leaves k = record {
+  pub last_step : (r : Open Call) (origin : Origin Call) (acted : Option Answer) (served : List ℕ) (word value : ℕ) (a : Answer) → d.setting.may origin (Load word) ≡ true → MayEnd origin (form r origin acted served [] None false) a → 1 ≤ d.fuel f → LeavesRight d.setting origin (reads_after r.reads (Load word)) (r.wrote || is_write (Load word)) r.acted_at → HasMade d.setting origin r.writes r.acted_at → LeavesNone d.setting.machine w s origin r.polled served → Kept s (form (rest_after d.setting.machine w s (form r origin acted served [] None false) (Load word)) origin acted served [] None false) → Keeps (form r origin acted served [] None false) (Load word) value (ends a)
+  last_step r (Called c) acted served word value a own m fuel leaves paid idle k = record {
     event = tt;
     sends = tt;
     halves = leaves.0;
@@ -247,13 +253,15 @@ module _ {State Call Frame : Type 0} (d : Driver State Call Frame) (chip : Chip)
     stays = λ e. absurd (cc);
     move = tt;
     ends = (may_more d.setting.machine w s (form r (Called c) acted served [] None false) (Load word) (Called c) a m, refl, refl, refl, refl);
+    writes = paid;
+    starts = idle;
     own = own;
     reset = refl;
     fuel = fuel;
     room = λ e. absurd (cc);
     kept = k;
   }
-  last_step r (Entered l) acted served word value a own m fuel leaves k = record {
+  last_step r (Entered l) acted served word value a own m fuel leaves paid idle k = record {
     event = tt;
     sends = tt;
     halves = leaves.0;
@@ -263,6 +271,8 @@ module _ {State Call Frame : Type 0} (d : Driver State Call Frame) (chip : Chip)
     stays = λ e. absurd (cc);
     move = tt;
     ends = (may_more d.setting.machine w s (form r (Entered l) acted served [] None false) (Load word) (Entered l) a m, refl, refl, refl, refl);
+    writes = paid;
+    starts = idle;
     own = own;
     reset = refl;
     fuel = fuel;
@@ -272,33 +282,33 @@ module _ {State Call Frame : Type 0} (d : Driver State Call Frame) (chip : Chip)
 
   -- the mask is closed
   pub mask_step : (r : Open Call) (origin : Origin Call) (acted : Option Answer) (served : List ℕ) (owed : List Owing) (report : Option DevError) (value : ℕ) → d.fuel later < d.fuel f → 1 + d.room later ≤ d.setting.window_of origin → LeavesRight d.setting origin (reads_after r.reads Mask) (r.wrote || is_write Mask) r.acted_at → Kept s (form (rest_after d.setting.machine w s (form r origin acted served owed report false) Mask) origin acted served owed report true) → Keeps (form r origin acted served owed report false) Mask value goes
-  mask_step r (Called c) acted served owed report value fuel room leaves k = record { event = tt; sends = tt; halves = leaves.0; errors = leaves.1; together = tt; shows = tt; stays = λ e. refl; move = refl; ends = tt; own = refl; reset = refl; fuel = fuel; room = room; kept = k }
-  mask_step r (Entered l) acted served owed report value fuel room leaves k = record { event = tt; sends = tt; halves = leaves.0; errors = leaves.1; together = tt; shows = tt; stays = λ e. refl; move = refl; ends = tt; own = refl; reset = refl; fuel = fuel; room = room; kept = k }
+  mask_step r (Called c) acted served owed report value fuel room leaves k = record { event = tt; sends = tt; halves = leaves.0; errors = leaves.1; together = tt; shows = tt; stays = λ e. refl; move = refl; ends = tt; writes = tt; starts = tt; own = refl; reset = refl; fuel = fuel; room = room; kept = k }
+  mask_step r (Entered l) acted served owed report value fuel room leaves k = record { event = tt; sends = tt; halves = leaves.0; errors = leaves.1; together = tt; shows = tt; stays = λ e. refl; move = refl; ends = tt; writes = tt; starts = tt; own = refl; reset = refl; fuel = fuel; room = room; kept = k }
 
   -- the mask is opened, and the frame goes on
   pub unmask_step : (r : Open Call) (origin : Origin Call) (acted : Option Answer) (served : List ℕ) (owed : List Owing) (report : Option DevError) (value : ℕ) → d.fuel later < d.fuel f → 1 ≤ d.room f → LeavesRight d.setting origin (reads_after r.reads Unmask) (r.wrote || is_write Unmask) r.acted_at → WindowRight (is_beside_act d.setting.machine origin) true r.since (r.acts_since || false) Unmask → Kept s (form (rest_after d.setting.machine w s (form r origin acted served owed report true) Unmask) origin acted served owed report false) → Keeps (form r origin acted served owed report true) Unmask value goes
-  unmask_step r (Called c) acted served owed report value fuel room leaves together k = record { event = tt; sends = tt; halves = leaves.0; errors = leaves.1; together = together; shows = tt; stays = λ e. refl; move = refl; ends = tt; own = refl; reset = refl; fuel = fuel; room = room; kept = k }
-  unmask_step r (Entered l) acted served owed report value fuel room leaves together k = record { event = tt; sends = tt; halves = leaves.0; errors = leaves.1; together = together; shows = tt; stays = λ e. refl; move = refl; ends = tt; own = refl; reset = refl; fuel = fuel; room = room; kept = k }
+  unmask_step r (Called c) acted served owed report value fuel room leaves together k = record { event = tt; sends = tt; halves = leaves.0; errors = leaves.1; together = together; shows = tt; stays = λ e. refl; move = refl; ends = tt; writes = tt; starts = tt; own = refl; reset = refl; fuel = fuel; room = room; kept = k }
+  unmask_step r (Entered l) acted served owed report value fuel room leaves together k = record { event = tt; sends = tt; halves = leaves.0; errors = leaves.1; together = together; shows = tt; stays = λ e. refl; move = refl; ends = tt; writes = tt; starts = tt; own = refl; reset = refl; fuel = fuel; room = room; kept = k }
 
   -- the mask is opened, and the frame ends
-  pub leave_step : (r : Open Call) (origin : Origin Call) (acted : Option Answer) (served : List ℕ) (value : ℕ) (a : Answer) → MayEnd origin (rest_after d.setting.machine w s (form r origin acted served [] None true) Unmask) a → 1 ≤ d.fuel f → 1 ≤ d.room f → LeavesRight d.setting origin (reads_after r.reads Unmask) (r.wrote || is_write Unmask) r.acted_at → WindowRight (is_beside_act d.setting.machine origin) true r.since (r.acts_since || false) Unmask → Kept s (form (rest_after d.setting.machine w s (form r origin acted served [] None true) Unmask) origin acted served [] None false) → Keeps (form r origin acted served [] None true) Unmask value (ends a)
-  leave_step r (Called c) acted served value a m fuel room leaves together k = record { event = tt; sends = tt; halves = leaves.0; errors = leaves.1; together = together; shows = tt; stays = λ e. absurd (cc); move = refl; ends = (m, refl, refl, refl, refl); own = refl; reset = refl; fuel = fuel; room = room; kept = k }
-  leave_step r (Entered l) acted served value a m fuel room leaves together k = record { event = tt; sends = tt; halves = leaves.0; errors = leaves.1; together = together; shows = tt; stays = λ e. absurd (cc); move = refl; ends = (m, refl, refl, refl, refl); own = refl; reset = refl; fuel = fuel; room = room; kept = k }
+  pub leave_step : (r : Open Call) (origin : Origin Call) (acted : Option Answer) (served : List ℕ) (value : ℕ) (a : Answer) → MayEnd origin (rest_after d.setting.machine w s (form r origin acted served [] None true) Unmask) a → 1 ≤ d.fuel f → 1 ≤ d.room f → LeavesRight d.setting origin (reads_after r.reads Unmask) (r.wrote || is_write Unmask) r.acted_at → HasMade d.setting origin r.writes r.acted_at → LeavesNone d.setting.machine w s origin r.polled served → WindowRight (is_beside_act d.setting.machine origin) true r.since (r.acts_since || false) Unmask → Kept s (form (rest_after d.setting.machine w s (form r origin acted served [] None true) Unmask) origin acted served [] None false) → Keeps (form r origin acted served [] None true) Unmask value (ends a)
+  leave_step r (Called c) acted served value a m fuel room leaves paid idle together k = record { event = tt; sends = tt; halves = leaves.0; errors = leaves.1; together = together; shows = tt; stays = λ e. absurd (cc); move = refl; ends = (m, refl, refl, refl, refl); writes = paid; starts = idle; own = refl; reset = refl; fuel = fuel; room = room; kept = k }
+  leave_step r (Entered l) acted served value a m fuel room leaves paid idle together k = record { event = tt; sends = tt; halves = leaves.0; errors = leaves.1; together = together; shows = tt; stays = λ e. absurd (cc); move = refl; ends = (m, refl, refl, refl, refl); writes = paid; starts = idle; own = refl; reset = refl; fuel = fuel; room = room; kept = k }
 
   -- a report, the last step of its frame
-  pub report_step : (r : Open Call) (origin : Origin Call) (acted : Option Answer) (served : List ℕ) (value : ℕ) (a : Answer) (e : DevError) → MayEnd origin (form r origin acted served [] (Some e) false) a → 1 ≤ d.fuel f → LeavesRight d.setting origin (reads_after r.reads (Report e)) (r.wrote || is_write (Report e)) r.acted_at → Kept s (form (rest_after d.setting.machine w s (form r origin acted served [] (Some e) false) (Report e)) origin acted served [] None false) → Keeps (form r origin acted served [] (Some e) false) (Report e) value (ends a)
-  report_step r (Called c) acted served value a x m fuel leaves k = record { event = tt; sends = tt; halves = leaves.0; errors = leaves.1; together = tt; shows = tt; stays = λ e. absurd (cc); move = refl; ends = (may_more d.setting.machine w s (form r (Called c) acted served [] (Some x) false) (Report x) (Called c) a m, refl, refl, refl, refl); own = refl; reset = refl; fuel = fuel; room = λ e. absurd (cc); kept = k }
-  report_step r (Entered l) acted served value a x m fuel leaves k = record { event = tt; sends = tt; halves = leaves.0; errors = leaves.1; together = tt; shows = tt; stays = λ e. absurd (cc); move = refl; ends = (may_more d.setting.machine w s (form r (Entered l) acted served [] (Some x) false) (Report x) (Entered l) a m, refl, refl, refl, refl); own = refl; reset = refl; fuel = fuel; room = λ e. absurd (cc); kept = k }
+  pub report_step : (r : Open Call) (origin : Origin Call) (acted : Option Answer) (served : List ℕ) (value : ℕ) (a : Answer) (e : DevError) → MayEnd origin (form r origin acted served [] (Some e) false) a → 1 ≤ d.fuel f → LeavesRight d.setting origin (reads_after r.reads (Report e)) (r.wrote || is_write (Report e)) r.acted_at → HasMade d.setting origin r.writes r.acted_at → LeavesNone d.setting.machine w s origin r.polled served → Kept s (form (rest_after d.setting.machine w s (form r origin acted served [] (Some e) false) (Report e)) origin acted served [] None false) → Keeps (form r origin acted served [] (Some e) false) (Report e) value (ends a)
+  report_step r (Called c) acted served value a x m fuel leaves paid idle k = record { event = tt; sends = tt; halves = leaves.0; errors = leaves.1; together = tt; shows = tt; stays = λ e. absurd (cc); move = refl; ends = (may_more d.setting.machine w s (form r (Called c) acted served [] (Some x) false) (Report x) (Called c) a m, refl, refl, refl, refl); writes = paid; starts = idle; own = refl; reset = refl; fuel = fuel; room = λ e. absurd (cc); kept = k }
+  report_step r (Entered l) acted served value a x m fuel leaves paid idle k = record { event = tt; sends = tt; halves = leaves.0; errors = leaves.1; together = tt; shows = tt; stays = λ e. absurd (cc); move = refl; ends = (may_more d.setting.machine w s (form r (Entered l) acted served [] (Some x) false) (Report x) (Entered l) a m, refl, refl, refl, refl); writes = paid; starts = idle; own = refl; reset = refl; fuel = fuel; room = λ e. absurd (cc); kept = k }
 
   -- a notice
   pub note_step : (r : Open Call) (origin : Origin Call) (acted : Option Answer) (served : List ℕ) (report : Option DevError) (n : Notice) (by : Bool) (ns : List Owing) (value : ℕ) → d.fuel later < d.fuel f → (by ≡ true → d.setting.shows origin n chip s) → LeavesRight d.setting origin (reads_after r.reads (Note n)) (r.wrote || is_write (Note n)) r.acted_at → Kept s (form (rest_after d.setting.machine w s (form r origin acted served (record { notice = n; served = by } ∷ ns) report false) (Note n)) origin acted served ns report false) → Keeps (form r origin acted served (record { notice = n; served = by } ∷ ns) report false) (Note n) value goes
-  note_step r (Called c) acted served report n by ns value fuel shown leaves k = record { event = tt; sends = tt; halves = leaves.0; errors = leaves.1; together = tt; shows = shown; stays = λ e. refl; move = (refl, refl); ends = tt; own = refl; reset = refl; fuel = fuel; room = λ e. absurd (cc); kept = k }
-  note_step r (Entered l) acted served report n by ns value fuel shown leaves k = record { event = tt; sends = tt; halves = leaves.0; errors = leaves.1; together = tt; shows = shown; stays = λ e. refl; move = (refl, refl); ends = tt; own = refl; reset = refl; fuel = fuel; room = λ e. absurd (cc); kept = k }
+  note_step r (Called c) acted served report n by ns value fuel shown leaves k = record { event = tt; sends = tt; halves = leaves.0; errors = leaves.1; together = tt; shows = shown; stays = λ e. refl; move = (refl, refl); ends = tt; writes = tt; starts = tt; own = refl; reset = refl; fuel = fuel; room = λ e. absurd (cc); kept = k }
+  note_step r (Entered l) acted served report n by ns value fuel shown leaves k = record { event = tt; sends = tt; halves = leaves.0; errors = leaves.1; together = tt; shows = shown; stays = λ e. refl; move = (refl, refl); ends = tt; writes = tt; starts = tt; own = refl; reset = refl; fuel = fuel; room = λ e. absurd (cc); kept = k }
 
   own_event : (r : Open Call) (p : Past) (e : Event) (origin : Origin Call) → MayDo d.setting.machine w s p e origin → IsOwnEvent d.setting.machine w s (having r origin p true) e origin
   own_event r p Act (Called c) h = h
   own_event r p Act (Entered l) h = h
-  own_event r p (Serve k) (Called c) h = (h, refl)
+  own_event r p (Serve k) (Called c) h = (h.0, h.1, refl)
   own_event r p (Serve k) (Entered l) h = (h.0, h.1, refl)
   own_event r p (Abort u) origin h = h
   own_event r p (Start u) origin h = h
@@ -330,6 +340,8 @@ module _ {State Call Frame : Type 0} (d : Driver State Call Frame) (chip : Chip)
         stays = λ i. refl;
         move = move_plain true p.owed (report_by mac origin p.report (Some e) out) made plain;
         ends = tt;
+        writes = tt;
+        starts = tt;
         own = or_true (is_shared made) own;
         reset = subst (λ x. resets_chip made ≡ asks_reset mac origin (Some e) x) (sym is) reset;
         fuel = fuel;

@@ -7,8 +7,7 @@ use Rattle.mcal_base.specs.declared.moves.Move.{Move}
 use Rattle.mcal_base.specs.declared.moves.Move.TheVariants.{Mask, Unmask}
 use Rattle.run_model.specs.World.{World, world_after}
 use Rattle.run_model.specs.Frame.{Origin, missed_after, is_shared, resets_chip, begins_word}
-use Rattle.run_model.specs.Legal.{ReceivedRight}
-use Rattle.step_runner.specs.Driver.{most_steps}
+use Rattle.step_runner.specs.Driver.{most_steps, ComesRight}
 use Rattle.service_outline.specs.Fuel.{Shortens}
 use Rattle.service_outline.specs.Past.{Past, past_wrote}
 use Rattle.service_outline.specs.Services.{Held, Basis, IsBasis, Elsewhere, MayCome, LongBodies, Stand, AreLong, Right, Makes, TurnsTo, is_closed, holds_at, place_at, with_holds}
@@ -73,15 +72,15 @@ module _ {State Call S B : Type 0} (g : Basis State Call) (v : Sweeping g S B) (
       by a Closes h = (refl, law.closed a, law.room a below o t h.1, refl, refl)
       by a (Follows j) h = right.turns below chip w s j o t h
 
-  steps : (below : List (Held Call g.Hold)) (chip : Chip) (w : World) (s : State) (k : Sweep S B) (o : Origin Call) (received : ℕ) (t : Past) (m : ℕ → Bool) → ReceivedRight chip w (Swept.work_of k) received → g.count s < most_steps → Stands below chip w s k o t → Right g Swept below chip w s k o received t m
+  steps : (below : List (Held Call g.Hold)) (chip : Chip) (w : World) (s : State) (k : Sweep S B) (o : Origin Call) (received : ℕ) (t : Past) (m : ℕ → Bool) → ComesRight chip w (Swept.work_of k) received → g.count s < most_steps → Stands below chip w s k o t → Right g Swept below chip w s k o received t m
   steps below chip w s k o received t m come few h = by k.objects k.place come h
     where
-      by : (a : S) (p : Place B) → ReceivedRight chip w (Swept.work_of (at a p)) received → Stands below chip w s (at a p) o t → Right g Swept below chip w s (at a p) o received t m
+      by : (a : S) (p : Place B) → ComesRight chip w (Swept.work_of (at a p)) received → Stands below chip w s (at a p) o t → Right g Swept below chip w s (at a p) o received t m
       by a Opens come h = next_stands below (chip_after chip Unmask received) w s a 0 o t (omega arith) h.1 (basis.agrees_apart _ chip w s Unmask received (apart Unmask refl) h.0)
       by a (At i) come h =
           let made = v.move a i in
           let lt = h.1.1 in
-          let none = silent_received chip w made received (law.still a i).1 come in
+          let none = silent_received chip w made received (law.still a i).1 come.1 in
           plain_makes g Swept below chip (chip_after chip made received) w s o false (value_of chip made) received t (missed_after g.setting.machine w s m) (at a (place_of (v.count a) (i + 1))) None None made (plain below a i o t lt h.1.0)
           (next_stands below (chip_after chip made received) w s a (i + 1) o (past_wrote w made t) (omega (arith, lt)) (law.stays a i below w o t h.1.0) (subst (λ n. g.agrees (with_holds o t.acted (v.hold a (i + 1)) below) g.settled (chip_after chip made n) w s) (sym none) (law.step a i below chip w s o t lt h.1.0 h.0)))
       by a Closes come h = law.follows a below (chip_after chip Mask received) w s o t h.1 (basis.agrees_apart _ chip w s Mask received (apart Mask refl) h.0)

@@ -4,7 +4,7 @@ use Rattle.std.proofs.lemmas.Bool.Decides.{nat_tests}
 use Rattle.mcal_base.specs.Reach.{IsThere, CanApply}
 use Rattle.mcal_base.specs.declared.TheConstants.{WORDS}
 use Rattle.mcal_base.specs.declared.register.Reg.{Reg}
-use Rattle.mcal_base.specs.declared.register.Reg.TheVariants.{TimerTarget, TimerPrescaler, TimerLow, TimerHigh, PulsePeriod, PulseDuty, PulsePolarity, PulseCommit, PulseIdle, PulseOut, CaptureCondition, CaptureMode, CaptureCountLow, CaptureCountHigh, CaptureZero, CaptureTimeLow, CaptureTimeHigh, CaptureInfo, CapturePop, CaptureFlush, ConverterList, ConverterGo, ConverterState, ConverterResult, ConverterDone, ConverterAbort, ConverterAck, SerialSelect, SerialWidth, SerialData, SerialReceived, SerialState, SerialAck, PinDirectionSet, PinDirectionClear, PinOutSet, PinOutClear, PinMode, Ram}
+use Rattle.mcal_base.specs.declared.register.Reg.TheVariants.{TimerTarget, TimerPrescaler, TimerLow, TimerHigh, PulsePeriod, PulseDuty, PulsePolarity, PulseCommit, PulseIdle, PulseOut, CaptureCondition, CaptureMode, CaptureCountLow, CaptureCountHigh, CaptureZero, CaptureTimeLow, CaptureTimeHigh, CaptureInfo, CapturePop, CaptureFlush, ConverterList, ConverterGo, ConverterState, ConverterResult, ConverterDone, ConverterAbort, ConverterAck, SerialSelect, SerialWidth, SerialData, SerialReceived, SerialState, SerialWait, SerialAck, PinDirectionSet, PinDirectionClear, PinOutSet, PinOutClear, PinMode, PortPut, PortLevels, PinFlip, Ram}
 use Rattle.mcal_base.specs.declared.moves.Move.{Move}
 use Rattle.mcal_base.specs.declared.moves.Move.TheVariants.{Read, Write, Load, Store}
 use Rattle.service_outline.specs.There.{is_there, names_there}
@@ -48,12 +48,16 @@ register_there (SerialWidth u) e = below u 2 e
 register_there (SerialData u) e = below u 2 e
 register_there (SerialReceived u) e = below u 2 e
 register_there (SerialState u) e = below u 2 e
+register_there (SerialWait u) e = below u 2 e
 register_there (SerialAck u) e = below u 2 e
 register_there (PinDirectionSet half) e = below half 2 e
 register_there (PinDirectionClear half) e = below half 2 e
 register_there (PinOutSet half) e = below half 2 e
 register_there (PinOutClear half) e = below half 2 e
 register_there (PinMode p) e = below p 64 e
+register_there (PortPut q) e = below q 8 e
+register_there (PortLevels q) e = below q 8 e
+register_there (PinFlip p) e = below p 64 e
 register_there (Ram k) e = below k 512 e
 register_there _ e = tt
 

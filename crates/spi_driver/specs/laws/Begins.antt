@@ -30,6 +30,7 @@ use Rattle.spi_sequences.specs.laws.Look.{spi_looked}
 use Rattle.spi_sequences.specs.laws.Places.{unit_few}
 use Rattle.spi_sequences.specs.laws.Said.{is_number}
 use Rattle.spi_driver.specs.laws.Frames.{Handles, Mains, Transmits, at, unit_bodies}
+use Rattle.spi_driver.specs.laws.Idle.{units_left}
 use Rattle.spi_driver.specs.laws.Lawful.{AreRight, handled_by, lawful, spi, spi_right}
 use Rattle.spi_driver.specs.laws.Parts.{IsServing, IsStarting, Serving, Starting, foot}
 use Rattle.spi_driver.specs.laws.Right.{units_right}
@@ -95,6 +96,7 @@ module _ (a : Starting) (b : Serving) (d : SpiTable) where
       begins_main = main_begins;
       enters = handlers (λ line k. CanBegin spi_with k (Entered line)) handler_begins;
       line_steps = handlers (λ line k. 6 + spi_with.bodies.fuel k ≤ 144) (λ u lt. let shut = serving.shut in let first = serving.fuel_first in omega (arith, shut, first));
+      leaves = λ below chip w s k o y t n h e. units_left a b d fits starting serving below chip w s o t y n k h e;
     }
 
     pub right_with : AreEndingServices spi_with spi_ends

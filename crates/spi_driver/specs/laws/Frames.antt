@@ -19,7 +19,7 @@ use Rattle.spi_machine.specs.declared.call.Call.{Call}
 use Rattle.spi_machine.specs.declared.call.Call.TheVariants as calls
 use Rattle.spi_machine.specs.declared.call.SequenceCall.TheVariants.{AsyncTransmit}
 use Rattle.spi_machine.specs.declared.table.SpiTable.{SpiTable}
-use Rattle.spi_sequences.specs.Ground.{Debt, Handling, Hold, Holds, spi_bare}
+use Rattle.spi_sequences.specs.Ground.{Cleared, Debt, Handling, Hold, Holds, spi_bare}
 use Rattle.spi_sequences.specs.Owed.{Cancels, Owed, Units, Wholes, request_more, spi_basis, spi_owing, unit_owed}
 use Rattle.spi_sequences.specs.declared.service.request.RequestPlace.{RequestPlace}
 use Rattle.spi_sequences.specs.declared.service.request.RequestPlace.TheVariants as request
@@ -31,7 +31,7 @@ use Rattle.spi_sequences.specs.declared.service.start.StartPlace.TheVariants as 
 use Rattle.spi_sequences.specs.declared.service.unit.After.{After}
 use Rattle.spi_sequences.specs.declared.service.unit.After.TheVariants as after
 use Rattle.spi_sequences.specs.declared.service.unit.Errand.{Errand}
-use Rattle.spi_sequences.specs.declared.service.unit.Errand.TheVariants.{Handler, Main, Transmit}
+use Rattle.spi_sequences.specs.declared.service.unit.Errand.TheVariants.{Handler, Main, Rest, Transmit}
 use Rattle.spi_sequences.specs.declared.service.unit.UnitBody.{UnitBody}
 use Rattle.spi_sequences.specs.declared.service.unit.UnitPlace.{UnitPlace}
 use Rattle.spi_sequences.specs.declared.service.unit.UnitPlace.TheVariants as place
@@ -45,6 +45,7 @@ pub data IsFor (u : ℕ) : Errand → Origin Call → Type 0 where
   Transmits : (q : ℕ) → IsFor u (Transmit q) (Called (calls.Sequence q AsyncTransmit))
   Handles : IsFor u Handler (Entered (26 + u))
   Mains : IsFor u Main (Called calls.MainFunctionHandling)
+  Rests : IsFor u Rest (Called calls.MainFunctionHandling)
 
 -- it works on one of the two units, under the configuration's table
 pub record Frame (d : SpiTable) (x : SpiTable) (e : Errand) (u : ℕ) (o : Origin Call) : Type 0 where
@@ -57,9 +58,11 @@ abbrev pub acted_by : Errand → Option Answer
 acted_by (Transmit q) = Some (named EOk)
 acted_by Handler = None
 acted_by Main = Some no_answer
+acted_by Rest = Some no_answer
 
 abbrev pub polled_by : Errand → List ℕ
 polled_by Main = 26 ∷ 27 ∷ []
+polled_by Rest = 26 ∷ 27 ∷ []
 polled_by _ = []
 
 -- a line was served or surely missed
@@ -74,8 +77,11 @@ Progress Handler u false t = t.served ≡ []
 Progress Handler u true t = t.served ≡ (26 + u) ∷ []
 Progress Main zero false t = t.served ≡ []
 Progress Main zero true t = (is_met t 26 ≡ true) × (has_line t.served 27 ≡ false)
-Progress Main (suc u) false t = (is_met t 26 ≡ true) × (has_line t.served 27 ≡ false)
-Progress Main (suc u) true t = (is_met t 26 ≡ true) × (is_met t 27 ≡ true)
+Progress Main (suc u) false t = (is_met t 26 ≡ true) × (t.served ≡ [])
+Progress Main (suc u) true t = (is_met t 26 ≡ true) × (is_met t 27 ≡ true) × (has_line t.served 26 ≡ false)
+Progress Rest zero done t = ⊥
+Progress Rest (suc u) false t = (is_met t 26 ≡ true) × (has_line t.served 27 ≡ false)
+Progress Rest (suc u) true t = (is_met t 26 ≡ true) × (is_met t 27 ≡ true)
 
 -- the frame has acted, has come so far, and owes these notices
 pub record HasDone (e : Errand) (u : ℕ) (done : Bool) (left : List Owing) (t : Past) : Type 0 where
@@ -91,14 +97,18 @@ at x e u p = record { table = x; errand = e; unit = u; place = p }
 
 -- ---- what it holds
 
--- the main function, that it serves
+-- the main function, that it serves, and that it has cleared the first unit where it has served its line
 abbrev pub holds_by : Errand → List Hold
 holds_by Main = Handling ∷ []
+holds_by Rest = Cleared 0 ∷ Handling ∷ []
 holds_by _ = []
 
--- and the start that it owes
+-- and the start that it owes, or that it has cleared the unit
 abbrev pub with_debt : Errand → (number : ℕ) → List Hold
 with_debt e u = Debt u ∷ holds_by e
+
+abbrev pub with_cleared : Errand → (number : ℕ) → List Hold
+with_cleared e u = Cleared u ∷ holds_by e
 
 -- ---- places
 
@@ -196,7 +206,7 @@ about_owed (Wholes k) = None
 
 abbrev pub ahead_holds : Errand → (number : ℕ) → Ahead → List Hold
 ahead_holds e u ToStart = with_debt e u
-ahead_holds e u ToPass = holds_by e
+ahead_holds e u ToPass = with_cleared e u
 ahead_holds e u (ToTell ns) = with_debt e u
 
 abbrev pub ahead_owing : Ahead → List Owing

@@ -7,7 +7,7 @@ use Rattle.service_outline.specs.Services.{AreEndingServices, Services, holds_in
 use Rattle.service_outline.specs.Short.{ending_gave, short_left, short_move}
 use Rattle.service_outline.specs.declared.short.Short.{Short}
 use Rattle.service_outline.specs.laws.Lawful.{all_wait}
-use Rattle.step_runner.specs.Driver.{AllOutside, Covers, IsLawful}
+use Rattle.step_runner.specs.Driver.{AllOutside, IsLawful}
 use Rattle.spi_machine.specs.Fits.{FitsSpi}
 use Rattle.spi_machine.specs.Pending.{is_in_use}
 use Rattle.spi_machine.specs.State.{SpiState}
@@ -36,9 +36,6 @@ joined_lawful d fits = lawful_with start_window serve_window d fits (starting_ri
 -- it leaves the peripheral rate alone, and has no watchdog
 pub joined_slow : (d : SpiTable) (chip : Chip) (w : World) (ps : List (Short Asked SpiBody × Open Call)) (s : SpiState) → FitsSpi d → (services_driver (joined d)).relates chip w ps s → (services_driver (joined d)).setting.machine.rate s ≤ 16
 joined_slow d chip w ps s fits h = slow_with start_window serve_window d chip w ps s
-
-pub covers_joined : (d : SpiTable) → Covers (services_driver (joined d))
-covers_joined d = record { unwatched = λ w s. refl }
 
 module _ (d : SpiTable) (fits : FitsSpi d) (chip : Chip) (w : World) (ps : List (Short Asked SpiBody × Open Call)) (s : SpiState) (out : AllOutside ps) (h : (services_driver (joined d)).relates chip w ps s) where
   -- where no frame holds the mask closed, words and registers agree with what the frames under way hold

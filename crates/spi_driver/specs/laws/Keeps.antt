@@ -73,11 +73,12 @@ users_place k low high =
     let fifth : nat_lt k 40960 ≡ false = grind (arith, nat_tests) in
     let sixth : nat_lt k 49152 ≡ false = grind (arith, nat_tests) in
     let seventh : nat_lt k 57344 ≡ false = grind (arith, nat_tests) in
+    let eighth : nat_lt k 65536 ≡ false = grind (arith, nat_tests) in
     let users : nat_lt k 73728 ≡ false = grind (arith, nat_tests) in
     let stamps : nat_lt k 139264 ≡ false = grind (arith, nat_tests) in
     let sources : nat_lt k 139776 ≡ false = grind (arith, nat_tests) in
     let last : nat_lt k 147456 ≡ true = grind (arith, nat_tests) in
-    rw (first, second, third, fourth, fifth, sixth, seventh, users, stamps, sources, last) refl
+    rw (first, second, third, fourth, fifth, sixth, seventh, eighth, users, stamps, sources, last) refl
 
 within_at : (from n k : ℕ) → is_within from n k ≡ true → (from ≤ k) × (k < from + n)
 within_at from n k e = let p = both_of (not (nat_lt k from)) (nat_lt k (from + n)) e in (low p.0, high p.1)
@@ -199,11 +200,11 @@ module _ (d : SpiTable) (fits : FitsSpi d) where
   polled s (calls.Sequence q call) = refl
   polled s (calls.Get query) = refl
 
-  starts : (w : World) (s : SpiState) (u : units.Unit) (r : ℕ) → IsSome ((spi_machine d).happens w s (Starts u r)) → only Spi (module_of_unit u) ≡ true
-  starts w s Adc0 r some = cc
-  starts w s Adc1 r some = cc
-  starts w s Spi0 r some = refl
-  starts w s Spi1 r some = refl
+  starts : (w : World) (s : SpiState) (u : units.Unit) (made_by : Option Call) (r : ℕ) → IsSome ((spi_machine d).happens w s (Starts u made_by r)) → only Spi (module_of_unit u) ≡ true
+  starts w s Adc0 by r some = cc
+  starts w s Adc1 by r some = cc
+  starts w s Spi0 by r some = refl
+  starts w s Spi1 by r some = refl
 
   -- it is the serial units' alone
   pub keeps_serial : KeepsTo (only Spi) (services_driver (joined d))

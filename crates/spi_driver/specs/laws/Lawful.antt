@@ -1,7 +1,9 @@
 -- The driver, as the outline and the runner see it. It is lawful where the frames are that start or serve units.
+use Rattle.spi_driver.specs.laws.Unpolled.{LeavesBy, PollsNone, cancel_unpolled, init_unpolled, leaves_unpolled, lets_none, query_unpolled, read_unpolled, set_up_unpolled, unpolled_left, whole_unpolled, write_unpolled}
 use Rattle.std.proofs.Common.{◌≡◌, ℕ, zero, suc, ◌+◌, ◌-◌, ◌%◌, ◌<◌, ◌≤◌, ◌==◌, nat_lt, Bool, true, false, ◌||◌, not, List, [], ◌∷◌, Option, Some, None, refl, sym, ◌∙◌, ap, subst, arith}
 use Rattle.std.specs.Prelude.{is_some, if◌then◌else◌, take}
-use Rattle.chip_model.specs.Chip.{Chip, word_of}
+use Rattle.chip_model.specs.Chip.{Chip, value_of, word_of}
+use Rattle.mcal_base.specs.declared.answer.Answer.{Answer}
 use Rattle.mcal_base.specs.declared.answer_name.AnswerName.TheVariants.{SpiUninit}
 use Rattle.mcal_base.specs.declared.error_name.ErrorName.{ErrorName}
 use Rattle.mcal_base.specs.declared.error_name.ErrorName.TheVariants as errors
@@ -11,21 +13,24 @@ use Rattle.mcal_base.specs.declared.moves.Move.TheVariants.{Read, Write}
 use Rattle.mcal_base.specs.declared.register.Reg.TheVariants.{TimerHigh, CaptureCountHigh, CaptureTimeHigh, PulseCommit, PulseIdle}
 use Rattle.run_model.specs.Causes.{blocks}
 use Rattle.run_model.specs.Frame.{Origin, Called, Entered}
+use Rattle.run_model.specs.Legal.{LeavesNone}
 use Rattle.run_model.specs.Machine.{outcome, no_answer, tells_nothing}
 use Rattle.run_model.specs.World.{World}
 use Rattle.service_outline.specs.Both.{both}
 use Rattle.service_outline.specs.Done.{answers, named, tells_error}
-use Rattle.service_outline.specs.Past.{Is_being}
+use Rattle.service_outline.specs.Past.{Is_being, Past}
 use Rattle.service_outline.specs.Seen.{is_windowed, Plain}
 use Rattle.service_outline.specs.Short.{short_move, short_left, ending_gave}
 use Rattle.service_outline.specs.There.{names_there}
 use Rattle.step_runner.specs.Driver.{IsLawful}
-use Rattle.service_outline.specs.Services.{Held, Services, LongBodies, AreEnding, AreEndingServices, AreLong, AllLet, Beside, CanBegin, Decides, Declines, Proceeds, mark_of, services_driver}
+use Rattle.service_outline.specs.Services.{Held, Services, LongBodies, AreEnding, AreEndingServices, AreLong, AllLet, Beside, Stand, ended_at, CanBegin, Decides, Declines, Proceeds, mark_of, services_driver}
 use Rattle.service_outline.specs.declared.body.Looked.{Looked}
 use Rattle.service_outline.specs.declared.body.Or.{Or}
 use Rattle.service_outline.specs.declared.body.Or.TheVariants.{First, Second}
+use Rattle.service_outline.specs.declared.done.Done.{Done}
 use Rattle.service_outline.specs.declared.done.Owed.TheVariants.{Nothing}
 use Rattle.service_outline.specs.laws.Both.{both_ending, both_right}
+use Rattle.service_outline.specs.laws.Duties.{no_duties}
 use Rattle.service_outline.specs.laws.Lawful.{services_lawful}
 use Rattle.service_outline.specs.laws.Reports.{error_told}
 use Rattle.service_outline.specs.laws.Seen.{free_windows}
@@ -49,7 +54,7 @@ use Rattle.spi_machine.specs.declared.call.SequenceCall.{SequenceCall}
 use Rattle.spi_machine.specs.declared.call.SequenceCall.TheVariants.{AsyncTransmit, Cancel}
 use Rattle.spi_machine.specs.declared.table.SpiTable.{SpiTable}
 use Rattle.spi_machine.specs.Wiring.{placed_of, unit_by, unit_of_sequence}
-use Rattle.spi_sequences.specs.Ground.{Hold, Debt, Handling, Writing, Reading, Preparing, Holds, HeldRight, AllRight, SpiAgrees, mode_word, or_rest, put_by, put_held, take_by, take_held, to_write, words_in}
+use Rattle.spi_sequences.specs.Ground.{Hold, Debt, Cleared, Handling, Writing, Reading, Preparing, Holds, HeldRight, AllRight, SpiAgrees, mode_word, or_rest, put_by, put_held, take_by, take_held, to_write, words_in}
 use Rattle.spi_sequences.specs.Owed.{spi_basis}
 use Rattle.spi_sequences.specs.declared.asked.Asked.{Asked}
 use Rattle.spi_sequences.specs.declared.service.cancel.CancelBody.{CancelBody}
@@ -174,6 +179,7 @@ module _ (d : SpiTable) (mode : Mode) (cs : List ChannelState) (on : is_off mode
   -- no frame writes the channel
   not_written : (p : Pointer) (sources : ℕ → List ℕ) (h : Held Call Hold) (x : Hold) → HeldRight d mode cs h x → blocks (class_of (calls.Channel c (WriteIb p))) (mark_of (spi_setting d) h.by) ≡ false → put_by d sources c false x ≡ None
   not_written p sources h (Debt u) right l = refl
+  not_written p sources h (Cleared u) right l = refl
   not_written p sources h Handling right l = refl
   not_written p sources h (Reading n b) right l = refl
   not_written p sources h (Preparing stored readied x) right l = absurd (let off = right.1 in cc)
@@ -196,6 +202,7 @@ module _ (d : SpiTable) (mode : Mode) (cs : List ChannelState) (on : is_off mode
   -- or reads it
   not_read : (h : Held Call Hold) (x : Hold) → HeldRight d mode cs h x → blocks (class_of (calls.Channel c ReadIb)) (mark_of (spi_setting d) h.by) ≡ false → take_by c h.acted x ≡ None
   not_read h (Debt u) right l = refl
+  not_read h (Cleared u) right l = refl
   not_read h Handling right l = refl
   not_read h (Writing n q b i x) right l = refl
   not_read h (Preparing stored readied x) right l = refl
@@ -241,6 +248,7 @@ module _ (d : SpiTable) (unit_bodies : LongBodies (spi_basis d) UnitBody) where
     basis = spi_basis d;
     bodies = both firsts lasts;
     seen = λ k. Plain;
+    written = λ k call writes. Unit {0};
     fits = FitsSpi d;
     can = λ call. Unit {0};
     word = STATE;
@@ -260,6 +268,7 @@ module _ (d : SpiTable) (unit_bodies : LongBodies (spi_basis d) UnitBody) where
         → Proceeds spi below chip w s calls.MainFunctionHandling (unit_body (record { table = d; errand = Main; unit = 0; place = place.Act }))
     pub enters : (line : ℕ) (k : SpiBody) → handled_by d line (is_used d line) ≡ Some k → CanBegin spi k (Entered line)
     pub line_steps : (line : ℕ) (k : SpiBody) → handled_by d line (is_used d line) ≡ Some k → 6 + (both firsts lasts).fuel k ≤ 144
+    pub leaves : (below : Holds) (chip : Chip) (w : World) (s : SpiState) (k : UnitBody) (o : Origin Call) (y : ℕ) (t : Past) (n : Done) → Stand (spi_basis d) unit_bodies below chip w s k o t → let r = (unit_bodies.takes k (value_of chip (unit_bodies.work_of k))).1 in r.done ≡ Some n → LeavesBy d w s o t (unit_bodies.work_of k) y r.event n
 
   module _ (fits : FitsSpi d) (below : Holds) (chip : Chip) (w : World) (s : SpiState) (h : SpiAgrees d below chip w s) where
     abbrev Looks : Call → Looked SpiBody → Type 0
@@ -522,12 +531,39 @@ module _ (d : SpiTable) (unit_bodies : LongBodies (spi_basis d) UnitBody) where
     call_steps (calls.Sequence q Cancel) = omega arith
     call_steps (calls.Get x) = omega arith
 
+    -- no frame leaves a unit waiting whose line it has served
+    abbrev Leaves : World → Chip → SpiState → SpiBody → Origin Call → ℕ → Past → Done → Type 0
+    Leaves w chip s k o y t n = LeavesBy d w s o t ((both firsts lasts).work_of k) y ((both firsts lasts).takes k (value_of chip ((both firsts lasts).work_of k))).1.event n
+
+    unpolled : (w : World) (chip : Chip) (s : SpiState) (k : SpiBody) (o : Origin Call) (y : ℕ) (t : Past) (n : Done) → PollsNone o t.polled → Leaves w chip s k o y t n
+    unpolled w chip s k o y t n none = leaves_unpolled d w s o t ((both firsts lasts).work_of k) y ((both firsts lasts).takes k (value_of chip ((both firsts lasts).work_of k))).1.event n none
+
+    done : (below : Holds) (chip : Chip) (w : World) (s : SpiState) (k : SpiBody) (o : Origin Call) (y : ℕ) (t : Past) (n : Done) → Stand (spi_basis d) (both firsts lasts) below chip w s k o t → ((both firsts lasts).takes k (value_of chip ((both firsts lasts).work_of k))).1.done ≡ Some n → Leaves w chip s k o y t n
+    done below chip w s (First (First (First k))) o y t n h e = unpolled w chip s (First (First (First k))) o y t n (init_unpolled d below chip w s o t k h)
+    done below chip w s (First (First (Second k))) o y t n h e = unpolled w chip s (First (First (Second k))) o y t n (whole_unpolled d below chip w s o t k h)
+    done below chip w s (First (Second k)) o y t n h e = unpolled w chip s (First (Second k)) o y t n (query_unpolled d below chip w s o t k h)
+    done below chip w s (Second (First (First k))) o y t n h e = unpolled w chip s (Second (First (First k))) o y t n (set_up_unpolled d below chip w s o t k h)
+    done below chip w s (Second (First (Second (First k)))) o y t n h e = unpolled w chip s (Second (First (Second (First k)))) o y t n (write_unpolled d below chip w s o t k h)
+    done below chip w s (Second (First (Second (Second k)))) o y t n h e = unpolled w chip s (Second (First (Second (Second k)))) o y t n (read_unpolled d below chip w s o t k h)
+    done below chip w s (Second (Second (First k))) o y t n h e = a.leaves below chip w s k o y t n h e
+    done below chip w s (Second (Second (Second k))) o y t n h e = unpolled w chip s (Second (Second (Second k))) o y t n (cancel_unpolled d below chip w s o t k h)
+
+    -- a read alone ends its frame itself
+    stops : (below : Holds) (chip : Chip) (w : World) (s : SpiState) (k : SpiBody) (o : Origin Call) (t : Past) (x : Answer) → Stand (spi_basis d) (both firsts lasts) below chip w s k o t → ended_at (both firsts lasts) spi_ends k (value_of chip ((both firsts lasts).work_of k)) ≡ Some x → LeavesNone (spi_machine d) w s o t.polled t.served
+    stops below chip w s (First k) o t x h e = absurd (cc)
+    stops below chip w s (Second (First (First k))) o t x h e = absurd (cc)
+    stops below chip w s (Second (First (Second (First k)))) o t x h e = absurd (cc)
+    stops below chip w s (Second (First (Second (Second k)))) o t x h e = unpolled_left d w s o t.polled t.served (read_unpolled d below chip w s o t k h)
+    stops below chip w s (Second (Second k)) o t x h e = absurd (cc)
+
     pub spi_right : AreEndingServices spi spi_ends
     spi_right = record {
       basis = basis_right d fits;
       bodies = bodies_right;
       windows = free_windows spi bodies_right (λ k. refl) (λ o made m. no_windows made (both_of (may_name d made) (names_there made) m).0);
       unseen = λ below chip w s k call at. tt;
+      writes = no_duties spi (λ k call writes. tt) (λ call. refl);
+      starts = record { later = λ w s order rate line e. lets_none d w s order rate line e; done = done; stops = stops };
       looks = λ below chip w s call can lets h. looks fits below chip w s h a call lets;
       own_word = λ o. may_store d fits STATE 0 (own_first d STATE (omega arith) (omega arith));
       word_there = omega arith;

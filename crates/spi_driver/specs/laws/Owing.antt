@@ -5,15 +5,17 @@ use Rattle.std.specs.List.{list_all}
 use Rattle.chip_model.specs.Chip.{Chip}
 use Rattle.mcal_base.specs.declared.notice.Notice.{Notice}
 use Rattle.mcal_base.specs.declared.notice.NoticeKind.TheVariants.{SpiJobEndNotification, SpiSeqEndNotification}
-use Rattle.run_model.specs.Frame.{Called, Origin}
+use Rattle.run_model.specs.Frame.{Called, Entered, Origin}
 use Rattle.run_model.specs.Legal.{has_line}
+use Rattle.run_model.specs.Machine.{no_answer}
 use Rattle.run_model.specs.World.{World}
 use Rattle.service_outline.specs.Done.{goes}
 use Rattle.service_outline.specs.Owing.{AreWindows, GoesFree, GoesOwing, Windows, is_simple}
 use Rattle.service_outline.specs.Past.{Past}
-use Rattle.service_outline.specs.Services.{Continues, with_holds}
+use Rattle.service_outline.specs.Services.{Continues, MayStop, Stand, with_holds}
 use Rattle.service_outline.specs.laws.StepKinds.{same_line}
 use Rattle.service_outline.specs.declared.done.BodyTaken.{BodyTaken}
+use Rattle.service_outline.specs.declared.done.Owed.TheVariants.{Nothing}
 use Rattle.word_shapes.specs.Ranked.{add_gave, again_gave, drop_gave, next_gave}
 use Rattle.word_shapes.specs.Trio.{take_gave}
 use Rattle.spi_jobs.specs.Parts.{commit_ends, has_ended, keep_ends, prepare_ends, releasing}
@@ -24,6 +26,7 @@ use Rattle.spi_machine.specs.Table.{job_of, notifies_job, notifies_sequence, seq
 use Rattle.spi_machine.specs.Wiring.{channel_at_place, channel_number, list_of}
 use Rattle.spi_machine.specs.declared.call.Call.{Call}
 use Rattle.spi_machine.specs.declared.call.Call.TheVariants as calls
+use Rattle.spi_machine.specs.declared.call.SequenceCall.TheVariants.{AsyncTransmit}
 use Rattle.spi_machine.specs.declared.table.SpiTable.{SpiTable}
 use Rattle.spi_sequences.specs.Ground.{Holds, SpiAgrees, spi_bare}
 use Rattle.spi_sequences.specs.Owed.{Owed, Units, owed_left, owed_move, request_owes, serve_owes, spi_basis, start_owes, unit_owed, unit_owes, unless_done, where_owed, spi_owing}
@@ -46,18 +49,19 @@ use Rattle.spi_sequences.specs.declared.service.start.Started.{Started}
 use Rattle.spi_sequences.specs.declared.service.start.Started.TheVariants as started
 use Rattle.spi_sequences.specs.declared.service.unit.After.TheVariants as after
 use Rattle.spi_sequences.specs.declared.service.unit.Errand.{Errand}
-use Rattle.spi_sequences.specs.declared.service.unit.Errand.TheVariants.{Handler, Main, Transmit}
+use Rattle.spi_sequences.specs.declared.service.unit.Errand.TheVariants.{Handler, Main, Rest, Transmit}
 use Rattle.spi_sequences.specs.declared.service.unit.UnitBody.{UnitBody}
 use Rattle.spi_sequences.specs.declared.service.unit.UnitPlace.{UnitPlace}
 use Rattle.spi_sequences.specs.declared.service.unit.UnitPlace.TheVariants as place
 use Rattle.spi_sequences.specs.declared.words.Running.{Running}
+use Rattle.spi_sequences.specs.laws.Cleared.{clear_over, cleared_of}
 use Rattle.spi_sequences.specs.laws.Ground.{both_of}
 use Rattle.spi_sequences.specs.laws.Request.{request_adds, request_takes}
 use Rattle.spi_sequences.specs.laws.Serve.{commit_by, commit_last, ended_with, ends_of, first_internal, first_pinned, goes_on, job_note, keep_of, release_by, release_last, sequence_note, serve_again, serve_commits, serve_drops, serve_keeps, serve_keeps_last, serve_lets, serve_releases, serve_takes}
 use Rattle.spi_sequences.specs.laws.Start.{prepare_at, prepare_by, prepared, prepared_with, start_chooses, start_prepares, start_releases, start_takes}
-use Rattle.spi_sequences.specs.laws.Unit.{after_request, after_serve, after_start, requested_by, unit_over, unit_takes}
-use Rattle.spi_driver.specs.laws.Frames.{About, Ahead, Frame, Handles, HasDone, IsFor, Mains, OwedAt, ToPass, ToStart, Transmits, about_owed, about_unit, ahead_holds, ahead_of, ahead_owing, all_told, and_other, at, holds_by, owed_holds, served_ahead, told_list, unit_bodies, unit_windows}
-use Rattle.spi_driver.specs.laws.Handling.{handling_over}
+use Rattle.spi_sequences.specs.laws.Unit.{after_request, after_serve, after_start, requested_by, rest_after, unit_over, unit_takes}
+use Rattle.spi_driver.specs.laws.Frames.{About, Ahead, Frame, Handles, HasDone, IsFor, Mains, OwedAt, Rests, ToPass, ToStart, Transmits, about_owed, about_unit, ahead_holds, ahead_of, ahead_owing, all_told, and_other, at, is_met, owed_holds, served_ahead, told_list, unit_after, unit_bodies, unit_windows, with_cleared}
+use Rattle.spi_driver.specs.laws.Handling.{handling_of, handling_over}
 use Rattle.spi_driver.specs.laws.Parts.{Serving, Starting, notices_by, serve_ahead}
 
 -- ---- a request
@@ -69,7 +73,7 @@ RequestOn (p, requested.Goes (Some e)) = ⊥
 RequestOn (p, requested.Held) = ⊥
 RequestOn (p, requested.Accepted) = Unit {0}
 
-request_on : (d : SpiTable) (q : ℕ) (p : RequestPlace) (v : ℕ) → request_owes p ≡ true → RequestOn (request_takes d q p v)
+pub request_on : (d : SpiTable) (q : ℕ) (p : RequestPlace) (v : ℕ) → request_owes p ≡ true → RequestOn (request_takes d q p v)
 request_on d q (request.Look k) v e = absurd (cc)
 request_on d q request.Accept v e = absurd (cc)
 request_on d q request.Nexts v e = refl
@@ -138,11 +142,11 @@ start_on d u start.Stand v e = tt
 
 -- ---- a serving
 
--- an owed move leads to another one with the same ahead, or is the last, after which the notices are told where a job has ended
+-- an owed move leads to another one with the same ahead, or is the last, after which the notices are told where a job has ended; where none are, the first unit is one that was served
 abbrev pub ServeOn : SpiTable → Option (List Notice) → ServePlace × ServeStep → Type 0
 ServeOn d a (p, steps.Goes None) = (serve_owes p ≡ true) × (serve_ahead d p ≡ a)
 ServeOn d a (p, steps.Goes (Some e)) = ⊥
-ServeOn d a (p, steps.Over) = a ≡ None
+ServeOn d a (p, steps.Over) = (a ≡ None) × (rest_after (place.Serve p) ≡ Rest)
 ServeOn d a (p, steps.JobOver x) = a ≡ Some (all_told x)
 
 -- the notices of a job, and those of a sequence after others
@@ -197,7 +201,7 @@ goes_on_on : (d : SpiTable) (r : Served) (c : Course) → (serve_owes (goes_on r
 goes_on_on d r (courses.Further v) = (refl, refl)
 goes_on_on d r (courses.Ends x) = (refl, refl)
 
-serve_on : (d : SpiTable) (u : ℕ) (p : ServePlace) (v : ℕ) → serve_owes p ≡ true → ServeOn d (serve_ahead d p) (serve_takes d u p v)
+pub serve_on : (d : SpiTable) (u : ℕ) (p : ServePlace) (v : ℕ) → serve_owes p ≡ true → ServeOn d (serve_ahead d p) (serve_takes d u p v)
 serve_on d u serve.Shut v e = absurd (cc)
 serve_on d u serve.State v e = absurd (cc)
 serve_on d u (serve.Running failed) v e = absurd (cc)
@@ -220,7 +224,7 @@ serve_on d u (serve.Keep k p) v e = by (keep_ends k)
     by : (b : Bool) → ServeOn d None (serve_keeps k p b)
     by true = (refl, refl)
     by false = (refl, refl)
-serve_on d u (serve.Stand p) v e = refl
+serve_on d u (serve.Stand p) v e = (refl, refl)
 serve_on d u (serve.Free r c) v e = ends_on d r c
 serve_on d u (serve.Release l i t) v e = by (has_ended (take_gave t v))
   where
@@ -279,10 +283,18 @@ module _ (a : Starting) (b : Serving) (d : SpiTable) where
   abbrev about : SpiTable → Errand → ℕ → Ahead → About
   about x e u n = record { table = x; errand = e; unit = u; ahead = n }
 
+  -- no unit comes after the second one
+  pub unit_second : (e : Errand) → unit_after e 1 ≡ 0
+  unit_second Main = refl
+  unit_second Rest = refl
+  unit_second Handler = refl
+  unit_second (Transmit n) = refl
+
   -- the frame is done with the unit
   passes_so : (x : SpiTable) (e : Errand) (u : ℕ) (p q : UnitPlace) → GoesSo (about x e u ToPass) (unit_over (at x e u p) q e u)
-  passes_so x Main zero p q = inr (refl, refl, (refl, refl, refl, omega arith, omega arith))
+  passes_so x Main zero p q = inr (refl, refl, (refl, refl, refl, (let last = unit_second (rest_after q) in omega (arith, last)), omega arith))
   passes_so x Main (suc u) p q = inr (refl, refl, tt)
+  passes_so x Rest u p q = inr (refl, refl, tt)
   passes_so x Handler u p q = inr (refl, refl, tt)
   passes_so x (Transmit n) u p q = inr (refl, refl, tt)
 
@@ -305,7 +317,7 @@ module _ (a : Starting) (b : Serving) (d : SpiTable) where
       by : (z : ServePlace × ServeStep) → ServeOn x (serve_ahead x r) z → GoesSo (about x e u (served_ahead (serve_ahead x r))) (after_serve (at x e u (place.Serve r)) z)
       by (r1, steps.Goes None) h = inl (h.0, refl, ap (λ n. about x e u (served_ahead n)) h.1)
       by (r1, steps.Goes (Some n)) h = absurd h
-      by (r1, steps.Over) h = subst (λ n. GoesSo (about x e u (served_ahead n)) (unit_over (at x e u (place.Serve r)) (place.Serve r1) e u)) (sym h) (passes_so x e u (place.Serve r) (place.Serve r1))
+      by (r1, steps.Over) h = subst (λ n. GoesSo (about x e u (served_ahead n)) (unit_over (at x e u (place.Serve r)) (place.Serve r1) e u)) (sym h.0) (passes_so x e u (place.Serve r) (place.Serve r1))
       by (r1, steps.JobOver n) h = subst (λ n1. GoesSo (about x e u (served_ahead n1)) (at x e u (place.Opens (after.Tell n)), goes)) (sym h) (inr (refl, refl, (refl, refl, refl, omega arith, omega arith)))
   goes_so x e u place.Act v i = absurd (cc)
   goes_so x e u (place.Opens n) v i = absurd (cc)
@@ -329,24 +341,38 @@ module _ (a : Starting) (b : Serving) (d : SpiTable) where
   both_met false y e f = absurd (cc)
   both_met true false e f = absurd (cc)
 
-  -- done with the unit, it goes on with the next one, or may end
-  pub passes_on : (x : SpiTable) (e : Errand) (u : ℕ) (p q : UnitPlace) (below : Holds) (chip : Chip) (w : World) (s : SpiState) (o : Origin Call) (t : Past) (m : ℕ → Bool) → Frame d x e u o → HasDone e u true [] t → SpiAgrees d (with_holds o t.acted (holds_by e) below) chip w s
+  -- the main function ends that has met both lines
+  pub main_stops : (t : Past) (m : ℕ → Bool) → t.acted ≡ Some no_answer → t.polled ≡ 26 ∷ 27 ∷ [] → t.report ≡ None → t.owed ≡ [] → is_met t 26 ≡ true → is_met t 27 ≡ true → MayStop (spi_basis d) (Called calls.MainFunctionHandling) t m (record { answer = no_answer; owed = Nothing })
+  main_stops t m acted polled report owed first second = record {
+    may = (acted, ap (list_all (λ l. has_line t.served l || (m l || has_line t.missed l))) polled ∙ both_met (has_line t.served 26 || (m 26 || has_line t.missed 26)) (has_line t.served 27 || (m 27 || has_line t.missed 27)) (still_met (has_line t.served 26) (m 26) (has_line t.missed 26) first) (still_met (has_line t.served 27) (m 27) (has_line t.missed 27) second));
+    served = false;
+    owed = owed;
+    shown = λ i. absurd (cc);
+    report = report;
+  }
+
+  -- done with the unit, which it has cleared, it goes on with the next one, or may end
+  pub passes_on : (x : SpiTable) (e : Errand) (u : ℕ) (p q : UnitPlace) (below : Holds) (chip : Chip) (w : World) (s : SpiState) (o : Origin Call) (t : Past) (m : ℕ → Bool) → rest_after q ≡ Rest → Frame d x e u o → HasDone e u true [] t → SpiAgrees d (with_holds o t.acted (with_cleared e u) below) chip w s
       → Continue below chip w s o t m (unit_over (at x e u p) q e u)
-  passes_on x e u p q below chip w s o t m frame done h = by e u o frame.of frame done h
+  passes_on x e u p q below chip w s o t m rest frame done h = by e u o frame.of frame done h
     where
-      by : (e : Errand) (u : ℕ) (o : Origin Call) → IsFor u e o → Frame d x e u o → HasDone e u true [] t → SpiAgrees d (with_holds o t.acted (holds_by e) below) chip w s → Continue below chip w s o t m (unit_over (at x e u p) q e u)
-      by (Transmit n) u _ (Transmits _) frame done h = (h, record { may = (done.acted, all_none (λ l. has_line t.served l) (λ l. m l || has_line t.missed l) t.polled done.polled); served = false; owed = done.owed; shown = λ i. absurd (cc); report = done.report })
-      by Handler u _ Handles frame done h = (h, record { may = (ap (λ ls. has_line ls (26 + u) || m (26 + u)) done.progress ∙ ap (λ i. i || m (26 + u)) (same_line (26 + u)), refl); served = false; owed = done.owed; shown = λ i. absurd (cc); report = done.report })
-      by Main zero _ Mains frame done h = (h, (record { table = frame.table; small = omega arith; of = Mains }, record { acted = done.acted; polled = done.polled; report = done.report; owed = done.owed; progress = done.progress }))
-      by Main (suc u) _ Mains frame done h = (
-        handling_over d (Called calls.MainFunctionHandling) t.acted below chip w s h,
-        record {
-          may = (done.acted, ap (list_all (λ l. has_line t.served l || (m l || has_line t.missed l))) done.polled ∙ both_met (has_line t.served 26 || (m 26 || has_line t.missed 26)) (has_line t.served 27 || (m 27 || has_line t.missed 27)) (still_met (has_line t.served 26) (m 26) (has_line t.missed 26) done.progress.0) (still_met (has_line t.served 27) (m 27) (has_line t.missed 27) done.progress.1));
-          served = false;
-          owed = done.owed;
-          shown = λ i. absurd (cc);
-          report = done.report;
-        },
+      o_main : Origin Call
+      o_main = Called calls.MainFunctionHandling
+
+      over : (o : Origin Call) (u : ℕ) (held : Holds) → SpiAgrees d (cleared_of u o t.acted ∷ held) chip w s → SpiAgrees d held chip w s
+      over o u held h = clear_over d held chip w s u o t.acted h
+
+      by : (e : Errand) (u : ℕ) (o : Origin Call) → IsFor u e o → Frame d x e u o → HasDone e u true [] t → SpiAgrees d (with_holds o t.acted (with_cleared e u) below) chip w s → Continue below chip w s o t m (unit_over (at x e u p) q e u)
+      by (Transmit n) u _ (Transmits _) frame done h = (over (Called (calls.Sequence n AsyncTransmit)) u below h, record { may = (done.acted, all_none (λ l. has_line t.served l) (λ l. m l || has_line t.missed l) t.polled done.polled); served = false; owed = done.owed; shown = λ i. absurd (cc); report = done.report })
+      by Handler u _ Handles frame done h = (over (Entered (26 + u)) u below h, record { may = (ap (λ ls. has_line ls (26 + u) || m (26 + u)) done.progress ∙ ap (λ i. i || m (26 + u)) (same_line (26 + u)), refl); served = false; owed = done.owed; shown = λ i. absurd (cc); report = done.report })
+      by Main zero _ Mains frame done h =
+          subst (λ e1. Stand (spi_basis d) (unit_bodies a b d) below chip w s (at x e1 1 (place.Opens after.Serve)) (Called calls.MainFunctionHandling) t) (sym rest)
+          (h, (record { table = frame.table; small = omega arith; of = Rests }, record { acted = done.acted; polled = done.polled; report = done.report; owed = done.owed; progress = done.progress }))
+      by Main (suc u) _ Mains frame done h = (handling_over d o_main t.acted below chip w s (over o_main (suc u) (handling_of o_main t.acted ∷ below) h), main_stops t m done.acted done.polled done.report done.owed done.progress.0 done.progress.1)
+      by Rest zero _ Rests frame done h = absurd done.progress
+      by Rest (suc u) _ Rests frame done h = (
+        handling_over d o_main t.acted below chip w s (over o_main 0 (handling_of o_main t.acted ∷ below) (over o_main (suc u) (cleared_of 0 o_main t.acted ∷ handling_of o_main t.acted ∷ below) h)),
+        main_stops t m done.acted done.polled done.report done.owed done.progress.0 done.progress.1,
       )
 
   goes_owed : (x : SpiTable) (e : Errand) (u : ℕ) (p : UnitPlace) → unit_owes p ≡ true → unless_done None (unit_owed (at x e u p)) ≡ None → ⊥
@@ -366,7 +392,7 @@ module _ (a : Starting) (b : Serving) (d : SpiTable) where
       by : (z : StartPlace × Started) → StartOn z → let n = after_start (at x e u (place.Start r)) z in unless_done n.1.done (unit_owed n.0) ≡ None → Continue below chip w s o t m n
       by (r1, started.Goes None) k f = absurd (goes_owed x e u (place.Start r1) k f)
       by (r1, started.Goes (Some n)) k f = absurd k
-      by (r1, started.Over) k f = passes_on x e u (place.Start r) (place.Start r1) below chip w s o t m frame done h
+      by (r1, started.Over) k f = passes_on x e u (place.Start r) (place.Start r1) below chip w s o t m refl frame done h
   stands_at x e u (place.Serve r) v below chip w s o t m i none (frame, done) h = by (serve_takes x u r v) (serve_on x u r v i) none
     where
       Here : Option (List Notice) → Type 0
@@ -375,7 +401,7 @@ module _ (a : Starting) (b : Serving) (d : SpiTable) where
       by : (z : ServePlace × ServeStep) → ServeOn x (serve_ahead x r) z → let n = after_serve (at x e u (place.Serve r)) z in unless_done n.1.done (unit_owed n.0) ≡ None → Continue below chip w s o t m n
       by (r1, steps.Goes None) k f = absurd (goes_owed x e u (place.Serve r1) k.0 f)
       by (r1, steps.Goes (Some n)) k f = absurd k
-      by (r1, steps.Over) k f = let here = subst Here k (done, h) in passes_on x e u (place.Serve r) (place.Serve r1) below chip w s o t m frame here.0 here.1
+      by (r1, steps.Over) k f = let here = subst Here k.0 (done, h) in passes_on x e u (place.Serve r) (place.Serve r1) below chip w s o t m k.1 frame here.0 here.1
       by (r1, steps.JobOver n) k f = let here = subst Here k (done, h) in (here.1, (frame, here.0))
   stands_at x e u place.Act v below chip w s o t m i none at h = absurd (cc)
   stands_at x e u (place.Opens n) v below chip w s o t m i none at h = absurd (cc)

@@ -34,6 +34,7 @@ use Rattle.spi_sequences.specs.declared.service.start.Started.{Started}
 use Rattle.spi_sequences.specs.declared.service.start.Started.TheVariants as started
 use Rattle.spi_sequences.specs.declared.service.unit.Errand.{Errand}
 use Rattle.spi_sequences.specs.declared.service.unit.UnitPlace.TheVariants as place
+use Rattle.spi_sequences.specs.laws.Cleared.{cleared_of}
 use Rattle.spi_sequences.specs.laws.Serve.{serve_move, serve_takes}
 use Rattle.spi_sequences.specs.laws.Start.{start_move, start_takes, unit_named}
 
@@ -64,21 +65,21 @@ abbrev pub start_room_at : Starting → StartPlace → ℕ
 start_room_at v p = if start_owes p then 1 + start_more p else v.room p
 
 -- the first word of a job begins, and the rest of the window is owed
-pub record StartBegins (d : SpiTable) (e : Errand) (below : Holds) (u : ℕ) (before after : Chip) (w : World) (s : SpiState) (made : Move) (value received : ℕ) (p : StartPlace) (event : Event) : Type 0 where
+pub record StartBegins (d : SpiTable) (e : Errand) (held : Holds) (u : ℕ) (before after : Chip) (w : World) (s : SpiState) (made : Move) (value received : ℕ) (p : StartPlace) (event : Event) : Type 0 where
   pub state : SpiState
   pub begins : Begun
-  pub is : (spi_machine d).happens w s (Starts (unit_named u) received) ≡ Some (outcome_with state tells_nothing (Some begins))
+  pub is : (by : Option Call) → (spi_machine d).happens w s (Starts (unit_named u) by received) ≡ Some (outcome_with state tells_nothing (Some begins))
   pub is_start : event ≡ events.Start (unit_named u)
   pub stands : StandsAt event made value
   pub sends : SendsRight before (Some begins) made
   pub owing : start_owes p ≡ true
-  pub owes : (n : ℕ) × Settles (spi_owing d) n (Units (record { table = d; errand = e; unit = u; place = place.Start p })) after (λ c. SpiAgrees d below c w state)
+  pub owes : (n : ℕ) × Settles (spi_owing d) n (Units (record { table = d; errand = e; unit = u; place = place.Start p })) after (λ c. SpiAgrees d held c w state)
 
--- what a step leaves
-abbrev pub StartLeaves : Starting → SpiTable → Errand → Holds → Held Call Hold → (number : ℕ) → (before after : Chip) → World → SpiState → Move → (value received : ℕ) → StartPlace × Started → Type 0
-StartLeaves v d e below debt u before after w s made value received (p, started.Goes None) = SpiAgrees d (debt ∷ below) after w s × v.place d u p (foot d after) s × (start_owes p ≡ false)
-StartLeaves v d e below debt u before after w s made value received (p, started.Over) = SpiAgrees d below after w s
-StartLeaves v d e below debt u before after w s made value received (p, started.Goes (Some x)) = StartBegins d e below u before after w s made value received p x
+-- what a step leaves; the last one, and the start, clear the unit
+abbrev pub StartLeaves : Starting → SpiTable → Errand → Holds → Origin Call → Option Answer → (number : ℕ) → (before after : Chip) → World → SpiState → Move → (value received : ℕ) → StartPlace × Started → Type 0
+StartLeaves v d e below by acted u before after w s made value received (p, started.Goes None) = SpiAgrees d (debt_of u by acted ∷ below) after w s × v.place d u p (foot d after) s × (start_owes p ≡ false)
+StartLeaves v d e below by acted u before after w s made value received (p, started.Over) = SpiAgrees d (cleared_of u by acted ∷ below) after w s
+StartLeaves v d e below by acted u before after w s made value received (p, started.Goes (Some x)) = StartBegins d e (cleared_of u by acted ∷ below) u before after w s made value received p x
 
 -- a step leaves fewer
 abbrev pub StartLess : (bound : StartPlace → ℕ) → ℕ → StartPlace × Started → Type 0
@@ -98,7 +99,7 @@ pub record IsStarting (d : SpiTable) (v : Starting) : Type 0 where
   pub room_first : v.room starts.Running ≤ 30
   pub right : (u : ℕ) (e : Errand) (below : Holds) (by : Origin Call) (acted : Option Answer) (chip : Chip) (w : World) (s : SpiState) (p : StartPlace) (received : ℕ) → start_owes p ≡ false → is_shared (start_move d u p) ≡ false
       → SpiAgrees d (debt_of u by acted ∷ below) chip w s → v.place d u p (foot d chip) s → ReceivedRight chip w (start_move d u p) received
-      → let made = start_move d u p in StartLeaves v d e below (debt_of u by acted) u chip (chip_after chip made received) w s made (value_of chip made) received (start_takes d u p (value_of chip made))
+      → let made = start_move d u p in StartLeaves v d e below by acted u chip (chip_after chip made received) w s made (value_of chip made) received (start_takes d u p (value_of chip made))
   pub may : (u : ℕ) (below : Holds) (by : Origin Call) (acted : Option Answer) (chip : Chip) (w : World) (s : SpiState) (p : StartPlace) → start_owes p ≡ false → SpiAgrees d (debt_of u by acted ∷ below) chip w s → v.place d u p (foot d chip) s → is_shared (start_move d u p) || may d (start_move d u p) ≡ true
   pub later : (u : ℕ) (below : Holds) (by : Origin Call) (acted : Option Answer) (chip : Chip) (w : World) (s : SpiState) (order : Order) (p : StartPlace) → start_owes p ≡ false → is_fill order ≡ false → SpiAgrees d (debt_of u by acted ∷ below) chip w s → v.place d u p (foot d chip) s → v.place d u p (foot d (happened chip order)) (moved d w s order)
   pub less_fuel : (any : SpiTable) (u : ℕ) (p : StartPlace) (x : ℕ) → start_owes p ≡ false → StartLess (start_fuel_at v) (v.fuel p) (start_takes any u p x)
@@ -137,9 +138,9 @@ serve_fuel_at v d p = if serve_owes p then 1 + serve_more d p else v.fuel p
 abbrev pub serve_room_at : Serving → SpiTable → ServePlace → ℕ
 serve_room_at v d p = if serve_owes p then 1 + serve_more d p else v.room p
 
--- what is owed after the event: to a further word nothing else, and to a job's end a start and notices
+-- what is owed after the event: to a further word nothing else, since it clears the unit, and to a job's end a start and notices
 abbrev pub ServeOwes : SpiTable → Errand → Holds → (number : ℕ) → Chip → World → SpiState → List Notice → ServePlace → (ahead : Option (List Notice)) → Type 0
-ServeOwes d e below u after w state ns p None = (ns ≡ []) × ((n : ℕ) × Settles (spi_owing d) n (Units (record { table = d; errand = e; unit = u; place = place.Serve p })) after (λ c. SpiAgrees d below c w state))
+ServeOwes d e below u after w state ns p None = (ns ≡ []) × ((by : Origin Call) (acted : Option Answer) → (n : ℕ) × Settles (spi_owing d) n (Units (record { table = d; errand = e; unit = u; place = place.Serve p })) after (λ c. SpiAgrees d (cleared_of u by acted ∷ below) c w state))
 ServeOwes d e below u after w state ns p (Some told) = (ns ≡ told) × ((by : Origin Call) (acted : Option Answer) → (n : ℕ) × Settles (spi_owing d) n (Units (record { table = d; errand = e; unit = u; place = place.Serve p })) after (λ c. SpiAgrees d (debt_of u by acted ∷ below) c w state))
 
 -- the word is served
@@ -156,7 +157,7 @@ pub record ServeHappens (d : SpiTable) (e : Errand) (below : Holds) (u : ℕ) (b
 -- what a step leaves
 abbrev pub ServeLeaves : Serving → SpiTable → Errand → Holds → (number : ℕ) → (before after : Chip) → World → SpiState → Move → (received : ℕ) → ServePlace × ServeStep → Type 0
 ServeLeaves v d e below u before after w s made received (p, steps.Goes None) = SpiAgrees d below after w s × v.place d u p (foot d after) w s × (serve_owes p ≡ false)
-ServeLeaves v d e below u before after w s made received (p, steps.Over) = SpiAgrees d below after w s × (ready w s (26 + u) ≡ false)
+ServeLeaves v d e below u before after w s made received (p, steps.Over) = SpiAgrees d below after w s × (ready w s (26 + u) ≡ false) × (serve_owes p ≡ false)
 ServeLeaves v d e below u before after w s made received (p, steps.JobOver x) = ⊥
 ServeLeaves v d e below u before after w s made received (p, steps.Goes (Some x)) = ServeHappens d e below u before after w s made received p x
 

@@ -53,7 +53,7 @@ use Rattle.spi_sequences.specs.declared.service.start.Started.TheVariants as sta
 use Rattle.spi_sequences.specs.declared.service.unit.After.{After}
 use Rattle.spi_sequences.specs.declared.service.unit.After.TheVariants as after
 use Rattle.spi_sequences.specs.declared.service.unit.Errand.{Errand}
-use Rattle.spi_sequences.specs.declared.service.unit.Errand.TheVariants.{Handler, Main, Transmit}
+use Rattle.spi_sequences.specs.declared.service.unit.Errand.TheVariants.{Handler, Main, Rest, Transmit}
 use Rattle.spi_sequences.specs.declared.service.unit.UnitBody.{UnitBody}
 use Rattle.spi_sequences.specs.declared.service.unit.UnitPlace.{UnitPlace}
 use Rattle.spi_sequences.specs.declared.service.unit.UnitPlace.TheVariants as place
@@ -65,10 +65,10 @@ use Rattle.spi_sequences.specs.laws.Request.{request_looked, request_takes}
 use Rattle.spi_sequences.specs.laws.Said.{is_below, is_past, pending_word}
 use Rattle.spi_sequences.specs.laws.Serve.{channel_served, serve_move, serve_takes}
 use Rattle.spi_sequences.specs.laws.Start.{start_move, start_takes}
-use Rattle.spi_sequences.specs.laws.Unit.{after_request, after_serve, after_start, opened, requested_by, told_first, told_next, unit_move, unit_over, unit_takes, unit_work}
+use Rattle.spi_sequences.specs.laws.Unit.{after_request, after_serve, after_start, opened, requested_by, rest_after, told_first, told_next, unit_move, unit_over, unit_takes, unit_work}
 use Rattle.spi_driver.specs.laws.Asking.{RequestMakes, accepts, looks}
 use Rattle.spi_driver.specs.laws.Frames.{Frame, HasDone, IsFor, IsRequest, NoneHeld, RequestAt, Transmits, Handles, Mains, Ahead, ToPass, ToStart, ToTell, about_owed, ahead_steps, at, owed_steps, served_ahead, unit_after, unit_bodies, unit_clean, unit_fuel_at, unit_spot_at, unit_windows}
-use Rattle.spi_driver.specs.laws.Owing.{unit_wins}
+use Rattle.spi_driver.specs.laws.Owing.{unit_second, unit_wins}
 use Rattle.spi_driver.specs.laws.Parts.{IsServing, IsStarting, ServeLess, Serving, StartLess, Starting, debt_of, foot, has_begun, has_served, serve_ahead, serve_fuel_at, start_fuel_at}
 use Rattle.spi_driver.specs.laws.Turns.{turns_at}
 use Rattle.spi_driver.specs.laws.Units.{free_at, later_at, own_at, unit_frame, unit_steps}
@@ -88,8 +88,9 @@ module _ (a : Starting) (b : Serving) (d : SpiTable) (fits : FitsSpi d) (startin
   ahead_few e u (ToTell ns) = omega arith
 
   over_short : (x : SpiTable) (e : Errand) (u n : ℕ) (p q : UnitPlace) → unit_after e u < n → ShortTo n (unit_over (at x e u p) q e u)
-  over_short x Main zero n p q lt = omega (arith, lt)
+  over_short x Main zero n p q lt = let last = unit_second a b d (rest_after q) in omega (arith, lt, last)
   over_short x Main (suc u) n p q lt = omega (arith, lt)
+  over_short x Rest u n p q lt = omega (arith, lt)
   over_short x Handler u n p q lt = omega (arith, lt)
   over_short x (Transmit k) u n p q lt = omega (arith, lt)
 
@@ -158,6 +159,7 @@ module _ (a : Starting) (b : Serving) (d : SpiTable) (fits : FitsSpi d) (startin
   over_clean : (x : SpiTable) (e : Errand) (u : ℕ) (was : Bool) (made : Move) (p q : UnitPlace) → CleanTo was made (unit_over (at x e u p) q e u)
   over_clean x Main zero was made p q = λ f. absurd (cc)
   over_clean x Main (suc u) was made p q = tt
+  over_clean x Rest u was made p q = tt
   over_clean x Handler u was made p q = tt
   over_clean x (Transmit k) u was made p q = tt
 
@@ -229,7 +231,7 @@ module _ (a : Starting) (b : Serving) (d : SpiTable) (fits : FitsSpi d) (startin
   unit_free = record {
     own = λ below chip w s k o t i h. let is = known below chip w s k o t i h in subst (λ z. is_shared (unit_move (at z k.errand k.unit k.place) k.place) || may d (unit_move (at z k.errand k.unit k.place) k.place) ≡ true) (sym is) (own_at a b d fits starting serving below chip w s k.errand k.unit k.place o t (free_at k i) (moved_to below chip w s k o t is h));
     turns = λ below chip w s k o t i h. let is = known below chip w s k o t i h in subst (λ z. TurnsTo V 32 (at z k.errand k.unit k.place) (unit_takes (at z k.errand k.unit k.place) (value_of chip (unit_move (at z k.errand k.unit k.place) k.place)))) (sym is) (turns_at a b d fits starting serving below chip w s k.errand k.unit k.place o t (free_at k i) (moved_to below chip w s k o t is h));
-    steps = λ below chip w s k o y t m i come few h. unit_steps a b d fits starting serving below chip w s k o y t m i come h;
+    steps = λ below chip w s k o y t m i come few h. unit_steps a b d fits starting serving below chip w s k o y t m i come.1 h;
     later = later;
     calm = λ below chip w s k o t i h f. let is = known below chip w s k o t i h in subst (λ z. (resets_chip (unit_move (at z k.errand k.unit k.place) k.place) ≡ false) × (begins_word (unit_move (at z k.errand k.unit k.place) k.place) ≡ false)) (sym is) (calm_at k.errand k.unit k.place (value_of chip (unit_move (at d k.errand k.unit k.place) k.place)) (free_at k i) (subst (λ z. (unit_takes (at z k.errand k.unit k.place) (value_of chip (unit_move (at z k.errand k.unit k.place) k.place))).1.event ≡ None) is f));
     shortens = λ k v i. subst (λ q. ShortTo (or_owed (λ z. 1 + ((spi_owing d).more z + owed_steps (about_owed z))) q (unit_fuel_at a b k.errand k.unit k.place)) (unit_takes k v)) (sym i) (short_at k.table k.errand k.unit k.place v (free_at k i));

@@ -21,14 +21,14 @@ use Rattle.spi_starting.specs.laws.Around as around
 use Rattle.spi_starting.specs.laws.Around.{none_owed, owed_left_is, start_calm, start_later, start_may, start_shorter}
 use Rattle.spi_starting.specs.laws.Steps as steps
 use Rattle.spi_starting.specs.laws.Steps.{start_right}
-use Rattle.spi_driver.specs.laws.Parts.{IsStarting, StartLeaves, StartLess, Starting, debt_of, foot, has_begun, start_fuel_at}
+use Rattle.spi_driver.specs.laws.Parts.{IsStarting, StartLeaves, StartLess, Starting, foot, has_begun, start_fuel_at}
 
 abbrev pub start_window : Starting
 start_window = record { place = start_place; fuel = start_left; room = start_left }
 
 -- what a step leaves, as a frame takes it
 leaves : (d : SpiTable) (e : Errand) (below : Holds) (by : Origin Call) (acted : Option Answer) (u : ℕ) (chip later : Chip) (w : World) (s : SpiState) (made : Move) (value received : ℕ) (z : StartPlace × Started) → steps.StartLeaves d e below by acted u chip later w s made received z
-    → StartLeaves start_window d e below (debt_of u by acted) u chip later w s made value received z
+    → StartLeaves start_window d e below by acted u chip later w s made value received z
 leaves d e below by acted u chip later w s made value received (x, started.Goes None) h = (h.0, h.1, none_owed d u x (foot d later) s h.1)
 leaves d e below by acted u chip later w s made value received (x, started.Over) h = h
 leaves d e below by acted u chip later w s made value received (x, started.Goes (Some a)) h =

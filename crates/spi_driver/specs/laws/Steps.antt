@@ -9,7 +9,7 @@ use Rattle.mcal_base.specs.declared.moves.Move.{Move}
 use Rattle.mcal_base.specs.declared.moves.Move.TheVariants.{Load, Mask, Note, Report, Unmask}
 use Rattle.mcal_base.specs.declared.moves.Unit as units
 use Rattle.mcal_base.specs.declared.notice.Notice.{Notice}
-use Rattle.run_model.specs.Frame.{Brought, Called, Entered, Origin, Owing, asks_reset, brought_by, happening_of, is_shared, missed_after, outcome_of, owing, resets_chip}
+use Rattle.run_model.specs.Frame.{Brought, Called, Entered, Origin, Owing, asks_reset, brought_by, caller_of, happening_of, is_shared, missed_after, outcome_of, owing, resets_chip}
 use Rattle.run_model.specs.Legal.{IsNext, ReceivedRight, StandsAt, has_line}
 use Rattle.run_model.specs.Machine.{Outcome, Serves, Starts, Told, no_answer, outcome_with, tells_nothing}
 use Rattle.run_model.specs.World.{World}
@@ -42,20 +42,22 @@ use Rattle.spi_sequences.specs.declared.service.start.Started.TheVariants as sta
 use Rattle.spi_sequences.specs.declared.service.unit.After.{After}
 use Rattle.spi_sequences.specs.declared.service.unit.After.TheVariants as after
 use Rattle.spi_sequences.specs.declared.service.unit.Errand.{Errand}
-use Rattle.spi_sequences.specs.declared.service.unit.Errand.TheVariants.{Handler, Main, Transmit}
+use Rattle.spi_sequences.specs.declared.service.unit.Errand.TheVariants.{Handler, Main, Rest, Transmit}
 use Rattle.spi_sequences.specs.declared.service.unit.UnitBody.{UnitBody}
 use Rattle.spi_sequences.specs.declared.service.unit.UnitPlace.{UnitPlace}
 use Rattle.spi_sequences.specs.declared.service.unit.UnitPlace.TheVariants as place
 use Rattle.spi_sequences.specs.declared.words.TheConstants.{STATE}
+use Rattle.spi_sequences.specs.laws.Cleared.{clear_over}
 use Rattle.spi_sequences.specs.laws.Ground.{plain_move}
 use Rattle.spi_sequences.specs.laws.Owed.{basis_right}
+use Rattle.spi_sequences.specs.laws.Said.{same_number}
 use Rattle.spi_sequences.specs.laws.Serve.{serve_move, serve_takes}
 use Rattle.spi_sequences.specs.laws.Start.{start_move, start_takes, unit_named}
-use Rattle.spi_sequences.specs.laws.Unit.{after_serve, after_start, opened, passes, told_first, told_next, unit_over}
-use Rattle.spi_driver.specs.laws.Frames.{Frame, Handles, HasDone, IsFor, Mains, OpensAt, OwedAt, Progress, Transmits, ahead_holds, ahead_owing, and_other, at, holds_by, is_met, opens_holds, served_ahead, told_list, unit_bodies, unit_spot_at, unit_windows, with_debt}
-use Rattle.spi_driver.specs.laws.Handling.{handling_begins}
-use Rattle.spi_driver.specs.laws.Owing.{passes_on}
-use Rattle.spi_driver.specs.laws.Parts.{IsServing, IsStarting, ServeHappens, ServeLeaves, ServeOwes, Serving, StartBegins, StartLeaves, Starting, debt_of, foot, serve_ahead}
+use Rattle.spi_sequences.specs.laws.Unit.{after_serve, after_start, opened, passes, rest_after, told_first, told_next, unit_over}
+use Rattle.spi_driver.specs.laws.Frames.{Frame, Handles, HasDone, IsFor, Mains, OpensAt, OwedAt, Progress, Rests, Transmits, ahead_holds, ahead_owing, and_other, at, holds_by, is_met, opens_holds, served_ahead, told_list, unit_bodies, unit_spot_at, unit_windows, with_cleared, with_debt}
+use Rattle.spi_driver.specs.laws.Handling.{handling_begins, handling_of, handling_over}
+use Rattle.spi_driver.specs.laws.Owing.{main_stops, passes_on}
+use Rattle.spi_driver.specs.laws.Parts.{IsServing, IsStarting, ServeHappens, ServeLeaves, ServeOwes, Serving, StartBegins, StartLeaves, Starting, foot, serve_ahead}
 
 -- ---- lines that were served
 
@@ -66,30 +68,46 @@ or_true false e = e
 met_still : (t t1 : Past) (l : ℕ) → t1.served ≡ t.served → t1.missed ≡ t.missed → is_met t l ≡ true → is_met t1 l ≡ true
 met_still t t1 l s m h = ap (λ ls. has_line ls l || has_line t1.missed l) s ∙ ap (λ ls. has_line t.served l || has_line ls l) m ∙ h
 
+-- the first line stays met where the second one is served
+met_too : (t t1 : Past) → t1.served ≡ 27 ∷ t.served → t1.missed ≡ t.missed → is_met t 26 ≡ true → is_met t1 26 ≡ true
+met_too t t1 s m h = ap (λ ls. has_line ls 26 || has_line t1.missed 26) s ∙ ap (λ ls. has_line t.served 26 || has_line ls 26) m ∙ h
+
 -- with its line served, the frame is done with the unit
 served_now : (e : Errand) (u : ℕ) → u < 2 → (t t1 : Past) → t1.served ≡ (26 + u) ∷ t.served → t1.missed ≡ t.missed → Progress e u false t → Progress e u true t1
 served_now (Transmit q) u lt t t1 s m h = absurd h
 served_now Handler u lt t t1 s m h = s ∙ ap (λ ls. (26 + u) ∷ ls) h
 served_now Main zero lt t t1 s m h = (ap (λ ls. has_line ls 26 || has_line t1.missed 26) s, ap (λ ls. has_line ls 27) (s ∙ ap (λ ls. 26 ∷ ls) h))
-served_now Main (suc zero) lt t t1 s m h = (ap (λ ls. has_line ls 26 || has_line t1.missed 26) s ∙ ap (λ ls. has_line t.served 26 || has_line ls 26) m ∙ h.0, ap (λ ls. has_line ls 27 || has_line t1.missed 27) s)
+served_now Main (suc zero) lt t t1 s m h = (met_too t t1 s m h.0, ap (λ ls. has_line ls 27 || has_line t1.missed 27) s, ap (λ ls. has_line ls 26) (s ∙ ap (λ ls. 27 ∷ ls) h.1))
 served_now Main (suc (suc u)) lt t t1 s m h = absurd (omega (arith, lt))
+served_now Rest zero lt t t1 s m h = absurd h
+served_now Rest (suc zero) lt t t1 s m h = (met_too t t1 s m h.0, ap (λ ls. has_line ls 27 || has_line t1.missed 27) s)
+served_now Rest (suc (suc u)) lt t t1 s m h = absurd (omega (arith, lt))
 
--- with its line missed, the main function is
-missed_now : (u : ℕ) → u < 2 → (t t1 : Past) → t1.served ≡ t.served → t1.missed ≡ (26 + u) ∷ t.missed → Progress Main u false t → Progress Main u true t1
-missed_now zero lt t t1 s m h = (ap (λ ls. has_line t1.served 26 || has_line ls 26) m ∙ or_true (has_line t1.served 26) refl, ap (λ ls. has_line ls 27) (s ∙ h))
-missed_now (suc zero) lt t t1 s m h = (ap (λ ls. has_line ls 26 || has_line t1.missed 26) s ∙ ap (λ ls. has_line t.served 26 || has_line ls 26) m ∙ h.0, ap (λ ls. has_line t1.served 27 || has_line ls 27) m ∙ or_true (has_line t1.served 27) refl)
-missed_now (suc (suc u)) lt t t1 s m h = absurd (omega (arith, lt))
+-- a line is met that was missed now
+just_missed : (t : Past) (l : ℕ) → is_met (record t { missed = l ∷ t.missed }) l ≡ true
+just_missed t l = or_true (has_line t.served l) (ap (λ q. q || has_line t.missed l) (same_number l))
+
+-- the first unit wasn't served at a place that owes no moves
+rest_missed : (p : ServePlace) → serve_owes p ≡ false → rest_after (place.Serve p) ≡ Main
+rest_missed (serve.Stand q) e = absurd (cc)
+rest_missed _ e = refl
 
 -- the main function may serve the unit's line
 next_line : (u : ℕ) → u < 2 → (s : SpiState) (t : Past) → is_polling s.mode ≡ true → Progress Main u false t → IsNext (polls s calls.MainFunctionHandling) t.served (26 + u)
 next_line zero lt s t e h = subst (λ (q : Bool). IsNext (if q then 26 ∷ 27 ∷ [] else []) t.served 26) (sym e) (refl, ap (λ ls. list_any (has_line ls) (26 ∷ 27 ∷ [])) h)
-next_line (suc zero) lt s t e h = subst (λ (q : Bool). IsNext (if q then 26 ∷ 27 ∷ [] else []) t.served 27) (sym e) (refl, ap (λ q. q || false) h.1)
+next_line (suc zero) lt s t e h = subst (λ (q : Bool). IsNext (if q then 26 ∷ 27 ∷ [] else []) t.served 27) (sym e) (refl, ap (λ ls. list_any (has_line ls) (27 ∷ [])) h.1)
 next_line (suc (suc u)) lt s t e h = absurd (omega (arith, lt))
+
+-- and that of the second unit after the first one's
+rest_line : (u : ℕ) → u < 2 → (s : SpiState) (t : Past) → is_polling s.mode ≡ true → Progress Rest u false t → IsNext (polls s calls.MainFunctionHandling) t.served (26 + u)
+rest_line zero lt s t e h = absurd h
+rest_line (suc zero) lt s t e h = subst (λ (q : Bool). IsNext (if q then 26 ∷ 27 ∷ [] else []) t.served 27) (sym e) (refl, ap (λ q. q || false) h.1)
+rest_line (suc (suc u)) lt s t e h = absurd (omega (arith, lt))
 
 -- ---- events of a unit, whatever the frame was begun for
 
 module _ (d : SpiTable) (w : World) (s : SpiState) (t : Past) where
-  started_is : (o : Origin Call) (b : Brought) (v : units.Unit) → happening_of o b (events.Start v) ≡ Some (Starts v b.received)
+  started_is : (o : Origin Call) (b : Brought) (v : units.Unit) → happening_of o b (events.Start v) ≡ Some (Starts v (caller_of o) b.received)
   started_is (Called c) b v = refl
   started_is (Entered l) b v = refl
 
@@ -133,8 +151,11 @@ same_progress Handler u false t t1 s m h = s ∙ h
 same_progress Handler u true t t1 s m h = s ∙ h
 same_progress Main zero false t t1 s m h = s ∙ h
 same_progress Main zero true t t1 s m h = (met_still t t1 26 s m h.0, ap (λ ls. has_line ls 27) s ∙ h.1)
-same_progress Main (suc u) false t t1 s m h = (met_still t t1 26 s m h.0, ap (λ ls. has_line ls 27) s ∙ h.1)
-same_progress Main (suc u) true t t1 s m h = (met_still t t1 26 s m h.0, met_still t t1 27 s m h.1)
+same_progress Main (suc u) false t t1 s m h = (met_still t t1 26 s m h.0, s ∙ h.1)
+same_progress Main (suc u) true t t1 s m h = (met_still t t1 26 s m h.0, met_still t t1 27 s m h.1, ap (λ ls. has_line ls 26) s ∙ h.2)
+same_progress Rest zero q t t1 s m h = absurd h
+same_progress Rest (suc u) false t t1 s m h = (met_still t t1 26 s m h.0, ap (λ ls. has_line ls 27) s ∙ h.1)
+same_progress Rest (suc u) true t t1 s m h = (met_still t t1 26 s m h.0, met_still t t1 27 s m h.1)
 
 -- so does what a frame has done, with other notices owed
 same_done : (e : Errand) (u : ℕ) (q : Bool) (t t1 : Past) (owed owed1 : List Owing) → t1.acted ≡ t.acted → t1.polled ≡ t.polled → t1.report ≡ t.report → t1.served ≡ t.served → t1.missed ≡ t.missed → t1.owed ≡ owed1 → HasDone e u q owed t → HasDone e u q owed1 t1
@@ -199,11 +220,12 @@ module _ (a : Starting) (b : Serving) (d : SpiTable) (fits : FitsSpi d) where
     over_works : (e : Errand) (u : ℕ) (p q : UnitPlace) (made : Move) (value : ℕ) (o : Origin Call) (t : Past) → let r = unit_over (at d e u p) q e u in Continues (spi_basis d) (unit_bodies a b d) below (chip_after chip made y) w s o (past_wrote w made t) m r.0 r.1.done → Work o t made value r
     over_works Main zero p q made value o t h = h
     over_works Main (suc u) p q made value o t h = h
+    over_works Rest u p q made value o t h = h
     over_works Handler u p q made value o t h = h
     over_works (Transmit k) u p q made value o t h = h
 
     -- the first word of a job begins
-    begins_so : (e : Errand) (u : ℕ) (q : StartPlace) (x : Event) (made : Move) (value : ℕ) (o : Origin Call) (t : Past) → Frame d d e u o → HasDone e u true [] t → resets_chip made ≡ false → StartBegins d e (with_holds o t.acted (holds_by e) below) u chip (chip_after chip made y) w s made value y q x
+    begins_so : (e : Errand) (u : ℕ) (q : StartPlace) (x : Event) (made : Move) (value : ℕ) (o : Origin Call) (t : Past) → Frame d d e u o → HasDone e u true [] t → resets_chip made ≡ false → StartBegins d e (with_holds o t.acted (with_cleared e u) below) u chip (chip_after chip made y) w s made value y q x
         → Work o t made value (at d e u (place.Start q), passes (Some x))
     begins_so e u q x made value o t frame done still g =
         subst (λ z. Work o t made value (at d e u (place.Start q), passes (Some z))) (sym g.is_start) (record {
@@ -212,7 +234,7 @@ module _ (a : Starting) (b : Serving) (d : SpiTable) (fits : FitsSpi d) where
           state = g.state;
           told = tells_nothing;
           begins = Some g.begins;
-          is = ap (outcome_of (spi_machine d) w s) (started_is d w s t o (brought_by w t.committed made y) (unit_named u)) ∙ g.is;
+          is = ap (outcome_of (spi_machine d) w s) (started_is d w s t o (brought_by w t.committed made y) (unit_named u)) ∙ g.is (caller_of o);
           sends = g.sends;
           acts = start_acts d w s t o (unit_named u) made tells_nothing None;
           reset = still ∙ sym (start_resets d w s t o (unit_named u) (Some (outcome_with g.state tells_nothing (Some g.begins))));
@@ -223,23 +245,24 @@ module _ (a : Starting) (b : Serving) (d : SpiTable) (fits : FitsSpi d) where
         later : Past
         later = record (past_wrote w made t) { owed = t.owed ++ owing false [] }
 
-    start_works : (e : Errand) (u : ℕ) (p : StartPlace) (made : Move) (value : ℕ) (o : Origin Call) (t : Past) → Frame d d e u o → HasDone e u true [] t → resets_chip made ≡ false → (z : StartPlace × Started) → StartLeaves a d e (with_holds o t.acted (holds_by e) below) (debt_of u o t.acted) u chip (chip_after chip made y) w s made value y z
+    start_works : (e : Errand) (u : ℕ) (p : StartPlace) (made : Move) (value : ℕ) (o : Origin Call) (t : Past) → Frame d d e u o → HasDone e u true [] t → resets_chip made ≡ false → (z : StartPlace × Started) → StartLeaves a d e (with_holds o t.acted (holds_by e) below) o t.acted u chip (chip_after chip made y) w s made value y z
         → Work o t made value (after_start (at d e u (place.Start p)) z)
     start_works e u p made value o t frame done still (r, started.Goes None) (h, here, free) = start_stands e u r below (chip_after chip made y) w s o (past_wrote w made t) free frame (same_done e u true t (past_wrote w made t) [] [] refl refl refl refl refl done.owed done) h here
-    start_works e u p made value o t frame done still (r, started.Over) h = over_works e u (place.Start p) (place.Start r) made value o t (passes_on a b d d e u (place.Start p) (place.Start r) below (chip_after chip made y) w s o (past_wrote w made t) m frame (same_done e u true t (past_wrote w made t) [] [] refl refl refl refl refl done.owed done) h)
+    start_works e u p made value o t frame done still (r, started.Over) h = over_works e u (place.Start p) (place.Start r) made value o t (passes_on a b d d e u (place.Start p) (place.Start r) below (chip_after chip made y) w s o (past_wrote w made t) m refl frame (same_done e u true t (past_wrote w made t) [] [] refl refl refl refl refl done.owed done) h)
     start_works e u p made value o t frame done still (r, started.Goes (Some x)) g = begins_so e u r x made value o t frame done still g
 
     -- the word is served
-    may_serve : (e : Errand) (u : ℕ) (o : Origin Call) (t : Past) → u < 2 → IsFor u e o → Progress e u false t → SpiAgrees d (with_holds o t.acted (holds_by e) below) chip w s → MayDo (spi_machine d) w s t (events.Serve (26 + u)) o
-    may_serve (Transmit q) u _ t lt (Transmits _) done h = absurd done
-    may_serve Handler u _ t lt Handles done h = (refl, done)
-    may_serve Main u _ t lt Mains done h = next_line u lt s t h.right.0 done
+    may_serve : (e : Errand) (u : ℕ) (o : Origin Call) (t : Past) → u < 2 → IsFor u e o → Progress e u false t → t.owed ≡ [] → SpiAgrees d (with_holds o t.acted (holds_by e) below) chip w s → MayDo (spi_machine d) w s t (events.Serve (26 + u)) o
+    may_serve (Transmit q) u _ t lt (Transmits _) done none h = absurd done
+    may_serve Handler u _ t lt Handles done none h = (refl, done)
+    may_serve Main u _ t lt Mains done none h = (next_line u lt s t h.right.0 done, none)
+    may_serve Rest u _ t lt Rests done none h = (rest_line u lt s t h.right.1.0 done, none)
 
     serves_so : (e : Errand) (u : ℕ) (q : ServePlace) (x : Event) (made : Move) (value : ℕ) (o : Origin Call) (t : Past) → Frame d d e u o → HasDone e u false [] t → SpiAgrees d (with_holds o t.acted (holds_by e) below) chip w s → resets_chip made ≡ false
         → ServeHappens d e (with_holds o t.acted (holds_by e) below) u chip (chip_after chip made y) w s made y q x → Work o t made value (at d e u (place.Serve q), passes (Some x))
     serves_so e u q x made value o t frame done h still g =
         subst (λ z. Work o t made value (at d e u (place.Serve q), passes (Some z))) (sym g.is_serve) (record {
-          may = may_serve e u o t frame.small frame.of done.progress h;
+          may = may_serve e u o t frame.small frame.of done.progress done.owed h;
           stands = tt;
           state = g.state;
           told = notes g.notices;
@@ -260,7 +283,7 @@ module _ (a : Starting) (b : Serving) (d : SpiTable) (fits : FitsSpi d) where
 
         owes : (n : Option (List Notice)) → ServeOwes d e (with_holds o t.acted (holds_by e) below) u (chip_after chip made y) w g.state g.notices q n
             → ((k : ℕ) × Settles (spi_owing d) k (Units (at d e u (place.Serve q))) (chip_after chip made y) (λ c. SpiAgrees d (with_holds o t.acted (ahead_holds e u (served_ahead n)) below) c w g.state)) × OwedAt d (Some (record { table = d; errand = e; unit = u; ahead = served_ahead n })) o (later g.notices)
-        owes None (none, k) = (k, (frame, subst (λ ns. HasDone e u true [] (later ns)) (sym none) (told [])))
+        owes None (none, k) = (k o t.acted, (frame, subst (λ ns. HasDone e u true [] (later ns)) (sym none) (told [])))
         owes (Some ns) (are, k) = (k o t.acted, (frame, subst (λ xs. HasDone e u true (owing true ns) (later xs)) (sym are) (told ns)))
 
     -- nothing may be there to serve
@@ -270,15 +293,33 @@ module _ (a : Starting) (b : Serving) (d : SpiTable) (fits : FitsSpi d) where
     serve_works e u p made value o t frame done h still misses (r, steps.Goes None) (g, here, free) = inl (serve_stands e u r below (chip_after chip made y) w s o (past_wrote w made t) free frame (same_done e u false t (past_wrote w made t) [] [] refl refl refl refl refl done.owed done) g here)
     serve_works e u p made value o t frame done h still misses (r, steps.Goes (Some x)) g = inl (serves_so e u r x made value o t frame done h still g)
     serve_works e u p made value o t frame done h still misses (r, steps.JobOver x) g = absurd g
-    serve_works e u p made value o t frame done h still misses (r, steps.Over) (g, none) = by e u o frame.of frame done g none
+    serve_works e u p made value o t frame done h still misses (r, steps.Over) (g, none, free) = by e u o frame.of frame done g none
       where
+        o_main : Origin Call
+        o_main = Called calls.MainFunctionHandling
+
         by : (e : Errand) (u : ℕ) (o : Origin Call) → IsFor u e o → Frame d d e u o → HasDone e u false [] t → SpiAgrees d (with_holds o t.acted (holds_by e) below) (chip_after chip made y) w s → ready w s (26 + u) ≡ false
             → Work o t made value (unit_over (at d e u (place.Serve p)) (place.Serve r) e u) ⊎ ((l : ℕ) × (ready w s l ≡ false) × Work o (record t { missed = l ∷ t.missed }) made value (unit_over (at d e u (place.Serve p)) (place.Serve r) e u))
         by (Transmit q) u _ (Transmits _) frame done g none = absurd done.progress
         by Handler u _ Handles frame done g none = inl (g, record { may = (or_true (has_line t.served (26 + u)) (misses (26 + u) none), refl); served = false; owed = done.owed; shown = λ i. absurd (cc); report = done.report })
-        by Main u _ Mains frame done g none =
-            let later = record (past_wrote w made t) { missed = (26 + u) ∷ t.missed } in
-            inr (26 + u, none, over_works Main u (place.Serve p) (place.Serve r) made value (Called calls.MainFunctionHandling) (record t { missed = (26 + u) ∷ t.missed }) (passes_on a b d d Main u (place.Serve p) (place.Serve r) below (chip_after chip made y) w s (Called calls.MainFunctionHandling) later m frame (record { acted = done.acted; polled = done.polled; report = done.report; owed = done.owed; progress = missed_now u frame.small t later refl refl done.progress }) g))
+        by Main zero _ Mains frame done g none = inr (
+          26,
+          none,
+          subst (λ e1. Stand (spi_basis d) (unit_bodies a b d) below (chip_after chip made y) w s (at d e1 1 (place.Opens after.Serve)) o_main (past_wrote w made (record t { missed = 26 ∷ t.missed }))) (sym (rest_missed r free))
+              (g, (record { table = frame.table; small = omega arith; of = Mains }, record { acted = done.acted; polled = done.polled; report = done.report; owed = done.owed; progress = (just_missed t 26, done.progress) })),
+        )
+        by Main (suc zero) _ Mains frame done g none = inr (27, none, (handling_over d o_main t.acted below (chip_after chip made y) w s g, main_stops a b d (past_wrote w made (record t { missed = 27 ∷ t.missed })) m done.acted done.polled done.report done.owed done.progress.0 (just_missed t 27)))
+        by Main (suc (suc u)) _ Mains frame done g none = absurd (let lt = frame.small in omega (arith, lt))
+        by Rest zero _ Rests frame done g none = absurd done.progress
+        by Rest (suc zero) _ Rests frame done g none = inr (
+          27,
+          none,
+          (
+            handling_over d o_main t.acted below (chip_after chip made y) w s (clear_over d (handling_of o_main t.acted ∷ below) (chip_after chip made y) w s 0 o_main t.acted g),
+            main_stops a b d (past_wrote w made (record t { missed = 27 ∷ t.missed })) m done.acted done.polled done.report done.owed done.progress.0 (just_missed t 27),
+          ),
+        )
+        by Rest (suc (suc u)) _ Rests frame done g none = absurd (let lt = frame.small in omega (arith, lt))
 
     -- ---- the main function acts, the mask is opened, and notices are told
 
@@ -288,6 +329,7 @@ module _ (a : Starting) (b : Serving) (d : SpiTable) (fits : FitsSpi d) where
         by : (e : Errand) (u : ℕ) (o : Origin Call) → IsFor u e o → e ≡ Main → u ≡ 0 → Frame d d e u o → Work o nothing_yet (Load STATE) (word_of chip STATE) (at d e u (place.Opens after.Serve), acts)
         by (Transmit q) u o for is first frame = absurd (cc)
         by Handler u o for is first frame = absurd (cc)
+        by Rest u o for is first frame = absurd (cc)
         by Main (suc u) o for is first frame = absurd (cc)
         by Main zero _ Mains is first frame = record {
           may = refl;

@@ -53,7 +53,7 @@ use Rattle.spi_sequences.specs.declared.service.start.Started.TheVariants as sta
 use Rattle.spi_sequences.specs.declared.service.unit.After.{After}
 use Rattle.spi_sequences.specs.declared.service.unit.After.TheVariants as after
 use Rattle.spi_sequences.specs.declared.service.unit.Errand.{Errand}
-use Rattle.spi_sequences.specs.declared.service.unit.Errand.TheVariants.{Handler, Main, Transmit}
+use Rattle.spi_sequences.specs.declared.service.unit.Errand.TheVariants.{Handler, Main, Rest, Transmit}
 use Rattle.spi_sequences.specs.declared.service.unit.UnitBody.{UnitBody}
 use Rattle.spi_sequences.specs.declared.service.unit.UnitPlace.{UnitPlace}
 use Rattle.spi_sequences.specs.declared.service.unit.UnitPlace.TheVariants as place
@@ -70,7 +70,7 @@ use Rattle.spi_sequences.specs.laws.Serve.{begins_by, begins_of, channel_next, c
 use Rattle.spi_sequences.specs.laws.Start.{start_finds, start_found, start_looks, start_move, start_takes}
 use Rattle.spi_sequences.specs.laws.Unit.{after_request, after_serve, after_start, opened, requested_by, told_first, told_next, unit_move, unit_over, unit_takes, unit_work}
 use Rattle.spi_driver.specs.laws.Asking.{RequestMakes, accepts, looks}
-use Rattle.spi_driver.specs.laws.Frames.{Frame, HasDone, IsFor, IsRequest, NoneHeld, RequestAt, Transmits, Handles, Mains, ahead_steps, at, holds_by, opens_holds, serve_spot, served_ahead, unit_after, unit_bodies, unit_clean, unit_spot_at, unit_windows, start_spot}
+use Rattle.spi_driver.specs.laws.Frames.{Frame, HasDone, IsFor, IsRequest, NoneHeld, RequestAt, Transmits, Handles, Mains, Rests, ahead_steps, at, holds_by, opens_holds, serve_spot, served_ahead, unit_after, unit_bodies, unit_clean, unit_spot_at, unit_windows, start_spot}
 use Rattle.spi_driver.specs.laws.Owing.{unit_wins}
 use Rattle.spi_driver.specs.laws.Parts.{IsServing, IsStarting, ServeLess, Serving, StartLess, Starting, debt_of, foot, has_begun, has_served, serve_ahead, serve_room_at, start_room_at}
 use Rattle.spi_driver.specs.laws.Units.{StandX, asking_plain, find_plain, front_plain}
@@ -205,6 +205,7 @@ module _ (a : Starting) (b : Serving) (d : SpiTable) (fits : FitsSpi d) (startin
   over_keeps : (e : Errand) (u n : ℕ) (p q : UnitPlace) → 1 ≤ n → KeepsTo n (unit_over (at d e u p) q e u)
   over_keeps Main zero n p q le = (refl, omega (arith, le))
   over_keeps Main (suc u) n p q le = le
+  over_keeps Rest u n p q le = le
   over_keeps Handler u n p q le = le
   over_keeps (Transmit k) u n p q le = le
 
@@ -249,6 +250,7 @@ module _ (a : Starting) (b : Serving) (d : SpiTable) (fits : FitsSpi d) (startin
       few (Transmit q) u _ (Transmits _) asked = asked.2
       few Handler u _ Handles asked = absurd asked
       few Main u _ Mains asked = absurd asked
+      few Rest u _ Rests asked = absurd asked
   turns_at below chip w s e u (place.Request request.Accept) o t i h = (refl, omega arith)
   turns_at below chip w s e u (place.Request _) o t i h = absurd (cc)
   turns_at below chip w s e u place.Act o t i h = (refl, omega arith)

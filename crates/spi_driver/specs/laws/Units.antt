@@ -55,7 +55,7 @@ use Rattle.spi_sequences.specs.declared.service.start.Started.TheVariants as sta
 use Rattle.spi_sequences.specs.declared.service.unit.After.{After}
 use Rattle.spi_sequences.specs.declared.service.unit.After.TheVariants as after
 use Rattle.spi_sequences.specs.declared.service.unit.Errand.{Errand}
-use Rattle.spi_sequences.specs.declared.service.unit.Errand.TheVariants.{Handler, Main, Transmit}
+use Rattle.spi_sequences.specs.declared.service.unit.Errand.TheVariants.{Handler, Main, Rest, Transmit}
 use Rattle.spi_sequences.specs.declared.service.unit.UnitBody.{UnitBody}
 use Rattle.spi_sequences.specs.declared.service.unit.UnitPlace.{UnitPlace}
 use Rattle.spi_sequences.specs.declared.service.unit.UnitPlace.TheVariants as place
@@ -69,7 +69,7 @@ use Rattle.spi_sequences.specs.laws.Serve.{channel_served, serve_move, serve_tak
 use Rattle.spi_sequences.specs.laws.Start.{start_move, start_takes}
 use Rattle.spi_sequences.specs.laws.Unit.{after_request, after_serve, after_start, opened, requested_by, told_first, told_next, unit_move, unit_over, unit_takes, unit_work}
 use Rattle.spi_driver.specs.laws.Asking.{RequestMakes, accepts, looks}
-use Rattle.spi_driver.specs.laws.Frames.{Frame, HasDone, IsFor, IsRequest, NoneHeld, RequestAt, Transmits, Handles, Mains, ahead_steps, at, holds_by, opens_holds, serve_spot, served_ahead, unit_after, unit_bodies, unit_clean, unit_spot_at, unit_windows, with_debt}
+use Rattle.spi_driver.specs.laws.Frames.{Frame, HasDone, IsFor, IsRequest, NoneHeld, RequestAt, Transmits, Handles, Mains, Rests, ahead_steps, at, holds_by, opens_holds, serve_spot, served_ahead, unit_after, unit_bodies, unit_clean, unit_spot_at, unit_windows, with_debt}
 use Rattle.spi_driver.specs.laws.Owing.{unit_wins}
 use Rattle.spi_driver.specs.laws.Parts.{IsServing, IsStarting, ServeLess, Serving, StartLess, Starting, debt_of, foot, has_begun, has_served, serve_ahead, serve_room_at, start_room_at}
 use Rattle.spi_driver.specs.laws.Steps.{acts_so, opens_so, serve_right_at, serve_stands, shared_agrees, start_right_at, start_stands, tells_so}
@@ -171,6 +171,7 @@ module _ (a : Starting) (b : Serving) (d : SpiTable) (fits : FitsSpi d) (startin
       by (Transmit q) u _ (Transmits _) frame asked = asked_by q u p i frame asked
       by Handler u _ Handles frame asked = absurd asked
       by Main u _ Mains frame asked = absurd asked
+      by Rest u _ Rests frame asked = absurd asked
 
   unit_right : (below : Holds) (chip : Chip) (w : World) (s : SpiState) (e : Errand) (u : ℕ) (p : UnitPlace) (o : Origin Call) (y : ℕ) (t : Past) (m : ℕ → Bool) → unit_owes p ≡ false → ReceivedRight chip w (unit_move (at d e u p) p) y → StandX below chip w s d e u p o t → RightX below chip w s e u p o y t m
   unit_right below chip w s e u (place.Request (request.Look k)) o y t m i come h = request_right below chip w s e u (request.Look k) o y t m refl h.1.0 h.1.1 h.0
@@ -220,12 +221,14 @@ module _ (a : Starting) (b : Serving) (d : SpiTable) (fits : FitsSpi d) (startin
       few (Transmit q) u _ (Transmits _) asked = asked.2
       few Handler u _ Handles asked = absurd asked
       few Main u _ Mains asked = absurd asked
+      few Rest u _ Rests asked = absurd asked
   own_at below chip w s e u (place.Request request.Accept) o t i h = by e u o h.1.0.of h.1.1
     where
       by : (e : Errand) (u : ℕ) (o : Origin Call) → IsFor u e o → RequestAt d e u request.Accept s t → may d (Store (sequence_word (requested_by e)) PENDING) ≡ true
       by (Transmit q) u _ (Transmits _) asked = may_first d fits (sequence_word q) (omega arith) (let lt = asked.0.small in omega (arith, lt))
       by Handler u _ Handles asked = absurd asked
       by Main u _ Mains asked = absurd asked
+      by Rest u _ Rests asked = absurd asked
   own_at below chip w s e u (place.Request _) o t i h = absurd (cc)
   own_at below chip w s e u place.Act o t i h = may_first d fits STATE (omega arith) (omega arith)
   own_at below chip w s e u (place.Opens n) o t i h = refl
@@ -268,6 +271,7 @@ module _ (a : Starting) (b : Serving) (d : SpiTable) (fits : FitsSpi d) (startin
       by _ asked = absurd asked
   asked_later w s order Handler u p _ t Handles asked = absurd asked
   asked_later w s order Main u p _ t Mains asked = absurd asked
+  asked_later w s order Rest u p _ t Rests asked = absurd asked
 
   pub later_at : (below : Holds) (chip : Chip) (w : World) (s : SpiState) (order : Order) (e : Errand) (u : ℕ) (p : UnitPlace) (o : Origin Call) (t : Past) → unit_owes p ≡ false → (is_closed (unit_spot_at a b d d e u p) ≡ true → is_fill order ≡ false) → StandX below chip w s d e u p o t
       → place_at (unit_spot_at a b d d e u p) below (foot d (happened chip order)) (world_after w chip.clock.rate order) (moved d w s order) o t

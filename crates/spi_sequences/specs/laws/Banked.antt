@@ -38,7 +38,7 @@ use Rattle.spi_machine.specs.declared.call.Call.{Call}
 use Rattle.spi_machine.specs.declared.table.SpiTable.{SpiTable}
 use Rattle.spi_machine.proofs.Numbers.{same_or_other}
 use Rattle.spi_sequences.specs.Going.{Part, Going, UnitAgrees}
-use Rattle.spi_sequences.specs.Ground.{Hold, Debt, Handling, Writing, Reading, Preparing, Holds, HeldRight, AllRight, View, BanksAgree, PutRight, RunAgrees, SetUpFits, TakeRight, SpiAgrees, is_debt, is_owed, is_preparing, or_rest, prepares, put_by, put_held, readied_by, readied_in, set_up_code, stored_by, stored_in, take_by, take_held, to_write, view, words_in}
+use Rattle.spi_sequences.specs.Ground.{Hold, Debt, Cleared, Handling, Writing, Reading, Preparing, Holds, HeldRight, AllRight, View, BanksAgree, PutRight, RunAgrees, SetUpFits, TakeRight, SpiAgrees, is_owed, is_preparing, or_rest, owes_by, prepares, put_by, put_held, readied_by, readied_in, set_up_code, stored_by, stored_in, take_by, take_held, to_write, view, words_in}
 use Rattle.spi_sequences.specs.declared.words.TheConstants.{STATE}
 use Rattle.spi_sequences.specs.laws.Alike.{sequences_alike, run_alike, banks_alike}
 use Rattle.spi_sequences.specs.laws.Filled.{own_low, put_if}
@@ -138,7 +138,7 @@ module _ (d : SpiTable) (fits : FitsSpi d) (c : ℕ) (k : Channel) (e : channel_
     prepares = ap (λ b. b || prepares held) (unready x.what is);
     readied = flat_map-cons (λ h. readied_by h.what) x held ∙ ap (λ ys. ys ++ readied_in held) (nothing_ready x.what is);
     stored = flat_map-cons (λ h. stored_by h.what) x held ∙ ap (λ ys. ys ++ stored_in held) (nothing_stored x.what is);
-    owed = λ u. ap (λ b. b || is_owed u held) (no_debt x.what u is);
+    owed = λ u. owes_none x.what u (is_owed u held) is;
   }
     where
       unlike : (m n : ℕ) → n ≢ c → (m == c) ≡ true → (m == n) ≡ false
@@ -149,6 +149,7 @@ module _ (d : SpiTable) (fits : FitsSpi d) (c : ℕ) (k : Channel) (e : channel_
       no_put (Writing m p b i z) sources n false ne f = ap (λ q. put_if q (record { bank = b; filled = take i (to_write (channel_of d n) p (sources n)) })) (unlike m n ne f)
       no_put (Reading m b) sources n r ne f = refl
       no_put (Debt u) sources n r ne f = absurd (cc)
+      no_put (Cleared u) sources n r ne f = absurd (cc)
       no_put Handling sources n r ne f = absurd (cc)
       no_put (Preparing ws rs z) sources n r ne f = absurd (cc)
 
@@ -156,6 +157,7 @@ module _ (d : SpiTable) (fits : FitsSpi d) (c : ℕ) (k : Channel) (e : channel_
       no_take (Writing m p b i z) n ne f = refl
       no_take (Reading m b) n ne f = ap (λ q. take_if q (record { bank = b; kept = words_in x.acted })) (unlike m n ne f)
       no_take (Debt u) n ne f = absurd (cc)
+      no_take (Cleared u) n ne f = absurd (cc)
       no_take Handling n ne f = absurd (cc)
       no_take (Preparing ws rs z) n ne f = absurd (cc)
 
@@ -163,6 +165,7 @@ module _ (d : SpiTable) (fits : FitsSpi d) (c : ℕ) (k : Channel) (e : channel_
       unready (Writing m p b i z) f = refl
       unready (Reading m b) f = refl
       unready (Debt u) f = refl
+      unready (Cleared u) f = refl
       unready Handling f = refl
       unready (Preparing ws rs z) f = absurd (cc)
 
@@ -170,6 +173,7 @@ module _ (d : SpiTable) (fits : FitsSpi d) (c : ℕ) (k : Channel) (e : channel_
       nothing_ready (Writing m p b i z) f = refl
       nothing_ready (Reading m b) f = refl
       nothing_ready (Debt u) f = refl
+      nothing_ready (Cleared u) f = refl
       nothing_ready Handling f = refl
       nothing_ready (Preparing ws rs z) f = absurd (cc)
 
@@ -177,15 +181,17 @@ module _ (d : SpiTable) (fits : FitsSpi d) (c : ℕ) (k : Channel) (e : channel_
       nothing_stored (Writing m p b i z) f = refl
       nothing_stored (Reading m b) f = refl
       nothing_stored (Debt u) f = refl
+      nothing_stored (Cleared u) f = refl
       nothing_stored Handling f = refl
       nothing_stored (Preparing ws rs z) f = absurd (cc)
 
-      no_debt : (y : Hold) (u : ℕ) → is_of_bank y ≡ true → is_debt u y ≡ false
-      no_debt (Writing m p b i z) u f = refl
-      no_debt (Reading m b) u f = refl
-      no_debt (Debt v) u f = absurd (cc)
-      no_debt Handling u f = absurd (cc)
-      no_debt (Preparing ws rs z) u f = absurd (cc)
+      owes_none : (y : Hold) (u : ℕ) (below : Bool) → is_of_bank y ≡ true → owes_by u y below ≡ below
+      owes_none (Writing m p b i z) u below f = refl
+      owes_none (Reading m b) u below f = refl
+      owes_none (Debt v) u below f = absurd (cc)
+      owes_none (Cleared v) u below f = absurd (cc)
+      owes_none Handling u below f = absurd (cc)
+      owes_none (Preparing ws rs z) u below f = absurd (cc)
 
   pub beside_back : (held held1 : Holds) → IsBeside held held1 → IsBeside held1 held
   beside_back held held1 h = record { puts = λ sources n r ne. sym (h.puts sources n r ne); takes = λ n ne. sym (h.takes n ne); prepares = sym h.prepares; readied = sym h.readied; stored = sym h.stored; owed = λ u. sym (h.owed u) }
@@ -309,6 +315,7 @@ none_readied d mode cs (x ∷ xs) on r =
   where
     one : (x : Held Call Hold) (y : Hold) → HeldRight d mode cs x y → (readied_by y ≡ []) × (is_preparing y ≡ false)
     one x (Debt u) r = (refl, refl)
+    one x (Cleared u) r = (refl, refl)
     one x Handling r = (refl, refl)
     one x (Writing n p b i y) r = (refl, refl)
     one x (Reading n b) r = (refl, refl)

@@ -31,7 +31,7 @@ use Rattle.spi_machine.specs.declared.call.Call.{Call}
 use Rattle.spi_machine.specs.declared.table.SpiTable.{SpiTable}
 use Rattle.spi_machine.proofs.Numbers.{same_or_other, item-same, item-other, channel-seen}
 use Rattle.spi_sequences.specs.Going.{Part, Going}
-use Rattle.spi_sequences.specs.Ground.{Hold, Debt, Handling, Writing, Reading, Preparing, Holds, HeldRight, AllRight, IsReady, or_rest, put_by, put_held, to_write, view, IsSoundState, RunsNext, RunAgrees, WordsAgree, set_up_code, SetUpFits, SpiAgrees}
+use Rattle.spi_sequences.specs.Ground.{Hold, Debt, Cleared, Handling, Writing, Reading, Preparing, Holds, HeldRight, AllRight, IsReady, or_rest, put_by, put_held, to_write, view, IsSoundState, RunsNext, RunAgrees, WordsAgree, set_up_code, SetUpFits, SpiAgrees}
 use Rattle.spi_sequences.specs.laws.Alike.{contains_map, words_alike}
 use Rattle.spi_sequences.specs.laws.Kept.{banks_view, next_view, sequences_as, sound_as}
 use Rattle.spi_sequences.specs.laws.Own.{own_set_up}
@@ -161,6 +161,7 @@ spared_by d mode cs c (x ∷ xs) none r = let parts = either_false (reads_from (
   where
     one : (x : Held Call Hold) (y : Hold) → reads_from (spi_setting d) c x.by ≡ false → HeldRight d mode cs x y → Spared c y
     one x (Debt u) f r = tt
+    one x (Cleared u) f r = tt
     one x Handling f r = tt
     one x (Writing n p b i y) f r = unequal n c (subst (λ o. reads_from (spi_setting d) c o ≡ false) r.0 f)
     one x (Reading n b) f r = tt
@@ -172,6 +173,7 @@ spared_none d mode cs c (x ∷ xs) none r = (one x x.what r.0, spared_none d mod
   where
     one : (x : Held Call Hold) (y : Hold) → HeldRight d mode cs x y → Spared c y
     one x (Debt u) r = tt
+    one x (Cleared u) r = tt
     one x Handling r = tt
     one x (Writing n p b i y) r = λ same. let f = sym (ap (λ m. is_some (channel_of d m)) same) ∙ r.3 in not_both (is_some (channel_of d c)) f none
     one x (Reading n b) r = tt
@@ -286,6 +288,7 @@ module _ (d : SpiTable) (fits : FitsSpi d) (held : Holds) (chip : Chip) (w : Wor
     where
       one : (x : Held Call Hold) (y : Hold) → Spared c y → HeldRight d s.mode s.channels x y → HeldRight d later.mode later.channels x y
       one x (Debt u) ne r = r
+      one x (Cleared u) ne r = r
       one x Handling ne r = r
       one x (Writing n p b i y) ne r = (r.0, subst (λ z. IsReady (to_write (channel_of d n) p z.source) i y) (sym (item-other untouched s.channels c n (filled ws (channel_of d c) (channel_at s c)) ne)) r.1, r.2, r.3)
       one x (Reading n b) ne r = r
@@ -298,6 +301,7 @@ module _ (d : SpiTable) (fits : FitsSpi d) (held : Holds) (chip : Chip) (w : Wor
     where
       one : (y : Hold) → Spared c y → put_by d (view later).sources n r y ≡ put_by d (view s).sources n r y
       one (Debt u) ne = refl
+      one (Cleared u) ne = refl
       one Handling ne = refl
       one (Writing m p b i y) ne = by (not r) (m == n) refl
         where

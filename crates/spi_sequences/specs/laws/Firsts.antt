@@ -41,6 +41,9 @@ pub record HoldsLike (d : SpiTable) (held held1 : Holds) : Type 0 where
   pub readied : readied_in held1 ≡ readied_in held
   pub stored : stored_in held1 ≡ stored_in held
 
+pub holds_back : (d : SpiTable) (held held1 : Holds) → HoldsLike d held held1 → HoldsLike d held1 held
+holds_back d held held1 h = record { puts = λ sources n r. sym (h.puts sources n r); takes = λ n. sym (h.takes n); prepares = sym h.prepares; readied = sym h.readied; stored = sym h.stored }
+
 pub holds_same : (d : SpiTable) (held : Holds) → HoldsLike d held held
 holds_same d held = record { puts = λ sources n r. refl; takes = λ n. refl; prepares = refl; readied = refl; stored = refl }
 
@@ -68,6 +71,30 @@ banks_held d held held1 going m v c k b h = record {
   readied_received = λ is. h.readied_received (subst (λ xs. Contains xs (c, true)) b.readied is);
   reads = h.reads ∙ sym (b.takes c);
   keeps = subst (λ o. PutRight going m (placed_of d c) o h.received.put) (sym (b.puts v.sources c true)) h.keeps;
+}
+
+-- what is held changes alone
+pub holds_changed : (d : SpiTable) (held held1 : Holds) (chip : Chip) (w : World) (s : SpiState) (h : SpiAgrees d held chip w s) → HoldsLike d held held1 → AllRight d s.mode s.channels held1 → AreOwed d held1 h.going s → SpiAgrees d held1 chip w s
+holds_changed d held held1 chip w s h like right owed = record {
+  right = right;
+  outside = h.outside;
+  wired = h.wired;
+  size = h.size;
+  sound = h.sound;
+  going = h.going;
+  nexts = h.nexts;
+  units = h.units;
+  words = record {
+    state = h.words.state;
+    on = h.words.on;
+    banks = λ c k known internal. banks_held d held held1 h.going (word_of chip) (view s) c k like (h.words.banks c k known internal);
+    stored = λ j v is. h.words.stored j v (subst (λ xs. Contains xs (j, v)) like.stored is);
+  };
+  set_ups = h.set_ups;
+  sizes = h.sizes;
+  arrays = h.arrays;
+  lines = h.lines;
+  owed = owed;
 }
 
 -- a chip that differs in driver words stands in the world

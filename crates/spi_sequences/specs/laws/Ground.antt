@@ -21,7 +21,7 @@ use Rattle.mcal_base.specs.declared.moves.Move.TheVariants.{Read, Write, Load, S
 use Rattle.mcal_base.specs.declared.moves.Unit as units
 use Rattle.mcal_base.specs.declared.moves.Unit.TheVariants.{Adc0, Adc1, Spi0, Spi1}
 use Rattle.mcal_base.specs.declared.register.Reg.{Reg}
-use Rattle.mcal_base.specs.declared.register.Reg.TheVariants.{EnableSet, EnableClear, TimerLow, CaptureCountLow, CaptureTimeLow, ConverterAbort, SerialSelect, SerialWidth, SerialData, SerialAck, ClockPll, ClockRate, ResetRequest}
+use Rattle.mcal_base.specs.declared.register.Reg.TheVariants.{EnableSet, EnableClear, TimerLow, CaptureCountLow, CaptureTimeLow, ConverterAbort, SerialSelect, SerialWidth, SerialData, SerialAck, ClockPll, ClockRate, ResetRequest, PinFlip}
 use Rattle.run_model.specs.Frame.{Called, is_shared, resets_chip}
 use Rattle.run_model.specs.Machine.{tells_nothing, outcome}
 use Rattle.run_model.specs.Moment.{reads_from}
@@ -44,7 +44,7 @@ use Rattle.spi_machine.specs.declared.call.Call.TheVariants.{Init}
 use Rattle.spi_machine.specs.declared.table.SpiTable.{SpiTable}
 use Rattle.spi_machine.proofs.Acts.{act-leaves}
 use Rattle.spi_sequences.specs.Going.{Going, UnitAgrees, InTransfer}
-use Rattle.spi_sequences.specs.Ground.{Holds, has_lines, owns_written, spi_owns, view, RunsNext, SpiAgrees, spi_bare}
+use Rattle.spi_sequences.specs.Ground.{Holds, has_lines, owns_written, spi_owns, view, RunsNext, SpiAgrees, spi_bare, is_owed}
 use Rattle.spi_sequences.specs.laws.Filled.{fill_agrees, not_both, spared_by, spared_none}
 use Rattle.spi_sequences.specs.laws.Fresh.{by_two, none_in, reset_agrees}
 use Rattle.spi_sequences.specs.laws.Later.{done_same, fault_agrees, same_agrees}
@@ -101,6 +101,7 @@ read_apart chip (TimerLow c) = refl
 read_apart chip (CaptureCountLow c) = refl
 read_apart chip (CaptureTimeLow c) = refl
 read_apart chip (ConverterAbort u) = refl
+read_apart chip (PinFlip p) = refl
 read_apart chip _ = refl
 
 written_apart : (chip : Chip) (r : Reg) (v received : ℕ) → owns_written r v ≡ false → (chip_after chip (Write r v) received).serials ≡ chip.serials
@@ -147,6 +148,7 @@ read_enabled chip (TimerLow c) = refl
 read_enabled chip (CaptureCountLow c) = refl
 read_enabled chip (CaptureTimeLow c) = refl
 read_enabled chip (ConverterAbort u) = refl
+read_enabled chip (PinFlip p) = refl
 read_enabled chip _ = refl
 
 enabled_apart : (d : SpiTable) (chip : Chip) (made : Move) (received u : ℕ) → spi_owns d made ≡ false → u < 2 → has_bit (chip_after chip made received).control.enabled (26 + u) ≡ has_bit chip.control.enabled (26 + u)
@@ -358,14 +360,14 @@ used_line d line e = by (line == 26) (line == 27) refl refl
     by false true i j = ap (λ b. b || line == 27) i ∙ j
     by false false i j = absurd (let at : unit_of line ≡ None = ap (λ b. if b then Some 0 else if line == 27 then Some 1 else None) i ∙ ap (λ b. if b then Some 1 else None) j in let g = sym e ∙ ap (uses_by d) at in cc)
 
--- at rest no unit waits for a start
-waits_none : (d : SpiTable) (chip : Chip) (w : World) (s : SpiState) (u : ℕ) → u < 2 → (fits : FitsSpi d) → SpiAgrees d [] chip w s → is_some (next_at d s (Some u)) ≡ false
-waits_none d chip w s u lt fits h = by (is_off s.mode) (run_at s u) refl
+-- no unit waits to which no start is owed
+pub waits_none : (d : SpiTable) → FitsSpi d → (held : Holds) (chip : Chip) (w : World) (s : SpiState) (u : ℕ) → u < 2 → is_owed u held ≡ false → SpiAgrees d held chip w s → is_some (next_at d s (Some u)) ≡ false
+waits_none d fits held chip w s u lt free h = by (is_off s.mode) (run_at s u) refl
   where
     by : (q : Bool) (r : Option Run) → run_at s u ≡ r → is_some (if q then None else next_by d s u r) ≡ false
     by true r e = refl
     by false (Some r) e = refl
-    by false None e = ap is_some (none_for d fits [] chip w s h u (λ p there for. let owed = h.owed u p lt (idle (h.going u) refl) there for in cc))
+    by false None e = ap is_some (none_for d fits held chip w s h u (λ p there for. let owed = sym free ∙ h.owed u p lt (idle (h.going u) refl) there for in cc))
       where
         idle : (g : Option Going) → h.going u ≡ g → h.going u ≡ None
         idle None i = i
@@ -374,8 +376,8 @@ waits_none d chip w s u lt fits h = by (is_off s.mode) (run_at s u) refl
 waits : (d : SpiTable) → FitsSpi d → (chip : Chip) (w : World) (s : SpiState) (u : units.Unit) → SpiAgrees d [] chip w s → is_some (next_at d s (number_of u)) ≡ false
 waits d fits chip w s Adc0 h = refl
 waits d fits chip w s Adc1 h = refl
-waits d fits chip w s Spi0 h = waits_none d chip w s 0 (omega arith) fits h
-waits d fits chip w s Spi1 h = waits_none d chip w s 1 (omega arith) fits h
+waits d fits chip w s Spi0 h = waits_none d fits [] chip w s 0 (omega arith) refl h
+waits d fits chip w s Spi1 h = waits_none d fits [] chip w s 1 (omega arith) refl h
 
 pub bare_right : (d : SpiTable) → FitsSpi d → IsBasis (spi_bare d)
 bare_right d fits = record {
@@ -388,6 +390,9 @@ bare_right d fits = record {
   owns_plain = λ o made e. owned_plain d made e;
   may_there = λ o made e. move_there made (may_parts d made e).1;
   enables = λ o bits line e other. other_line bits line (both_of (is_for_lines bits) true e).0 other;
+  loads = λ origin value h. h;
+  watched = λ held gap chip w s has osc h. cc;
+  unwatched = λ w s none. refl;
   owns_called = λ line made e. (Init, e);
   used_lines = λ line e. used_line d line e;
   due_used = λ held chip w s line h e. due_used d fits held chip w s h line e;

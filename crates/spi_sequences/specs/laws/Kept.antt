@@ -12,7 +12,7 @@ use Rattle.spi_machine.specs.Wiring.{placed_of}
 use Rattle.spi_machine.specs.declared.call.Call.{Call}
 use Rattle.spi_machine.specs.declared.table.SpiTable.{SpiTable}
 use Rattle.spi_sequences.specs.Going.{Going}
-use Rattle.spi_sequences.specs.Ground.{AllRight, Debt, Handling, HeldRight, Hold, Holds, IsReady, Preparing, Reading, View, Writing, IsSoundState, PutRight, RunsNext, SequencesAgree, BanksAgree, put_held, to_write}
+use Rattle.spi_sequences.specs.Ground.{AllRight, Cleared, Debt, Handling, HeldRight, Hold, Holds, IsReady, Preparing, Reading, View, Writing, IsSoundState, PutRight, RunsNext, SequencesAgree, BanksAgree, put_held, to_write}
 
 -- a state in another mode, and with other words in its channels
 abbrev pub viewed_as : View → Mode → (written received sources : ℕ → List ℕ) → View
@@ -67,6 +67,7 @@ right_as d mode cs later like (x ∷ xs) r = (one x x.what r.0, right_as d mode 
   where
     one : (x : Held Call Hold) (y : Hold) → HeldRight d mode cs x y → HeldRight d mode later x y
     one x (Debt u) r = r
+    one x (Cleared u) r = r
     one x Handling r = r
     one x (Writing c p b i y) r = (r.0, subst (λ xs. IsReady (to_write (channel_of d c) p xs) i y) (sym (like c)) r.1, r.2, r.3)
     one x (Reading c b) r = r

@@ -91,12 +91,15 @@ module _ (now : ℕ) where
     pub running_same : is_running faulted_state ≡ is_running s
     running_same = pointwise (is_running faulted_state) (is_running s) (λ q. any_changed (runs_sequence q) None s.units u (faulted_run now (run_at s u)) refl (runs_same q (run_at s u)))
 
-    free_same : (view faulted_state).idle ≡ (view s).idle
-    free_same = pointwise (view faulted_state).idle (view s).idle (λ n. ap not (by n (same_or_other n u)))
+    pub runs_alike : (n : ℕ) → is_some (run_at faulted_state n) ≡ is_some (run_at s n)
+    runs_alike n = by n (same_or_other n u)
       where
         by : (n : ℕ) → (n ≡ u) ⊎ (n ≢ u) → is_some (run_at faulted_state n) ≡ is_some (run_at s n)
         by n (inl e) = subst (λ k. is_some (run_at faulted_state k) ≡ is_some (run_at s k)) (sym e) (ap is_some (item-same None s.units u (faulted_run now (run_at s u))) ∙ idle_same (run_at s u))
         by n (inr ne) = ap is_some (item-other None s.units u n (faulted_run now (run_at s u)) ne)
+
+    free_same : (view faulted_state).idle ≡ (view s).idle
+    free_same = pointwise (view faulted_state).idle (view s).idle (λ n. ap not (runs_alike n))
 
     view_same : view faulted_state ≡ view s
     view_same = ap (λ f. record (view faulted_state) { running = f }) running_same ∙ ap (λ f. record (view s) { idle = f }) free_same
@@ -173,6 +176,11 @@ pub running_later : (d : SpiTable) (w : World) (s : SpiState) (order : Order) �
 running_later d w s (Fill c ws) = refl
 running_later d w s (SpiFault u) = running_same w.now s u
 running_later d w s order = refl
+
+pub runs_later : (d : SpiTable) (w : World) (s : SpiState) (order : Order) (u : ℕ) → is_some (run_at (moved d w s order) u) ≡ is_some (run_at s u)
+runs_later d w s (Fill c ws) u = refl
+runs_later d w s (SpiFault n) u = runs_alike w.now s n u
+runs_later d w s order u = refl
 
 pub pending_later : (d : SpiTable) (w : World) (s : SpiState) (order : Order) → (moved d w s order).pending ≡ s.pending
 pending_later d w s (Fill c ws) = refl

@@ -59,7 +59,7 @@ use Rattle.spi_sequences.specs.declared.service.start.Started.{Started}
 use Rattle.spi_sequences.specs.declared.service.start.Started.TheVariants as started
 use Rattle.spi_sequences.specs.declared.service.serve.ServeStep.TheVariants as steps
 use Rattle.spi_sequences.specs.declared.service.unit.Errand.{Errand}
-use Rattle.spi_sequences.specs.declared.service.unit.Errand.TheVariants.{Transmit, Handler, Main}
+use Rattle.spi_sequences.specs.declared.service.unit.Errand.TheVariants.{Transmit, Handler, Main, Rest}
 use Rattle.spi_sequences.specs.declared.service.unit.UnitBody.{UnitBody}
 use Rattle.spi_sequences.specs.declared.service.unit.UnitPlace.{UnitPlace}
 use Rattle.spi_sequences.specs.declared.service.unit.UnitPlace.TheVariants as units
@@ -172,6 +172,7 @@ ServeLess k n r = Less n (unless_done (after_serve k r).1.done (unit_owed (after
 over_less : (k : UnitBody) (p : UnitPlace) (n : ℕ) (e : Errand) (u : ℕ) → Less n (unless_done (unit_over k p e u).1.done (unit_owed (unit_over k p e u).0))
 over_less k p n Main zero = tt
 over_less k p n Main (suc u) = tt
+over_less k p n Rest u = tt
 over_less k p n Handler u = tt
 over_less k p n (Transmit q) u = tt
 

@@ -40,7 +40,7 @@ use Rattle.spi_machine.specs.declared.call.Pointer.{Pointer}
 use Rattle.spi_machine.specs.declared.table.SpiTable.{SpiTable}
 use Rattle.spi_machine.proofs.Numbers.{same_or_other, item-same, item-other, channel-seen}
 use Rattle.spi_sequences.specs.Going.{Part, Going}
-use Rattle.spi_sequences.specs.Ground.{Hold, Debt, Handling, Writing, Reading, Preparing, Holds, HeldRight, AllRight, stored_by, stored_in, view, IsSoundState, RunsNext, WordsAgree, set_up_code, ChannelFits, SetUpFits, SpiAgrees}
+use Rattle.spi_sequences.specs.Ground.{Hold, Debt, Cleared, Handling, Writing, Reading, Preparing, Holds, HeldRight, AllRight, stored_by, stored_in, view, IsSoundState, RunsNext, WordsAgree, set_up_code, ChannelFits, SetUpFits, SpiAgrees}
 use Rattle.spi_sequences.specs.Owed.{spi_basis}
 use Rattle.spi_sequences.specs.declared.service.set_up.SetUpBody.{SetUpBody}
 use Rattle.spi_sequences.specs.declared.service.set_up.SetUpBody.TheVariants as set_up
@@ -60,6 +60,7 @@ none_stored d mode cs (x ∷ xs) on r = flat_map-cons (λ h. stored_by h.what) x
   where
     one : (x : Held Call Hold) (y : Hold) → HeldRight d mode cs x y → stored_by y ≡ []
     one x (Debt u) r = refl
+    one x (Cleared u) r = refl
     one x Handling r = refl
     one x (Writing n p b i y) r = refl
     one x (Reading n b) r = refl

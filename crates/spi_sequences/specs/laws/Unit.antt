@@ -28,7 +28,7 @@ use Rattle.spi_sequences.specs.declared.service.start.Started.TheVariants as sta
 use Rattle.spi_sequences.specs.declared.service.unit.After.{After}
 use Rattle.spi_sequences.specs.declared.service.unit.After.TheVariants as after
 use Rattle.spi_sequences.specs.declared.service.unit.Errand.{Errand}
-use Rattle.spi_sequences.specs.declared.service.unit.Errand.TheVariants.{Transmit, Handler, Main}
+use Rattle.spi_sequences.specs.declared.service.unit.Errand.TheVariants.{Transmit, Handler, Main, Rest}
 use Rattle.spi_sequences.specs.declared.service.unit.UnitBody.{UnitBody}
 use Rattle.spi_sequences.specs.declared.service.unit.UnitPlace.{UnitPlace}
 use Rattle.spi_sequences.specs.declared.service.unit.UnitPlace.TheVariants as place
@@ -42,6 +42,7 @@ abbrev pub requested_by : Errand → ℕ
 requested_by (Transmit q) = q
 requested_by Handler = 0
 requested_by Main = 0
+requested_by Rest = 0
 
 abbrev pub unit_move : UnitBody → UnitPlace → Move
 unit_move k (place.Request r) = request_move (requested_by k.errand) r
@@ -76,10 +77,17 @@ abbrev pub told_next : Option Notice → UnitPlace
 told_next None = place.Start start.Shut
 told_next (Some n) = place.Tell n None
 
+-- what is left of both units after the first one: it was served where a further word or a start was the last thing there
+abbrev pub rest_after : UnitPlace → Errand
+rest_after (place.Serve (serve.Stand p)) = Rest
+rest_after (place.Start p) = Rest
+rest_after _ = Main
+
 -- the unit has what it needs: the frame ends, or goes on with the other unit
 abbrev pub unit_over : UnitBody → UnitPlace → Errand → (number : ℕ) → UnitBody × BodyTaken
-unit_over k p Main zero = (record k { unit = 1; place = place.Opens after.Serve }, goes)
+unit_over k p Main zero = (record k { errand = rest_after p; unit = 1; place = place.Opens after.Serve }, goes)
 unit_over k p Main (suc u) = (unit_at k p, ends None no_answer Nothing)
+unit_over k p Rest u = (unit_at k p, ends None no_answer Nothing)
 unit_over k p Handler u = (unit_at k p, ends None no_answer Nothing)
 unit_over k p (Transmit q) u = (unit_at k p, ends None (named EOk) Nothing)
 

@@ -20,6 +20,8 @@ pub enum Errand {
     Handler,
     /// `Spi_MainFunction_Handling` in polling mode: the same of both units.
     Main,
+    /// The same of the second unit, where the first one's line was served.
+    Rest,
 }
 
 /// What is done after the mask was opened.
@@ -125,7 +127,7 @@ impl UnitBody {
     {
         match self.errand {
             Errand::Transmit(sequence) => sequence,
-            Errand::Handler | Errand::Main => 0,
+            Errand::Handler | Errand::Main | Errand::Rest => 0,
         }
     }
 
@@ -151,6 +153,16 @@ impl UnitBody {
         acts_with(named(AnswerName::ENotOk), owed)
     }
 
+    /// What is left of both units after the first one: it was served where a further word or a start was the last thing there.
+    fn rest(&self) -> Errand
+        ensures { result ≡ spec.rest_after self.now.place }
+    {
+        match &self.place {
+            UnitPlace::Serve(ServePlace::Stand(_)) | UnitPlace::Start(_) => Errand::Rest,
+            _ => Errand::Main,
+        }
+    }
+
     /// The unit has what it needs: the frame ends, or goes on with the other unit.
     fn over(&mut self) -> BodyTaken
         ensures state { self.new ≡ (spec.unit_over self.old self.old.place self.old.errand self.old.unit).0 }
@@ -158,10 +170,11 @@ impl UnitBody {
     {
         match self.errand {
             Errand::Main if self.unit == 0 => {
+                self.errand = self.rest();
                 self.unit = 1;
                 self.opens(After::Serve)
             }
-            Errand::Main | Errand::Handler => ends(None, nothing(), Owed::Nothing),
+            Errand::Main | Errand::Rest | Errand::Handler => ends(None, nothing(), Owed::Nothing),
             Errand::Transmit(_) => ends(None, named(AnswerName::EOk), Owed::Nothing),
         }
     }

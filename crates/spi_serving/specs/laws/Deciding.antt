@@ -21,6 +21,7 @@ use Rattle.spi_machine.specs.State.{SpiState, run_at}
 use Rattle.spi_machine.specs.Transfers.{Run, is_done}
 use Rattle.spi_machine.specs.declared.table.SpiTable.{SpiTable}
 use Rattle.spi_sequences.specs.Ground.{Holds, SpiAgrees}
+use Rattle.spi_sequences.specs.Owed.{serve_owes}
 use Rattle.spi_sequences.specs.Words.{cancelled_bit, has_mark, position_in, position_word, run_in, running_word}
 use Rattle.spi_sequences.specs.declared.service.serve.Arrived.{Arrived}
 use Rattle.spi_sequences.specs.declared.service.serve.ServePlace.{ServePlace}
@@ -55,7 +56,7 @@ module _ (d : SpiTable) (fits : FitsSpi d) (below : Holds) (chip : Chip) (w : Wo
   -- a step without an event goes on at a place, or nothing was there to serve
   abbrev pub Decided : Chip → ServePlace × ServeStep → Type 0
   Decided c (p, Goes None) = SpiAgrees d below c w s × serve_place d u p (footing c) w s
-  Decided c (p, Over) = SpiAgrees d below c w s × (ready w s (26 + u) ≡ false)
+  Decided c (p, Over) = SpiAgrees d below c w s × (ready w s (26 + u) ≡ false) × (serve_owes p ≡ false)
   Decided c (p, _) = ⊥
 
   pub state_decides : Decided chip (serve_takes d u serve.State (serials.state (unit_at chip.serials u) chip.serials.time))
@@ -71,7 +72,7 @@ module _ (d : SpiTable) (fits : FitsSpi d) (below : Holds) (chip : Chip) (w : Wo
           (subst (λ q. Decided chip (if not a then (serve.State, Over) else (serve.Running q, Goes None))) (sym (says.1 ∙ f)) (split a e b f))
         where
           split : (a : Bool) → serials.is_done (unit_at chip.serials u) chip.serials.time ≡ a → (b : Bool) → serials.is_failed (unit_at chip.serials u) chip.serials.time ≡ b → Decided chip (if not a then (serve.State, Over) else (serve.Running b, Goes None))
-          split false e b f = (h, not_ready d fits below chip w s h u few (sym (done_alike d fits below chip w s h u few) ∙ e))
+          split false e b f = (h, not_ready d fits below chip w s h u few (sym (done_alike d fits below chip w s h u few) ∙ e), refl)
           split true e b f = (h, state_done d fits below chip w s h u few b (sym (done_alike d fits below chip w s h u few) ∙ e) f)
 
   pub running_decides : (bad : Bool) → IsDone s w.now u bad → Decided chip (serve_takes d u (serve.Running bad) (word_of chip (running_word u)))

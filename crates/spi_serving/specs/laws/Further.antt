@@ -7,10 +7,12 @@ use Rattle.chip_model.specs.Chip.{Chip, chip_after, word_of}
 use Rattle.chip_units.specs.Serials as serials
 use Rattle.chip_units.specs.Serials.{unit_at}
 use Rattle.mcal_base.specs.Layout.{place_of}
+use Rattle.mcal_base.specs.declared.answer.Answer.{Answer}
 use Rattle.mcal_base.specs.declared.layout.Array.TheVariants.{Destination}
 use Rattle.mcal_base.specs.declared.layout.TheConstants.{SOURCES}
 use Rattle.mcal_base.specs.declared.moves.Move.TheVariants.{Store, Write}
 use Rattle.mcal_base.specs.declared.register.Reg.TheVariants.{SerialData}
+use Rattle.run_model.specs.Frame.{Origin}
 use Rattle.run_model.specs.Legal.{SendsRight}
 use Rattle.run_model.specs.Machine.{Begun, Serves, outcome_with}
 use Rattle.run_model.specs.Outside.{StandsIn}
@@ -42,8 +44,9 @@ use Rattle.spi_machine.specs.Table.{channel_of, length_by}
 use Rattle.spi_machine.specs.Transfers.{Goes, JobWord, Nowhere, Run, ToChannel, ToDestination, Transfer, begins, begun, goes_on, masked, on_wire, received_with}
 use Rattle.spi_machine.specs.Transfers as transfers
 use Rattle.spi_machine.specs.Wiring.{placed_of}
+use Rattle.spi_machine.specs.declared.call.Call.{Call}
 use Rattle.spi_machine.specs.declared.table.SpiTable.{SpiTable}
-use Rattle.spi_machine.proofs.Numbers.{same_or_other}
+use Rattle.spi_machine.proofs.Numbers.{item-same, same_or_other}
 use Rattle.spi_sequences.specs.Going.{ExternalAgrees, Going, InTransfer, PartBy, UnitAgrees, goes_by, run_of}
 use Rattle.spi_sequences.specs.Ground.{Holds, SpiAgrees}
 use Rattle.spi_sequences.specs.Owed.{Units, spi_owing, unit_owed, unless_done}
@@ -52,12 +55,13 @@ use Rattle.spi_sequences.specs.declared.service.serve.Arrived.{Arrived}
 use Rattle.spi_sequences.specs.declared.service.serve.ServePlace.{ServePlace}
 use Rattle.spi_sequences.specs.declared.service.serve.ServePlace.TheVariants as serve
 use Rattle.spi_sequences.specs.declared.service.unit.Errand.{Errand}
-use Rattle.spi_sequences.specs.declared.service.unit.Errand.TheVariants.{Transmit, Handler, Main}
+use Rattle.spi_sequences.specs.declared.service.unit.Errand.TheVariants.{Transmit, Handler, Main, Rest}
 use Rattle.spi_sequences.specs.declared.service.unit.UnitBody.{UnitBody}
 use Rattle.spi_sequences.specs.declared.service.unit.UnitPlace.{UnitPlace}
 use Rattle.spi_sequences.specs.declared.service.unit.UnitPlace.TheVariants as units
 use Rattle.spi_sequences.specs.declared.words.Position.{Position}
 use Rattle.spi_sequences.specs.laws.Cancelling.{IsFound, found_entry}
+use Rattle.spi_sequences.specs.laws.Cleared.{cleared_of, clears}
 use Rattle.spi_sequences.specs.laws.Filled.{own_low}
 use Rattle.spi_sequences.specs.laws.Own.{destination_own, has_channel, of_sixteen, own_first, own_held}
 use Rattle.spi_sequences.specs.laws.Said.{is_number, is_there, one_pending}
@@ -86,6 +90,7 @@ serving d e u q = record { table = d; errand = e; unit = u; place = units.Serve 
 pub over_none : (k : UnitBody) (q : UnitPlace) (e : Errand) (n : ℕ) → unless_done (unit_over k q e n).1.done (unit_owed (unit_over k q e n).0) ≡ None
 over_none k q Main zero = refl
 over_none k q Main (suc n) = refl
+over_none k q Rest n = refl
 over_none k q Handler n = refl
 over_none k q (Transmit r) n = refl
 
@@ -234,9 +239,6 @@ module _ (d : SpiTable) (fits : FitsSpi d) (below : Holds) (chip : Chip) (w : Wo
 
   -- ---- the moves that are owed
 
-  abbrev pub Done : Chip → Type 0
-  Done c = SpiAgrees d below c w state1
-
   abbrev Lets : Chip → Type 0
   Lets c = IsLet d fits below chip w s h under.on u few going under.is at p next follows came c
 
@@ -255,17 +257,20 @@ module _ (d : SpiTable) (fits : FitsSpi d) (below : Holds) (chip : Chip) (w : Wo
   own_position : may d (Store (position_word u) (packed_position p)) ≡ true
   own_position = may_store d fits (position_word u) (packed_position p) (own_first d (position_word u) (omega arith) (omega (arith, few)))
 
-  module _ (e : Errand) where
+  module _ (e : Errand) (owner : Origin Call) (acted : Option Answer) where
+    abbrev Done : Chip → Type 0
+    Done c = SpiAgrees d (cleared_of u owner acted ∷ below) c w state1
+
     abbrev Owes : ServePlace → Chip → Type 0
     Owes q c = (n : ℕ) × Settles (spi_owing d) n (Units (serving d e u q)) c Done
 
     stand : (c : Chip) → Keeps c → IsAfter c → ((n j : ℕ) → j < length_by (channel_of d n) → word_of c (place_of (Destination n) j) ≡ word_at (slice_index_or channels n untouched).destination j) → Owes (serve.Stand p) c
     stand c kept rest destinations = one_owed (spi_owing d) Done (Units (serving d e u (serve.Stand p))) c None own_position tt (over_none (serving d e u (serve.Stand p)) (units.Serve (serve.Stand p)) e u)
-        (begun_agrees d fits below chip w s h under.on u few going under.is at p next follows came final (words_after d fits below chip w s h under.on u few going under.is at p next follows came c kept) later_run channels wires run by.done.is refl (stored_like s stored_word stored_word.goes run.transfer.incoming)
+        (clears d below final w state1 u owner acted fits (begun_agrees d fits below chip w s h under.on u few going under.is at p next follows came final (words_after d fits below chip w s h under.on u few going under.is at p next follows came c kept) later_run channels wires run by.done.is refl (stored_like s stored_word stored_word.goes run.transfer.incoming)
         (stands-move c w (Store (position_word u) (packed_position p)) 0 kept.outside) rest.wiring rest.control (ap (λ x. length x.units) rest.serials ∙ length-set chip.serials.units u _ ∙ h.size)
         (subst (λ x. UnitAgrees d (unit_at x u) (Some later_run) (Some (moved_on going p came))) (sym rest.serials) unit1)
         (λ n ne. ap (λ x. unit_at x n) rest.serials ∙ unit_other chip u n (serials.begun y chip.serials.time (unit_at chip.serials u)) ne)
-        (λ n j lt. stored_other c (position_word u) (packed_position p) 0 (place_of (Destination n) j) (λ f. omega (arith, f, few)) ∙ destinations n j lt))
+        (λ n j lt. stored_other c (position_word u) (packed_position p) 0 (place_of (Destination n) j) (λ f. omega (arith, f, few)) ∙ destinations n j lt)) (λ q none also for. let runs = sym (item-same None s.units u (Some later_run)) ∙ none in cc))
       where
         final : Chip
         final = chip_after c (Store (position_word u) (packed_position p)) 0

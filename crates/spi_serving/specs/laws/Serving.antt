@@ -33,6 +33,7 @@ use Rattle.spi_sequences.specs.declared.service.serve.ServeStep.{ServeStep}
 use Rattle.spi_sequences.specs.declared.service.serve.ServeStep.TheVariants.{Goes, JobOver, Over}
 use Rattle.spi_sequences.specs.declared.service.unit.Errand.{Errand}
 use Rattle.spi_sequences.specs.declared.words.Position.{Position}
+use Rattle.spi_sequences.specs.laws.Cleared.{cleared_of}
 use Rattle.spi_sequences.specs.laws.Serve.{channel_next, channel_served, is_last_place, keep_of, lets_of, lets_with, serve_move, serve_takes}
 use Rattle.spi_serving.specs.Serving.{asked_word, IsFinding, notices_by, serve_ahead, serve_place}
 use Rattle.spi_serving.specs.laws.Deciding.{Decided, asks_load, find_decides, footing, marks_decides, nexts_decides, position_decides, receive_decides, running_decides, state_decides, taker_decides, width_decides}
@@ -41,9 +42,9 @@ use Rattle.spi_serving.specs.laws.Freed.{start_owed}
 use Rattle.spi_serving.specs.laws.Further.{further_is, further_owes, further_sends, serving, state1, word1}
 use Rattle.spi_serving.specs.laws.JobOver.{job_owes, over_is, state3}
 
--- What is owed after the event: to a further word nothing else, and to a job's end a start, and its notices.
+-- What is owed after the event: to a further word nothing else, since it clears the unit, and to a job's end a start, and its notices.
 abbrev pub ServeOwes : SpiTable → Errand → Holds → (number : ℕ) → (after : Chip) → World → (state : SpiState) → List Notice → ServePlace → (ahead : Option (List Notice)) → Type 0
-ServeOwes d e below u after w state ns p None = (ns ≡ []) × ((n : ℕ) × Settles (spi_owing d) n (Units (serving d e u p)) after (λ c. SpiAgrees d below c w state))
+ServeOwes d e below u after w state ns p None = (ns ≡ []) × ((owner : Origin Call) (acted : Option Answer) → (n : ℕ) × Settles (spi_owing d) n (Units (serving d e u p)) after (λ c. SpiAgrees d (cleared_of u owner acted ∷ below) c w state))
 ServeOwes d e below u after w state ns p (Some told) = (ns ≡ told) × ((owner : Origin Call) (acted : Option Answer) → (n : ℕ) × Settles (spi_owing d) n (Units (serving d e u p)) after (λ c. SpiAgrees d (start_owed u owner acted ∷ below) c w state))
 
 -- the word is served: a further one begins or the job ends, and the rest of the window is owed
@@ -60,7 +61,7 @@ pub record ServeHappens (d : SpiTable) (e : Errand) (below : Holds) (u : ℕ) (b
 -- what such a step leaves
 abbrev pub Leaves : SpiTable → Errand → Holds → (number : ℕ) → (before after : Chip) → World → SpiState → Move → (received : ℕ) → ServePlace × ServeStep → Type 0
 Leaves d e below u before after w s made received (p, Goes None) = SpiAgrees d below after w s × serve_place d u p (footing after) w s × (serve_owes p ≡ false)
-Leaves d e below u before after w s made received (p, Over) = SpiAgrees d below after w s × (ready w s (26 + u) ≡ false)
+Leaves d e below u before after w s made received (p, Over) = SpiAgrees d below after w s × (ready w s (26 + u) ≡ false) × (serve_owes p ≡ false)
 Leaves d e below u before after w s made received (p, JobOver x) = ⊥
 Leaves d e below u before after w s made received (p, Goes (Some x)) = ServeHappens d e below u before after w s made received p x
 
@@ -141,7 +142,7 @@ module _ (d : SpiTable) (fits : FitsSpi d) (e : Errand) (below : Holds) (chip : 
     is_serve = refl;
     sends = further_sends d fits below chip w s h u few a p v y i wide word;
     owing = lets_owing a p;
-    owes = subst (λ o. ServeOwes d e below u (chip_after chip (serve_move d u (serve.Begin a p v)) y) w (state1 d fits below chip w s h u few a p v y i wide word) [] (lets_of d a p) o) (sym (lets_ahead a p)) (refl, further_owes d fits below chip w s h u few a p v y i wide word e);
+    owes = subst (λ o. ServeOwes d e below u (chip_after chip (serve_move d u (serve.Begin a p v)) y) w (state1 d fits below chip w s h u few a p v y i wide word) [] (lets_of d a p) o) (sym (lets_ahead a p)) (refl, λ owner acted. further_owes d fits below chip w s h u few a p v y i wide word e owner acted);
   }
   steps_right (serve.Marks a) f k i = decided chip (serve_move d u (serve.Marks a)) (serve_takes d u (serve.Marks a) (value_of chip (serve_move d u (serve.Marks a)))) (marks_decides d fits below chip w s h u few a i)
   steps_right (serve.Nexts a c) f k i = decided chip (serve_move d u (serve.Nexts a c)) (serve_takes d u (serve.Nexts a c) (value_of chip (serve_move d u (serve.Nexts a c)))) (nexts_decides d fits below chip w s h u few a c i.0 i.1)

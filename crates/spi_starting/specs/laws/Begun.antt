@@ -45,6 +45,7 @@ use Rattle.spi_sequences.specs.declared.words.TheConstants.{MARKS, NEXTS}
 use Rattle.spi_sequences.specs.laws.Banked.{not_first}
 use Rattle.spi_sequences.specs.laws.Cancelling.{from_order, named_own, order_there, own_order, to_order}
 use Rattle.spi_sequences.specs.laws.Choosing.{choice_next, number_of}
+use Rattle.spi_sequences.specs.laws.Cleared.{cleared_of}
 use Rattle.spi_sequences.specs.laws.Filled.{any_in}
 use Rattle.spi_sequences.specs.laws.Own.{own_first}
 use Rattle.spi_sequences.specs.laws.Ended.{get_contained}
@@ -80,7 +81,7 @@ module _ (d : SpiTable) (fits : FitsSpi d) (below : Holds) (owner : Origin Call)
   at x = Units (starting d errand u x)
 
   abbrev Done : Chip → Type 0
-  Done c = SpiAgrees d below c w after
+  Done c = SpiAgrees d (cleared_of u owner acted ∷ below) c w after
 
   abbrev Settling : StartPlace → Chip → Type 0
   Settling x c = Comes (spi_owing d) (Some (at x)) c Done

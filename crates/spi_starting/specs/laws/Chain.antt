@@ -45,13 +45,14 @@ use Rattle.spi_sequences.specs.declared.service.start.StartPlace.{StartPlace}
 use Rattle.spi_sequences.specs.declared.service.start.StartPlace.TheVariants as start
 use Rattle.spi_sequences.specs.declared.service.start.Started.{Started}
 use Rattle.spi_sequences.specs.declared.service.unit.Errand.{Errand}
-use Rattle.spi_sequences.specs.declared.service.unit.Errand.TheVariants.{Transmit, Handler, Main}
+use Rattle.spi_sequences.specs.declared.service.unit.Errand.TheVariants.{Transmit, Handler, Main, Rest}
 use Rattle.spi_sequences.specs.declared.service.unit.UnitBody.{UnitBody}
 use Rattle.spi_sequences.specs.declared.service.unit.UnitPlace.{UnitPlace}
 use Rattle.spi_sequences.specs.declared.service.unit.UnitPlace.TheVariants as units
 use Rattle.spi_sequences.specs.declared.words.Running.{Running}
 use Rattle.spi_sequences.specs.laws.Banked.{differs_by_store, some_is, trio_fits}
 use Rattle.spi_sequences.specs.laws.Cancelling.{from_order, named_own}
+use Rattle.spi_sequences.specs.laws.Cleared.{cleared_of, clears}
 use Rattle.spi_sequences.specs.laws.Ended.{get_contained}
 use Rattle.spi_sequences.specs.laws.Filled.{own_low}
 use Rattle.spi_sequences.specs.laws.FirstParts.{as_read, held_is}
@@ -63,6 +64,7 @@ use Rattle.spi_sequences.specs.laws.Unit.{after_start, unit_over}
 use Rattle.spi_starting.specs.laws.Agrees.{ran_agrees}
 use Rattle.spi_starting.specs.laws.Along.{along_first, along_held, along_sent, before, lt_else, lt_here, lt_not, upto}
 use Rattle.spi_starting.specs.laws.Chosen.{count_is, first_there, number_at}
+use Rattle.spi_starting.specs.laws.Goes.{run_here}
 use Rattle.spi_starting.specs.laws.Pinned.{the_job}
 use Rattle.spi_starting.specs.laws.Quiet.{channel_there, quiet_set_up}
 use Rattle.spi_starting.specs.laws.Ran.{Along, Ran, SentAt, debt_of, first_place, ran_state, sent_by}
@@ -78,6 +80,7 @@ starting d e u x = record { table = d; errand = e; unit = u; place = units.Start
 pub over_owes : (k : UnitBody) (x : UnitPlace) (e : Errand) (u : ℕ) → unless_done (unit_over k x e u).1.done (unit_owed (unit_over k x e u).0) ≡ None
 over_owes k x Main zero = refl
 over_owes k x Main (suc u) = refl
+over_owes k x Rest u = refl
 over_owes k x Handler u = refl
 over_owes k x (Transmit q) u = refl
 
@@ -132,7 +135,7 @@ module _ (d : SpiTable) (fits : FitsSpi d) (below : Holds) (owner : Origin Call)
   at x = Units (starting d errand u x)
 
   abbrev Done : Chip → Type 0
-  Done c = SpiAgrees d below c w after
+  Done c = SpiAgrees d (cleared_of u owner acted ∷ below) c w after
 
   abbrev On : ((place length : ℕ) → Bool) → (ℕ → Bool) → Chip → Type 0
   On f g c = Along d below owner acted chip w s u h p word received f g c
@@ -157,7 +160,7 @@ module _ (d : SpiTable) (fits : FitsSpi d) (below : Holds) (owner : Origin Call)
   runs_owed c a =
       one_owed (spi_owing d) Done (at (start.Run r)) c (Some (at start.Stand)) (may_store d fits (running_word u) (packed_run r) (own_first d (running_word u) (omega arith) (omega (arith, few)))) tt refl
       (one_owed (spi_owing d) Done (at start.Stand) second None (may_store d fits (position_word u) 0 (own_first d (position_word u) (omega arith) (omega (arith, few)))) tt (over_owes (starting d errand u start.Stand) (units.Start start.Stand) errand u)
-      (ran_agrees d fits below owner acted chip w s u h p there for free word received third ran turned))
+      (clears d below third w after u owner acted fits (ran_agrees d fits below owner acted chip w s u h p there for free word received third ran turned) (λ q none also for_q. let run = sym (run_here d fits below owner acted chip w s u h p there for free word received) ∙ none in cc)))
     where
       second : Chip
       second = chip_after c (Store (running_word u) (packed_run r)) 0

@@ -59,8 +59,11 @@ module _ (d : SpiTable) (fits : FitsSpi d) (below : Holds) (owner : Origin Call)
     abbrev run : Run
     run = first_run d below owner acted chip w s u h p word received
 
+    pub run_here : run_at after u ≡ Some run
+    run_here = item-same None s.units u (Some run)
+
     pub runs_now : is_running after p.sequence ≡ true
-    runs_now = some_at (runs_sequence p.sequence) after.units u refl (ap (runs_sequence p.sequence) (item-same None s.units u (Some run)) ∙ same_number p.sequence)
+    runs_now = some_at (runs_sequence p.sequence) after.units u refl (ap (runs_sequence p.sequence) run_here ∙ same_number p.sequence)
 
     pub runs_else : (n : ℕ) → n ≢ p.sequence → is_running after n ≡ is_running s n
     runs_else n ne = any_changed (runs_sequence n) None s.units u (Some run) refl (other_number p.sequence n (λ e. ne (sym e)) ∙ sym (ap (runs_sequence n) unit_free))

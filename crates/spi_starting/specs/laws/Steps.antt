@@ -54,6 +54,7 @@ use Rattle.spi_sequences.specs.declared.service.start.Started.TheVariants as sta
 use Rattle.spi_sequences.specs.declared.service.unit.Errand.{Errand}
 use Rattle.spi_sequences.specs.declared.words.TheConstants.{MARKS, NEXTS}
 use Rattle.spi_sequences.specs.laws.Choosing.{choice_next, number_of}
+use Rattle.spi_sequences.specs.laws.Cleared.{cleared_of}
 use Rattle.spi_sequences.specs.laws.FirstParts.{part_at}
 use Rattle.spi_sequences.specs.laws.Fresh.{by_two}
 use Rattle.spi_sequences.specs.laws.Ground.{apart_agrees}
@@ -73,21 +74,21 @@ use Rattle.spi_starting.specs.laws.Units.{IsTurned, at_most}
 -- ---- what a step leaves
 
 -- the start: what the machine gives, the word that begins, and what the window owes after it
-pub record StartBegins (d : SpiTable) (errand : Errand) (below : Holds) (u : ℕ) (chip later : Chip) (w : World) (s : SpiState) (made : Move) (received : ℕ) (x : StartPlace) (e : Event) : Type 0 where
+pub record StartBegins (d : SpiTable) (errand : Errand) (held : Holds) (u : ℕ) (chip later : Chip) (w : World) (s : SpiState) (made : Move) (received : ℕ) (x : StartPlace) (e : Event) : Type 0 where
   pub is_start : e ≡ Start (unit_named u)
   pub stands : (value : ℕ) → StandsAt e made value
   pub state : SpiState
   pub begins : Begun
-  pub is : happens d w s (Starts (unit_named u) received) ≡ Some (outcome_with state tells_nothing (Some begins))
+  pub is : (by : Option Call) → happens d w s (Starts (unit_named u) by received) ≡ Some (outcome_with state tells_nothing (Some begins))
   pub sends : SendsRight chip (Some begins) made
   pub owing : start_owes x ≡ true
-  pub owes : Comes (spi_owing d) (Some (Units (starting d errand u x))) later (λ c. SpiAgrees d below c w state)
+  pub owes : Comes (spi_owing d) (Some (Units (starting d errand u x))) later (λ c. SpiAgrees d held c w state)
 
--- a step goes on, is the start, or was the last one, after which the frame owes the unit nothing
+-- a step goes on, is the start, or was the last one, which clears the unit
 abbrev pub StartLeaves : SpiTable → Errand → Holds → Origin Call → Option Answer → (number : ℕ) → (chip later : Chip) → World → SpiState → Move → (received : ℕ) → StartPlace × Started → Type 0
 StartLeaves d e below owner acted u chip c w s made y (x, started.Goes None) = SpiAgrees d (debt_of u owner acted ∷ below) c w s × start_place d u x ((spi_bare d).foot c) s
-StartLeaves d e below owner acted u chip c w s made y (x, started.Goes (Some a)) = StartBegins d e below u chip c w s made y x a
-StartLeaves d e below owner acted u chip c w s made y (x, started.Over) = SpiAgrees d below c w s
+StartLeaves d e below owner acted u chip c w s made y (x, started.Goes (Some a)) = StartBegins d e (cleared_of u owner acted ∷ below) u chip c w s made y x a
+StartLeaves d e below owner acted u chip c w s made y (x, started.Over) = SpiAgrees d (cleared_of u owner acted ∷ below) c w s
 
 module _ (d : SpiTable) (fits : FitsSpi d) (errand : Errand) (below : Holds) (owner : Origin Call) (acted : Option Answer) (chip : Chip) (w : World) (s : SpiState) (u : ℕ) (h : SpiAgrees d (debt_of u owner acted ∷ below) chip w s) (y : ℕ) where
   abbrev held : Holds
@@ -138,7 +139,7 @@ module _ (d : SpiTable) (fits : FitsSpi d) (errand : Errand) (below : Holds) (ow
   found_right : (made : Move) → chip_after chip made y ≡ chip → (p : Front) → (x : ℕ) → (free : IsFree s u) → (o : Option Pending) → next_on d u s.pending ≡ o
       → Leaves made (start_found d (word_of chip NEXTS) (word_of chip MARKS) p x (number_of o) (nat_lt (number_of o) 8))
   found_right made same p x free None e =
-      subst (λ c. SpiAgrees d below c w s) (sym same) (paid d fits below owner acted chip w s u h (λ q none there for. none_for d u s.pending q e there for))
+      subst (λ c. SpiAgrees d (cleared_of u owner acted ∷ below) c w s) (sym same) (paid d fits below owner acted chip w s u h (λ q none there for. none_for d u s.pending q e there for))
   found_right made same p x free (Some q) e =
       subst (λ b. Leaves made (start_found d (word_of chip NEXTS) (word_of chip MARKS) p x q.sequence b)) (sym (small q.sequence number))
       (subst (λ c. SpiAgrees d held c w s × start_place d u (start.Find found_so (finding_first (channel_at_place d found_so.run.job 0))) (foot c) s) (sym same)
@@ -297,8 +298,8 @@ module _ (d : SpiTable) (fits : FitsSpi d) (errand : Errand) (below : Holds) (ow
     startable : next_at d s (Some u) ≡ Some q
     startable = ap (λ b. if b then None else next_by d s u (run_at s u)) on ∙ ap (next_by d s u) free ∙ next
 
-    start_is : happens d w s (Starts (unit_named u) y) ≡ Some (outcome_with begun_state tells_nothing (Some (as_begun d u (Some q) (first_word d s q))))
-    start_is = ap (λ o. start_by d w s o y (next_at d s o)) (by_unit (λ n. unit_number (unit_named n) ≡ Some n) refl refl) ∙ ap (start_by d w s (Some u) y) startable
+    start_is : (by : Option Call) → happens d w s (Starts (unit_named u) by y) ≡ Some (outcome_with begun_state tells_nothing (Some (as_begun d u (Some q) (first_word d s q))))
+    start_is by = ap (λ o. start_by d w s o y (next_at d s o)) (by_unit (λ n. unit_number (unit_named n) ≡ Some n) refl refl) ∙ ap (start_by d w s (Some u) y) startable
 
     -- what is sent is of the width already
     sent_masked : outgoing (unit_at chip.serials u) x ≡ (first_word d s q).sent
@@ -306,7 +307,7 @@ module _ (d : SpiTable) (fits : FitsSpi d) (errand : Errand) (below : Holds) (ow
         ap (λ n. x % 2 ^ n) (ap (λ n. min n 16) width ∙ at_most (first_word d s q).width narrow ∙ ap (λ z. z.width) is_first)
         ∙ ap (λ v. v % 2 ^ first.1.width) (sent ∙ ap (λ z. z.sent) is_first) ∙ mod_again (slice_index_or (part_at d s first.0).values 0 0) first.1.width ∙ sym (ap (λ z. z.sent) is_first)
 
-    begin_leaves : StartBegins d errand below u chip (chip_after chip (Write (SerialData u) x) y) w s (Write (SerialData u) x) y (start.Choose (choosing d chip q) (nexts.Look (search_of u) (ranks_in d (word_of chip NEXTS) (word_of chip MARKS)))) (Start (unit_named u))
+    begin_leaves : StartBegins d errand (cleared_of u owner acted ∷ below) u chip (chip_after chip (Write (SerialData u) x) y) w s (Write (SerialData u) x) y (start.Choose (choosing d chip q) (nexts.Look (search_of u) (ranks_in d (word_of chip NEXTS) (word_of chip MARKS)))) (Start (unit_named u))
     begin_leaves = record {
       is_start = refl;
       stands = λ v. by_unit (λ n. StandsAt (Start (unit_named n)) (Write (SerialData n) x) v) (refl, refl) (refl, refl);

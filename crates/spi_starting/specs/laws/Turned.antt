@@ -25,7 +25,8 @@ use Rattle.spi_machine.specs.declared.table.SpiTable.{SpiTable}
 use Rattle.spi_machine.proofs.Numbers.{same_or_other}
 use Rattle.spi_sequences.specs.Going.{Going, UnitAgrees}
 use Rattle.spi_sequences.specs.Ground.{Holds, AreOwed, SpiAgrees, WordsAgree, is_owed, view}
-use Rattle.spi_sequences.specs.laws.Firsts.{HoldsLike, firsts_changed, holds_debt}
+use Rattle.spi_sequences.specs.laws.Cleared.{cleared_of, clears}
+use Rattle.spi_sequences.specs.laws.Firsts.{holds_back, holds_changed, holds_debt}
 use Rattle.spi_sequences.specs.laws.Said.{going_run, other_number}
 use Rattle.spi_starting.specs.laws.Ran.{debt_of}
 
@@ -74,18 +75,9 @@ module _ (d : SpiTable) (fits : FitsSpi d) (below : Holds) (owner : Origin Call)
       by None f = refl
       by (Some g) f = absurd (let run = going_run d fits held chip w s h u g h.right.0.0 f in let no = sym e ∙ run.1 in cc)
 
-  like : HoldsLike d held below
-  like = let l = holds_debt d (debt_of u owner acted) u below refl in record {
-    puts = λ sources n r. sym (l.puts sources n r);
-    takes = λ n. sym (l.takes n);
-    prepares = sym l.prepares;
-    readied = sym l.readied;
-    stored = sym l.stored;
-  }
-
-  -- the debt is paid where the unit runs a job, or none waits
-  pub paid : ((q : Pending) → h.going u ≡ None → Contains s.pending q → is_for d u q ≡ true → ⊥) → SpiAgrees d below chip w s
-  paid none = firsts_changed d fits held below chip chip w s h h.right.0.1 like h.outside refl refl refl (λ j le. refl) refl (λ n lt. (refl, refl)) s.pending s.requests s.sequence_results s.job_results h.right.1 h.sound h.nexts (h.words.on h.right.0.1).sequences owed
+  -- the debt is paid, and the unit cleared, where it runs a job or none waits
+  pub paid : ((q : Pending) → h.going u ≡ None → Contains s.pending q → is_for d u q ≡ true → ⊥) → SpiAgrees d (cleared_of u owner acted ∷ below) chip w s
+  paid none = clears d below chip w s u owner acted fits (holds_changed d held below chip w s h (holds_back d below held (holds_debt d (debt_of u owner acted) u below refl)) h.right.1 owed) (λ q free there for. none q (goes_none free) there for)
     where
       owed : AreOwed d below h.going s
       owed n q lt free there for = by (same_or_other n u)

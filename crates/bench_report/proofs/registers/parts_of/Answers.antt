@@ -175,6 +175,10 @@ pub returns-in-SerialState : goal.returns-in-SerialState
 unfolding lib.Utf8.encode
 returns-in-SerialState c = sym (ap register_text c.in-SerialState.is)
 
+pub returns-in-SerialWait : goal.returns-in-SerialWait
+unfolding lib.Utf8.encode
+returns-in-SerialWait c = sym (ap register_text c.in-SerialWait.is)
+
 pub returns-in-SerialAck : goal.returns-in-SerialAck
 unfolding lib.Utf8.encode
 returns-in-SerialAck c = sym (ap register_text c.in-SerialAck.is)
@@ -195,6 +199,18 @@ pub returns-in-PinMode : goal.returns-in-PinMode
 unfolding lib.Utf8.encode
 returns-in-PinMode c = sym (ap register_text c.in-PinMode.is)
 
+pub returns-in-PortPut : goal.returns-in-PortPut
+unfolding lib.Utf8.encode
+returns-in-PortPut c = sym (ap register_text c.in-PortPut.is)
+
+pub returns-in-PortLevels : goal.returns-in-PortLevels
+unfolding lib.Utf8.encode
+returns-in-PortLevels c = sym (ap register_text c.in-PortLevels.is)
+
+pub returns-in-PinFlip : goal.returns-in-PinFlip
+unfolding lib.Utf8.encode
+returns-in-PinFlip c = sym (ap register_text c.in-PinFlip.is)
+
 pub returns-in-ClockPll : goal.returns-in-ClockPll
 returns-in-ClockPll c = sym (ap register_text c.in-ClockPll.is)
 
@@ -209,6 +225,9 @@ returns-in-ResetReason c = sym (ap register_text c.in-ResetReason.is)
 
 pub returns-in-ResetRequest : goal.returns-in-ResetRequest
 returns-in-ResetRequest c = sym (ap register_text c.in-ResetRequest.is)
+
+pub returns-in-WatchdogLoad : goal.returns-in-WatchdogLoad
+returns-in-WatchdogLoad c = sym (ap register_text c.in-WatchdogLoad.is)
 
 pub returns-in-Ram : goal.returns-in-Ram
 returns-in-Ram c = sym (ap register_text c.in-Ram.is)

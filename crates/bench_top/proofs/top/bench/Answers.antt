@@ -6,6 +6,7 @@ use Rattle.bench_top.proofs.Deciding.{decided_of, fault_front_on, file_ends_on, 
 use Rattle.bench_top.proofs.Forms.{generated_within}
 use Rattle.bench_top.proofs.Generating.{generated_as, generated_done, generated_leaves, generated_not, generated_status}
 use Rattle.bench_top.proofs.Judging.{checks_of, complete_of, exact_of, fault_front_of, file_after, file_judged, front_of, generated_judged, keeps_of, left_empty, left_empty_of, memory_of, printed_front, printed_not, printed_status, printed_text, too_many_judged, usage_judged}
+use Rattle.bench_top.proofs.Promised.{empty_keeps}
 use Rattle.bench_top.proofs.top.bench.Goals as goal
 
 pub returns-in_default-clause-known : goal.returns-in_default-clause-known
@@ -314,7 +315,7 @@ returns-in-Err-NoMemory-clause-memory g c =
 
 pub returns-in-Err-NoMemory-clause-memory_on_some : goal.returns-in-Err-NoMemory-clause-memory_on_some
 returns-in-Err-NoMemory-clause-memory_on_some g c =
-    λ m. record { bytes = []; leaves = left_empty (vec_len c.args.rack.now) _ _ c.no_memory.ensures.journal }
+    λ m. record { bytes = []; leaves = left_empty (vec_len c.args.rack.now) _ _ c.no_memory.ensures.journal; keeps = empty_keeps (vec_len c.args.rack.now) _ _ c.no_memory.ensures.journal }
 
 pub returns-in-Err-NoMemory-clause-devices : goal.returns-in-Err-NoMemory-clause-devices
 returns-in-Err-NoMemory-clause-devices g c =

@@ -1,5 +1,5 @@
 -- The law is proved over the definitions.
-use Rattle.chip_units.proofs.WriteLaws.{word-written}
+use Rattle.chip_units.proofs.HistoryLaws.{word-written}
 use Rattle.chip_units.proofs.laws.ram_written_last.Goals as goal
 
 pub returns : goal.returns

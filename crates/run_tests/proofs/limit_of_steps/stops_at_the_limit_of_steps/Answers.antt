@@ -3,7 +3,6 @@ use Rattle.gpt_driver.specs.Fits.{fits_of}
 use Rattle.gpt_driver.specs.Table.{FitsGpt}
 use Rattle.mcal_system.proofs.Limits.{within_limits}
 use Rattle.mcal_system.proofs.Sound.{sound_timers}
-use Rattle.gpt_driver.specs.laws.Lawful.{covers_timers}
 use Rattle.run_tests.proofs.limit_of_steps.stops_at_the_limit_of_steps.Goals as goal
 
 pub run_within-requires-clause-fits : goal.run_within-requires-clause-fits
@@ -11,9 +10,6 @@ run_within-requires-clause-fits g c = subst FitsGpt (sym c.new-driver.ensures) (
 
 pub run_within-requires-clause-script : goal.run_within-requires-clause-script
 run_within-requires-clause-script g c = record { lines = (omega (arith, c.init-first.ensures.line), (omega (arith, c.init-first.ensures.line, c.init-second.ensures.line), tt)); built = (c.init-first.ensures.order, (c.init-second.ensures.order, tt)); few = omega arith }
-
-pub run_within-requires-clause-covers : goal.run_within-requires-clause-covers
-run_within-requires-clause-covers g c = covers_timers c.new-driver.result
 
 pub run_within-requires-clause-config : goal.run_within-requires-clause-config
 run_within-requires-clause-config g c = within_limits c.default_board-config.result c.default_board-config.ensures.valid

@@ -50,13 +50,15 @@ pub returns-in-Enter-clause-calls : goal.returns-in-Enter-clause-calls
 returns-in-Enter-clause-calls g c = called_obeyed (g.M.Module.spec c.args.course.now.driver) (chip_for c.args.course.now.devices c.args.course.now.config c.args.course.now.script.now) (g.M.Caller.call_of c.args.course.now.driver) c.args.course.now.script.now c.args.course.now.most c.args.directive.now.line (orders.Enter c.in-Enter.irq) c.args.parts.now.bus c.args.parts.now.stack c.args.parts.now.journal c.obey_enter_alone.new.parts.bus c.obey_enter_alone.new.parts.stack c.obey_enter_alone.new.parts.journal _ tt (c.obey_enter_alone.ensures (orders.Enter c.in-Enter.irq) refl)
 
 pub returns-in-Tick-clause-calls : goal.returns-in-Tick-clause-calls
-returns-in-Tick-clause-calls g c = called_obeyed (g.M.Module.spec c.args.course.now.driver) (chip_for c.args.course.now.devices c.args.course.now.config c.args.course.now.script.now) (g.M.Caller.call_of c.args.course.now.driver) c.args.course.now.script.now c.args.course.now.most c.args.directive.now.line c.args.directive.now.order c.args.parts.now.bus c.args.parts.now.stack c.args.parts.now.journal c.obey_hardware.new.parts.bus c.obey_hardware.new.parts.stack c.obey_hardware.new.parts.journal _ (elim c.in-Tick.is [
-  | inl e ↦ rw e.1 tt
+returns-in-Tick-clause-calls g c = called_obeyed (g.M.Module.spec c.args.course.now.driver) (chip_for c.args.course.now.devices c.args.course.now.config c.args.course.now.script.now) (g.M.Caller.call_of c.args.course.now.driver) c.args.course.now.script.now c.args.course.now.most c.args.directive.now.line c.args.directive.now.order c.args.parts.now.bus c.args.parts.now.stack c.args.parts.now.journal c.obey_tick.new.parts.bus c.obey_tick.new.parts.stack c.obey_tick.new.parts.journal _ (rw c.in-Tick.is tt) c.obey_tick.ensures
+
+pub returns-in-Level-clause-calls : goal.returns-in-Level-clause-calls
+returns-in-Level-clause-calls g c = called_obeyed (g.M.Module.spec c.args.course.now.driver) (chip_for c.args.course.now.devices c.args.course.now.config c.args.course.now.script.now) (g.M.Caller.call_of c.args.course.now.driver) c.args.course.now.script.now c.args.course.now.most c.args.directive.now.line c.args.directive.now.order c.args.parts.now.bus c.args.parts.now.stack c.args.parts.now.journal c.obey_hardware.new.parts.bus c.obey_hardware.new.parts.stack c.obey_hardware.new.parts.journal _ (elim c.in-Level.is [
+  | inl e ↦ rw e.2 tt
   | inr (inl e) ↦ rw e.2 tt
-  | inr (inr (inl e)) ↦ rw e.2 tt
-  | inr (inr (inr (inl e))) ↦ rw e.1 tt
-  | inr (inr (inr (inr (inl e)))) ↦ rw e.2 tt
-  | inr (inr (inr (inr (inr e)))) ↦ rw e.1 tt
+  | inr (inr (inl e)) ↦ rw e.1 tt
+  | inr (inr (inr (inl e))) ↦ rw e.2 tt
+  | inr (inr (inr (inr e))) ↦ rw e.1 tt
 ]) c.obey_hardware.ensures
 
 pub returns-in-Reset-clause-calls : goal.returns-in-Reset-clause-calls
@@ -75,7 +77,10 @@ pub returns-in-Enter-clause-hung : goal.returns-in-Enter-clause-hung
 returns-in-Enter-clause-hung g c = rack_after (g.M.Module.spec c.args.course.now.driver) (chip_for c.args.course.now.devices c.args.course.now.config c.args.course.now.script.now) (g.M.Caller.call_of c.args.course.now.driver) c.args.course.now.script.now _ c.args.rack.now.items c.args.rack.now.items _ _ c.args.parts.now.bus c.obey_enter_alone.new.parts.bus c.args.parts.now.stack.frames c.obey_enter_alone.new.parts.stack.frames c.args.parts.now.journal.entries c.obey_enter_alone.new.parts.journal.entries (omega arith) (omega arith) c.requires.stands (c.obey_enter_alone.ensures (orders.Enter c.in-Enter.irq) refl).adds.stands (returns-in-Enter-clause-calls g c) c.requires.hung
 
 pub returns-in-Tick-clause-hung : goal.returns-in-Tick-clause-hung
-returns-in-Tick-clause-hung g c = rack_after (g.M.Module.spec c.args.course.now.driver) (chip_for c.args.course.now.devices c.args.course.now.config c.args.course.now.script.now) (g.M.Caller.call_of c.args.course.now.driver) c.args.course.now.script.now _ c.args.rack.now.items c.args.rack.now.items _ _ c.args.parts.now.bus c.obey_hardware.new.parts.bus c.args.parts.now.stack.frames c.obey_hardware.new.parts.stack.frames c.args.parts.now.journal.entries c.obey_hardware.new.parts.journal.entries (omega arith) (omega arith) c.requires.stands c.obey_hardware.ensures.adds.stands (returns-in-Tick-clause-calls g c) c.requires.hung
+returns-in-Tick-clause-hung g c = rack_after (g.M.Module.spec c.args.course.now.driver) (chip_for c.args.course.now.devices c.args.course.now.config c.args.course.now.script.now) (g.M.Caller.call_of c.args.course.now.driver) c.args.course.now.script.now _ c.args.rack.now.items c.args.rack.now.items _ _ c.args.parts.now.bus c.obey_tick.new.parts.bus c.args.parts.now.stack.frames c.obey_tick.new.parts.stack.frames c.args.parts.now.journal.entries c.obey_tick.new.parts.journal.entries (omega arith) (omega arith) c.requires.stands c.obey_tick.ensures.adds.stands (returns-in-Tick-clause-calls g c) c.requires.hung
+
+pub returns-in-Level-clause-hung : goal.returns-in-Level-clause-hung
+returns-in-Level-clause-hung g c = rack_after (g.M.Module.spec c.args.course.now.driver) (chip_for c.args.course.now.devices c.args.course.now.config c.args.course.now.script.now) (g.M.Caller.call_of c.args.course.now.driver) c.args.course.now.script.now _ c.args.rack.now.items c.args.rack.now.items _ _ c.args.parts.now.bus c.obey_hardware.new.parts.bus c.args.parts.now.stack.frames c.obey_hardware.new.parts.stack.frames c.args.parts.now.journal.entries c.obey_hardware.new.parts.journal.entries (omega arith) (omega arith) c.requires.stands c.obey_hardware.ensures.adds.stands (returns-in-Level-clause-calls g c) c.requires.hung
 
 pub returns-in-Reset-clause-hung : goal.returns-in-Reset-clause-hung
 returns-in-Reset-clause-hung g c = rack_after (g.M.Module.spec c.args.course.now.driver) (chip_for c.args.course.now.devices c.args.course.now.config c.args.course.now.script.now) (g.M.Caller.call_of c.args.course.now.driver) c.args.course.now.script.now _ c.args.rack.now.items c.args.rack.now.items _ _ c.args.parts.now.bus c.obey_reset.new.parts.bus c.args.parts.now.stack.frames c.obey_reset.new.parts.stack.frames c.args.parts.now.journal.entries c.obey_reset.new.parts.journal.entries (omega arith) (omega arith) c.requires.stands c.obey_reset.ensures.adds.stands (returns-in-Reset-clause-calls g c) c.requires.hung

@@ -1,5 +1,5 @@
 use Rattle.std.proofs.Common.{length}
-use Rattle.trace_reader.specs.Trace.{Each}
+use Rattle.bench_report.specs.Numbers.{Each}
 use Rattle.trace_laws.specs.Numbers.{ItemFits}
 use Rattle.trace_laws.proofs.numbers.items_fit.Given as goal
 

@@ -1,5 +1,5 @@
 use Rattle.std.proofs.Common.{length}
-use Rattle.trace_reader.specs.Trace.{Each}
+use Rattle.bench_report.specs.Numbers.{Each}
 use Rattle.trace_promises.specs.Numbers.{ItemBrings}
 use Rattle.trace_promises.proofs.laws.levels_fit.Given as goal
 

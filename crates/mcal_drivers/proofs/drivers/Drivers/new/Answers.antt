@@ -4,8 +4,5 @@ use Rattle.mcal_drivers.proofs.drivers.Drivers.new.Goals as goal
 pub returns-clause-fits : goal.returns-clause-fits
 returns-clause-fits c = (all_ready c.args.config.now c.requires.valid 0).fits
 
-pub returns-clause-covers : goal.returns-clause-covers
-returns-clause-covers c = (all_ready c.args.config.now c.requires.valid 0).covers
-
 pub returns-clause-wired : goal.returns-clause-wired
 returns-clause-wired c = λ room devices. (all_ready c.args.config.now c.requires.valid devices).wired room

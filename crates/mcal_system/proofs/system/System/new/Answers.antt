@@ -1,5 +1,4 @@
 use Rattle.std.proofs.Common.{sym, subst}
-use Rattle.step_runner.specs.Driver.{Covers}
 use Rattle.script_runner.specs.Scripts.{words_given}
 use Rattle.chip_model.specs.Chip.{power_on, hung}
 use Rattle.mcal_drivers.specs.Drivers.{as_one}
@@ -13,9 +12,6 @@ new-requires-clause-config c = within_limits c.args.config c.requires.valid
 
 pub new-requires-clause-fits : goal.new-requires-clause-fits
 new-requires-clause-fits c = subst (λ (u : Drivers). (as_one u).fits) (sym c.new-drivers.ensures.is) c.new-drivers.ensures.fits
-
-pub new-requires-clause-covers : goal.new-requires-clause-covers
-new-requires-clause-covers c = subst (λ (u : Drivers). Covers (as_one u)) (sym c.new-drivers.ensures.is) c.new-drivers.ensures.covers
 
 pub new-requires-clause-wired : goal.new-requires-clause-wired
 new-requires-clause-wired c = subst (λ (u : Drivers). (as_one u).wired (hung c.args.devices (power_on c.args.config (words_given c.args.script.now)))) (sym c.new-drivers.ensures.is) (c.new-drivers.ensures.wired (words_given c.args.script.now) c.args.devices)

@@ -13,4 +13,4 @@ invariant_of-result g c =
     c.requires.fits c.requires.script c.requires.offered c.requires.limit least
     (c.hang.ensures ∙ ap (λ b. hung c.args.devices b) (c.in_ok-bus.ensures ∙ ap (λ n. power_on c.args.config n) c.words_given.ensures.given))
     c.in_ok-stack.ensures.empty c.in_ok-journal.ensures
-    (c.in_ok-stack.ensures.stands c.args.driver (chip_for c.args.devices c.args.config c.args.script.now) c.requires.fits c.requires.covers (first-power_on c.args.config (words_given c.args.script.now) c.args.devices c.requires.config) c.requires.wired)
+    (c.in_ok-stack.ensures.stands c.args.driver (chip_for c.args.devices c.args.config c.args.script.now) c.requires.fits (first-power_on c.args.config (words_given c.args.script.now) c.args.devices c.requires.config) c.requires.wired)

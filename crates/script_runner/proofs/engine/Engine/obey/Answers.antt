@@ -1,5 +1,5 @@
 use Rattle.std.proofs.Common.{arith}
-use Rattle.script_runner.proofs.UnderWay.{next_at, next_built, next_offered, next_given, next_time, next_late, next_room, next_number, goes, stops}
+use Rattle.script_runner.proofs.UnderWay.{next_at, next_built, next_offered, next_given, next_time, next_room, next_number, goes, stops}
 use Rattle.script_runner.proofs.engine.Engine.obey.Goals as goal
 
 pub obey_one-requires-clause-at : goal.obey_one-requires-clause-at
@@ -16,9 +16,6 @@ obey_one-requires-clause-given g c = let i = c.self.inside in next_given (g.M.Mo
 
 pub obey_one-requires-clause-time : goal.obey_one-requires-clause-time
 obey_one-requires-clause-time g c = let i = c.self.inside in next_time (g.M.Module.spec i.course.driver) (g.M.Caller.call_of i.course.driver) (g.M.Caller.has_service i.course.driver) i.course.config i.course.script.now i.course.devices i.limit i.course.most i.obeyed i.too_long c.args.directive.now i.parts.bus i.parts.stack i.parts.journal (rw (← c.self.view_is) at c.requires.next) (rw (← c.self.view_is) at c.requires.goes) c.self.invariant
-
-pub obey_one-requires-clause-late : goal.obey_one-requires-clause-late
-obey_one-requires-clause-late g c = let i = c.self.inside in next_late (g.M.Module.spec i.course.driver) (g.M.Caller.call_of i.course.driver) (g.M.Caller.has_service i.course.driver) i.course.config i.course.script.now i.course.devices i.limit i.course.most i.obeyed i.too_long c.args.directive.now i.parts.bus i.parts.stack i.parts.journal (rw (← c.self.view_is) at c.requires.next) (rw (← c.self.view_is) at c.requires.goes) c.self.invariant
 
 pub obey_one-requires-clause-room : goal.obey_one-requires-clause-room
 obey_one-requires-clause-room g c = let i = c.self.inside in next_room (g.M.Module.spec i.course.driver) (g.M.Caller.call_of i.course.driver) (g.M.Caller.has_service i.course.driver) i.course.config i.course.script.now i.course.devices i.limit i.course.most i.obeyed i.too_long c.args.directive.now i.parts.bus i.parts.stack i.parts.journal (rw (← c.self.view_is) at c.requires.next) (rw (← c.self.view_is) at c.requires.goes) c.self.invariant

@@ -1,6 +1,14 @@
-use Rattle.std.proofs.Common.{rules, ◌≡◌, ◌+◌, ◌-◌}
-use Rattle.step_runner.proofs.LastFrame.{takes-on, takes-off}
+use Rattle.std.proofs.Common.{rules, ◌≡◌, ◌+◌, ◌-◌, sym, subst}
+use Rattle.step_runner.specs.Kept.{Kept, IsLooked}
+use Rattle.step_runner.proofs.LastFrame.{looked-last, takes-on, takes-off}
 use Rattle.step_runner.proofs.stack.Stack.step_top.Goals as goal
+
+pub move_frame-requires-clause-looked : goal.move_frame-requires-clause-looked
+move_frame-requires-clause-looked g c =
+    let n = c.self.inside.count - 1 in
+    let one : n + 1 ≡ c.self.inside.count = search rules in
+    looked-last g.M.Frame.Routine.move_of c.self.inside.places.items n c.index_mut.result.now c.args.stepped.now.made (search rules) (search rules)
+    (rw one (subst (λ (k : Kept _). IsLooked g.M.Frame.Routine.move_of k.frames c.args.stepped.now.made) (sym c.self.view_is) c.requires.looked))
 
 pub returns-then-is_some-clause-step : goal.returns-then-is_some-clause-step
 returns-then-is_some-clause-step g c =

@@ -1,0 +1,284 @@
+-- A frame of units that is done leaves no unit waiting whose line it has served.
+use Rattle.std.proofs.Common.{◌≡◌, ℕ, zero, suc, ◌+◌, ◌/◌, ◌%◌, ◌<◌, ◌==◌, ◌&&◌, Bool, true, false, not, List, [], ◌∷◌, Option, Some, None, refl, sym, ◌∙◌, ap, subst, arith}
+use Rattle.std.specs.Prelude.{if◌then◌else◌}
+use Rattle.std.specs.List.{list_all}
+use Rattle.chip_model.specs.Chip.{Chip, chip_after, value_of}
+use Rattle.mcal_base.specs.declared.moves.Move.{Move}
+use Rattle.mcal_base.specs.declared.notice.Notice.{Notice}
+use Rattle.run_model.specs.Frame.{Called, Entered, Origin, is_shared}
+use Rattle.run_model.specs.Legal.{ReceivedRight, has_line, is_left_waiting}
+use Rattle.run_model.specs.World.{World}
+use Rattle.service_outline.specs.Owing.{Either, Settles, agrees_after, spot_or}
+use Rattle.service_outline.specs.Past.{Past}
+use Rattle.service_outline.specs.Services.{Leaves, Stand, gap_at, holds_at, place_at, with_holds}
+use Rattle.service_outline.specs.declared.done.BodyTaken.{BodyTaken}
+use Rattle.service_outline.specs.declared.done.Done.{Done}
+use Rattle.service_outline.specs.declared.done.Owed.TheVariants.{Nothing}
+use Rattle.word_shapes.specs.Ranked.{front_move, search_move}
+use Rattle.word_shapes.specs.declared.choosing.Front.{Front}
+use Rattle.word_shapes.specs.declared.search.Search.{Search}
+use Rattle.word_shapes.specs.declared.search.Search.TheVariants as search
+use Rattle.spi_jobs.specs.Parts.{find_gave}
+use Rattle.spi_machine.specs.Fits.{FitsSpi}
+use Rattle.spi_machine.specs.Machine.{spi_machine}
+use Rattle.spi_machine.specs.State.{SpiState}
+use Rattle.spi_machine.specs.declared.call.Call.{Call}
+use Rattle.spi_machine.specs.declared.call.Call.TheVariants as calls
+use Rattle.spi_machine.specs.declared.call.SequenceCall.TheVariants.{AsyncTransmit}
+use Rattle.spi_machine.specs.declared.table.SpiTable.{SpiTable}
+use Rattle.spi_sequences.specs.Ground.{Holds, SpiAgrees, is_owed, spi_bare}
+use Rattle.spi_sequences.specs.Owed.{Owed, Units, serve_owes, spi_basis, spi_owing, start_owes, unit_owes, where_owed}
+use Rattle.spi_sequences.specs.Words.{run_in}
+use Rattle.spi_sequences.specs.declared.service.request.RequestPlace.{RequestPlace}
+use Rattle.spi_sequences.specs.declared.service.request.RequestPlace.TheVariants as request
+use Rattle.spi_sequences.specs.declared.service.request.Requested.{Requested}
+use Rattle.spi_sequences.specs.declared.service.request.Requested.TheVariants as requested
+use Rattle.spi_sequences.specs.declared.service.serve.ServePlace.{ServePlace}
+use Rattle.spi_sequences.specs.declared.service.serve.ServePlace.TheVariants as serve
+use Rattle.spi_sequences.specs.declared.service.serve.ServeStep.{ServeStep}
+use Rattle.spi_sequences.specs.declared.service.serve.ServeStep.TheVariants as steps
+use Rattle.spi_sequences.specs.declared.service.start.StartPlace.{StartPlace}
+use Rattle.spi_sequences.specs.declared.service.start.StartPlace.TheVariants as start
+use Rattle.spi_sequences.specs.declared.service.start.Started.{Started}
+use Rattle.spi_sequences.specs.declared.service.start.Started.TheVariants as started
+use Rattle.spi_sequences.specs.declared.service.unit.Errand.{Errand}
+use Rattle.spi_sequences.specs.declared.service.unit.Errand.TheVariants.{Handler, Main, Rest, Transmit}
+use Rattle.spi_sequences.specs.declared.service.unit.UnitBody.{UnitBody}
+use Rattle.spi_sequences.specs.declared.service.unit.UnitPlace.{UnitPlace}
+use Rattle.spi_sequences.specs.declared.service.unit.UnitPlace.TheVariants as place
+use Rattle.spi_sequences.specs.declared.words.Running.{Running}
+use Rattle.spi_sequences.specs.laws.Fresh.{by_two}
+use Rattle.spi_sequences.specs.laws.Ground.{waits_none}
+use Rattle.spi_sequences.specs.laws.Request.{request_takes}
+use Rattle.spi_sequences.specs.laws.Said.{same_number}
+use Rattle.spi_sequences.specs.laws.Serve.{serve_finds, serve_run, serve_takes}
+use Rattle.spi_sequences.specs.laws.Start.{start_finds, start_move, start_takes}
+use Rattle.spi_sequences.specs.laws.Unit.{after_request, after_serve, after_start, held_by, requested_by, unit_over, unit_takes, unit_work}
+use Rattle.spi_driver.specs.laws.Frames.{Frame, Handles, HasDone, IsFor, Mains, RequestAt, Rests, Transmits, ahead_holds, ahead_owing, at, holds_by, served_ahead, unit_bodies, unit_spot_at, unit_windows, with_cleared, with_debt}
+use Rattle.spi_driver.specs.laws.Owing.{RequestOn, ServeOn, request_on, serve_on}
+use Rattle.spi_driver.specs.laws.Parts.{IsServing, IsStarting, Serving, StartLeaves, Starting, foot, serve_ahead}
+use Rattle.spi_driver.specs.laws.Units.{front_plain}
+use Rattle.spi_driver.specs.laws.Unpolled.{LeavesBy, PollsNone, Polls_none, leaves_unpolled}
+
+-- ---- lines
+
+and_false : (b : Bool) → b && false ≡ false
+and_false true = refl
+and_false false = refl
+
+-- of two lines none is so
+none_of : (f : ℕ → Bool) (ls : List ℕ) → ls ≡ 26 ∷ 27 ∷ [] → f 26 ≡ false → f 27 ≡ false → list_all (λ l. not (f l)) ls ≡ true
+none_of f ls e first second = ap (list_all (λ l. not (f l))) e ∙ ap (λ q. not q && (not (f 27) && true)) first ∙ ap (λ q. not q && true) second
+
+-- moves that are owed come to an end
+reached : (d : SpiTable) (n : ℕ) (x : Owed) (chip : Chip) (Then : Chip → Type 0) → Settles (spi_owing d) n x chip Then → (c : Chip) × Then c
+reached d zero x chip Then h = absurd h
+reached d (suc n) x chip Then h = by (λ z c k. reached d n z c Then k) ((spi_owing d).left x (value_of chip made)) h.2
+  where
+    made : Move
+    made = (spi_owing d).move x
+
+    later : Chip
+    later = chip_after chip made 0
+
+    by : ((z : Owed) (c : Chip) → Settles (spi_owing d) n z c Then → (e : Chip) × Then e) → (q : Option Owed) → Either q (λ z. Settles (spi_owing d) n z later Then) (Then later) → (e : Chip) × Then e
+    by more None h = (later, h)
+    by more (Some z) h = more z later h
+
+module _ (a : Starting) (b : Serving) (d : SpiTable) (fits : FitsSpi d) where
+  -- no unit waits to which no start is owed
+  idle : (held : Holds) (chip : Chip) (w : World) (s : SpiState) (u : ℕ) → SpiAgrees d held chip w s → u < 2 → is_owed u held ≡ false → (spi_machine d).line_waits w s (26 + u) ≡ false
+  idle held chip w s u h lt none = by_two (λ n. is_owed n held ≡ false → (spi_machine d).line_waits w s (26 + n) ≡ false) (λ f. waits_none d fits held chip w s 0 (omega arith) f h) (λ f. waits_none d fits held chip w s 1 (omega arith) f h) u lt none
+
+  module _ (chip : Chip) (w : World) (s : SpiState) (made : Move) (y : ℕ) (n : Done) where
+    abbrev Left : Origin Call → Past → BodyTaken → Type 0
+    Left o t r = r.done ≡ Some n → LeavesBy d w s o t made y r.event n
+
+    some_done : (x : Done) → Some x ≡ Some n → x ≡ n
+    some_done x e = cc
+
+    over_left : (o : Origin Call) (t : Past) {x : Done} → Some x ≡ Some n → LeavesBy d w s o t made y None x → LeavesBy d w s o t made y None n
+    over_left o t {x} is h = subst (λ z. LeavesBy d w s o t made y None z) (some_done x is) h
+
+    -- a line of a unit that doesn't wait, and one that wasn't served
+    unit_left : (served : List ℕ) (l : ℕ) → (spi_machine d).line_waits w s l ≡ false → is_left_waiting (spi_machine d) w s served l ≡ false
+    unit_left served l e = ap (λ q. has_line served l && q) e ∙ and_false (has_line served l)
+
+    unserved_left : (served : List ℕ) (l : ℕ) → has_line served l ≡ false → is_left_waiting (spi_machine d) w s served l ≡ false
+    unserved_left served l e = ap (λ q. q && (spi_machine d).line_waits w s l) e
+
+    abbrev o_main : Origin Call
+    o_main = Called calls.MainFunctionHandling
+
+    -- the main function leaves none, by its two lines
+    main_left : (t : Past) {x : Done} → Some x ≡ Some n → t.polled ≡ 26 ∷ 27 ∷ [] → is_left_waiting (spi_machine d) w s t.served 26 ≡ false → is_left_waiting (spi_machine d) w s t.served 27 ≡ false → x.owed ≡ Nothing → LeavesBy d w s o_main t made y None n
+    main_left t {x} is polled first second none = over_left o_main t is (subst (λ z. Leaves (spi_machine d) w s o_main t.polled t.served z) (sym none) (none_of (is_left_waiting (spi_machine d) w s t.served) t.polled polled first second))
+
+    -- where it has cleared the unit
+    cleared_left : (x : SpiTable) (e : Errand) (u : ℕ) (k : UnitBody) (q : UnitPlace) (below : Holds) (o : Origin Call) (t : Past) → Frame d x e u o → HasDone e u true [] t → SpiAgrees d (with_holds o t.acted (with_cleared e u) below) chip w s → Left o t (unit_over k q e u).1
+    cleared_left x e u k q below o t frame done h is = by e u o frame.of frame.small done h is
+      where
+        by : (e : Errand) (u : ℕ) (o : Origin Call) → IsFor u e o → u < 2 → HasDone e u true [] t → SpiAgrees d (with_holds o t.acted (with_cleared e u) below) chip w s → Left o t (unit_over k q e u).1
+        by (Transmit i) u _ (Transmits _) lt done h is = over_left (Called (calls.Sequence i AsyncTransmit)) t is (ap (list_all (λ l. not (is_left_waiting (spi_machine d) w s t.served l))) done.polled)
+        by Handler u _ Handles lt done h is = over_left (Entered (26 + u)) t is (unit_left t.served (26 + u) (idle _ chip w s u h lt (ap (λ q. not q && is_owed u below) (same_number u))))
+        by Main zero _ Mains lt done h is = absurd (cc)
+        by Main (suc zero) _ Mains lt done h is = main_left t is done.polled (unserved_left t.served 26 done.progress.2) (unit_left t.served 27 (idle _ chip w s 1 h (omega arith) refl)) refl
+        by Main (suc (suc u)) _ Mains lt done h is = absurd (omega (arith, lt))
+        by Rest zero _ Rests lt done h is = absurd done.progress
+        by Rest (suc zero) _ Rests lt done h is = main_left t is done.polled (unit_left t.served 26 (idle _ chip w s 0 h (omega arith) refl)) (unit_left t.served 27 (idle _ chip w s 1 h (omega arith) refl)) refl
+        by Rest (suc (suc u)) _ Rests lt done h is = absurd (omega (arith, lt))
+
+    -- where its line wasn't ready
+    missed_left : (x : SpiTable) (e : Errand) (u : ℕ) (k : UnitBody) (q : UnitPlace) (below : Holds) (o : Origin Call) (t : Past) → Frame d x e u o → HasDone e u false [] t → SpiAgrees d (with_holds o t.acted (holds_by e) below) chip w s → Left o t (unit_over k q e u).1
+    missed_left x e u k q below o t frame done h is = by e u o frame.of frame.small done h is
+      where
+        by : (e : Errand) (u : ℕ) (o : Origin Call) → IsFor u e o → u < 2 → HasDone e u false [] t → SpiAgrees d (with_holds o t.acted (holds_by e) below) chip w s → Left o t (unit_over k q e u).1
+        by (Transmit i) u _ (Transmits _) lt done h is = absurd done.progress
+        by Handler u _ Handles lt done h is = over_left (Entered (26 + u)) t is (unserved_left t.served (26 + u) (ap (λ ls. has_line ls (26 + u)) done.progress))
+        by Main zero _ Mains lt done h is = absurd (cc)
+        by Main (suc u) _ Mains lt done h is = main_left t is done.polled (unserved_left t.served 26 (ap (λ ls. has_line ls 26) done.progress.1)) (unserved_left t.served 27 (ap (λ ls. has_line ls 27) done.progress.1)) refl
+        by Rest zero _ Rests lt done h is = absurd done.progress
+        by Rest (suc u) _ Rests lt done h is = main_left t is done.polled (unit_left t.served 26 (idle _ chip w s 0 h (omega arith) refl)) (unserved_left t.served 27 done.progress.1) refl
+
+  -- ---- at each place
+
+  module _ (starting : IsStarting d a) (serving : IsServing d b) (below : Holds) (chip : Chip) (w : World) (s : SpiState) (o : Origin Call) (t : Past) (y : ℕ) (n : Done) where
+    -- what a frame leaves at a place, by what it owes there
+    abbrev StandBy : UnitBody → Option Owed → Type 0
+    StandBy k q = let x = spot_or (unit_windows a b d) q (unit_spot_at a b d k.table k.errand k.unit k.place) in agrees_after (spi_bare d) (spi_owing d) (with_holds o t.acted (holds_at x) below) (gap_at x) chip w s × place_at x below (foot d chip) w s o t
+
+    abbrev LeftAt : UnitBody → BodyTaken → Type 0
+    LeftAt k r = Left chip w s (unit_work k) y n o t r
+
+    -- it owes moves, of which the last one is made
+    owed_left : (x : SpiTable) (e : Errand) (u : ℕ) (p : UnitPlace) → unit_owes p ≡ true → StandBy (at x e u p) (Some (Units (at x e u p))) → LeftAt (at x e u p) (unit_takes (at x e u p) (value_of chip (unit_work (at x e u p)))).1
+    owed_left x e u (place.Request r) i h = by (request_takes x (requested_by e) r v) (request_on x (requested_by e) r v i)
+      where
+        v : ℕ
+        v = value_of chip (unit_work (at x e u (place.Request r)))
+
+        by : (z : RequestPlace × Requested) → RequestOn z → LeftAt (at x e u (place.Request r)) (after_request (at x e u (place.Request r)) z).1
+        by (r1, requested.Goes z) k is = absurd (cc)
+        by (r1, requested.Held) k is = absurd k
+        by (r1, requested.Accepted) k is = absurd (cc)
+    owed_left x e u (place.Start r) i ((m, settles), (frame, done)) = by (start_takes x u r v)
+      where
+        v : ℕ
+        v = value_of chip (unit_work (at x e u (place.Start r)))
+
+        last : (c : Chip) × SpiAgrees d (with_holds o t.acted (with_cleared e u) below) c w s
+        last = reached d m (Units (at x e u (place.Start r))) chip (λ c. SpiAgrees d (with_holds o t.acted (with_cleared e u) below) c w s) settles
+
+        by : (z : StartPlace × Started) → LeftAt (at x e u (place.Start r)) (after_start (at x e u (place.Start r)) z).1
+        by (r1, started.Goes z) is = absurd (cc)
+        by (r1, started.Over) is = cleared_left last.0 w s (unit_work (at x e u (place.Start r))) y n x e u (at x e u (place.Start r)) (place.Start r1) below o t frame done last.1 is
+    owed_left x e u (place.Serve r) i ((m, settles), (frame, done)) = by (serve_takes x u r v) (serve_on x u r v i)
+      where
+        v : ℕ
+        v = value_of chip (unit_work (at x e u (place.Serve r)))
+
+        Here : Option (List Notice) → Type 0
+        Here k = HasDone e u true (ahead_owing (served_ahead k)) t × ((c : Chip) × SpiAgrees d (with_holds o t.acted (ahead_holds e u (served_ahead k)) below) c w s)
+
+        here : Here (serve_ahead x r)
+        here = (done, reached d m (Units (at x e u (place.Serve r))) chip (λ c. SpiAgrees d (with_holds o t.acted (ahead_holds e u (served_ahead (serve_ahead x r))) below) c w s) settles)
+
+        by : (z : ServePlace × ServeStep) → ServeOn x (serve_ahead x r) z → LeftAt (at x e u (place.Serve r)) (after_serve (at x e u (place.Serve r)) z).1
+        by (r1, steps.Goes z) k is = absurd (cc)
+        by (r1, steps.JobOver z) k is = absurd (cc)
+        by (r1, steps.Over) k is = let last = subst Here k.0 here in cleared_left last.1.0 w s (unit_work (at x e u (place.Serve r))) y n x e u (at x e u (place.Serve r)) (place.Serve r1) below o t frame last.0 last.1.1 is
+    owed_left x e u place.Act i h = absurd (cc)
+    owed_left x e u (place.Opens z) i h = absurd (cc)
+    owed_left x e u (place.Tell z k) i h = absurd (cc)
+
+    -- a request that is refused has polled nothing
+    request_left : (x : SpiTable) (e : Errand) (u : ℕ) (r : RequestPlace) → IsFor u e o → RequestAt d e u r s t → LeftAt (at x e u (place.Request r)) (unit_takes (at x e u (place.Request r)) (value_of chip (unit_work (at x e u (place.Request r))))).1
+    request_left x e u r for asked = by (request_takes x (requested_by e) r (value_of chip (unit_work (at x e u (place.Request r)))))
+      where
+        none : (e : Errand) (o : Origin Call) → IsFor u e o → RequestAt d e u r s t → PollsNone o t.polled
+        none (Transmit q) _ (Transmits _) asked = unpolled r asked
+          where
+            unpolled : (r : RequestPlace) → RequestAt d (Transmit q) u r s t → PollsNone (Called (calls.Sequence q AsyncTransmit)) t.polled
+            unpolled (request.Look k) (i, now, lt, others) = subst (λ (p : Past). PollsNone (Called (calls.Sequence q AsyncTransmit)) p.polled) (sym now) (Polls_none (calls.Sequence q AsyncTransmit) (λ z. refl))
+            unpolled request.Accept (i, now, others) = subst (λ (p : Past). PollsNone (Called (calls.Sequence q AsyncTransmit)) p.polled) (sym now) (Polls_none (calls.Sequence q AsyncTransmit) (λ z. refl))
+            unpolled _ asked = absurd asked
+        none Handler _ Handles asked = absurd asked
+        none Main _ Mains asked = absurd asked
+        none Rest _ Rests asked = absurd asked
+
+        by : (z : RequestPlace × Requested) → LeftAt (at x e u (place.Request r)) (after_request (at x e u (place.Request r)) z).1
+        by (r1, requested.Goes z) is = absurd (cc)
+        by (r1, requested.Held) is = leaves_unpolled d w s o t (unit_work (at x e u (place.Request r))) y (held_by x).event n (none e o for asked)
+        by (r1, requested.Accepted) is = absurd (cc)
+
+    -- a start that finds the unit busy, or no sequence that waits
+    start_left : (e : Errand) (u : ℕ) (p : StartPlace) → start_owes p ≡ false → is_shared (start_move d u p) ≡ false → ReceivedRight chip w (start_move d u p) 0 → Frame d d e u o → HasDone e u true [] t → SpiAgrees d (with_holds o t.acted (with_debt e u) below) chip w s → a.place d u p (foot d chip) s
+        → LeftAt (at d e u (place.Start p)) (unit_takes (at d e u (place.Start p)) (value_of chip (start_move d u p))).1
+    start_left e u p free plain come frame done h here = by (start_takes d u p v) (starting.right u e held o t.acted chip w s p 0 free plain h here come)
+      where
+        v : ℕ
+        v = value_of chip (start_move d u p)
+
+        held : Holds
+        held = with_holds o t.acted (holds_by e) below
+
+        later : Chip
+        later = chip_after chip (start_move d u p) 0
+
+        by : (z : StartPlace × Started) → StartLeaves a d e held o t.acted u chip later w s (start_move d u p) v 0 z → LeftAt (at d e u (place.Start p)) (after_start (at d e u (place.Start p)) z).1
+        by (r1, started.Goes z) k is = absurd (cc)
+        by (r1, started.Over) k is = cleared_left later w s (start_move d u p) y n d e u (at d e u (place.Start p)) (place.Start r1) below o t frame done k is
+
+    front_received : (f : Front) → ReceivedRight chip w (front_move f) 0
+    front_received f = by f.search
+      where
+        by : (z : Search) → ReceivedRight chip w (search_move z) 0
+        by (search.Tally at) = refl
+        by (search.Low at tally) = refl
+        by (search.High at tally low) = refl
+
+    abbrev LeftX : SpiTable → Errand → ℕ → UnitPlace → Type 0
+    LeftX x e u p = LeftAt (at x e u p) (unit_takes (at x e u p) (value_of chip (unit_work (at x e u p)))).1
+
+    free_start : (x : SpiTable) (e : Errand) (u : ℕ) (p : StartPlace) → start_owes p ≡ false → StandBy (at x e u (place.Start p)) None → LeftX x e u (place.Start p)
+    free_start x e u start.Running i (h, (here, frame, done)) = subst (λ z. LeftX z e u (place.Start start.Running)) (sym frame.table) (start_left e u start.Running refl refl refl (record { table = refl; small = frame.small; of = frame.of }) done h here)
+    free_start x e u (start.Front v m f) i (h, (here, frame, done)) = subst (λ z. LeftX z e u (place.Start (start.Front v m f))) (sym frame.table) (start_left e u (start.Front v m f) refl (front_plain f) (front_received f) (record { table = refl; small = frame.small; of = frame.of }) done h here)
+    free_start x e u (start.Find c f) i h = by (find_gave f (value_of chip (start_move x u (start.Find c f))))
+      where
+        by : (q : Option ℕ) → LeftAt (at x e u (place.Start (start.Find c f))) (after_start (at x e u (place.Start (start.Find c f))) (start_finds c f (value_of chip (start_move x u (start.Find c f))) q)).1
+        by None is = absurd (cc)
+        by (Some z) is = absurd (cc)
+    free_start x e u _ i h = λ is. absurd (cc)
+
+    free_serve : (x : SpiTable) (e : Errand) (u : ℕ) (p : ServePlace) → serve_owes p ≡ false → StandBy (at x e u (place.Serve p)) None → LeftX x e u (place.Serve p)
+    free_serve x e u serve.State i (h, (here, frame, done)) = by (v / 2 % 2 == 0)
+      where
+        v : ℕ
+        v = value_of chip (unit_work (at x e u (place.Serve serve.State)))
+
+        by : (q : Bool) → LeftAt (at x e u (place.Serve serve.State)) (after_serve (at x e u (place.Serve serve.State)) (if q then (serve.State, steps.Over) else (serve.Running (v / 4 % 2 == 1), steps.Goes None))).1
+        by true is = missed_left chip w s (unit_work (at x e u (place.Serve serve.State))) y n x e u (at x e u (place.Serve serve.State)) (place.Serve serve.State) below o t frame done h is
+        by false is = absurd (cc)
+    free_serve x e u (serve.Running q) i (h, (here, frame, done)) = by (run_in (value_of chip (unit_work (at x e u (place.Serve (serve.Running q))))))
+      where
+        by : (z : Option Running) → LeftAt (at x e u (place.Serve (serve.Running q))) (after_serve (at x e u (place.Serve (serve.Running q))) (serve_run q z)).1
+        by None is = missed_left chip w s (unit_work (at x e u (place.Serve (serve.Running q)))) y n x e u (at x e u (place.Serve (serve.Running q))) (place.Serve (serve.Running q)) below o t frame done h is
+        by (Some z) is = absurd (cc)
+    free_serve x e u (serve.Find r p f) i h = by (find_gave f (value_of chip (unit_work (at x e u (place.Serve (serve.Find r p f))))))
+      where
+        by : (q : Option ℕ) → LeftAt (at x e u (place.Serve (serve.Find r p f))) (after_serve (at x e u (place.Serve (serve.Find r p f))) (serve_finds r p f (value_of chip (unit_work (at x e u (place.Serve (serve.Find r p f))))) q)).1
+        by None is = absurd (cc)
+        by (Some z) is = absurd (cc)
+    free_serve x e u _ i h = λ is. absurd (cc)
+
+    left_by : (x : SpiTable) (e : Errand) (u : ℕ) (p : UnitPlace) (q : Bool) → unit_owes p ≡ q → StandBy (at x e u p) (where_owed q (Units (at x e u p))) → LeftX x e u p
+    left_by x e u p true i h = owed_left x e u p i h
+    left_by x e u (place.Request r) false i h = request_left x e u r h.1.0.of h.1.1
+    left_by x e u (place.Start p) false i h = free_start x e u p i h
+    left_by x e u (place.Serve p) false i h = free_serve x e u p i h
+    left_by x e u place.Act false i h = λ is. absurd (cc)
+    left_by x e u (place.Opens z) false i h = λ is. absurd (cc)
+    left_by x e u (place.Tell z k) false i h = λ is. absurd (cc)
+
+    pub units_left : (k : UnitBody) → Stand (spi_basis d) (unit_bodies a b d) below chip w s k o t → LeftAt k (unit_takes k (value_of chip (unit_work k))).1
+    units_left k h = left_by k.table k.errand k.unit k.place (unit_owes k.place) refl h
