@@ -1,5 +1,5 @@
 -- What a frame of the module may name, and where the results stand.
-use Rattle.std.specs.Prelude.{◌≡◌, ℕ, ◌+◌, ◌*◌, ◌<◌, ◌^◌, ◌==◌, nat_lt, Bool, true, false, ◌&&◌, ◌||◌, not, List, length, map, sum_by, Option}
+use Rattle.std.specs.Prelude.{◌≡◌, ℕ, ◌+◌, ◌*◌, ◌<◌, ◌^◌, ◌==◌, nat_lt, Bool, true, false, ◌&&◌, ◌||◌, not, length, sum_by, Option}
 use Rattle.std.specs.List.{list_any, list_all, range_with_len}
 use Rattle.mcal_base.specs.Bits.{has_bit}
 use Rattle.mcal_base.specs.Layout.{is_within, own_start, start_of, place_of}
@@ -91,10 +91,6 @@ abbrev pub may : AdcTable → Move → Bool
 may d made = may_name d made && names_there made
 
 -- ---- results
-
--- the values of a group's buffer, by place
-abbrev pub buffer_values : AdcTable → AdcState → (group : ℕ) → ResultBuffer → List ℕ
-buffer_values d s g b = map (place_value s g b) (range_with_len 0 (place_count d g))
 
 -- the driver words hold the results of a group, in both buffers
 abbrev pub HoldsResults : (word : ℕ → ℕ) → AdcTable → AdcState → (group : ℕ) → Type 0

@@ -141,12 +141,6 @@ after_write b _ value = b
 abbrev pub after_word : Serials → (u incoming : ℕ) → Serials
 after_word b u incoming = with_unit b u (begun incoming b.time (unit_at b u))
 
--- the words on the wire of such a write: the one that is sent, and the one that comes in, which stays the
--- number of a refused exchange where it is that
-abbrev pub wire_of : Serials → (u sent incoming : ℕ) → ℕ × ℕ
-wire_of b u sent incoming =
-    (outgoing (unit_at b u) sent, if incoming == refused then refused else masked (unit_at b u).width incoming)
-
 -- what a fault on the wire leaves: without a word in transfer nothing
 abbrev pub after_fault : Serials → ℕ → Serials
 after_fault b u = with_unit b u (faulted b.time (unit_at b u))

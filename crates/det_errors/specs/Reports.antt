@@ -3,7 +3,7 @@ use Rattle.std.specs.Prelude.{ℕ, Bool, true, false, ◌&&◌, ◌==◌, Option
 use Rattle.mcal_base.specs.declared.error_name.ErrorName.{ErrorName}
 use Rattle.mcal_base.specs.declared.error_name.ErrorName.TheVariants as errors
 
--- the state errors: those that come of the moment of the call, and not of its arguments or of a missing `Init`
+-- the state errors: these six
 abbrev pub is_state_error : ErrorName → Bool
 is_state_error errors.GptBusy = true
 is_state_error errors.GptMode = true

@@ -259,10 +259,6 @@ interrupt_run = acting Init ∷ acting (SetAsyncMode modes.Interrupt) ∷ transm
 abbrev pub polling_run : List (Happening Call)
 polling_run = acting Init ∷ transmits 0 ∷ starting 65535 ∷ ticks 8 ∷ []
 
--- up to the start of a job that has a device
-abbrev pub before_start_run : List (Happening Call)
-before_start_run = acting Init ∷ filling (240 ∷ 0 ∷ []) ∷ acting (Channel 0 (SetupEb Users Users 2)) ∷ transmits 0 ∷ []
-
 -- 8 peripheral ticks after power on
 abbrev pub eight_later : World
 eight_later = world_after (world_start 0) 1 (Tick 8)

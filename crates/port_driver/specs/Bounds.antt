@@ -149,10 +149,6 @@ is_alone (Entered line) = false
 abbrev pub PinsStand : pins.Pins → PortState → List (Origin Call) → Type 0
 PinsStand b s origins = list_any is_alone origins ≡ false → PinsAgree b s
 
--- the chip's levels of all pins are the machine's, with the outputs of the pulse channels that name them
-abbrev pub LevelsAgree : (levels : ℕ → Bool) (pulses : ℕ → Option Bool) → World → PortState → Type 0
-LevelsAgree levels pulses w s = (p : ℕ) → p < 64 → levels p ≡ level_at w s p (pulses p)
-
 -- the levels that are shown: of the configured pins by number, with the outputs of the pulse channels that name them
 abbrev pub shown_levels : PortDriver → World → PortState → (pulses : ℕ → Option Bool) → List (ℕ × Bool)
 shown_levels d w s pulses = map (λ p. (p, level_at w s p (pulses p))) (filter (λ p. is_some (pin_of d p)) (range_with_len 0 64))

@@ -3,7 +3,7 @@ use Rattle.std.specs.Prelude.{◌≡◌, ℕ, ◌<◌, ◌≤◌, min, Bool, tru
 use Rattle.std.specs.List.{Contains, list_any, list_all}
 use Rattle.chip_units.specs.Serials.{unit_at, outgoing}
 use Rattle.chip_units.specs.declared.serial.Serial.{Serial}
-use Rattle.chip_model.specs.Chip.{Chip, value_of, stall_of, names_device, next_word, is_pending, is_masked}
+use Rattle.chip_model.specs.Chip.{Chip, value_of, stall_of, names_device, next_word, expiry_of, is_pending, is_masked}
 use Rattle.mcal_base.specs.Reach.{CanApply}
 use Rattle.irq_control.specs.declared.held.Held.{Held}
 use Rattle.irq_control.specs.declared.held.Held.TheVariants.{Unknown}
@@ -372,8 +372,9 @@ pub record IsServed {State Call : Type 0} (g : Setting State Call) (m : Moment S
   pub unused : UnusedIsIdle g m
   pub outputs : OutputsRight g m
   pub quiet : QuietAtRest g m m.opens
-  -- the chip's rate is the machine's
+  -- the chip's rate is the machine's, and so is the time that the watchdog has left, where it runs
   pub rate : m.chip.clock.rate ≡ g.machine.rate m.state
+  pub expiry : expiry_of m.chip ≡ g.machine.expires m.world m.state
   -- and each frame under way can go on within its bounds
   pub going : AreGoing g m.opens
 

@@ -83,7 +83,7 @@ pub fn words_that_begin()
 
 /// Between a request of a sequence and its end there is one result. Whatever happens, an initialisation and a reset
 /// excepted, a sequence stays pending or not, with its result and with nothing told; or it wasn't pending and is
-/// requested; or it was pending and ends: it is cancelled, its job failed, or no further job is there. Its result is then
+/// requested; or it was pending and ends: at a cancel, at the serving of a failed word, or where no further job of it is there. Its result is then
 /// cancelled, else failed, else OK, its notice is given where that is configured, and its jobs that never ran have the
 /// results that they had at the request. In every run an initialisation meets no pending sequence, and makes all results
 /// OK.

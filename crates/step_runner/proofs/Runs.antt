@@ -20,8 +20,8 @@ use Rattle.run_model.specs.World.{World, world_start}
 use Rattle.run_model.specs.Causes.{tags_of, origins_of}
 use Rattle.run_model.specs.Frame.{Open, brought_by, happening_at, outcome_of, state_by, state_after, open_after, report_by, outcome_at, inside_after, top_after, is_shared}
 use Rattle.run_model.specs.Machine.{Happening, Outcome}
-use Rattle.run_model.specs.Moment.{Setting, Moment, Deed, Begins, Enters, Steps, Happens, Resets, start_moment, after, after_all}
-use Rattle.run_model.specs.Legal.{InTime, IsLegalDeed, EndRight, AreGoing, IsServed, QuietAtRest, IsLegal}
+use Rattle.run_model.specs.Moment.{Moment, Deed, Begins, Enters, Steps, Happens, Resets, start_moment, after, after_all}
+use Rattle.run_model.specs.Legal.{InTime, IsLegalDeed, EndRight, AreGoing, IsServed, QuietAtRest}
 use Rattle.step_runner.specs.Driver.{Driver, most_steps, NotOver, EndsBefore, IsLawful, AllOutside, origins_in, FuelRight, stepped}
 use Rattle.step_runner.specs.Kept.{Kept, moved, TakesStep, CanStep, IsStill, total_fuel}
 use Rattle.step_runner.specs.Stands.{paired, IsFrameOf, AreFramesOf, NoneInside, IsGuarded, LevelsRise, Matches, IsFirst, Stands, step_done, FuelFalls}
@@ -118,6 +118,14 @@ module _ {State Call Frame : Type 0} (d : Driver State Call Frame) (move_of : Fr
         going-below us os a.1 guarded.1,
       )
 
+  -- the machine's time of the watchdog is the chip's, where it runs
+  left-by : (m : Moment State Call) (q : Bool) → d.watches ≡ q → (q ≡ true → d.setting.machine.expires m.world m.state ≡ expiry_of m.chip) → (d.watches ≡ false → expiry_of m.chip ≡ None) → d.setting.machine.expires m.world m.state ≡ expiry_of m.chip
+  left-by m true has is none = is refl
+  left-by m false has is none = law.unwatched m.world m.state has ∙ sym (none has)
+
+  pub left-is : (chip : Chip) (us : List (Under Frame)) (m : Moment State Call) → Matches d chip us m → d.setting.machine.expires m.world m.state ≡ expiry_of m.chip
+  left-is chip us m k = left-by m d.watches refl (λ has. law.expiry m.chip m.world (paired us m.opens) m.state has k.outside.osc k.relates) k.unloaded
+
   -- what matches a moment is served there
   pub served-of : (chip : Chip) (us : List (Under Frame)) (m : Moment State Call) → Matches d chip us m → IsServed d.setting m
   served-of chip us m k =
@@ -128,6 +136,7 @@ module _ {State Call Frame : Type 0} (d : Driver State Call Frame) (move_of : Fr
         outputs = λ e. subst (λ os. d.setting.unmasked m.chip m.world m.state os) (origins-in d us m.opens k.frames) (law.unmasked m.chip m.world (paired us m.opens) m.state e (out e) k.relates);
         quiet = quiet-of us m.opens m.chip m.world m.state m.steps k.enabled k.frames k.relates;
         rate = k.rate;
+        expiry = sym (left-is chip us m k);
         going = going-of (is_masked m.chip) us m.opens m.chip m.world m.state k.frames k.guarded k.relates;
       }
 
@@ -149,14 +158,6 @@ module _ {State Call Frame : Type 0} (d : Driver State Call Frame) (move_of : Fr
         unloaded = λ none. sym (ap expiry_of is.is_reset);
       } in
       record { legal = served-of first [] m k; matches = k; alive = subst (λ c. NotOver (expiry_of c)) is.is_reset tt }
-
-  -- the machine's time of the watchdog is the chip's, where it runs
-  left-by : (m : Moment State Call) (q : Bool) → d.watches ≡ q → (q ≡ true → d.setting.machine.expires m.world m.state ≡ expiry_of m.chip) → (d.watches ≡ false → expiry_of m.chip ≡ None) → d.setting.machine.expires m.world m.state ≡ expiry_of m.chip
-  left-by m true has is none = is refl
-  left-by m false has is none = law.unwatched m.world m.state has ∙ sym (none has)
-
-  pub left-is : (chip : Chip) (us : List (Under Frame)) (m : Moment State Call) → Matches d chip us m → d.setting.machine.expires m.world m.state ≡ expiry_of m.chip
-  left-is chip us m k = left-by m d.watches refl (λ has. law.expiry m.chip m.world (paired us m.opens) m.state has k.outside.osc k.relates) k.unloaded
 
   -- ticks that end before the watchdog's time does come in time, and so does any other deed while that isn't over
   abbrev Early : Deed Call → Option ℕ → Type 0

@@ -131,10 +131,6 @@ round_goes d w s l received (Some r) line at = record {
 
 -- ---- a serving of a trigger's line
 
--- a request that is made in a state with the same groups and units
-abbrev pulsed_state : AdcState → ℕ → AdcState
-pulsed_state s i = with_mark s i false
-
 requested_own : (d : AdcTable) (g : ℕ) (e : Seen) (s t : AdcState) → g < 16 → requests g e ≡ true → serves g e ≡ false → begins g e ≡ false → group_at t g ≡ group_at s g
     → GroupGoes d g e s (group_at s g) (group_at (requested t g) g)
 requested_own d g e s t lt request serve begin same =

@@ -35,7 +35,7 @@ values_since d g start now kept = levels_from now.world.samples start.world.now 
 pub data Keeps (d : AdcTable) (g : ℕ) : (past : List Seen) → (kept : List ℕ) → Type 0 where
   -- none at the request
   Requested : (e : Seen) (past : List Seen) → requests g e ≡ true → Keeps d g (e ∷ past) []
-  -- and none after a serving of a round of a continuous group, whose request stands on
+  -- and none after a serving of a round, where its request stands on
   Served : (e : Seen) (past earlier : List Seen) (start : Seen) (kept : List ℕ) (u : ℕ) → serves_on u g e ≡ true → Stretch u g past earlier start → Keeps d g earlier kept → Keeps d g (e ∷ past) []
   -- an abort keeps those of the inputs that have ended, under suspend and resume, and otherwise none
   Aborted : (e : Seen) (past earlier : List Seen) (start : Seen) (kept : List ℕ) (u : ℕ) → aborts_on u g e ≡ true → Stretch u g past earlier start → Keeps d g earlier kept

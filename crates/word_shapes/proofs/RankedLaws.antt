@@ -11,7 +11,6 @@ use Rattle.word_shapes.specs.Order.{Entry, is_there, IsOnce, AllBelow, added, wi
 use Rattle.word_shapes.specs.Packing.{places, order_of, marked, entries, count_in, marks_in, tally_of, ranked_of, appended, taken_out, tally_added, tally_marked, tally_cleared}
 use Rattle.word_shapes.specs.Ranked.{words_of, own_of, Holds, choosing_front, choosing_next, adding, waiting_again, dropping}
 use Rattle.word_shapes.specs.declared.ranked.Ranked.{Ranked}
-use Rattle.word_shapes.specs.declared.packed.Packed.{Packed}
 use Rattle.word_shapes.specs.declared.search.Search.TheVariants as search
 use Rattle.word_shapes.specs.declared.add.Add.TheVariants as add
 use Rattle.word_shapes.specs.declared.again.Again.TheVariants as again
@@ -59,12 +58,6 @@ few-say r m xs h le =
     ap (entries (marks_in (tally_in r m))) (places-few (count_at r m) (m r.at) 0 le ∙ sym (places-few (count_at r m) (m r.at) (m (r.at + 1)) le)) ∙ h.is
 
 -- ---- a choice that changes nothing
-
-abbrev few_packed : Ranked → Memory → Packed
-few_packed r m = record { low = m r.at; high = 0; tally = tally_in r m }
-
-abbrev all_packed : Ranked → Memory → Packed
-all_packed r m = record { low = m r.at; high = m (r.at + 1); tally = tally_in r m }
 
 front-few : (r : Ranked) (ranks : List ℕ) (m : Memory) (xs : List Entry) → Holds r m xs → count_at r m ≤ 8
     → Ends choosing_front (own_of r) 2 (record { search = search.Tally (words_of r); ranks = ranks }) m (λ after words. Holds r after xs × (words ≡ choice ranks xs ∷ []))

@@ -66,9 +66,6 @@ module _ (d : AdcTable) (fits : FitsAdc d) where
 
   -- ---- calls
 
-  abbrev Fuel : Place → ℕ
-  Fuel p = (bodies d).fuel (record { table = d; place = p })
-
   abbrev Room : Place → ℕ
   Room p = (bodies d).room (record { table = d; place = p })
 
