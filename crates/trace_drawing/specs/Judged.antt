@@ -1,5 +1,5 @@
 -- What a call prints, and with which status, by its words and its input, in the order of its refusals.
-use Rattle.std.specs.Prelude.{ℕ, ◌-◌, ◌==◌, nat_lt, Bool, List, [], ◌∷◌, ◌++◌, length, take, Option, Some, None, option_map, Result, Ok, Err, codes, decimal, bytes_eq, count_by, if◌then◌else◌}
+use Rattle.std.specs.Prelude.{ℕ, ◌-◌, ◌==◌, ◌&&◌, nat_lt, Bool, List, [], ◌∷◌, ◌++◌, length, take, Option, Some, None, option_map, Result, Ok, Err, codes, decimal, bytes_eq, count_by, if◌then◌else◌}
 use Rattle.std.specs.List.{slice_split, join_with_byte}
 use Rattle.std.specs.Str.Lines.{strip_carriage_return}
 use Rattle.mcal_base.specs.declared.directive.Directive.{Directive}
@@ -31,14 +31,18 @@ one_word word =
     else if bytes_eq word (codes "text") then Some forms.Rows
     else None
 
+abbrev pub with_option : List ℕ → List ℕ → Option Form
+with_option word option = if bytes_eq word (codes "vcd") && bytes_eq option (codes "--time") then Some forms.Times else None
+
 abbrev pub form_of : List (List ℕ) → Option Form
 form_of (word ∷ []) = one_word word
+form_of (word ∷ option ∷ []) = with_option word option
 form_of _ = None
 
 -- ---- endings without a drawing
 
 abbrev pub usage : Ending
-usage = record { status = 1; text = codes "usage: trace_view vcd | svg | text\n" }
+usage = record { status = 1; text = codes "usage: trace_view vcd [--time] | svg | text\n" }
 
 abbrev pub ending_of : InputEnd → Ending
 ending_of ends.Fault = record { status = 2; text = codes "read fault\n" }

@@ -2,18 +2,20 @@
 use Rattle.std.specs.Prelude.{ℕ, List, ◌++◌, Result, Ok, Err, codes, decimal}
 use Rattle.mcal_base.specs.declared.directive.Directive.{Directive}
 use Rattle.trace_reader.specs.Reading.{read_trace}
-use Rattle.trace_forms.specs.Changes.{changes}
 use Rattle.trace_forms.specs.Pages.{page}
 use Rattle.trace_forms.specs.Rows.{rows}
-use Rattle.trace_forms.specs.Sums.{sum_up}
+use Rattle.sign_kinds.specs.Sums.{sum_up}
 use Rattle.trace_signs.specs.Drawing.{Drawing, drawing_of}
 use Rattle.trace_signs.specs.Moments.{moments_of}
+use Rattle.trace_waves.specs.File.{waves}
+use Rattle.trace_waves.specs.declared.settings.Clock.TheVariants as clocks
 use Rattle.trace_drawing.specs.declared.program.Form.{Form}
 use Rattle.trace_drawing.specs.declared.program.Form.TheVariants as forms
 
 -- the signs in a form
 abbrev pub printed : Form → Drawing → List ℕ
-printed forms.Changes d = changes d.steps d.signs
+printed forms.Changes d = waves clocks.Steps d.steps d.signs
+printed forms.Times d = waves clocks.Ticks d.steps d.signs
 printed forms.Page d = page d.steps d.deepest d.signs
 printed forms.Rows d = rows d.signs
 

@@ -12,18 +12,21 @@ use crate::input::{Given, InputEnd, parts_of};
 use crate::transfer::{ReadEnd, read_all, write_all};
 use mcal_base::{Directive, Sink, Source};
 use std::alloc::{AllocError, Global};
-use trace_forms::{changes_of, page_of, rows_of};
+use trace_forms::{page_of, rows_of};
 use trace_reader::{TraceFault, read_trace};
 use trace_signs::{Drawing, drawing_of, moments_of};
+use trace_waves::{Clock, waves_of};
 
 /// What is printed where the words are of no form.
-const USAGE: &str = "usage: trace_view vcd | svg | text\n";
+const USAGE: &str = "usage: trace_view vcd [--time] | svg | text\n";
 
 /// What is drawn.
 #[derive(Clone, Copy)]
 pub enum Form {
-    /// Value changes.
+    /// Value changes, whose time is the number of the step.
     Changes,
+    /// Value changes, whose time is in ticks.
+    Times,
     /// A page.
     Page,
     /// Rows of characters.
@@ -42,12 +45,24 @@ fn one_word(word: &str) -> Option<Form>
     }
 }
 
+/// The form that a word with an option asks for.
+fn with_option(word: &str, option: &str) -> Option<Form>
+    ensures { result ≡ judged.with_option word.now option.now }
+{
+    if word == "vcd" && option == "--time" {
+        Some(Form::Times)
+    } else {
+        None
+    }
+}
+
 /// The form that the words of a command line ask for.
 fn form_of(words: &[String]) -> Option<Form>
     ensures { result ≡ judged.form_of (map string_bytes words.now) }
 {
     match words {
         [word] => one_word(word.as_str()),
+        [word, option] => with_option(word.as_str(), option.as_str()),
         _ => None,
     }
 }
@@ -57,7 +72,8 @@ fn printed(alloc: Global, form: Form, drawing: &Drawing) -> Result<String, Alloc
     ensures { IfOk result (λ text. string_bytes text ≡ spec.printed form drawing.now) }
 {
     match form {
-        Form::Changes => changes_of(alloc, drawing.steps(), drawing.signs()),
+        Form::Changes => waves_of(alloc, Clock::Steps, drawing.steps(), drawing.signs()),
+        Form::Times => waves_of(alloc, Clock::Ticks, drawing.steps(), drawing.signs()),
         Form::Page => { page_of(alloc, drawing.steps(), drawing.deepest(), drawing.signs()) }
         Form::Rows => rows_of(alloc, drawing.signs()),
     }

@@ -1,7 +1,5 @@
 -- How a text is written so that a reader of the form reads it as its characters.
-use Rattle.std.specs.Prelude.{IsTrue, ℕ, ◌/◌, ◌%◌, ◌==◌, ◌&&◌, not, nat_le, Bool, List, [], ◌∷◌, ◌++◌, codes, decimal, flat_map, if◌then◌else◌}
-
--- ---- a page
+use Rattle.std.specs.Prelude.{IsTrue, ℕ, ◌==◌, ◌&&◌, not, nat_le, Bool, List, [], ◌∷◌, ◌++◌, codes, decimal, flat_map, if◌then◌else◌}
 
 -- stands for itself on a page, between quotes too
 abbrev pub is_plain : ℕ → Bool
@@ -18,17 +16,3 @@ pub data Reads : List ℕ → List ℕ → Type 0 where
   nothing : Reads [] []
   as_itself : (b : ℕ) (written text : List ℕ) → IsTrue (is_plain b) → Reads written text → Reads (b ∷ written) (b ∷ text)
   by_number : (b : ℕ) (written text : List ℕ) → Reads written text → Reads (codes "&#" ++ (decimal b ++ (codes ";" ++ written))) (b ∷ text)
-
--- ---- a word of value changes, which ends at a space
-
-abbrev pub is_word : ℕ → Bool
-is_word b = (nat_le 33 b && nat_le b 126) && not (b == 92)
-
-abbrev pub octal : ℕ → List ℕ
-octal b = decimal (b / 64 % 8) ++ (decimal (b / 8 % 8) ++ decimal (b % 8))
-
-abbrev pub spell : ℕ → List ℕ
-spell b = if is_word b then b ∷ [] else codes "\\" ++ octal b
-
-abbrev pub spelled : List ℕ → List ℕ
-spelled text = flat_map spell text

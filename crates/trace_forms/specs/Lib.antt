@@ -1,6 +1,4 @@
-pub mod Changes
 pub mod Escapes
 pub mod Pages
 pub mod Rows
 pub mod Sentences
-pub mod Sums

@@ -6,15 +6,15 @@ use Rattle.trace_reader.specs.declared.told.Mark.{Mark}
 use Rattle.trace_reader.specs.declared.told.Mark.TheVariants as marks
 use Rattle.trace_forms.specs.Escapes.{escaped}
 use Rattle.trace_forms.specs.Sentences.{purpose_text, sentence}
-use Rattle.trace_forms.specs.Sums.{sum_up}
+use Rattle.sign_kinds.specs.Sums.{sum_up}
 use Rattle.trace_forms.specs.declared.look.Look.{Look}
 use Rattle.trace_forms.specs.declared.page.TheConstants.{STYLE, COLORS, SYMBOLS}
-use Rattle.trace_forms.specs.declared.signs.Ending.{Ending}
-use Rattle.trace_forms.specs.declared.signs.Ending.TheVariants as endings
-use Rattle.trace_forms.specs.declared.signs.Frame.{Frame}
-use Rattle.trace_forms.specs.declared.signs.Sign.{Sign}
-use Rattle.trace_forms.specs.declared.signs.What.{What}
-use Rattle.trace_forms.specs.declared.signs.What.TheVariants as whats
+use Rattle.sign_kinds.specs.declared.signs.Ending.{Ending}
+use Rattle.sign_kinds.specs.declared.signs.Ending.TheVariants as endings
+use Rattle.sign_kinds.specs.declared.signs.Frame.{Frame}
+use Rattle.sign_kinds.specs.declared.signs.Sign.{Sign}
+use Rattle.sign_kinds.specs.declared.signs.What.{What}
+use Rattle.sign_kinds.specs.declared.signs.What.TheVariants as whats
 
 -- ---- where things stand
 
@@ -52,7 +52,7 @@ event_symbol (Some marks.Start) = codes "start"
 
 -- the symbol of a sign
 abbrev pub symbol : What → List ℕ
-symbol whats.Turn = codes "turn"
+symbol (whats.Turn asked) = codes "turn"
 symbol (whats.Ticked ticks all) = codes "tick"
 symbol (whats.Waited ticks all) = codes "tick"
 symbol (whats.Stepped step fresh) = event_symbol step.mark
@@ -65,7 +65,7 @@ symbol _ = codes "ok"
 
 -- the row of labels in which the name of a sign stands
 abbrev pub label_row : What → Option ℕ
-label_row whats.Turn = Some 0
+label_row (whats.Turn asked) = Some 0
 label_row (whats.Held cause) = Some 1
 label_row (whats.Ticked ticks all) = Some 2
 label_row (whats.Waited ticks all) = Some 2
@@ -76,7 +76,7 @@ label_row _ = None
 
 -- where a symbol stands: in the row of its label, or on the bar of the topmost frame, or under the script's lines
 abbrev pub height : Look → ℕ → What → ℕ
-height look depth whats.Turn = 40
+height look depth (whats.Turn asked) = 40
 height look depth (whats.Held cause) = 56
 height look depth (whats.Ticked ticks all) = 72
 height look depth (whats.Waited ticks all) = 72
@@ -160,7 +160,7 @@ with_label_at sheet row x y label =
 
 -- the label of a shape, of the sign at a script line
 abbrev pub label_of : ℕ → What → List ℕ
-label_of number whats.Turn = decimal number
+label_of number (whats.Turn asked) = decimal number
 label_of number (whats.Gone frame ending) = purpose_text frame.purpose
 label_of number what = sentence what
 

@@ -1,5 +1,5 @@
 -- What a sign says in words: of a line of the trace, what that line says.
-use Rattle.std.specs.Prelude.{ℕ, List, ◌++◌, Option, Some, None, codes, decimal}
+use Rattle.std.specs.Prelude.{ℕ, List, ◌++◌, Bool, Option, Some, None, codes, decimal, if◌then◌else◌}
 use Rattle.mcal_base.specs.Names.{service_text}
 use Rattle.mcal_base.specs.declared.moves.Event.{Event}
 use Rattle.mcal_base.specs.declared.moves.Event.TheVariants as events
@@ -9,10 +9,12 @@ use Rattle.bench_report.specs.declared.frames.Purpose.{Purpose}
 use Rattle.bench_report.specs.declared.frames.Purpose.TheVariants as purposes
 use Rattle.trace_reader.specs.declared.told.Mark.{Mark}
 use Rattle.trace_reader.specs.declared.told.Mark.TheVariants as marks
-use Rattle.trace_forms.specs.declared.signs.Ending.{Ending}
-use Rattle.trace_forms.specs.declared.signs.Ending.TheVariants as endings
-use Rattle.trace_forms.specs.declared.signs.What.{What}
-use Rattle.trace_forms.specs.declared.signs.What.TheVariants as whats
+use Rattle.sign_kinds.specs.declared.signs.Asked.{Asked}
+use Rattle.sign_kinds.specs.declared.signs.Asked.TheVariants as asks
+use Rattle.sign_kinds.specs.declared.signs.Ending.{Ending}
+use Rattle.sign_kinds.specs.declared.signs.Ending.TheVariants as endings
+use Rattle.sign_kinds.specs.declared.signs.What.{What}
+use Rattle.sign_kinds.specs.declared.signs.What.TheVariants as whats
 
 -- a frame by its service or its line
 abbrev pub purpose_text : Purpose → List ℕ
@@ -35,8 +37,19 @@ ending_text endings.Ended = codes " ends"
 ending_text endings.Dropped = codes " is dropped"
 ending_text endings.Open = codes " is under way at the end"
 
+abbrev pub digit : Bool → List ℕ
+digit level = if level then codes "1" else codes "0"
+
+-- what a directive asks for
+abbrev pub asked_text : Asked → List ℕ
+asked_text (asks.Frame (purposes.Call service) level) = codes "asks for " ++ (service_text service ++ (codes " at level " ++ decimal level))
+asked_text (asks.Frame (purposes.Handler line) level) = codes "asks for the handler of line " ++ decimal line
+asked_text (asks.Pin p level) = codes "sets pin " ++ (decimal p ++ (codes " to " ++ digit level))
+asked_text (asks.Analog input value) = codes "sets analog input " ++ (decimal input ++ (codes " to " ++ decimal value))
+asked_text asks.Other = codes "the directive is obeyed"
+
 abbrev pub sentence : What → List ℕ
-sentence whats.Turn = codes "the directive is obeyed"
+sentence (whats.Turn asked) = asked_text asked
 sentence (whats.Ticked ticks all) = decimal ticks ++ (codes " ticks, " ++ (decimal all ++ codes " in all"))
 sentence (whats.Waited ticks all) = lines.line_text (lines.Waits ticks) ++ (codes " ticks, " ++ (decimal all ++ codes " in all"))
 sentence (whats.Begins frame) = purpose_text frame.purpose ++ codes " begins"

@@ -1,7 +1,6 @@
-//! The forms in which the signs of a trace are printed: value changes, a page, and rows of characters.
+//! The forms in which the signs of a trace are printed for a reader: a page, and rows of characters.
 #![tactic(auto)]
 
-mod changes;
 mod escapes;
 mod look;
 mod page;
@@ -9,9 +8,6 @@ mod rows;
 mod sentences;
 mod shapes;
 mod sheet;
-mod signs;
 
-pub use changes::changes_of;
 pub use page::page_of;
 pub use rows::rows_of;
-pub use signs::{Ending, Frame, Sign, What};

@@ -4,7 +4,7 @@ ghost use Rattle.trace_forms.specs.Pages as spec;
 use crate::look::{Look, MOST_STEPS};
 use crate::shapes::{Label, is_drawn, is_left_out};
 use crate::sheet::Sheet;
-use crate::signs::Sign;
+use sign_kinds::Sign;
 use std::alloc::{AllocError, Global};
 use std::fmt;
 
@@ -12,11 +12,14 @@ use std::fmt;
 const STYLE: &str = "\
 <style>text{font:10px monospace;fill:#222}.call{fill:#a9c8ea;stroke:#4a7ab0}.handler{fill:#f3c98b;stroke:#b07a2a}
 .dropped{stroke:#c00;stroke-width:2}.open{stroke-dasharray:3 2}
-.window{fill:#000;fill-opacity:.14;stroke:#000;stroke-opacity:.3}</style>
+.window{fill:#000;fill-opacity:.14;stroke:#000;stroke-opacity:.3}
+.page{fill:#fff}.ink{fill:#111}.edge{fill:#fff;stroke:#111}
+@media (prefers-color-scheme:dark){text{fill:#ddd}.call{fill:#2f4f76;stroke:#7aa7dd}.handler{fill:#6e4b1c;stroke:#e0aa58}
+.window{fill:#fff;stroke:#fff}.page{fill:#16181c}.ink{fill:#eee}.edge{fill:#16181c;stroke:#eee}}</style>
 <defs>
 <path id='step' d='M0 3v3' stroke='#555'/>
-<circle id='act' r='4' fill='#111'/>
-<path id='serve' d='M0 -6l6 6l-6 6l-6 -6z' fill='#fff' stroke='#111'/>
+<circle id='act' r='4' class='ink'/>
+<path id='serve' d='M0 -6l6 6l-6 6l-6 -6z' class='edge'/>
 <path id='abort' d='M-5 -5h10v10h-10z' fill='#c00'/>
 <path id='start' d='M-4 -6l10 6l-10 6z' fill='#080'/>
 <path id='turn' d='M0 0v4h2v-4z' fill='#999'/>
@@ -28,7 +31,7 @@ const STYLE: &str = "\
 <path id='shown' d='M4 0h3v3h-3z' fill='#4a7ab0'/>
 <path id='ok' d='M4 1h3' stroke='#999'/>
 </defs>
-<rect width='100%' height='100%' fill='#fff'/>
+<rect width='100%' height='100%' class='page'/>
 <text x='4' y='16'>A run, step by step</text>
 ";
 

@@ -2,7 +2,7 @@ ghost use Rattle.std.specs.Prelude.{◌≡◌, ◌-◌, ◌++◌, Some, IfOk, On
 ghost use Rattle.trace_forms.specs.Rows as spec;
 
 use crate::sentences::Sentence;
-use crate::signs::{Ending, Sign, What};
+use sign_kinds::{Ending, Sign, What};
 use std::alloc::{AllocError, Global};
 use std::fmt;
 use trace_reader::Mark;

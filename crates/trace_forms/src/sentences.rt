@@ -1,9 +1,9 @@
 ghost use Rattle.std.specs.Prelude.{◌≡◌, Some};
 ghost use Rattle.trace_forms.specs.Sentences as spec;
 
-use crate::signs::{Ending, What};
 use bench_report::{Line, Purpose};
 use mcal_base::{Event, Unit};
+use sign_kinds::{Asked, Ending, What};
 use std::fmt;
 use trace_reader::Mark;
 
@@ -58,6 +58,39 @@ fn ending_text(ending: Ending) -> &'static str
     }
 }
 
+/// A level as a digit.
+fn digit(level: bool) -> &'static str
+    ensures { result.now ≡ spec.digit level }
+{
+    if level { "1" } else { "0" }
+}
+
+/// What a directive asks for, in words.
+#[derive(Clone, Copy)]
+struct Request(Asked);
+
+impl fmt::Display for Request {
+    ghost output = { λ r. Some (spec.asked_text r.0) };
+
+    fn fmt<W: fmt::Write>(&self, f: &mut fmt::Formatter<W>) -> fmt::Result {
+        match self.0 {
+            Asked::Frame(Purpose::Call(service), level) => {
+                let name = service.text();
+                write!(f, "asks for {name} at level {level}")
+            }
+            Asked::Frame(Purpose::Handler(line), _) => {
+                write!(f, "asks for the handler of line {line}")
+            }
+            Asked::Pin(pin, level) => {
+                let level = digit(level);
+                write!(f, "sets pin {pin} to {level}")
+            }
+            Asked::Analog(input, value) => write!(f, "sets analog input {input} to {value}"),
+            Asked::Other => f.write_str("the directive is obeyed"),
+        }
+    }
+}
+
 /// What a sign says in words.
 #[derive(Clone, Copy)]
 pub(crate) struct Sentence(pub(crate) What);
@@ -67,7 +100,10 @@ impl fmt::Display for Sentence {
 
     fn fmt<W: fmt::Write>(&self, f: &mut fmt::Formatter<W>) -> fmt::Result {
         match self.0 {
-            What::Turn => f.write_str("the directive is obeyed"),
+            What::Turn(asked) => {
+                let asked = Request(asked);
+                write!(f, "{asked}")
+            }
             What::Ticked(ticks, all) => write!(f, "{ticks} ticks, {all} in all"),
             What::Waited(ticks, all) => {
                 let line = Line::Waits(ticks);

@@ -4,8 +4,8 @@ ghost use Rattle.trace_forms.specs.Pages as spec;
 use crate::escapes::Escaped;
 use crate::look::{Look, MOST_STEPS};
 use crate::sentences::Sentence;
-use crate::signs::{Ending, Sign, What};
 use bench_report::Purpose;
+use sign_kinds::{Ending, Sign, What};
 use std::fmt;
 use trace_reader::Mark;
 
@@ -27,7 +27,7 @@ pub(crate) fn symbol(what: What) -> &'static str
     ensures { result.now ≡ spec.symbol what }
 {
     match what {
-        What::Turn => "turn",
+        What::Turn(_) => "turn",
         What::Ticked(_, _) | What::Waited(_, _) => "tick",
         What::Stepped(step, _) => event_symbol(step.mark),
         What::Held(_) => "held",
@@ -45,7 +45,7 @@ pub(crate) fn label_row(what: What) -> Option<usize>
     ensures few { IfSome result (λ r. r < 6) }
 {
     match what {
-        What::Turn => Some(0),
+        What::Turn(_) => Some(0),
         What::Held(_) => Some(1),
         What::Ticked(_, _) | What::Waited(_, _) => Some(2),
         What::Noted(_) => Some(3),
@@ -60,7 +60,7 @@ pub(crate) fn height(look: Look, depth: usize, what: What) -> usize
     ensures { result ≡ spec.height look depth what }
 {
     match what {
-        What::Turn => 40,
+        What::Turn(_) => 40,
         What::Held(_) => 56,
         What::Ticked(_, _) | What::Waited(_, _) => 72,
         What::Noted(_) => look.flag_row(0) + 12,

@@ -7,7 +7,7 @@ use crate::shapes::{
     Label, Point, Shape, Title, across, ending_class, height, is_drawn, label_row, purpose_class,
     symbol,
 };
-use crate::signs::{Ending, Frame, Sign, What};
+use sign_kinds::{Ending, Frame, Sign, What};
 use std::alloc::{AllocError, Global};
 use std::marker::Model;
 
@@ -24,7 +24,7 @@ fn label_of(alloc: Global, number: u32, what: What) -> Result<String, AllocError
     ensures { IfOk result (λ text. string_bytes text ≡ spec.label_of number what) }
 {
     match what {
-        What::Turn => format!(in alloc; "{number}"),
+        What::Turn(_) => format!(in alloc; "{number}"),
         What::Gone(frame, _) => {
             let name = Named(frame.purpose);
             format!(in alloc; "{name}")

@@ -21,7 +21,7 @@ use Rattle.bench_report.specs.declared.frames.Purpose.{Purpose}
 use Rattle.bench_report.proofs.Items.{any, is_show, Each, lines_of}
 use Rattle.trace_reader.specs.Told.{told, told_line}
 use Rattle.trace_reader.specs.declared.told.Told.TheVariants as tells
-use Rattle.trace_forms.specs.declared.signs.What.TheVariants as whats
+use Rattle.sign_kinds.specs.declared.signs.What.TheVariants as whats
 use Rattle.trace_signs.specs.Drawing as drawing
 use Rattle.trace_signs.specs.Drawing.{Drawing, blank, put, entered, fits, drawn, completed, completed_of}
 use Rattle.trace_signs.specs.declared.moments.Moment as belonging

@@ -8,10 +8,10 @@ use Rattle.bench_report.specs.declared.frames.Purpose.{Purpose}
 use Rattle.trace_reader.specs.Told.{told, told_line}
 use Rattle.trace_reader.specs.declared.told.Told.{Told}
 use Rattle.trace_reader.specs.declared.told.Told.TheVariants as tells
-use Rattle.trace_forms.specs.Sums.{sum_up}
-use Rattle.trace_forms.specs.declared.signs.What.TheVariants as whats
-use Rattle.trace_signs.specs.Drawing.{Drawing, put, turned, ticked, begun, entered}
-use Rattle.trace_signs.specs.Moments.{ticks_of, begins_of, first_of}
+use Rattle.sign_kinds.specs.Sums.{sum_up}
+use Rattle.sign_kinds.specs.declared.signs.What.TheVariants as whats
+use Rattle.trace_signs.specs.Drawing.{Drawing, put, turned, ticked, level_of, begun, entered}
+use Rattle.trace_signs.specs.Moments.{asked_of, ticks_of, begins_of, first_of}
 use Rattle.trace_signs.specs.declared.moments.Moment.{Moment}
 use Rattle.trace_laws.proofs.Telling.{Stands, purposes_of}
 
@@ -37,7 +37,7 @@ ticked_same d n ticks all false = record { frames = refl; steps = refl }
 
 before_begun : (d : Drawing) (n : ℕ) (order : Order) (line : Line) → Same d (ticked (turned d (first_at n order line)) (first_at n order line))
 before_begun d n order line =
-    let x : Drawing = put d n whats.Turn in
+    let x : Drawing = put d n (whats.Turn (asked_of order)) in
     let s = ticked_same x n (ticks_of order) (sum_up x.ticks (ticks_of order)) (ticks_of order == 0) in
     record { frames = s.frames; steps = s.steps }
 
@@ -52,14 +52,14 @@ same_stands d e frames count left s h = record {
 
 -- ---- the beginning
 
-none_stands : (d : Drawing) (n : ℕ) (begins : Option Purpose) (frames : List Purpose) (count left : ℕ) → begins ≡ None → Stands d.frames d.steps frames count left → Stands (begun d n begins).frames (begun d n begins).steps frames count left
-none_stands d n None frames count left e h = h
-none_stands d n (Some p) frames count left e h = cc
+none_stands : (d : Drawing) (n level : ℕ) (begins : Option Purpose) (frames : List Purpose) (count left : ℕ) → begins ≡ None → Stands d.frames d.steps frames count left → Stands (begun d n level begins).frames (begun d n level begins).steps frames count left
+none_stands d n level None frames count left e h = h
+none_stands d n level (Some p) frames count left e h = cc
 
-more_stands : (d : Drawing) (n : ℕ) (begins : Option Purpose) (p : Purpose) (frames : List Purpose) (count left : ℕ) → begins ≡ Some p → count < 8 → Stands d.frames d.steps frames count left →
-    Stands (begun d n begins).frames (begun d n begins).steps (p ∷ frames) (suc count) left
-more_stands d n None p frames count left e lt h = cc
-more_stands d n (Some q) p frames count left e lt h =
+more_stands : (d : Drawing) (n level : ℕ) (begins : Option Purpose) (p : Purpose) (frames : List Purpose) (count left : ℕ) → begins ≡ Some p → count < 8 → Stands d.frames d.steps frames count left →
+    Stands (begun d n level begins).frames (begun d n level begins).steps (p ∷ frames) (suc count) left
+more_stands d n level None p frames count left e lt h = cc
+more_stands d n level (Some q) p frames count left e lt h =
     let same : q ≡ p = cc in
     record {
       purposes = ap (λ (ps : List Purpose). q ∷ ps) h.purposes ∙ ap (λ (x : Purpose). x ∷ frames) same;
@@ -74,14 +74,14 @@ pub quiet_entered : (d : Drawing) (n : ℕ) (order : Order) (line : Line) (frame
     Stands (entered d (first_at n order line)).frames (entered d (first_at n order line)).steps frames count left
 quiet_entered d n order line frames count left e h =
     let x = ticked (turned d (first_at n order line)) (first_at n order line) in
-    none_stands x n (begins_of order (told line)) frames count left e (same_stands d x frames count left (before_begun d n order line) h)
+    none_stands x n (level_of (asked_of order)) (begins_of order (told line)) frames count left e (same_stands d x frames count left (before_begun d n order line) h)
 
 -- a frame begins
 pub begun_entered : (d : Drawing) (n : ℕ) (order : Order) (line : Line) (p : Purpose) (frames : List Purpose) (count left : ℕ) → begins_of order (told line) ≡ Some p → count < 8 → Stands d.frames d.steps frames count left →
     Stands (entered d (first_at n order line)).frames (entered d (first_at n order line)).steps (p ∷ frames) (suc count) left
 begun_entered d n order line p frames count left e lt h =
     let x = ticked (turned d (first_at n order line)) (first_at n order line) in
-    more_stands x n (begins_of order (told line)) p frames count left e lt (same_stands d x frames count left (before_begun d n order line) h)
+    more_stands x n (level_of (asked_of order)) (begins_of order (told line)) p frames count left e lt (same_stands d x frames count left (before_begun d n order line) h)
 
 -- a directive that begins no frame begins none at any line
 pub begins_none : (order : Order) (t : Told) → purpose_of order ≡ None → begins_of order t ≡ None

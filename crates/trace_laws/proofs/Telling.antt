@@ -18,11 +18,11 @@ use Rattle.trace_reader.specs.Told.{told, mark_of, given, incoming}
 use Rattle.trace_reader.specs.declared.told.Step.{Step}
 use Rattle.trace_reader.specs.declared.told.Told.{Told}
 use Rattle.trace_reader.specs.declared.told.Told.TheVariants as tells
-use Rattle.trace_forms.specs.Sums.{sum_up}
-use Rattle.trace_forms.specs.declared.signs.Ending.{Ending}
-use Rattle.trace_forms.specs.declared.signs.Ending.TheVariants as endings
-use Rattle.trace_forms.specs.declared.signs.Frame.{Frame}
-use Rattle.trace_forms.specs.declared.signs.What.TheVariants as whats
+use Rattle.sign_kinds.specs.Sums.{sum_up}
+use Rattle.sign_kinds.specs.declared.signs.Ending.{Ending}
+use Rattle.sign_kinds.specs.declared.signs.Ending.TheVariants as endings
+use Rattle.sign_kinds.specs.declared.signs.Frame.{Frame}
+use Rattle.sign_kinds.specs.declared.signs.What.TheVariants as whats
 use Rattle.trace_signs.specs.Drawing as drawing
 use Rattle.trace_signs.specs.Drawing.{Drawing, put, shut_at, all_ended_of, ended_of, before_step, behind_step, counted, stepped, freshly, is_on_chip, is_call_of, is_handler_of, top_of, is_of, fits_frames, fits}
 

@@ -12,13 +12,14 @@ use Rattle.trace_reader.specs.declared.told.TraceLine.{TraceLine}
 use Rattle.mcal_base.specs.declared.moves.Move.{Move}
 use Rattle.mcal_base.specs.declared.moves.Move.TheVariants as moves
 use Rattle.trace_forms.specs.Pages.{is_shape, first_step, most_steps, is_drawn, is_left_out}
-use Rattle.trace_forms.specs.declared.signs.Ending.{Ending}
-use Rattle.trace_forms.specs.declared.signs.Ending.TheVariants as endings
-use Rattle.trace_forms.specs.declared.signs.Frame.{Frame}
-use Rattle.trace_forms.specs.declared.signs.Sign.{Sign}
-use Rattle.trace_forms.specs.declared.signs.What.{What}
-use Rattle.trace_forms.specs.declared.signs.What.TheVariants as whats
-use Rattle.trace_signs.specs.Drawing.{Drawing, blank, put, turned, with_ticks, ticked, begun, entered, shut_at, all_ended, all_ended_of, ended_of, before_step, behind_step, counted, stepped, freshly, told, drawn, completed, completed_of, drawing_of}
+use Rattle.sign_kinds.specs.declared.signs.Asked.{Asked}
+use Rattle.sign_kinds.specs.declared.signs.Ending.{Ending}
+use Rattle.sign_kinds.specs.declared.signs.Ending.TheVariants as endings
+use Rattle.sign_kinds.specs.declared.signs.Frame.{Frame}
+use Rattle.sign_kinds.specs.declared.signs.Sign.{Sign}
+use Rattle.sign_kinds.specs.declared.signs.What.{What}
+use Rattle.sign_kinds.specs.declared.signs.What.TheVariants as whats
+use Rattle.trace_signs.specs.Drawing.{Drawing, blank, put, turned, level_of, with_ticks, ticked, begun, entered, shut_at, all_ended, all_ended_of, ended_of, before_step, behind_step, counted, stepped, freshly, told, drawn, completed, completed_of, drawing_of}
 use Rattle.trace_signs.specs.Laws.{seen, beginning_of, going_of, IsDrawingOf}
 use Rattle.trace_signs.specs.Moments.{moments_of}
 use Rattle.trace_signs.specs.declared.moments.Moment.{Moment}
@@ -58,18 +59,18 @@ gone_put d number count frame ending h = record {
 record IsBalanced (d : Drawing) : Type 0 where
   opened : HasOpen d.signs (length d.frames)
 
-turned_balanced : (d : Drawing) (number : ℕ) (b : Bool) → IsBalanced d → IsBalanced (if b then put d number whats.Turn else d)
-turned_balanced d number true h = record { opened = quiet_put d number (length d.frames) whats.Turn refl refl h.opened }
-turned_balanced d number false h = h
+turned_balanced : (d : Drawing) (number : ℕ) (asked : Asked) (b : Bool) → IsBalanced d → IsBalanced (if b then put d number (whats.Turn asked) else d)
+turned_balanced d number asked true h = record { opened = quiet_put d number (length d.frames) (whats.Turn asked) refl refl h.opened }
+turned_balanced d number asked false h = h
 
 ticked_balanced : (d : Drawing) (number ticks all : ℕ) (b : Bool) → IsBalanced d → IsBalanced (if b then d else put (record d { ticks = all }) number (whats.Ticked ticks all))
 ticked_balanced d number ticks all true h = h
 ticked_balanced d number ticks all false h = record { opened = quiet_put (record d { ticks = all }) number (length d.frames) (whats.Ticked ticks all) refl refl h.opened }
 
-begun_balanced : (d : Drawing) (number : ℕ) (purpose : Option Purpose) → IsBalanced d → IsBalanced (begun d number purpose)
-begun_balanced d number None h = h
-begun_balanced d number (Some purpose) h =
-    let frame : Frame = record { purpose = purpose; number = number; depth = length d.frames + 1; from = d.steps } in
+begun_balanced : (d : Drawing) (number level : ℕ) (purpose : Option Purpose) → IsBalanced d → IsBalanced (begun d number level purpose)
+begun_balanced d number level None h = h
+begun_balanced d number level (Some purpose) h =
+    let frame : Frame = record { purpose = purpose; level = level; number = number; depth = length d.frames + 1; from = d.steps } in
     record { opened = record { balance = (begins_put (record d { frames = frame ∷ d.frames; deepest = max d.deepest frame.depth }) number (length d.frames) frame h.opened).balance ∙ omega arith } }
 
 shut_balanced : (d : Drawing) (number : ℕ) (since : Option ℕ) → IsBalanced d → IsBalanced (shut_at d number since)
@@ -145,7 +146,7 @@ told_balanced d number tells.Shown h = put_balanced d number whats.Shown refl re
 told_balanced d number tells.Done h = put_balanced d number whats.Done refl refl h
 
 entered_balanced : (d : Drawing) (m : Moment) → IsBalanced d → IsBalanced (entered d m)
-entered_balanced d m h = begun_balanced (ticked (turned d m) m) m.number m.begins (ticked_balanced (turned d m) m.number m.ticks _ _ (turned_balanced d m.number m.first h))
+entered_balanced d m h = begun_balanced (ticked (turned d m) m) m.number (level_of m.asked) m.begins (ticked_balanced (turned d m) m.number m.ticks _ _ (turned_balanced d m.number m.asked m.first h))
 
 -- where all lines are drawn, as many are gone as begin
 ends_shown : (ms : List Moment) (d : Drawing) → drawn 0 blank ms ≡ Ok d → length (seen beginning_of (completed d).signs) ≡ length (seen going_of (completed d).signs)
@@ -164,7 +165,7 @@ one_of false = refl
 
 sign_counted : (step number : ℕ) (what : What) →
     cond (is_shape what && nat_le (first_step step what) most_steps) 1 0 + cond (is_shape what && not (nat_le (first_step step what) most_steps)) 1 0 + length (option_to_list (beginning_of number what)) ≡ 1
-sign_counted step number whats.Turn = one_of _
+sign_counted step number (whats.Turn asked) = one_of _
 sign_counted step number (whats.Ticked ticks all) = one_of _
 sign_counted step number (whats.Waited ticks all) = one_of _
 sign_counted step number (whats.Begins frame) = refl

@@ -7,11 +7,11 @@ use Rattle.std.proofs.lemmas.List.Elements.{filter_map-append}
 use Rattle.mcal_base.specs.declared.moves.Move.{Move}
 use Rattle.mcal_base.specs.declared.moves.Move.TheVariants as moves
 use Rattle.trace_reader.specs.declared.told.Step.{Step}
-use Rattle.trace_forms.specs.declared.signs.Ending.{Ending}
-use Rattle.trace_forms.specs.declared.signs.Frame.{Frame}
-use Rattle.trace_forms.specs.declared.signs.Sign.{Sign}
-use Rattle.trace_forms.specs.declared.signs.What.{What}
-use Rattle.trace_forms.specs.declared.signs.What.TheVariants as whats
+use Rattle.sign_kinds.specs.declared.signs.Ending.{Ending}
+use Rattle.sign_kinds.specs.declared.signs.Frame.{Frame}
+use Rattle.sign_kinds.specs.declared.signs.Sign.{Sign}
+use Rattle.sign_kinds.specs.declared.signs.What.{What}
+use Rattle.sign_kinds.specs.declared.signs.What.TheVariants as whats
 use Rattle.trace_signs.specs.Drawing.{Drawing, put, shut_at, all_ended_of, before_step, behind_step, counted, stepped}
 use Rattle.trace_signs.specs.Laws.{seen}
 

@@ -13,12 +13,13 @@ use Rattle.trace_reader.specs.declared.told.Told.{Told}
 use Rattle.trace_reader.specs.declared.told.Told.TheVariants as tells
 use Rattle.trace_reader.specs.declared.told.TraceLine.{TraceLine}
 use Rattle.trace_reader.proofs.NameLaws.{service_injective}
-use Rattle.trace_forms.specs.Sums.{sum_up}
-use Rattle.trace_forms.specs.declared.signs.Ending.TheVariants as endings
-use Rattle.trace_forms.specs.declared.signs.Frame.{Frame}
-use Rattle.trace_forms.specs.declared.signs.What.{What}
-use Rattle.trace_forms.specs.declared.signs.What.TheVariants as whats
-use Rattle.trace_signs.specs.Drawing.{Drawing, blank, put, turned, with_ticks, ticked, begun, entered, all_ended, ended_of, freshly, told, is_call_of, is_handler_of, top_of, is_of, fits_frames, fits, drawn, completed}
+use Rattle.sign_kinds.specs.Sums.{sum_up}
+use Rattle.sign_kinds.specs.declared.signs.Asked.{Asked}
+use Rattle.sign_kinds.specs.declared.signs.Ending.TheVariants as endings
+use Rattle.sign_kinds.specs.declared.signs.Frame.{Frame}
+use Rattle.sign_kinds.specs.declared.signs.What.{What}
+use Rattle.sign_kinds.specs.declared.signs.What.TheVariants as whats
+use Rattle.trace_signs.specs.Drawing.{Drawing, blank, put, turned, level_of, with_ticks, ticked, begun, entered, all_ended, ended_of, freshly, told, is_call_of, is_handler_of, top_of, is_of, fits_frames, fits, drawn, completed}
 use Rattle.trace_signs.specs.Laws.{seen, end_of, line_of, turn_of}
 use Rattle.trace_signs.specs.declared.moments.Moment.{Moment}
 use Rattle.trace_signs.proofs.Seen.{seen-quiet, seen-more, seen-shut, seen-ended, seen-stepped}
@@ -41,9 +42,9 @@ drawn_all P step place (m ∷ ms) d out h p =
 
 -- ---- what a directive's first line shows
 
-turned_case : {T : Type 0} (f : ℕ → What → Option T) (d : Drawing) (number : ℕ) (b : Bool) → f number whats.Turn ≡ None → seen f (if b then put d number whats.Turn else d).signs ≡ seen f d.signs
-turned_case f d number true quiet = seen-quiet f d number whats.Turn quiet
-turned_case f d number false quiet = refl
+turned_case : {T : Type 0} (f : ℕ → What → Option T) (d : Drawing) (number : ℕ) (asked : Asked) (b : Bool) → f number (whats.Turn asked) ≡ None → seen f (if b then put d number (whats.Turn asked) else d).signs ≡ seen f d.signs
+turned_case f d number asked true quiet = seen-quiet f d number (whats.Turn asked) quiet
+turned_case f d number asked false quiet = refl
 
 ticked_case : {T : Type 0} (f : ℕ → What → Option T) (d : Drawing) (number ticks all : ℕ) (b : Bool) → f number (whats.Ticked ticks all) ≡ None →
     seen f (if b then d else put (record d { ticks = all }) number (whats.Ticked ticks all)).signs ≡ seen f d.signs
@@ -53,19 +54,19 @@ ticked_case f d number ticks all false quiet = seen-quiet f (record d { ticks = 
 pub ticked_seen : {T : Type 0} (f : ℕ → What → Option T) → ((number ticks all : ℕ) → f number (whats.Ticked ticks all) ≡ None) → (d : Drawing) (m : Moment) → seen f (ticked d m).signs ≡ seen f d.signs
 ticked_seen f quiet d m = ticked_case f d m.number m.ticks (sum_up d.ticks m.ticks) (m.ticks == 0) (quiet m.number m.ticks (sum_up d.ticks m.ticks))
 
-pub turned_seen : {T : Type 0} (f : ℕ → What → Option T) → ((number : ℕ) → f number whats.Turn ≡ None) → (d : Drawing) (m : Moment) → seen f (turned d m).signs ≡ seen f d.signs
-turned_seen f quiet d m = turned_case f d m.number m.first (quiet m.number)
+pub turned_seen : {T : Type 0} (f : ℕ → What → Option T) → ((number : ℕ) (asked : Asked) → f number (whats.Turn asked) ≡ None) → (d : Drawing) (m : Moment) → seen f (turned d m).signs ≡ seen f d.signs
+turned_seen f quiet d m = turned_case f d m.number m.asked m.first (quiet m.number m.asked)
 
-begun_seen : {T : Type 0} (f : ℕ → What → Option T) → ((number : ℕ) (frame : Frame) → f number (whats.Begins frame) ≡ None) → (d : Drawing) (number : ℕ) (purpose : Option Purpose) → seen f (begun d number purpose).signs ≡ seen f d.signs
-begun_seen f quiet d number None = refl
-begun_seen f quiet d number (Some purpose) =
-    let frame : Frame = record { purpose = purpose; number = number; depth = length d.frames + 1; from = d.steps } in
+begun_seen : {T : Type 0} (f : ℕ → What → Option T) → ((number : ℕ) (frame : Frame) → f number (whats.Begins frame) ≡ None) → (d : Drawing) (number level : ℕ) (purpose : Option Purpose) → seen f (begun d number level purpose).signs ≡ seen f d.signs
+begun_seen f quiet d number level None = refl
+begun_seen f quiet d number level (Some purpose) =
+    let frame : Frame = record { purpose = purpose; level = level; number = number; depth = length d.frames + 1; from = d.steps } in
     seen-quiet f (record d { frames = frame ∷ d.frames; deepest = max d.deepest frame.depth }) number (whats.Begins frame) (quiet number frame)
 
 entered_lines : (d : Drawing) (m : Moment) → seen line_of (entered d m).signs ≡ seen line_of d.signs
 entered_lines d m =
-    begun_seen line_of (λ number frame. refl) (ticked (turned d m) m) m.number m.begins
-    ∙ (ticked_seen line_of (λ number ticks all. refl) (turned d m) m ∙ turned_seen line_of (λ number. refl) d m)
+    begun_seen line_of (λ number frame. refl) (ticked (turned d m) m) m.number (level_of m.asked) m.begins
+    ∙ (ticked_seen line_of (λ number ticks all. refl) (turned d m) m ∙ turned_seen line_of (λ number asked. refl) d m)
 
 -- a line of the trace
 abbrev pub line_at : Moment → TraceLine
@@ -130,9 +131,9 @@ lines_shown ms d h =
 abbrev pub turn_at : Moment → List ℕ
 turn_at m = if m.first then m.number ∷ [] else []
 
-turn_case : (d : Drawing) (number : ℕ) (b : Bool) → seen turn_of (if b then put d number whats.Turn else d).signs ≡ seen turn_of d.signs ++ (if b then number ∷ [] else [])
-turn_case d number true = seen-more turn_of d number whats.Turn number refl
-turn_case d number false = sym (append-nil (seen turn_of d.signs))
+turn_case : (d : Drawing) (number : ℕ) (asked : Asked) (b : Bool) → seen turn_of (if b then put d number (whats.Turn asked) else d).signs ≡ seen turn_of d.signs ++ (if b then number ∷ [] else [])
+turn_case d number asked true = seen-more turn_of d number (whats.Turn asked) number refl
+turn_case d number asked false = sym (append-nil (seen turn_of d.signs))
 
 ended_turns : (d : Drawing) (number : ℕ) (frames : List Frame) → seen turn_of (ended_of d number endings.Ended frames).signs ≡ seen turn_of d.signs
 ended_turns d number [] = refl
@@ -159,8 +160,8 @@ turn_step : (all : List ℕ) (m : Moment) (ms : List Moment) (d : Drawing) → f
 turn_step all m ms d h p =
     let e : seen turn_of (told (entered d m) m.number m.told).signs ≡ seen turn_of d.signs ++ turn_at m =
     told_turns (entered d m) m.number m.told
-    ∙ (begun_seen turn_of (λ number frame. refl) (ticked (turned d m) m) m.number m.begins
-    ∙ (ticked_seen turn_of (λ number ticks all. refl) (turned d m) m ∙ turn_case d m.number m.first)) in
+    ∙ (begun_seen turn_of (λ number frame. refl) (ticked (turned d m) m) m.number (level_of m.asked) m.begins
+    ∙ (ticked_seen turn_of (λ number ticks all. refl) (turned d m) m ∙ turn_case d m.number m.asked m.first)) in
     ap (λ (xs : List ℕ). xs ++ flat_map turn_at ms) e ∙ (append_assoc (seen turn_of d.signs) (turn_at m) (flat_map turn_at ms) ∙ p)
 
 pub turns_shown : (ms : List Moment) (d : Drawing) → drawn 0 blank ms ≡ Ok d → seen turn_of (completed d).signs ≡ flat_map turn_at ms

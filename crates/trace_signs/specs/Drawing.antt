@@ -11,13 +11,15 @@ use Rattle.trace_reader.specs.declared.told.Mark.TheVariants as marks
 use Rattle.trace_reader.specs.declared.told.Step.{Step}
 use Rattle.trace_reader.specs.declared.told.Told.{Told}
 use Rattle.trace_reader.specs.declared.told.Told.TheVariants as tells
-use Rattle.trace_forms.specs.Sums.{sum_up}
-use Rattle.trace_forms.specs.declared.signs.Ending.{Ending}
-use Rattle.trace_forms.specs.declared.signs.Ending.TheVariants as endings
-use Rattle.trace_forms.specs.declared.signs.Frame.{Frame}
-use Rattle.trace_forms.specs.declared.signs.Sign.{Sign}
-use Rattle.trace_forms.specs.declared.signs.What.{What}
-use Rattle.trace_forms.specs.declared.signs.What.TheVariants as whats
+use Rattle.sign_kinds.specs.Sums.{sum_up}
+use Rattle.sign_kinds.specs.declared.signs.Asked.{Asked}
+use Rattle.sign_kinds.specs.declared.signs.Asked.TheVariants as asks
+use Rattle.sign_kinds.specs.declared.signs.Ending.{Ending}
+use Rattle.sign_kinds.specs.declared.signs.Ending.TheVariants as endings
+use Rattle.sign_kinds.specs.declared.signs.Frame.{Frame}
+use Rattle.sign_kinds.specs.declared.signs.Sign.{Sign}
+use Rattle.sign_kinds.specs.declared.signs.What.{What}
+use Rattle.sign_kinds.specs.declared.signs.What.TheVariants as whats
 use Rattle.trace_signs.specs.declared.moments.Moment.{Moment}
 
 -- the signs so far, and where the trace stands behind them
@@ -44,7 +46,7 @@ put d number what = record d { signs = d.signs ++ record { step = d.steps; numbe
 -- ---- what the first line of a directive shows of it
 
 abbrev pub turned : Drawing → Moment → Drawing
-turned d m = if m.first then put d m.number whats.Turn else d
+turned d m = if m.first then put d m.number (whats.Turn m.asked) else d
 
 abbrev pub with_ticks : Drawing → ℕ → Drawing
 with_ticks d ticks = record d { ticks = sum_up d.ticks ticks }
@@ -55,12 +57,17 @@ ticked d m = if m.ticks == 0 then d else put (with_ticks d m.ticks) m.number (wh
 abbrev pub with_frame : Drawing → ℕ → Frame → Drawing
 with_frame d number frame = put (record d { frames = frame ∷ d.frames; deepest = max d.deepest frame.depth }) number (whats.Begins frame)
 
-abbrev pub begun : Drawing → ℕ → Option Purpose → Drawing
-begun d number None = d
-begun d number (Some purpose) = with_frame d number (record { purpose = purpose; number = number; depth = length d.frames + 1; from = d.steps })
+-- the level of a call that is asked for
+abbrev pub level_of : Asked → ℕ
+level_of (asks.Frame purpose level) = level
+level_of _ = 0
+
+abbrev pub begun : Drawing → ℕ → ℕ → Option Purpose → Drawing
+begun d number level None = d
+begun d number level (Some purpose) = with_frame d number (record { purpose = purpose; level = level; number = number; depth = length d.frames + 1; from = d.steps })
 
 abbrev pub entered : Drawing → Moment → Drawing
-entered d m = begun (ticked (turned d m) m) m.number m.begins
+entered d m = begun (ticked (turned d m) m) m.number (level_of m.asked) m.begins
 
 -- ---- frames and the mask
 

@@ -8,12 +8,12 @@ use Rattle.trace_reader.specs.declared.told.Told.{Told}
 use Rattle.trace_reader.specs.declared.told.Told.TheVariants as tells
 use Rattle.trace_reader.specs.declared.told.TraceLine.{TraceLine}
 use Rattle.trace_forms.specs.Pages.{is_drawn, is_left_out}
-use Rattle.trace_forms.specs.declared.signs.Ending.{Ending}
-use Rattle.trace_forms.specs.declared.signs.Ending.TheVariants as endings
-use Rattle.trace_forms.specs.declared.signs.Frame.{Frame}
-use Rattle.trace_forms.specs.declared.signs.Sign.{Sign}
-use Rattle.trace_forms.specs.declared.signs.What.{What}
-use Rattle.trace_forms.specs.declared.signs.What.TheVariants as whats
+use Rattle.sign_kinds.specs.declared.signs.Ending.{Ending}
+use Rattle.sign_kinds.specs.declared.signs.Ending.TheVariants as endings
+use Rattle.sign_kinds.specs.declared.signs.Frame.{Frame}
+use Rattle.sign_kinds.specs.declared.signs.Sign.{Sign}
+use Rattle.sign_kinds.specs.declared.signs.What.{What}
+use Rattle.sign_kinds.specs.declared.signs.What.TheVariants as whats
 use Rattle.trace_signs.specs.Drawing.{Drawing}
 
 -- what some signs show, in their order, by their script lines and what they stand for
@@ -45,7 +45,7 @@ line_of number _ = None
 
 -- the directive of the script that it shows
 abbrev pub turn_of : ℕ → What → Option ℕ
-turn_of number whats.Turn = Some number
+turn_of number (whats.Turn asked) = Some number
 turn_of number _ = None
 
 -- the frame that begins, and the one that is gone

@@ -5,10 +5,23 @@ use Rattle.mcal_base.specs.declared.directive.Order.{Order}
 use Rattle.mcal_base.specs.declared.directive.Order.TheVariants as orders
 use Rattle.bench_report.specs.Report.{purpose_of}
 use Rattle.bench_report.specs.declared.frames.Purpose.{Purpose}
+use Rattle.bench_report.specs.declared.frames.Purpose.TheVariants as purposes
 use Rattle.trace_reader.specs.declared.told.Told.{Told}
 use Rattle.trace_reader.specs.declared.told.Told.TheVariants as tells
 use Rattle.trace_reader.specs.declared.told.TraceLine.{TraceLine}
+use Rattle.sign_kinds.specs.declared.signs.Asked.{Asked}
+use Rattle.sign_kinds.specs.declared.signs.Asked.TheVariants as asks
 use Rattle.trace_signs.specs.declared.moments.Moment.{Moment}
+
+-- what a directive asks for, as far as it is drawn
+abbrev pub asked_of : Order → Asked
+asked_of (orders.Call level request) = asks.Frame (purposes.Call request.service) level
+asked_of (orders.Do level request) = asks.Frame (purposes.Call request.service) level
+asked_of (orders.Enter line) = asks.Frame (purposes.Handler line) 0
+asked_of (orders.Serve line) = asks.Frame (purposes.Handler line) 0
+asked_of (orders.Level pin level) = asks.Pin pin level
+asked_of (orders.Analog input value) = asks.Analog input value
+asked_of _ = asks.Other
 
 -- the ticks that a directive asks for
 abbrev pub ticks_of : Order → ℕ
@@ -26,12 +39,13 @@ first_of directive line = record {
   number = line.number;
   told = line.told;
   first = true;
+  asked = asked_of directive.order;
   begins = begins_of directive.order line.told;
   ticks = ticks_of directive.order;
 }
 
 abbrev pub later_of : TraceLine → Moment
-later_of line = record { number = line.number; told = line.told; first = false; begins = None; ticks = 0 }
+later_of line = record { number = line.number; told = line.told; first = false; asked = asks.Other; begins = None; ticks = 0 }
 
 -- the lines that come next with a number, and those behind them
 abbrev pub own_lines : ℕ → List TraceLine → List Moment

@@ -1,14 +1,14 @@
 ghost use Rattle.std.specs.Prelude.{◌≡◌, OnOk};
 ghost use Rattle.trace_reader.specs.Reading.{Ends};
-ghost use Rattle.trace_forms.specs.Sums.{sum_up};
+ghost use Rattle.sign_kinds.specs.Sums.{sum_up};
 ghost use Rattle.trace_signs.specs.Drawing as spec;
 
 use crate::moments::Moment;
 use bench_report::Purpose;
 use mcal_base::{Move, Reason, Service};
+use sign_kinds::{Asked, Ending, Frame, Sign, What};
 use std::alloc::{AllocError, Global};
 use std::marker::Model;
-use trace_forms::{Ending, Frame, Sign, What};
 use trace_reader::{Mark, Step, Told, TraceFault};
 
 /// Whether a chip has the line that is served, if one is.
@@ -38,6 +38,16 @@ fn is_handler_of(line: u32, purpose: Purpose) -> bool
     match purpose {
         Purpose::Call(_) => false,
         Purpose::Handler(own) => own == line,
+    }
+}
+
+/// The level of a call that is asked for.
+fn level_of(asked: Asked) -> u32
+    ensures { result ≡ spec.level_of asked }
+{
+    match asked {
+        Asked::Frame(_, level) => level,
+        _ => 0,
     }
 }
 
@@ -126,7 +136,7 @@ impl Drawing {
         ensures { OnOk result (self.new ≡ spec.turned self.old moment.now) }
     {
         if moment.first {
-            self.put(moment.number, What::Turn)
+            self.put(moment.number, What::Turn(moment.asked))
         } else {
             Ok(())
         }
@@ -154,13 +164,14 @@ impl Drawing {
 
     /// Adds the frame of a directive.
     fn begin(&mut self, moment: &Moment) -> Result<(), AllocError>
-        ensures { OnOk result (self.new ≡ spec.begun self.old moment.now.number moment.now.begins) }
+        ensures { OnOk result (self.new ≡ spec.begun self.old moment.now.number (spec.level_of moment.now.asked) moment.now.begins) }
     {
         let Some(purpose) = moment.begins else {
             return Ok(());
         };
         let frame = Frame {
             purpose,
+            level: level_of(moment.asked),
             number: moment.number,
             depth: self.frames.len() + 1,
             from: self.steps,

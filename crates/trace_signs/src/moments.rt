@@ -4,6 +4,7 @@ ghost use Rattle.trace_signs.specs.Moments as spec;
 
 use bench_report::{Purpose, purpose_of};
 use mcal_base::{Directive, Order};
+use sign_kinds::Asked;
 use std::alloc::{AllocError, Global};
 use trace_reader::{Told, TraceFault, TraceLine};
 
@@ -16,10 +17,27 @@ pub struct Moment {
     pub told: Told,
     /// Whether it is the first line of its directive.
     pub first: bool,
+    /// What its directive asks for, at its first line.
+    pub asked: Asked,
     /// What its directive began a frame for, at the first line of one that did.
     pub begins: Option<Purpose>,
     /// The ticks that its directive asked for, at its first line.
     pub ticks: u32,
+}
+
+/// What a directive asks for, as far as it is drawn.
+fn asked_of(order: &Order) -> Asked
+    ensures { result ≡ spec.asked_of order.now }
+{
+    match order {
+        Order::Call(level, request) | Order::Do(level, request) => {
+            Asked::Frame(Purpose::Call(request.service), *level)
+        }
+        Order::Enter(line) | Order::Serve(line) => Asked::Frame(Purpose::Handler(*line), 0),
+        Order::Level(pin, level) => Asked::Pin(*pin, *level),
+        Order::Analog(input, value) => Asked::Analog(*input, *value),
+        _ => Asked::Other,
+    }
 }
 
 /// The ticks that a directive asks for.
@@ -50,6 +68,7 @@ fn first_of(directive: &Directive, line: TraceLine) -> Moment
         number: line.number,
         told: line.told,
         first: true,
+        asked: asked_of(&directive.order),
         begins: begins_of(&directive.order, line.told),
         ticks: ticks_of(&directive.order),
     }
@@ -63,6 +82,7 @@ fn later_of(line: TraceLine) -> Moment
         number: line.number,
         told: line.told,
         first: false,
+        asked: Asked::Other,
         begins: None,
         ticks: 0,
     }

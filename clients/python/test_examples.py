@@ -1,0 +1,58 @@
+"""What a test of one's own looks like: run it by pytest, or as it stands."""
+
+from mcal import Board, Held, WasReset
+
+
+def test_time_goes_by():
+    with Board() as board:
+        board.Gpt_Init()
+        board.Gpt_StartTimer(0, 100)
+        board.tick(30)
+        assert board.Gpt_GetTimeElapsed(0) == 30
+
+
+def test_an_error_is_reported():
+    errors = []
+    with Board() as board:
+        board.on_error(lambda service, error, runtime: errors.append((service, error, runtime)))
+        board.Gpt_StartTimer(0, 100)
+        assert errors == [('Gpt_StartTimer', 'GPT_E_UNINIT', False)]
+
+
+def test_an_interrupt_waits_for_the_window():
+    causes = []
+
+    def hook():
+        try:
+            board.interrupt(0)
+        except Held as held:
+            causes.append(held.cause)
+
+    with Board() as board:
+        board.Gpt_Init()
+        board.at_each_step(hook)
+        board.Gpt_GetTimeElapsed(0)
+        assert 'masked' in causes
+
+
+def test_a_reset_drops_the_service():
+    def hook():
+        if board.masked:
+            board.reset('watchdog')
+
+    with Board() as board:
+        board.Gpt_Init()
+        board.at_each_step(hook)
+        try:
+            board.Gpt_StartTimer(0, 100)
+            assert False, 'it returned'
+        except WasReset as reset:
+            assert (reset.reason, reset.dropped) == ('MCU_WATCHDOG_RESET', 1)
+        assert board.depth == 0
+
+
+if __name__ == '__main__':
+    for name, test in list(globals().items()):
+        if name.startswith('test_'):
+            test()
+            print(name, 'ok')

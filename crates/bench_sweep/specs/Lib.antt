@@ -1,0 +1,10 @@
+pub mod Cuts
+pub mod Flat
+pub mod Groups
+pub mod Lines
+pub mod Marks
+pub mod Outcomes
+pub mod Parts
+pub mod Placed
+pub mod Places
+pub mod Reports

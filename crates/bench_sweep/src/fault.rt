@@ -1,0 +1,61 @@
+use crate::marking::{Mark, Part};
+use std::alloc::{AllocError, Global};
+
+/// Why a script is no sweep. Each fault has its line, from 1.
+#[derive(Clone, Copy)]
+pub enum SweepFault {
+    /// A mark stands where it may not: behind the part that ends there.
+    Misplaced(u32, Mark, Part),
+    /// The script ends in a part that another must follow. The line is the last one.
+    Unended(u32, Part),
+    /// No directive stands behind this mark, where one must.
+    Empty(u32, Mark),
+    /// No callback with the number of an object stands behind `on`.
+    Notice(u32),
+    /// What follows a notice is not one call to its end.
+    Reaction(u32),
+    /// No directive of the block makes a step. The line is that of `over`.
+    NoStep(u32),
+}
+
+impl SweepFault {
+    /// The line that is printed.
+    pub fn text(self, alloc: Global) -> Result<String, AllocError> {
+        match self {
+            SweepFault::Misplaced(line, mark, part) => {
+                let mark = mark.text();
+                let ends = part.ends_text();
+                format!(in alloc;
+                    "sweep fault {line} Misplaced: {mark}, where the next mark may be {ends}\n"
+                )
+            }
+            SweepFault::Unended(line, part) => {
+                let ends = part.ends_text();
+                format!(in alloc;
+                    "sweep fault {line} Unended: the script ends, where the next mark must be {ends}\n"
+                )
+            }
+            SweepFault::Empty(line, mark) => {
+                let mark = mark.text();
+                format!(in alloc;
+                    "sweep fault {line} Empty: no directive behind {mark}, where one or more must stand\n"
+                )
+            }
+            SweepFault::Notice(line) => {
+                format!(in alloc;
+                    "sweep fault {line} Notice: on, where on CALLBACK ID do L SERVICE .. must stand\n"
+                )
+            }
+            SweepFault::Reaction(line) => {
+                format!(in alloc;
+                    "sweep fault {line} Reaction: what follows a notice must be one do L SERVICE ..\n"
+                )
+            }
+            SweepFault::NoStep(line) => {
+                format!(in alloc;
+                    "sweep fault {line} NoStep: no directive of the block makes a step, where one or more must\n"
+                )
+            }
+        }
+    }
+}

@@ -1,0 +1,4 @@
+pub mod GroupLaws
+pub mod GroupSteps
+pub mod PulseLaws
+pub mod RoundLaws

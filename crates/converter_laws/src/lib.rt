@@ -1,0 +1,6 @@
+//! What converter units and groups do: laws over the converter block and over the machine of the converter driver.
+#![tactic(auto)]
+
+pub mod chip;
+pub mod groups;
+pub mod triggers;

@@ -1,0 +1,18 @@
+//! All that a person may want to be told of a bench file: its errors at once, and what the bench takes without a word.
+#![tactic(auto)]
+
+mod config;
+mod explained;
+mod found;
+mod linted;
+mod numbers;
+mod objects;
+mod rules;
+mod script;
+mod separator;
+mod split;
+mod values;
+mod verdicts;
+
+pub use linted::{Lint, lint_file};
+pub use verdicts::{Verdict, verdict_on};

@@ -1,0 +1,139 @@
+ghost use Rattle.std.specs.Prelude.{◌≡◌, ◌==◌, IfOk, false, vec_len};
+ghost use Rattle.desk_lint.specs.WellFormed as spec;
+
+use crate::config::ConfigPass;
+use crate::found::Found;
+use crate::rules::told;
+use crate::script::script_pass;
+use crate::separator::{no_separator, script_line};
+use crate::verdicts::{Verdict, verdict_on};
+use desk_findings::{Finding, Severity, sorted};
+use desk_places::{Lines, Places, Span, places_in};
+use mcal_base::Config;
+use mcal_config::ConfigFault;
+use std::alloc::{AllocError, Global};
+
+/// What is found in a bench file, each in the order of its place.
+#[derive(Drop)]
+pub struct Lint {
+    /// What the bench refuses. There is none exactly where its `check` takes the file.
+    pub errors: Vec<Finding>,
+    /// What it takes, and a person may not have meant.
+    pub warnings: Vec<Finding>,
+}
+
+/// An error that is of the whole file.
+fn refused(alloc: Global, what: &str) -> Result<Finding, AllocError> {
+    Ok(Finding {
+        severity: Severity::Error,
+        span: Span { start: 0, end: 0 },
+        what: String::from_str(alloc, what)?,
+        help: String::new(alloc),
+        other: None,
+    })
+}
+
+/// The errors of a file that is refused: where none was found, that it is refused.
+fn at_least_one(alloc: Global, mut errors: Vec<Finding>) -> Result<Vec<Finding>, AllocError>
+    ensures { IfOk result (λ v. (vec_len v == 0) ≡ false) }
+{
+    if errors.is_empty() {
+        errors.push(refused(alloc, "the bench refuses this file")?)?;
+    }
+    Ok(errors)
+}
+
+/// Looks through a text that is to be a configuration. Of one without TOML's form that is told alone.
+fn config_pass(
+    found: &mut Found,
+    text: &[u8],
+    fault: Option<ConfigFault>,
+) -> Result<(), AllocError> {
+    match toml::table_from_slice(found.alloc, text) {
+        Ok(table) => {
+            let places = Places::of(places_in(found.alloc, text)?)?;
+            let mut pass = ConfigPass {
+                places: &places,
+                found,
+            };
+            pass.whole(&table)?;
+            told(pass.found, &places, fault)
+        }
+        Err(error) => {
+            let Some(span) = error.span() else {
+                return Err(AllocError);
+            };
+            let what = String::from_str(found.alloc, "the configuration is no TOML")?;
+            let help = String::from_str(found.alloc, error.message())?;
+            found.error(
+                Span {
+                    start: span.start,
+                    end: span.end,
+                },
+                what,
+                help,
+            )
+        }
+    }
+}
+
+/// The fault of the configuration, if it has one.
+fn config_fault(verdict: &Verdict) -> Option<ConfigFault> {
+    match verdict {
+        Verdict::Configuration(fault) => Some(*fault),
+        _ => None,
+    }
+}
+
+/// The configuration, if it is right.
+fn config_of(verdict: &Verdict) -> Option<&Config> {
+    match verdict {
+        Verdict::Sound(config) | Verdict::Script(config, _) => Some(config),
+        _ => None,
+    }
+}
+
+/// Looks through a file, by what the readers say of it.
+fn looked_through(alloc: Global, bytes: &[u8], verdict: &Verdict) -> Result<Found, AllocError> {
+    let mut found = Found::new(alloc);
+    if matches!(verdict, Verdict::TooLong) {
+        found
+            .errors
+            .push(refused(alloc, "more than 1048576 bytes")?)?;
+        return Ok(found);
+    }
+    let lines = Lines::of(alloc, bytes)?;
+    let script = script_line(&lines);
+    match script {
+        Some(line) => {
+            let end = lines.start_of(line);
+            config_pass(
+                &mut found,
+                bytes.get(..end).unwrap_or(&[]),
+                config_fault(verdict),
+            )?;
+            let first = line.saturating_add(1);
+            script_pass(&mut found, &lines, first, config_of(verdict))?;
+        }
+        None => no_separator(&mut found, &lines)?,
+    }
+    Ok(found)
+}
+
+/// Looks through a bench file for all that its readers refuse, and for what they take without a word. There is no error
+/// exactly where they take it.
+pub fn lint_file(alloc: Global, bytes: &[u8]) -> Result<Lint, AllocError>
+    ensures { IfOk result (λ l. (vec_len l.errors == 0) ≡ spec.is_well_formed bytes.now) }
+{
+    let verdict = verdict_on(alloc, bytes)?;
+    let found = looked_through(alloc, bytes, &verdict)?;
+    let warnings = sorted(found.warnings)?;
+    if let Verdict::Sound(_) = verdict {
+        return Ok(Lint {
+            errors: Vec::new(alloc),
+            warnings,
+        });
+    }
+    let errors = at_least_one(alloc, sorted(found.errors)?)?;
+    Ok(Lint { errors, warnings })
+}

@@ -1,0 +1,69 @@
+use crate::json::differences_json;
+use crate::junit::suite;
+use crate::running::run_bench;
+use crate::told::{Style, Told};
+use desk_reports::{differences, put_difference, report_lines};
+use std::alloc::{AllocError, Global};
+
+/// The status where two reports differ.
+const DIFFERENT: u8 = 8;
+
+/// Two reports, of which the one is what was expected.
+#[derive(Clone, Copy)]
+pub struct Comparison<'a> {
+    /// What the test is called.
+    pub name: &'a str,
+    /// What was expected.
+    pub expected: &'a str,
+    /// What was printed.
+    pub printed: &'a str,
+}
+
+/// Tells where two reports differ, by the lines of their script. The status is 8 where they do.
+pub fn compared(
+    alloc: Global,
+    comparison: Comparison<'_>,
+    style: Style,
+) -> Result<Told, AllocError> {
+    let expected = report_lines(alloc, comparison.expected)?;
+    let printed = report_lines(alloc, comparison.printed)?;
+    let found = differences(alloc, &expected, &printed)?;
+    let mut text = String::new(alloc);
+    for difference in &found {
+        put_difference(&mut text, *difference)?;
+    }
+    let text = match style {
+        Style::Plain => text,
+        Style::Json => differences_json(alloc, comparison.name, &found)?,
+        Style::Junit => suite(alloc, comparison.name, text.as_str())?,
+    };
+    Ok(Told {
+        status: if found.is_empty() { 0 } else { DIFFERENT },
+        text,
+    })
+}
+
+/// Runs a file, and tells where what it prints is not what is expected. Where the bench refuses it, that is told, with its
+/// status.
+pub fn expected(
+    alloc: Global,
+    name: &str,
+    bytes: &[u8],
+    is_traced: bool,
+    report: &str,
+    style: Style,
+) -> Result<Told, AllocError> {
+    let ran = run_bench(alloc, bytes, is_traced)?;
+    if ran.status != 0 {
+        return Ok(Told {
+            status: ran.status,
+            text: ran.text,
+        });
+    }
+    let comparison = Comparison {
+        name,
+        expected: report,
+        printed: ran.text.as_str(),
+    };
+    compared(alloc, comparison, style)
+}

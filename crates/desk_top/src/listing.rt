@@ -1,0 +1,55 @@
+use crate::running::run_bench;
+use crate::told::Told;
+use desk_places::Lines;
+use desk_reports::{Listing, listed, report_lines};
+use std::alloc::{AllocError, Global};
+use std::str;
+
+/// The line that stands between configuration and script.
+const SEPARATOR: &[u8] = b"---";
+
+/// The number of the first line of the script.
+fn first_line(lines: &Lines<'_>) -> usize {
+    let separator = (1..lines.count()).find(|line| lines.line(*line) == SEPARATOR);
+    separator.unwrap_or(0).saturating_add(1)
+}
+
+/// The lines of a file from one on, without an empty one at its end.
+fn script_lines<'a>(
+    alloc: Global,
+    lines: &Lines<'a>,
+    first: usize,
+) -> Result<Vec<&'a str>, AllocError> {
+    let mut script = Vec::new(alloc);
+    for number in first..lines.count().saturating_add(1) {
+        let line = lines.line(number);
+        if number < lines.count() || !line.is_empty() {
+            script.push(str::from_utf8(line).unwrap_or("(not UTF-8)"))?;
+        }
+    }
+    Ok(script)
+}
+
+/// A file's script with what each line printed beside it, steps folded. Where the bench refuses the file, that is told.
+pub fn list(alloc: Global, bytes: &[u8], is_traced: bool) -> Result<Told, AllocError> {
+    let ran = run_bench(alloc, bytes, is_traced)?;
+    if ran.status != 0 {
+        return Ok(Told {
+            status: ran.status,
+            text: ran.text,
+        });
+    }
+    let lines = Lines::of(alloc, bytes)?;
+    let first = first_line(&lines);
+    let script = script_lines(alloc, &lines, first)?;
+    let report = report_lines(alloc, ran.text.as_str())?;
+    let text = listed(
+        alloc,
+        Listing {
+            script: &script,
+            first,
+            report: &report,
+        },
+    )?;
+    Ok(Told { status: 0, text })
+}

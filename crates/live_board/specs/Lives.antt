@@ -1,0 +1,80 @@
+-- A driver on the chip, as those see it who drive it deed by deed.
+use Rattle.std.specs.Prelude.{◌≡◌, ℕ, zero, suc, ◌+◌, ◌*◌, ◌-◌, ◌^◌, ◌<◌, ◌≤◌, nat_lt, Bool, true, false, List, [], ◌∷◌, ◌++◌, Option, Some, None}
+use Rattle.chip_model.specs.Chip.{Chip, now_of, stall_of}
+use Rattle.mcal_base.specs.declared.directive.Order.{Order}
+use Rattle.mcal_base.specs.declared.directive.Order.TheVariants.{Analog, Level, Miso, SpiFault, Tick, Trigger}
+use Rattle.mcal_base.specs.declared.directive.Reason.TheVariants.{Watchdog}
+use Rattle.mcal_base.specs.declared.moves.Move.{Move}
+use Rattle.run_model.specs.Moment.{Deed, Happens, Resets, start_moment, after_all}
+use Rattle.script_runner.specs.Standing.{room_on}
+use Rattle.step_runner.specs.Driver.{Driver}
+use Rattle.step_runner.specs.Kept.{Kept}
+use Rattle.step_runner.specs.Stands.{Stands}
+use Rattle.step_runner.specs.declared.stack.Under.{Under}
+
+-- The driver, the chip, the frames under way with the number of steps; the ticks that may still go by, the words that may still be given to come in, and how many devices hang on the serial units.
+pub record LiveRun (M Frame : Type 0) : Type 0 where
+  pub driver : M
+  pub chip : Chip
+  pub kept : Kept Frame
+  pub left : ℕ
+  pub room : ℕ
+  pub devices : ℕ
+
+-- Of whatever legal run it stood at the end, it now stands at the end of that run with these deeds more, which is a legal run too.
+abbrev pub GoesOn : {M State Call Frame : Type 0} → Driver State Call Frame → (before after : LiveRun M Frame) → List (Deed Call) → Type 0
+GoesOn {Call = Call} d before after deeds = (first : Chip) (h : List (Deed Call)) → Stands d first before.chip before.kept.frames h → Stands d first after.chip after.kept.frames (h ++ deeds)
+
+-- The same of a step: the run so far has fewer steps than are counted.
+abbrev pub StepsOn : {M State Call Frame : Type 0} → Driver State Call Frame → (before after : LiveRun M Frame) → List (Deed Call) → Type 0
+StepsOn {Call = Call} d before after deeds = (first : Chip) (h : List (Deed Call)) → (after_all d.setting (start_moment d.setting first) h).steps < 4294967295 → Stands d first before.chip before.kept.frames h → Stands d first after.chip after.kept.frames (h ++ deeds)
+
+-- the ticks that are left behind a reset
+abbrev pub rest_of : {Call : Type 0} → ℕ → List (Deed Call)
+rest_of zero = []
+rest_of (suc n) = Happens (Tick (suc n)) ∷ []
+
+-- so many ticks go by, through the end of the watchdog's time where it ends in them
+abbrev pub ticks_by : {Call : Type 0} → (ticks : ℕ) → (left : Option ℕ) → List (Deed Call)
+ticks_by ticks None = Happens (Tick ticks) ∷ []
+ticks_by ticks (Some left) = Happens (Tick left) ∷ Resets Watchdog ∷ rest_of (ticks - left)
+
+-- the ticks that the next step waits for
+abbrev pub wait_of : {Frame : Type 0} → (Frame → Move) → List (Under Frame) → Chip → ℕ
+wait_of move_of [] chip = 0
+wait_of move_of (u ∷ us) chip = stall_of chip (move_of u.frame)
+
+-- what goes by in a wait: the watchdog's time may end in it, and then no frame is left that waits
+abbrev pub wait_by : {Call : Type 0} → (ticks : ℕ) → (left : Option ℕ) → List (Deed Call)
+wait_by zero left = []
+wait_by (suc n) None = Happens (Tick (suc n)) ∷ []
+wait_by (suc n) (Some left) = Happens (Tick left) ∷ Resets Watchdog ∷ []
+
+-- words are given to come in on one of the serial units
+abbrev pub is_gift : Order → Bool
+is_gift (Miso u ws) = nat_lt u 2
+is_gift order = false
+
+-- something outside is set, or comes at once
+abbrev pub is_setting : Order → Bool
+is_setting (Level p v) = true
+is_setting (Analog i v) = true
+is_setting (Trigger i) = true
+is_setting (SpiFault u) = true
+is_setting order = false
+
+-- The chip's times stay within their registers for the ticks that are left, and it has room for the words that may still come.
+pub record IsCounted (chip : Chip) (left room : ℕ) : Type 0 where
+  pub osc : chip.clock.osc + left < 2 ^ 64
+  pub now : now_of chip + 16 * left < 2 ^ 64
+  pub words : (u : ℕ) → u < 2 → room ≤ room_on chip u
+
+-- What is so of a driver on the chip at all times: there is a legal run at whose end it stands, with no more steps than were counted.
+pub record IsLive {State Call Frame : Type 0} (d : Driver State Call Frame) (chip : Chip) (kept : Kept Frame) (left room devices : ℕ) : Type 0 where
+  pub fits : d.fits
+  pub first : Chip
+  pub deeds : List (Deed Call)
+  pub stands : Stands d first chip kept.frames deeds
+  pub steps : (after_all d.setting (start_moment d.setting first) deeds).steps ≤ kept.steps
+  pub counted : IsCounted chip left room
+  pub hung : chip.devices ≡ devices

@@ -1,0 +1,55 @@
+ghost use Rattle.config_facts.specs.Valid.{IsValid};
+
+use crate::sights::Sights;
+use crate::wires::Wire;
+use bench_report::Purpose;
+use live_board::Live;
+use mcal_base::{Config, NoMemory};
+use std::alloc::Global;
+
+/// What a frame was begun for, and its level.
+#[derive(Clone, Copy)]
+pub(crate) struct Begun {
+    /// What it was begun for.
+    pub(crate) purpose: Purpose,
+    /// Its level.
+    pub(crate) level: u32,
+}
+
+/// A driver on the chip, from power on.
+#[derive(Drop)]
+pub(crate) struct Board<B: Sights> {
+    /// The configuration.
+    pub(crate) config: Config,
+    /// The driver on the chip.
+    pub(crate) live: Live<B::Driver>,
+    /// The frames under way, the newest last.
+    pub(crate) frames: Vec<Begun>,
+    /// What went over the first serial unit's wire.
+    pub(crate) first_wire: Wire,
+    /// And over the second's.
+    pub(crate) second_wire: Wire,
+}
+
+impl<B: Sights> Board<B> {
+    /// A board at power on.
+    pub(crate) fn new(alloc: Global, config: Config, devices: usize) -> Result<Board<B>, NoMemory>
+        requires valid { IsValid config }
+    {
+        let live = B::powered(alloc, &config, devices)?;
+        Ok(Board {
+            config,
+            live,
+            frames: Vec::new(alloc),
+            first_wire: Wire::new(alloc),
+            second_wire: Wire::new(alloc),
+        })
+    }
+
+    /// No frame is there, and nothing went over the wires, since the chip was reset.
+    pub(crate) fn forget(&mut self) {
+        self.frames.clear();
+        self.first_wire.clear();
+        self.second_wire.clear();
+    }
+}

@@ -1,0 +1,161 @@
+use crate::board::Board;
+use crate::command::command_of;
+use crate::lines::MOST_BYTES;
+use crate::obey::{command, obey};
+use crate::page::Page;
+use crate::sights::Sights;
+use bench_script::{ScriptFault, read_script};
+use chip_model::Bus;
+use mcal_config::{ConfigFault, read_config};
+use serial_devices::SerialDevice;
+use std::alloc::{AllocError, Global};
+
+/// How many interrupt lines there are.
+const LINES: u32 = 32;
+
+/// Prints which interrupt lines are pending.
+fn write_pending(bus: &Bus, page: &mut Page) -> Result<(), AllocError> {
+    let mut first = true;
+    for line in 0..LINES {
+        if bus.pending(line) {
+            if first {
+                page.text.push_str(" pending")?;
+                first = false;
+            }
+            write!(page.text, " {line}")?;
+        }
+    }
+    Ok(())
+}
+
+/// Prints what stands now: how many frames are there, the level of the top one, whether the mask is closed, and which lines
+/// are pending.
+fn write_state<B: Sights>(board: &Board<B>, page: &mut Page) -> Result<(), AllocError> {
+    let depth = board.live.depth();
+    write!(page.text, "> {depth}")?;
+    if let Some(top) = board.frames.last() {
+        let level = top.level;
+        write!(page.text, " at {level}")?;
+    }
+    let bus = board.live.bus();
+    if bus.masked() {
+        page.text.push_str(" masked")?;
+    }
+    write_pending(bus, page)?;
+    page.text.push_str("\n")
+}
+
+/// Obeys a line of the script language.
+fn obey_line<B: Sights>(
+    alloc: Global,
+    board: &mut Board<B>,
+    rack: &mut Vec<Box<dyn SerialDevice>>,
+    page: &mut Page,
+    line: &[u8],
+) -> Result<(), AllocError> {
+    if line.len() > MOST_BYTES {
+        return page.refuse("Long");
+    }
+    match read_script(alloc, line) {
+        Err(ScriptFault::NoMemory) => Err(AllocError),
+        Err(fault) => page.refuse(fault.kind_text()),
+        Ok(mut script) => {
+            if let Some(mut directive) = script.pop() {
+                directive.line = page.number;
+                obey(alloc, board, rack, page, &directive)?;
+                page.close()?;
+            }
+            Ok(())
+        }
+    }
+}
+
+/// A board at power on, under the configuration that a text has.
+fn board_of<B: Sights>(
+    alloc: Global,
+    text: &[u8],
+    devices: usize,
+) -> Result<Board<B>, ConfigFault> {
+    let config = read_config(alloc, text)?;
+    match Board::new(alloc, config, devices) {
+        Ok(board) => Ok(board),
+        Err(_) => Err(ConfigFault::NoMemory),
+    }
+}
+
+/// A board that answers lines.
+#[derive(Drop)]
+pub struct Session<B: Sights> {
+    /// The configuration's text.
+    text: Vec<u8>,
+    board: Board<B>,
+    page: Page,
+}
+
+impl<B: Sights> Session<B> {
+    /// A session at power on, under the configuration that a text has, and with so many devices.
+    pub fn open(alloc: Global, text: Vec<u8>, devices: usize) -> Result<Session<B>, ConfigFault> {
+        let board = board_of(alloc, text.as_slice(), devices)?;
+        let mut page = Page::new(alloc);
+        match write_state(&board, &mut page) {
+            Ok(()) => Ok(Session { text, board, page }),
+            Err(_) => Err(ConfigFault::NoMemory),
+        }
+    }
+
+    /// Switches the board off and on.
+    pub fn power_on(&mut self, alloc: Global, devices: usize) -> Result<(), AllocError> {
+        match board_of(alloc, self.text.as_slice(), devices) {
+            Ok(board) => {
+                self.board = board;
+                write_state(&self.board, &mut self.page)
+            }
+            Err(_) => Err(AllocError),
+        }
+    }
+
+    /// Answers a line. Where the board is to be switched off and on it is told that it is, and the caller does it.
+    pub fn answer(
+        &mut self,
+        alloc: Global,
+        rack: &mut Vec<Box<dyn SerialDevice>>,
+        line: &[u8],
+    ) -> Result<bool, AllocError> {
+        self.page.begin();
+        match command_of(line) {
+            Some(asked) => {
+                let again = command(&mut self.board, rack, &mut self.page, asked)?;
+                self.page.close()?;
+                if again {
+                    return Ok(true);
+                }
+            }
+            None => obey_line(alloc, &mut self.board, rack, &mut self.page, line)?,
+        }
+        write_state(&self.board, &mut self.page)?;
+        Ok(false)
+    }
+
+    /// Answers a line that is too long to be kept.
+    pub fn refuse_long(&mut self) -> Result<(), AllocError> {
+        self.page.begin();
+        self.page.refuse("Long")?;
+        write_state(&self.board, &mut self.page)
+    }
+
+    /// Tells what was counted.
+    pub fn close(&mut self) -> Result<(), AllocError> {
+        let tally = self.page.tally;
+        write!(self.page.text, "{tally}")
+    }
+
+    /// What there is to tell.
+    pub fn told(&self) -> &[u8] {
+        self.page.text.as_bytes()
+    }
+
+    /// It was told.
+    pub fn forget_told(&mut self) {
+        self.page.text.clear();
+    }
+}

@@ -1,0 +1,204 @@
+use crate::board::Board;
+use crate::page::Page;
+use crate::sights::Sights;
+use bench_report::{Line, Purpose};
+use irq_control::Held;
+use live_board::{Live, Refusal};
+use mcal_base::{Answer, Event, Move, Reason, Reg, Stop};
+use run_model::Stepped;
+use script_runner::Caller;
+use serial_devices::SerialDevice;
+use std::alloc::AllocError;
+
+/// How far steps go.
+#[derive(Clone, Copy)]
+pub(crate) enum Far {
+    /// So many steps.
+    Count(u32),
+    /// Until one is such a step.
+    Until(Stop),
+    /// Until one tells something.
+    Told,
+    /// To the frame's end.
+    Whole,
+}
+
+/// Whether steps go on.
+#[derive(Clone, Copy)]
+enum Goes {
+    /// They do.
+    On,
+    /// The frame is gone, or nothing could be done.
+    Off,
+}
+
+/// Whether a step is one at which `upto` stops.
+fn stops_at(stop: Stop, stepped: &Stepped) -> bool {
+    match stop {
+        Stop::Act => matches!(stepped.event, Some(Event::Act)),
+        Stop::Mask => matches!(stepped.made, Move::Mask),
+        Stop::Unmask => matches!(stepped.made, Move::Unmask),
+        Stop::Note => matches!(stepped.made, Move::Note(_)),
+    }
+}
+
+/// Whether steps stop after this one, the last of so many.
+fn has_reached(far: Far, made: u32, stepped: &Stepped) -> bool {
+    match far {
+        Far::Count(most) => made == most,
+        Far::Until(stop) => stops_at(stop, stepped),
+        Far::Told => matches!(stepped.made, Move::Note(_) | Move::Report(_)),
+        Far::Whole => false,
+    }
+}
+
+/// Tells that the chip was reset, and forgets what the reset dropped.
+pub(crate) fn tell_reset<B: Sights>(
+    board: &mut Board<B>,
+    page: &mut Page,
+    reason: Reason,
+    dropped: u32,
+) -> Result<(), AllocError> {
+    board.forget();
+    page.say(Line::Restarts(reason, dropped))
+}
+
+/// Tells why something isn't done.
+pub(crate) fn tell_refusal(page: &mut Page, refusal: Refusal) -> Result<(), AllocError> {
+    match refusal {
+        Refusal::Held(cause) => page.say(Line::Holds(cause)),
+        Refusal::Spent => page.refuse("Spent"),
+    }
+}
+
+/// Takes the topmost frame off, and tells of its end.
+fn tell_end<B: Sights>(
+    board: &mut Board<B>,
+    page: &mut Page,
+    answer: &Answer,
+) -> Result<(), AllocError> {
+    match board.frames.pop().map(|begun| begun.purpose) {
+        Some(Purpose::Call(service)) => page.say(Line::Returns(
+            service,
+            answer.head,
+            answer.words.as_slice(),
+        )),
+        Some(Purpose::Handler(line)) => page.say(Line::Leaves(line)),
+        None => Ok(()),
+    }
+}
+
+/// Tells of a step.
+fn tell_step(
+    page: &mut Page,
+    traced: bool,
+    depth: u32,
+    stepped: &Stepped,
+) -> Result<(), AllocError> {
+    if traced {
+        page.say(Line::Makes(
+            depth,
+            stepped.made,
+            stepped.value,
+            stepped.received,
+            stepped.event,
+        ))?;
+    }
+    match stepped.made {
+        Move::Note(notice) => page.say(Line::Notes(notice)),
+        Move::Report(found) => page.say(Line::Errs(found)),
+        _ => Ok(()),
+    }
+}
+
+/// Tells of a step that was made, and does what follows it at once.
+fn follow<B: Sights>(
+    board: &mut Board<B>,
+    page: &mut Page,
+    traced: bool,
+    depth: u32,
+    stepped: &Stepped,
+) -> Result<Goes, AllocError> {
+    board.first_wire.take(0, stepped)?;
+    board.second_wire.take(1, stepped)?;
+    tell_step(page, traced, depth, stepped)?;
+    if let Some(answer) = &stepped.ended {
+        tell_end(board, page, answer)?;
+        return Ok(Goes::Off);
+    }
+    if matches!(stepped.made, Move::Write(Reg::ResetRequest, _)) {
+        let dropped = board.live.reset(Reason::Software);
+        tell_reset(board, page, Reason::Software, dropped)?;
+        return Ok(Goes::Off);
+    }
+    Ok(Goes::On)
+}
+
+/// Waits until the top frame's step may be made, and makes it. Where the watchdog's time ends in the wait no step is made, and
+/// it is answered how many frames were dropped.
+fn turn<M: Caller>(
+    live: &mut Live<M>,
+    rack: &mut Vec<Box<dyn SerialDevice>>,
+    stepped: &mut Stepped,
+) -> Result<Option<u32>, Refusal> {
+    match live.wait() {
+        Ok(None) => {
+            *stepped = Stepped::blank();
+            live.step(rack, stepped)?;
+            Ok(None)
+        }
+        ended => ended,
+    }
+}
+
+/// Makes one step of the top frame, after its wait.
+fn one_step<B: Sights>(
+    board: &mut Board<B>,
+    rack: &mut Vec<Box<dyn SerialDevice>>,
+    page: &mut Page,
+    traced: bool,
+    stepped: &mut Stepped,
+) -> Result<Goes, AllocError> {
+    let ticks = board.live.stall();
+    let depth = board.live.depth();
+    match turn(&mut board.live, rack, stepped) {
+        Ok(None) => {
+            if traced && ticks > 0 {
+                page.say(Line::Waits(ticks))?;
+            }
+            follow(board, page, traced, depth, stepped)
+        }
+        Ok(Some(dropped)) => {
+            tell_reset(board, page, Reason::Watchdog, dropped)?;
+            Ok(Goes::Off)
+        }
+        Err(refusal) => {
+            tell_refusal(page, refusal)?;
+            Ok(Goes::Off)
+        }
+    }
+}
+
+/// Makes steps of the top frame as far as is asked, at least one unless none is asked for.
+pub(crate) fn make_steps<B: Sights>(
+    board: &mut Board<B>,
+    rack: &mut Vec<Box<dyn SerialDevice>>,
+    page: &mut Page,
+    far: Far,
+    traced: bool,
+) -> Result<(), AllocError> {
+    if board.live.depth() == 0 {
+        return page.say(Line::Holds(Held::Empty));
+    }
+    if matches!(far, Far::Count(0)) {
+        return Ok(());
+    }
+    let mut stepped = Stepped::blank();
+    for made in 1..u32::MAX {
+        let goes = one_step(board, rack, page, traced, &mut stepped)?;
+        if matches!(goes, Goes::Off) || has_reached(far, made, &stepped) {
+            break;
+        }
+    }
+    Ok(())
+}

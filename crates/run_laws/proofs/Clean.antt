@@ -1,0 +1,258 @@
+-- Without a refused exchange and a fault no job fails.
+use Rattle.std.proofs.Common.{◌≡◌, ◌≢◌, ℕ, zero, suc, ◌+◌, ◌==◌, Bool, true, false, not, cond, ◌||◌, List, [], ◌∷◌, ◌++◌, map, drop, Option, Some, None, refl, sym, ◌∙◌, ap, subst, ◌⊎◌, inl, inr}
+use Rattle.std.specs.Prelude.{find, IsSome}
+use Rattle.std.specs.List.{list_any}
+use Rattle.mcal_base.specs.declared.answer_name.AnswerName.{AnswerName}
+use Rattle.mcal_base.specs.declared.answer_name.AnswerName.TheVariants.{SpiJobOk, SpiJobFailed, SpiJobQueued, SpiJobPending}
+use Rattle.mcal_base.specs.declared.directive.Order.{Order}
+use Rattle.mcal_base.specs.declared.directive.Order.TheVariants.{Fill, SpiFault}
+use Rattle.mcal_base.specs.declared.error_name.ErrorName.{ErrorName}
+use Rattle.run_model.specs.Frame.{state_by}
+use Rattle.run_model.specs.Machine.{Happening, Acts, Serves, Starts, Aborts, Moves, Restarts, Outcome}
+use Rattle.run_model.specs.World.{World}
+use Rattle.spi_machine.proofs.Numbers.{same_or_other, item-same, item-other}
+use Rattle.spi_machine.proofs.Runs.{stored-seen, after_last-seen, some_same, serve_by}
+use Rattle.spi_machine.specs.Checks.{error_by}
+use Rattle.spi_machine.specs.Machine.{spi_machine, acts_by, unless_busy, cancelled, cancelled_by, finds_held, after_last, sequence_after, job_over, pending_of, served_by, served, unit_of, run_of, ready, start_by, next_at, number_of, moved}
+use Rattle.spi_machine.specs.Numbered.{with_item}
+use Rattle.spi_machine.specs.Pending.{Pending, is_of, changed, without, starts, goes_to_next, cancels, end_by, has_further, job_result, with_results}
+use Rattle.spi_machine.specs.Promised.{received_at}
+use Rattle.spi_machine.specs.State.{SpiState, first_state, is_busy, is_off, is_running, run_at}
+use Rattle.spi_machine.specs.Table.{jobs_of}
+use Rattle.spi_machine.specs.Transfers.{Run, refused, goes_on, word_of}
+use Rattle.spi_machine.specs.declared.call.Call.{Call}
+use Rattle.spi_machine.specs.declared.call.Call.TheVariants.{Init, DeInit, SetAsyncMode, MainFunctionHandling, Channel, Sequence, Get}
+use Rattle.spi_machine.specs.declared.call.ChannelCall.TheVariants.{WriteIb, ReadIb, SetupEb}
+use Rattle.spi_machine.specs.declared.call.SequenceCall.TheVariants.{AsyncTransmit, Cancel}
+use Rattle.spi_machine.specs.declared.table.SpiTable.{SpiTable}
+use Rattle.serial_laws.proofs.Words.{hits}
+use Rattle.whole_runs.specs.Runs.{Event, AreAllowed, NoneOf}
+use Rattle.run_laws.specs.Results.{state_of, can_fail, is_fault}
+use Rattle.run_laws.proofs.WordStories.{met, story}
+
+-- ---- results
+
+Good : List AnswerName → Type 0
+Good rs = (j : ℕ) → job_result rs j ≢ SpiJobFailed
+
+Goods : List AnswerName → Type 0
+Goods [] = Unit {0}
+Goods (x ∷ xs) = (x ≢ SpiJobFailed) × Goods xs
+
+good_item : (rs : List AnswerName) (k : ℕ) (x : AnswerName) → Good rs → x ≢ SpiJobFailed → Good (with_item SpiJobOk rs k x)
+unfolding Good
+good_item rs k x good ne j e = by (same_or_other j k) where
+  by : (j ≡ k) ⊎ (j ≢ k) → ⊥
+  by (inl at) = ne (sym (item-same SpiJobOk rs k x) ∙ (ap (λ i. job_result (with_item SpiJobOk rs k x) i) (sym at) ∙ e))
+  by (inr other) = good j (sym (item-other SpiJobOk rs k j x other) ∙ e)
+
+good_results : (js : List ℕ) (xs rs : List AnswerName) → Good rs → Goods xs → Good (with_results js xs rs)
+unfolding Goods
+good_results [] xs rs good all = good
+good_results (j ∷ js) [] rs good all = good
+good_results (j ∷ js) (x ∷ xs) rs good all = good_results js xs (with_item SpiJobOk rs j x) (good_item rs j x good all.0) all.1
+
+goods_drop : (n : ℕ) (xs : List AnswerName) → Goods xs → Goods (drop n xs)
+unfolding Goods
+goods_drop zero xs all = all
+goods_drop (suc n) [] all = tt
+goods_drop (suc n) (x ∷ xs) all = goods_drop n xs all.1
+
+goods_same : (x : AnswerName) (js : List ℕ) → x ≢ SpiJobFailed → Goods (map (λ j. x) js)
+unfolding Goods
+goods_same x [] ne = tt
+goods_same x (j ∷ js) ne = (ne, goods_same x js ne)
+
+goods_had : (rs : List AnswerName) (js : List ℕ) → Good rs → Goods (map (job_result rs) js)
+unfolding Good Goods
+goods_had rs [] good = tt
+goods_had rs (j ∷ js) good = (good j, goods_had rs js good)
+
+-- ---- pending sequences
+
+AllHad : List Pending → Type 0
+AllHad [] = Unit {0}
+AllHad (p ∷ ps) = Goods p.had × AllHad ps
+
+had_changed : (k : ℕ) (f : Pending → Pending) → ((p : Pending) → (f p).had ≡ p.had) → (ps : List Pending) → AllHad ps → AllHad (changed k f ps)
+unfolding AllHad
+had_changed k f e [] all = tt
+had_changed k f e (p ∷ ps) all = (by (p.sequence == k), had_changed k f e ps all.1) where
+  by : (b : Bool) → Goods (cond b (f p) p).had
+  by true = subst Goods (sym (e p)) all.0
+  by false = all.0
+
+had_without : (k : ℕ) (ps : List Pending) → AllHad ps → AllHad (without k ps)
+unfolding AllHad
+had_without k [] all = tt
+had_without k (p ∷ ps) all = by (p.sequence == k) all.0 (had_without k ps all.1) where
+  by : (b : Bool) → Goods p.had → AllHad (without k ps) → AllHad (cond (not b) (p ∷ without k ps) (without k ps))
+  by true one rest = rest
+  by false one rest = (one, rest)
+
+had_joined : (ps : List Pending) (x : Pending) → AllHad ps → Goods x.had → AllHad (ps ++ x ∷ [])
+unfolding AllHad
+had_joined [] x all one = (one, tt)
+had_joined (p ∷ ps) x all one = (all.0, had_joined ps x all.1 one)
+
+had_found : (q : ℕ) (ps : List Pending) (p : Pending) → AllHad ps → find (is_of q) ps ≡ Some p → Goods p.had
+unfolding AllHad
+had_found q [] p all e = absurd (cc e)
+had_found q (x ∷ ps) p all e = by (x.sequence == q) e all.0 (λ f. had_found q ps p all.1 f) where
+  by : (b : Bool) → cond b (Some x) (find (is_of q) ps) ≡ Some p → Goods x.had → (find (is_of q) ps ≡ Some p → Goods p.had) → Goods p.had
+  by true e one more = subst (λ (y : Pending). Goods y.had) (some_same x p e) one
+  by false e one more = more e
+
+-- ---- the state
+
+record IsClean (s : SpiState) : Type 0 where
+  results : Good s.job_results
+  had : AllHad s.pending
+
+clean_same : (s t : SpiState) → t.job_results ≡ s.job_results → t.pending ≡ s.pending → IsClean s → IsClean t
+clean_same s t e f h = record { results = subst Good (sym e) h.results; had = subst AllHad (sym f) h.had }
+
+none_failed : Good []
+unfolding Good
+none_failed j e = absurd (cc e)
+
+first_clean : IsClean first_state
+unfolding AllHad
+first_clean = record { results = none_failed; had = tt }
+
+unless_clean : (b : Bool) (s after : SpiState) → IsClean after → IsClean s → IsClean (unless_busy b s after).state
+unless_clean true s after a h = h
+unless_clean false s after a h = a
+
+cancelled_clean : (d : SpiTable) (s : SpiState) (p : Pending) (b : Bool) → IsClean s → Goods p.had → IsClean (cancelled_by d s p b).state
+cancelled_clean d s p true h one = record { results = h.results; had = had_changed p.sequence cancels (λ x. refl) s.pending h.had }
+cancelled_clean d s p false h one = record {
+  results = good_results (drop p.next (jobs_of d p.sequence)) (drop p.next p.had) s.job_results h.results (goods_drop p.next p.had one);
+  had = had_without p.sequence s.pending h.had;
+}
+
+cancel_clean : (d : SpiTable) (s : SpiState) (k : ℕ) (o : Option Pending) → find (is_of k) s.pending ≡ o → IsClean s → IsClean (cancelled d s o).state
+cancel_clean d s k None e h = h
+cancel_clean d s k (Some p) e h = cancelled_clean d s p (is_running s p.sequence) h (had_found k s.pending p h.had e)
+
+isnt_queued : SpiJobQueued ≢ SpiJobFailed
+isnt_queued e = absurd (cc e)
+
+isnt_pending : SpiJobPending ≢ SpiJobFailed
+isnt_pending e = absurd (cc e)
+
+isnt_ok : SpiJobOk ≢ SpiJobFailed
+isnt_ok e = absurd (cc e)
+
+acts_clean : (d : SpiTable) (s : SpiState) (call : Call) (e : Option ErrorName) → IsClean s → IsClean (acts_by d s call e).state
+unfolding AllHad
+acts_clean d s call (Some e) h = h
+acts_clean d s Init None h = record { results = none_failed; had = tt }
+acts_clean d s DeInit None h = unless_clean (is_busy s) s _ (record { results = h.results; had = h.had }) h
+acts_clean d s (SetAsyncMode m) None h = unless_clean (is_busy s) s _ (record { results = h.results; had = h.had }) h
+acts_clean d s MainFunctionHandling None h = h
+acts_clean d s (Channel c (WriteIb p)) None h = record { results = h.results; had = h.had }
+acts_clean d s (Channel c ReadIb) None h = h
+acts_clean d s (Channel c (SetupEb p q n)) None h = record { results = h.results; had = h.had }
+acts_clean d s (Sequence q AsyncTransmit) None h = record {
+  results = good_results (jobs_of d q) (map (λ j. SpiJobQueued) (jobs_of d q)) s.job_results h.results (goods_same SpiJobQueued (jobs_of d q) isnt_queued);
+  had = had_joined s.pending _ h.had (goods_had s.job_results (jobs_of d q) h.results);
+}
+acts_clean d s (Sequence q Cancel) None h = cancel_clean d s q (find (is_of q) s.pending) refl h
+acts_clean d s (Get query) None h = h
+
+after_clean : (d : SpiTable) (t : SpiState) (p : Pending) (e : Option AnswerName) → IsClean t → Goods p.had → IsClean (sequence_after d t p e).state
+after_clean d t p None h one = record { results = h.results; had = had_changed p.sequence goes_to_next (λ x. refl) t.pending h.had }
+after_clean d t p (Some x) h one = record {
+  results = good_results (drop (p.next + 1) (jobs_of d p.sequence)) (drop (p.next + 1) p.had) t.job_results h.results (goods_drop (p.next + 1) p.had one);
+  had = had_without p.sequence t.pending h.had;
+}
+
+over_clean : (d : SpiTable) (t : SpiState) (u k : ℕ) (failed : Bool) (o : Option Pending) → failed ≡ false → find (is_of k) t.pending ≡ o → IsClean t → IsClean (job_over d t u failed o).state
+over_clean d t u k true o e f h = absurd (cc e)
+over_clean d t u k false None e f h = record { results = h.results; had = h.had }
+over_clean d t u k false (Some p) e f h =
+    after_clean d _ p (end_by p.cancelled false (has_further d p)) (record { results = good_item t.job_results _ SpiJobOk h.results isnt_ok; had = h.had }) (had_found k t.pending p h.had f)
+
+served_clean : (d : SpiTable) (w : World) (s : SpiState) (u received : ℕ) (r : Run) (b : Bool) → r.transfer.failed ≡ false → IsClean s → IsClean (served_by d w s u received r b).state
+served_clean d w s u received r true e h =
+    clean_same s (served_by d w s u received r true).state (stored-seen (λ s. s.job_results) (λ s c x. refl) s (word_of r) (word_of r).goes r.transfer.incoming)
+    (stored-seen (λ s. s.pending) (λ s c x. refl) s (word_of r) (word_of r).goes r.transfer.incoming) h
+served_clean d w s u received r false e h =
+    let t : SpiState = after_last s r r.transfer.failed in
+    let same = after_last-seen (λ s. s.pending) (λ s c x. refl) s r r.transfer.failed in
+    over_clean d t u r.sequence r.transfer.failed (pending_of s r) e (ap (λ ps. find (is_of r.sequence) ps) same)
+    (clean_same s t (after_last-seen (λ s. s.job_results) (λ s c x. refl) s r r.transfer.failed) same h)
+
+line_clean : (d : SpiTable) (w : World) (s : SpiState) (k : Option ℕ) (received : ℕ) (o : Option Run) → run_of s k ≡ o → ((u : ℕ) (r : Run) → run_at s u ≡ Some r → r.transfer.failed ≡ false) → IsClean s → IsClean (served d w s k received o).state
+line_clean d w s None received o is good h = h
+line_clean d w s (Some u) received None is good h = h
+line_clean d w s (Some u) received (Some r) is good h = served_clean d w s u received r (goes_on r) (good u r is) h
+
+start_clean : (d : SpiTable) (w : World) (s : SpiState) (k : Option ℕ) (received : ℕ) (o : Option Pending) (out : Outcome SpiState) → start_by d w s k received o ≡ Some out → IsClean s → IsClean out.state
+start_clean d w s None received o out e h = absurd (cc e)
+start_clean d w s (Some u) received None out e h = absurd (cc e)
+start_clean d w s (Some u) received (Some p) out e h =
+    subst (λ (x : Outcome SpiState). IsClean x.state) (some_same _ out e)
+    (record { results = good_item s.job_results _ SpiJobPending h.results isnt_pending; had = had_changed p.sequence starts (λ x. refl) s.pending h.had })
+
+moved_clean : (d : SpiTable) (w : World) (s : SpiState) (order : Order) → IsClean s → IsClean (moved d w s order)
+moved_clean d w s (Fill c ws) h = record { results = h.results; had = h.had }
+moved_clean d w s (SpiFault u) h = record { results = h.results; had = h.had }
+moved_clean d w s order h = h
+
+step_clean : (d : SpiTable) (w : World) (s : SpiState) (x : Happening Call) (out : Outcome SpiState) → (spi_machine d).happens w s x ≡ Some out → ((u : ℕ) (r : Run) → run_at s u ≡ Some r → r.transfer.failed ≡ false) → IsClean s → IsClean out.state
+step_clean d w s (Acts call times) out e good h = subst (λ (x : Outcome SpiState). IsClean x.state) (some_same _ out e) (acts_clean d s call (error_by d call (is_off s.mode) (finds_held d s call)) h)
+step_clean d w s (Serves line received) out e good h =
+    subst (λ (x : Outcome SpiState). IsClean x.state) (serve_by (ready w s line) (served d w s (unit_of line) received (run_of s (unit_of line))) out e) (line_clean d w s (unit_of line) received (run_of s (unit_of line)) refl good h)
+step_clean d w s (Starts unit made_by received) out e good h = start_clean d w s (number_of unit) received (next_at d s (number_of unit)) out e h
+step_clean d w s (Aborts unit) out e good h = absurd (cc e)
+step_clean d w s (Moves order) out e good h = subst (λ (x : Outcome SpiState). IsClean x.state) (some_same _ out e) (moved_clean d w s order h)
+step_clean d w s (Restarts reason) out e good h = subst (λ (x : Outcome SpiState). IsClean x.state) (some_same _ out e) first_clean
+
+-- ---- words that don't fail
+
+neither : (a b : Bool) → (a || b) ≡ false → (a ≡ false) × (b ≡ false)
+neither true b e = absurd (cc e)
+neither false b e = (refl, e)
+
+no_hit : (u began now : ℕ) (h : Happening Call) → is_fault h ≡ false → hits u began now h ≡ false
+no_hit u began now (Moves (SpiFault k)) e = absurd (cc e)
+no_hit u began now h e = refl
+
+none_met : (u began : ℕ) (since : List (Event Call)) → NoneOf can_fail since → met u began since ≡ false
+none_met u began [] none = refl
+none_met u began (e ∷ since) none =
+    let parts = neither (can_fail e) (list_any can_fail since) none in
+    let calm = neither (received_at e.what == refused) (is_fault e.what) parts.0 in
+    ap (λ b. b || met u began since) (no_hit u began e.world.now e.what calm.1) ∙ none_met u began since parts.1
+
+split : (xs : List (Event Call)) (y : Event Call) (ys : List (Event Call)) → NoneOf can_fail (xs ++ y ∷ ys) → NoneOf can_fail xs × (can_fail y ≡ false)
+split [] y ys none = (refl, (neither (can_fail y) (list_any can_fail ys) none).0)
+split (x ∷ xs) y ys none =
+    let parts = neither (can_fail x) (list_any can_fail (xs ++ y ∷ ys)) none in
+    let rest = split xs y ys parts.1 in (ap (λ b. b || list_any can_fail xs) parts.0 ∙ rest.0, rest.1)
+
+good_words : (d : SpiTable) (past : List (Event Call)) → AreAllowed (spi_machine d) first_state past → NoneOf can_fail past → (u : ℕ) (r : Run) → run_at (state_of d past) u ≡ Some r → r.transfer.failed ≡ false
+good_words d past allowed none u r is =
+    let x = story d u past allowed r is in
+    let w = x.word in
+    let parts = split w.since w.start w.before (subst (λ (l : List (Event Call)). NoneOf can_fail l) w.is none) in
+    let calm = neither (received_at w.start.what == refused) (is_fault w.start.what) parts.1 in
+    x.failed ∙ (ap (λ b. b || met u w.start.world.now w.since) calm.0 ∙ none_met u w.start.world.now w.since parts.0)
+
+some_out : (o : Option (Outcome SpiState)) → IsSome o → (out : Outcome SpiState) × (o ≡ Some out)
+some_out None e = absurd (cc e)
+some_out (Some out) e = (out, refl)
+
+clean : (d : SpiTable) (past : List (Event Call)) → AreAllowed (spi_machine d) first_state past → NoneOf can_fail past → IsClean (state_of d past)
+clean d [] allowed none = first_clean
+clean d (e ∷ past) allowed none =
+    let parts = neither (can_fail e) (list_any can_fail past) none in
+    let out = some_out ((spi_machine d).happens e.world (state_of d past) e.what) allowed.0 in
+    subst IsClean (sym (ap (λ o. state_by (state_of d past) o) out.1))
+    (step_clean d e.world (state_of d past) e.what out.0 out.1 (good_words d past allowed.1 parts.1) (clean d past allowed.1 parts.1))
+
+pub none_fails : (d : SpiTable) (past : List (Event Call)) (job : ℕ) → AreAllowed (spi_machine d) first_state past → NoneOf can_fail past → job_result (state_of d past).job_results job ≢ SpiJobFailed
+unfolding Good
+none_fails d past job allowed none = (clean d past allowed none).results job

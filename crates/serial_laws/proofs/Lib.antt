@@ -1,0 +1,6 @@
+pub mod BufferLaws
+pub mod Entries
+pub mod Keeping
+pub mod StartLaws
+pub mod Sequels
+pub mod Words

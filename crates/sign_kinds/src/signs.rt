@@ -1,0 +1,90 @@
+use bench_report::Purpose;
+use irq_control::Held;
+use mcal_base::{DevError, Notice, Reason};
+use trace_reader::Step;
+
+/// What a directive asks for, as far as it is drawn.
+#[derive(Clone, Copy)]
+pub enum Asked {
+    /// A frame, with the level of its call; 0 for the handler of a line.
+    Frame(Purpose, u32),
+    /// The outside level of a pin.
+    Pin(u32, bool),
+    /// The value of an analog input.
+    Analog(u32, u32),
+    /// Anything else.
+    Other,
+}
+
+/// A frame: what it was begun for, at which level and by which script line, how many frames there were with it, and how
+/// many steps came before it.
+#[derive(Clone, Copy)]
+pub struct Frame {
+    /// What it was begun for.
+    pub purpose: Purpose,
+    /// The level of its call; 0 for the handler of a line.
+    pub level: u32,
+    /// The number of the script line that began it.
+    pub number: u32,
+    /// How many frames there were, with it.
+    pub depth: usize,
+    /// How many steps came before it.
+    pub from: usize,
+}
+
+/// How a frame went.
+#[derive(Clone, Copy)]
+pub enum Ending {
+    /// It returned, or its handler ended.
+    Ended,
+    /// A reset dropped it.
+    Dropped,
+    /// It was under way where the trace ends.
+    Open,
+}
+
+/// What a sign stands for.
+#[derive(Clone, Copy)]
+pub enum What {
+    /// A directive of the script, which asks for this.
+    Turn(Asked),
+    /// It asks for ticks: so many, and then so many passed in all.
+    Ticked(u32, u64),
+    /// The next step waited so many ticks, and then so many passed in all.
+    Waited(u32, u64),
+    /// It begins a frame.
+    Begins(Frame),
+    /// A step, and whether a directive was held or the chip reset since the step before.
+    Stepped(Step, bool),
+    /// A directive was held.
+    Held(Held),
+    /// A callback was called.
+    Noted(Notice),
+    /// An error was reported.
+    Erred(DevError),
+    /// A frame is gone.
+    Gone(Frame, Ending),
+    /// The mask was closed since this step, and is open behind the steps that were made.
+    Window(usize),
+    /// The chip was reset, and so many frames were dropped.
+    Reset(Reason, u32),
+    /// A row is shown.
+    Shown,
+    /// Nothing else is told of a directive.
+    Done,
+}
+
+/// A sign of a trace.
+#[derive(Clone, Copy)]
+pub struct Sign {
+    /// How many steps came before it.
+    pub step: usize,
+    /// The number of its script line; 0 behind the last line.
+    pub number: u32,
+    /// How many frames are there.
+    pub depth: usize,
+    /// Whether the mask is closed.
+    pub closed: bool,
+    /// What it stands for.
+    pub what: What,
+}

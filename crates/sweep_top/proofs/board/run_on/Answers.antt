@@ -1,0 +1,23 @@
+use Rattle.std.proofs.Common.{◌∙◌}
+use Rattle.std.proofs.lemmas.Bool.{OnFalse_at}
+use Rattle.bench_top.specs.Runs.{shows_of}
+use Rattle.bench_top.proofs.Scripts.{may_ask}
+use Rattle.sweep_top.proofs.Watched.{steps_seen, waiting_seen}
+use Rattle.sweep_top.proofs.board.run_on.Goals as goal
+
+pub run-requires-clause-offered : goal.run-requires-clause-offered
+run-requires-clause-offered c = may_ask c.args.script.now
+
+pub returns : goal.returns
+returns c =
+    let ran = c.in-Ok.ran in
+    let none = c.new-rack.ensures.len in
+    let whole = rw none at (OnFalse_at c.if-ran.false c.in-Ok.ensures.whole) in
+    let shown = rw none at (OnFalse_at c.if-ran-2.false (OnFalse_at c.if-ran.false c.in-Ok.ensures.shown)) in
+    record {
+      journal = ran.journal.entries;
+      run = whole;
+      report = c.in_ok-report.ensures (shows_of 0 c.args.config c.args.script.now ran.journal.entries) shown;
+      steps = c.in_ok-steps.ensures ∙ steps_seen ran.journal.words c.items-items.result.now ran.journal.entries c.items-items.ensures;
+      waiting = c.in_ok-waiting.ensures ∙ waiting_seen ran.journal.words c.items-items.result.now ran.journal.entries c.items-items.ensures;
+    }

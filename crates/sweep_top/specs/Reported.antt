@@ -1,0 +1,76 @@
+-- What is seen of a sweep's run.
+use Rattle.std.specs.Prelude.{◌≡◌, ℕ, List, Option, Some, None, false, string_bytes}
+use Rattle.std.specs.List.{filter_map}
+use Rattle.irq_control.specs.declared.held.Held.{Held}
+use Rattle.irq_control.specs.declared.held.Held.TheVariants.{Masked, Level, Reentry}
+use Rattle.mcal_base.specs.declared.config.whole.Config.{Config}
+use Rattle.mcal_base.specs.declared.directive.Directive.{Directive}
+use Rattle.mcal_base.specs.declared.moves.Move.{Move}
+use Rattle.mcal_base.specs.declared.moves.Move.TheVariants.{Note}
+use Rattle.mcal_base.specs.declared.notice.Notice.{Notice}
+use Rattle.mcal_config.specs.Whole.{record_of}
+use Rattle.run_model.specs.Entry.{Entry, Said, Stays, Steps}
+use Rattle.run_model.specs.declared.item.Item.{Item}
+use Rattle.run_model.specs.declared.item.What.{What}
+use Rattle.run_model.specs.declared.item.What.TheVariants as whats
+use Rattle.bench_top.specs.Runs.{IsWholeRun, report_of}
+use Rattle.sweep_trials.specs.declared.seen.Seen.{Seen}
+use Rattle.sweep_trials.specs.declared.seen.StepSeen.{StepSeen}
+
+-- the notice that a move gives
+abbrev pub notice_of : Move → Option Notice
+notice_of (Note n) = Some n
+notice_of _ = None
+
+-- what is held there may begin later: what is masked, of too low a level or must not nest
+abbrev pub may_wait : ℕ → Held → Option ℕ
+may_wait line Masked = Some line
+may_wait line Level = Some line
+may_wait line Reentry = Some line
+may_wait line _ = None
+
+-- the step that an item of a journal is
+abbrev pub step_said : ℕ → What → Option StepSeen
+step_said line (whats.Stepped s) = Some (record { line = line; notice = notice_of s.made })
+step_said line _ = None
+
+abbrev pub step_on : Item → Option StepSeen
+step_on i = step_said i.line i.what
+
+-- the line of the directive that is held by an item, and waits
+abbrev pub wait_said : ℕ → What → Option ℕ
+wait_said line (whats.Held c) = may_wait line c
+wait_said line _ = None
+
+abbrev pub wait_on : Item → Option ℕ
+wait_on i = wait_said i.line i.what
+
+-- the same of the items of a run
+abbrev pub step_in : ℕ → Said → Option StepSeen
+step_in line (Steps s) = Some (record { line = line; notice = notice_of s.made })
+step_in line _ = None
+
+abbrev pub wait_in : ℕ → Said → Option ℕ
+wait_in line (Stays c) = may_wait line c
+wait_in line _ = None
+
+-- the steps of a run, and the lines of the directives that were held in it, and wait
+abbrev pub steps_of : List Entry → List StepSeen
+steps_of journal = filter_map (λ e. step_in e.line e.said) journal
+
+abbrev pub waiting_of : List Entry → List ℕ
+waiting_of journal = filter_map (λ e. wait_in e.line e.said) journal
+
+-- this is seen of a script's whole run over a configuration, without devices: its report, its steps and what was held
+pub record IsReportedOn (config : Config) (script : List Directive) (seen : Seen) : Type 0 where
+  pub journal : List Entry
+  pub run : IsWholeRun 0 config script journal
+  pub report : string_bytes seen.report ≡ report_of 0 false config script journal
+  pub steps : seen.steps.items ≡ steps_of journal
+  pub waiting : seen.waiting.items ≡ waiting_of journal
+
+-- the same over the configuration of a text
+pub record IsReported (configuration : List ℕ) (script : List Directive) (seen : Seen) : Type 0 where
+  pub config : Config
+  pub read : record_of configuration ≡ Some config
+  pub on : IsReportedOn config script seen

@@ -1,0 +1,5 @@
+pub mod Counting
+pub mod Grown
+pub mod Putting
+pub mod Summing
+pub mod Trying

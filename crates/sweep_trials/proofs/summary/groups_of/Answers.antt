@@ -1,0 +1,26 @@
+use Rattle.std.proofs.Common.{◌≡◌, ◌∙◌, List, ℕ, map, take, ap, sym, arith}
+use Rattle.std.proofs.lemmas.List.{take_all}
+use Rattle.bench_sweep.specs.Groups as spec
+use Rattle.sweep_trials.proofs.Summing.{all_places, outcomes_more, places_more, rows_more}
+use Rattle.sweep_trials.proofs.summary.groups_of.Goals as goal
+
+pub loop-number-preserved : goal.loop-number-preserved
+loop-number-preserved g c = let l = c.loop-number in record {
+  outcomes = outcomes_more l.groups.items c.push.new.self.items c.in_ok-group.field-0 c.deref-number-items.result.now l.number-index c.loop-number-test.true c.in_ok-group.ensures.outcome c.in_ok-push.ensures.items l.invariant.outcomes;
+  places = places_more l.groups.items c.push.new.self.items c.in_ok-group.field-0 c.deref-number-items.result.now l.number-index (λ n. spec.count_with n c.args.swept.now.settled.items) c.loop-number-test.true c.in_ok-group.ensures.places c.in_ok-push.ensures.items l.invariant.places;
+  rows = rows_more c.args.swept.now l.groups.items c.push.new.self.items c.in_ok-group.field-0 _ c.in_ok-group.ensures.outcome c.in_ok-push.ensures.items c.in_ok-group.ensures.rows l.invariant.rows;
+}
+
+pub returns : goal.returns
+returns g c =
+    let l = c.loop-number in
+    let settled = c.args.swept.now.settled in
+    let items = c.deref-number-items.result.now in
+    let all : take l.number-index items ≡ spec.numbers_in settled.items = take_all l.number-index items (omega (arith, c.loop-number-test.false)) ∙ c.deref-number-items.ensures.value ∙ (rw c.deref.ensures.value at c.in_ok-numbers.ensures) in
+    let places : map (λ x. x.places) l.groups.items ≡ map (λ n. spec.count_with n settled.items) (spec.numbers_in settled.items) = l.invariant.places ∙ ap (λ (ns : List ℕ). map (λ n. spec.count_with n settled.items) ns) all in
+    record {
+      outcomes = l.invariant.outcomes ∙ all;
+      places = places;
+      rows = l.invariant.rows;
+      all = all_places l.groups.items settled.items places ∙ sym settled.ok.0;
+    }

@@ -1,0 +1,12 @@
+use Rattle.std.proofs.Common.{◌≡◌, map, take}
+use Rattle.std.specs.List.{All}
+use Rattle.bench_sweep.specs.Groups as spec
+use Rattle.sweep_trials.specs.Rows.{IsRowOf}
+use Rattle.sweep_trials.proofs.summary.groups_of.Given as goal
+
+abbrev pub invariant-loop-number : goal.invariant-loop-number
+invariant-loop-number g l = record {
+  outcomes : map (λ x. x.outcome) l.groups.items ≡ take l.number-index l.number-items;
+  places : map (λ x. x.places) l.groups.items ≡ map (λ n. spec.count_with n l.swept.settled.items) (take l.number-index l.number-items);
+  rows : All (λ x. All (IsRowOf l.swept x.outcome) x.rows.items) l.groups.items;
+}

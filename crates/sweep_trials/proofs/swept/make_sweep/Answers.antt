@@ -1,0 +1,5 @@
+use Rattle.sweep_trials.proofs.Trying.{none_differ}
+use Rattle.sweep_trials.proofs.swept.make_sweep.Goals as goal
+
+pub sweep_places-requires : goal.sweep_places-requires
+sweep_places-requires g c = none_differ _ c.new-trials.ensures

@@ -1,0 +1,4 @@
+pub mod Counts
+pub mod Grown
+pub mod Rows
+pub mod Trials

@@ -1,0 +1,232 @@
+ghost use Rattle.std.specs.Prelude.{◌≡◌, ◌<◌, ◌++◌, Some, drop, take, length, vec_len, IfOk, slice_get};
+ghost use Rattle.bench_sweep.specs.Placed.{block_on, block_up, put_in};
+ghost use Rattle.bench_sweep.specs.Places.{places};
+ghost use Rattle.bench_sweep.specs.declared.places.Place.{Place};
+ghost use Rattle.sweep_trials.specs.Counts.{counts};
+ghost use Rattle.sweep_trials.specs.Grown.{IsSeen};
+ghost use Rattle.sweep_trials.specs.Trials.{IsInner, IsOpened};
+
+use crate::followed::{Followed, run_followed, steps_of};
+use crate::opened::Opened;
+use crate::reactions::Bench;
+use crate::seen::Runs;
+use crate::stop::Stop;
+use bench_sweep::{Cut, Place, Spot, copy_behind, cut_block, places_in, spot_text};
+use mcal_base::Directive;
+use std::alloc::{AllocError, Global};
+
+/// The directives of a list from a number on.
+#[tactic(auto, using(crate::proofs::Counting::drop_least))]
+fn from_number(
+    alloc: Global,
+    directives: &[Directive],
+    number: usize,
+) -> Result<Vec<Directive>, AllocError>
+    ensures { IfOk result (λ all. all.items ≡ drop number directives.now) }
+{
+    let mut all = Vec::new(alloc);
+    copy_behind(&mut all, &directives[number.min(directives.len())..])?;
+    Ok(all)
+}
+
+/// The same numbers, from a number on.
+#[tactic(auto, using(crate::proofs::Counting::drop_least))]
+fn steps_from(alloc: Global, steps: &[u32], number: usize) -> Result<Vec<u32>, AllocError>
+    ensures { IfOk result (λ all. all.items ≡ drop number steps.now) }
+{
+    Vec::from_slice(alloc, &steps[number.min(steps.len())..])
+}
+
+/// What is placed where a block is cut, and what runs from there on.
+fn behind_cut(alloc: Global, placed: &[Directive], cut: &Cut) -> Result<Vec<Directive>, AllocError>
+    ensures { IfOk result (λ all. all.items ≡ placed.now ++ cut.now.on.items) }
+{
+    let mut all = Vec::new(alloc);
+    copy_behind(&mut all, placed)?;
+    copy_behind(&mut all, &cut.on)?;
+    Ok(all)
+}
+
+impl Opened {
+    /// Runs what stands before a block and the block, in which each notice is followed.
+    pub fn new<R: Runs>(
+        alloc: Global,
+        bench: &Bench<'_, R>,
+        before: Vec<Directive>,
+        block: &[Directive],
+    ) -> Result<Opened, Stop>
+        ensures { IfOk result (λ o. IsOpened (R.is_seen bench.now.runs.now) bench.now.reactions.now (before.items ++ block.now) (vec_len before) o) }
+    {
+        let count = before.len();
+        let mut start = before;
+        copy_behind(&mut start, block)?;
+        let found = run_followed(alloc, bench, start, true)?;
+        Opened::of(alloc, found, count)
+    }
+
+    /// The block of a run, behind the first so many directives.
+    fn of(alloc: Global, found: Followed, count: usize) -> Result<Opened, Stop>
+        ensures before { IfOk result (λ o. o.before.items ≡ take count found.directives.items) }
+        ensures block { IfOk result (λ o. o.block.items ≡ drop count found.directives.items) }
+        ensures steps { IfOk result (λ o. o.steps.items ≡ drop count (counts (vec_len found.directives) found.seen.steps.items)) }
+    {
+        let mut before = found.directives;
+        let seen = found.seen;
+        let block = from_number(alloc, &before, count)?;
+        let steps = steps_of(alloc, before.len(), &seen.steps)?;
+        let steps = steps_from(alloc, &steps, count)?;
+        before.truncate(count);
+        if block.is_empty() {
+            return Err(Stop::NoPlace(0));
+        }
+        let all = places_in(alloc, &block, &steps)?;
+        Ok(Opened {
+            before,
+            block,
+            steps,
+            all,
+            seen: seen.steps,
+            moves: seen.moves,
+        })
+    }
+
+    /// How many places there are in the block.
+    pub fn count(&self) -> usize
+        ensures is { result ≡ vec_len self.now.all }
+        ensures some { 0 < result }
+    {
+        self.all.len()
+    }
+
+    /// The place of a number, from 0.
+    fn place(&self, number: usize) -> Place
+        requires { number < vec_len self.now.all }
+        ensures is { slice_get (places self.now.block.items self.now.steps.items) number ≡ Some result }
+        ensures by { result.directive < vec_len self.now.block }
+    {
+        self.all[number]
+    }
+
+    /// How many steps the run had.
+    pub fn length(&self) -> usize {
+        self.seen.len()
+    }
+
+    /// The block, cut at a place.
+    fn cut(&self, alloc: Global, place: usize) -> Result<Cut, AllocError>
+        requires { place < vec_len self.now.all }
+        ensures up { IfOk result (λ cut. (p : Place) → slice_get (places self.now.block.items self.now.steps.items) place ≡ Some p → cut.up.items ≡ block_up self.now.block.items p) }
+        ensures on { IfOk result (λ cut. (p : Place) → slice_get (places self.now.block.items self.now.steps.items) place ≡ Some p → cut.on.items ≡ block_on self.now.block.items self.now.steps.items p) }
+    {
+        let place = self.place(place);
+        cut_block(alloc, &self.block, &self.steps, place)
+    }
+
+    /// The directives in which something is placed at a place, with something behind the block.
+    fn placed(
+        &self,
+        alloc: Global,
+        place: usize,
+        placed: &[Directive],
+        behind: &[Directive],
+    ) -> Result<Vec<Directive>, AllocError>
+        requires { place < vec_len self.now.all }
+        ensures { IfOk result (λ all. (p : Place) → slice_get (places self.now.block.items self.now.steps.items) place ≡ Some p →
+            all.items ≡ put_in self.now.before.items placed.now self.now.block.items behind.now self.now.steps.items p) }
+    {
+        let cut = self.cut(alloc, place)?;
+        let mut all = Vec::new(alloc);
+        copy_behind(&mut all, &self.before)?;
+        copy_behind(&mut all, &cut.up)?;
+        copy_behind(&mut all, placed)?;
+        copy_behind(&mut all, &cut.on)?;
+        copy_behind(&mut all, behind)?;
+        Ok(all)
+    }
+
+    /// The run in which something is placed at a place.
+    pub fn with<R: Runs>(
+        &self,
+        alloc: Global,
+        bench: &Bench<'_, R>,
+        place: usize,
+        placed: &[Directive],
+        behind: &[Directive],
+    ) -> Result<Followed, Stop>
+        requires { place < vec_len self.now.all }
+        ensures { IfOk result (λ found. (p : Place) → slice_get (places self.now.block.items self.now.steps.items) place ≡ Some p →
+            IsSeen (R.is_seen bench.now.runs.now) bench.now.reactions.now (put_in self.now.before.items placed.now self.now.block.items behind.now self.now.steps.items p) found) }
+    {
+        let start = self.placed(alloc, place, placed, behind)?;
+        run_followed(alloc, bench, start, false)
+    }
+
+    /// What runs up to the place where the block is cut.
+    fn up_to(&self, alloc: Global, cut: &Cut) -> Result<Vec<Directive>, AllocError>
+        ensures { IfOk result (λ all. all.items ≡ self.now.before.items ++ cut.now.up.items) }
+    {
+        let mut all = Vec::new(alloc);
+        copy_behind(&mut all, &self.before)?;
+        copy_behind(&mut all, &cut.up)?;
+        Ok(all)
+    }
+
+    /// The block that begins at a place, with something placed there.
+    pub fn inner<R: Runs>(
+        &self,
+        alloc: Global,
+        bench: &Bench<'_, R>,
+        place: usize,
+        placed: &[Directive],
+    ) -> Result<Opened, Stop>
+        requires { place < vec_len self.now.all }
+        ensures { IfOk result (λ inner. (p : Place) → slice_get (places self.now.block.items self.now.steps.items) place ≡ Some p →
+            IsInner (R.is_seen bench.now.runs.now) bench.now.reactions.now self.now placed.now p inner) }
+    {
+        let cut = self.cut(alloc, place)?;
+        let before = self.up_to(alloc, &cut)?;
+        let block = behind_cut(alloc, placed, &cut)?;
+        Opened::new(alloc, bench, before, &block)
+    }
+
+    /// The move of a step of the directive of a number, from 1.
+    fn move_at(&self, number: usize, step: u32) -> &str {
+        let mut made = 0u32;
+        for at in 0..self.seen.len() {
+            if self.seen[at].line as usize == number {
+                made = made.saturating_add(1);
+                if made == step {
+                    return match self.moves.get(at) {
+                        Some(text) => text.as_str(),
+                        None => "",
+                    };
+                }
+            }
+        }
+        ""
+    }
+
+    /// The name of a place.
+    pub fn name(&self, alloc: Global, place: usize) -> Result<String, AllocError>
+        requires { place < vec_len self.now.all }
+    {
+        let Place { directive, spot } = self.place(place);
+        let line = self.block[directive].line;
+        let steps = self.steps[directive];
+        let number = self
+            .before
+            .len()
+            .saturating_add(directive)
+            .saturating_add(1);
+        let last = match spot {
+            Spot::Step(made) => self.move_at(number, made),
+            _ => "",
+        };
+        spot_text(alloc, line, spot, steps, last)
+    }
+
+    /// Whether any directive of the block makes a step.
+    pub fn has_steps(&self) -> bool {
+        self.steps.iter().any(|steps| 0 < *steps)
+    }
+}

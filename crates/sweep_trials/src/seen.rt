@@ -1,0 +1,40 @@
+ghost use Rattle.std.specs.Prelude.{List, IfOk};
+ghost use Rattle.mcal_base.specs.declared.directive.Directive as records;
+ghost use Rattle.sweep_trials.specs.declared.seen.Seen as seen_records;
+
+use crate::stop::Stop;
+use mcal_base::{Directive, Notice};
+use std::alloc::Global;
+
+/// A step of a run.
+#[derive(Clone, Copy)]
+pub struct StepSeen {
+    /// The line of its directive.
+    pub line: u32,
+    /// The notice that it gives, if it gives one.
+    pub notice: Option<Notice>,
+}
+
+/// What is seen of a run.
+#[derive(Drop)]
+pub struct Seen {
+    /// Its steps, in their order.
+    pub steps: Vec<StepSeen>,
+    /// The moves of these steps, as a trace prints them; none where they were not asked for.
+    pub moves: Vec<String>,
+    /// The lines of the directives that were held, and wait: what is masked, of too low a level or must not nest may
+    /// begin later.
+    pub waiting: Vec<u32>,
+    /// Its report.
+    pub report: String,
+}
+
+/// What runs a script from power on.
+pub trait Runs {
+    /// Whether this is what is seen of a script's run.
+    ghost is_seen: { Self → List records.Directive → seen_records.Seen → Type 0 };
+
+    /// Runs a script to its end. The moves of its steps are kept where they are to be named.
+    fn run(&self, alloc: Global, script: &[Directive], named: bool) -> Result<Seen, Stop>
+        ensures { IfOk result (λ seen. is_seen self.now script.now seen) };
+}

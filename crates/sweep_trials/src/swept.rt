@@ -1,0 +1,294 @@
+ghost use Rattle.std.specs.Prelude.{◌≡◌, ◌<◌, ◌≤◌, ◌+◌, ◌-◌, ◌^◌, None, false, take, vec_len, length, IfOk};
+ghost use Rattle.bench_sweep.specs.Groups.{settled};
+ghost use Rattle.bench_sweep.specs.Outcomes.{AreDifferent};
+ghost use Rattle.sweep_trials.specs.Trials.{IsSweptOnce, once_from, part_end};
+
+use crate::opened::Opened;
+use crate::progress::Progress;
+use crate::seen::Runs;
+use crate::stop::Stop;
+use crate::sweeping::{Moment, Sweep};
+use crate::trials::{Ends, Trials, Wish, end_of};
+use bench_sweep::{Outcome, Settled, Tried, settle};
+use std::alloc::{AllocError, Global};
+
+/// The most steps of all runs of a sweep.
+const MOST_IN_ALL: usize = 100_000_000;
+
+/// What came of a sweep.
+#[derive(Drop)]
+pub struct Swept {
+    /// All outcomes that there were.
+    pub outcomes: Vec<Outcome>,
+    /// The moments that are told of.
+    pub moments: Vec<Moment>,
+    /// What came of each.
+    pub settled: Vec<Settled>,
+    /// How many moments there are where one of two waits, which are not told of.
+    pub skipped: usize,
+    /// The number of the outcome at the first place.
+    pub before: usize,
+    /// The number of the outcome at the last place.
+    pub behind: usize,
+}
+
+impl Swept {
+    /// Whether some place has an outcome that is neither as before nor as behind.
+    pub fn has_neither(&self) -> bool {
+        let before = self.before;
+        let behind = self.behind;
+        self.settled
+            .iter()
+            .any(|found| found.outcome != before && found.outcome != behind)
+    }
+}
+
+/// What came of the first of the places that were tried, at most so many.
+fn settled_of(alloc: Global, tried: &[Tried], most: usize) -> Result<Vec<Settled>, AllocError>
+    requires { length tried.now < 4294967296 }
+    ensures { IfOk result (λ all. all.items ≡ take most (settled tried.now)) }
+{
+    let mut all = settle(alloc, tried)?;
+    all.truncate(most);
+    Ok(all)
+}
+
+/// The moments of so many places from one on, at most so many, where something is placed once.
+#[tactic(auto, using(crate::proofs::Trying::once_more))]
+fn moments_of(
+    alloc: Global,
+    first: usize,
+    count: usize,
+    most: usize,
+) -> Result<Vec<Moment>, AllocError>
+    requires { first + count < 2 ^ 64 }
+    ensures { IfOk result (λ all. all.items ≡ take most (once_from first count)) }
+{
+    let mut all = Vec::new(alloc);
+    for place in 0..count {
+        all.push(Moment {
+            number: first + place,
+            first: first + place,
+            second: None,
+        })?;
+    }
+    all.truncate(most);
+    Ok(all)
+}
+
+/// Where a sweep is to stop that stops at the first outcome that is neither as before nor as behind.
+fn stops_of(wish: Wish, ends: Ends) -> Option<Ends>
+    ensures { wish.first ≡ false → result ≡ None }
+{
+    if wish.first { Some(ends) } else { None }
+}
+
+/// Tries what is placed once, at the places from one up to another.
+fn sweep_once<R: Runs, P: Progress>(
+    alloc: Global,
+    sweep: &Sweep<'_, R>,
+    opened: &Opened,
+    wish: Wish,
+    first: usize,
+    end: usize,
+    trials: Trials,
+    progress: &mut P,
+) -> Result<Swept, Stop>
+    requires differ { AreDifferent trials.outcomes.items }
+    requires first { first ≤ vec_len opened.now.all }
+    requires end { end ≤ vec_len opened.now.all }
+    requires few { vec_len opened.now.all ≤ 100000000 }
+    ensures { IfOk result (λ s. IsSweptOnce (R.is_seen sweep.now.bench.runs.now) sweep.now.bench.reactions.now sweep.now.parts.swept.now sweep.now.parts.behind.now opened.now first end wish.first s) }
+{
+    let mut trials = trials;
+    let ends = trials.try_ends(alloc, sweep, opened)?;
+    let stops = stops_of(wish, ends);
+    let tried = trials.try_part(alloc, sweep, opened, first, end, stops, progress)?;
+    let most = end.saturating_sub(first);
+    let settled = settled_of(alloc, &tried, most)?;
+    let moments = moments_of(alloc, first, most, settled.len())?;
+    Ok(Swept {
+        outcomes: trials.outcomes,
+        moments,
+        settled,
+        skipped: 0,
+        before: ends.before,
+        behind: ends.behind,
+    })
+}
+
+/// Tries what is placed once, at the places of a part.
+fn sweep_places<R: Runs, P: Progress>(
+    alloc: Global,
+    sweep: &Sweep<'_, R>,
+    opened: &Opened,
+    wish: Wish,
+    trials: Trials,
+    progress: &mut P,
+) -> Result<Swept, Stop>
+    requires { AreDifferent trials.outcomes.items }
+    ensures { IfOk result (λ s. IsSweptOnce (R.is_seen sweep.now.bench.runs.now) sweep.now.bench.reactions.now sweep.now.parts.swept.now sweep.now.parts.behind.now opened.now
+        (part_end (vec_len opened.now.all) (wish.part - 1) wish.parts) (part_end (vec_len opened.now.all) wish.part wish.parts) wish.first s) }
+{
+    let count = opened.count();
+    if count > MOST_IN_ALL {
+        return Err(Stop::TooManyInAll);
+    }
+    let first = end_of(count, wish.part.saturating_sub(1), wish.parts);
+    let end = end_of(count, wish.part, wish.parts);
+    sweep_once(alloc, sweep, opened, wish, first, end, trials, progress)
+}
+
+/// The pairs of places that are told of.
+#[derive(Drop)]
+struct Pairs {
+    moments: Vec<Moment>,
+    settled: Vec<Settled>,
+    skipped: usize,
+}
+
+impl Pairs {
+    /// Keeps what came of a pair, unless one of two waits: then it comes again at a later one.
+    fn keep(&mut self, moment: Moment, found: Tried) -> Result<(), Stop> {
+        if found.waits {
+            self.skipped = self.skipped.saturating_add(1);
+            return Ok(());
+        }
+        self.moments.push(moment)?;
+        self.settled.push(Settled {
+            outcome: found.outcome,
+            wait: 0,
+        })?;
+        Ok(())
+    }
+
+    /// Tries all second places behind a first one; the first of them has the number. Tells whether the sweep is to stop.
+    fn sweep_behind<R: Runs, P: Progress>(
+        &mut self,
+        alloc: Global,
+        sweep: &Sweep<'_, R>,
+        inner: &Opened,
+        start: Moment,
+        trials: &mut Trials,
+        stops: Option<Ends>,
+        progress: &mut P,
+    ) -> Result<bool, Stop> {
+        for place in 0..inner.count() {
+            let found = trials.try_at(alloc, sweep, inner, place, sweep.parts.second)?;
+            trials.count(progress);
+            let moment = Moment {
+                number: start.number.saturating_add(place),
+                first: start.first,
+                second: Some(place),
+            };
+            self.keep(moment, found)?;
+            if !found.waits && Ends::are_passed(stops, found.outcome) {
+                return Ok(true);
+            }
+        }
+        Ok(false)
+    }
+
+    /// Tries all pairs of places whose first one is of a part.
+    fn sweep_part<R: Runs, P: Progress>(
+        &mut self,
+        alloc: Global,
+        sweep: &Sweep<'_, R>,
+        opened: &Opened,
+        wish: Wish,
+        trials: &mut Trials,
+        stops: Option<Ends>,
+        progress: &mut P,
+    ) -> Result<(), Stop> {
+        let count = opened.count();
+        let from = end_of(count, wish.part.saturating_sub(1), wish.parts);
+        let mut number = 0usize;
+        for first in 0..end_of(count, wish.part, wish.parts) {
+            let inner = sweep.inner(alloc, opened, first)?;
+            let start = Moment {
+                number,
+                first,
+                second: None,
+            };
+            if from <= first
+                && self.sweep_behind(alloc, sweep, &inner, start, trials, stops, progress)?
+            {
+                return Ok(());
+            }
+            number = number.saturating_add(inner.count());
+        }
+        Ok(())
+    }
+}
+
+/// Tries all pairs of places whose first one is of a part.
+fn sweep_twice<R: Runs, P: Progress>(
+    alloc: Global,
+    sweep: &Sweep<'_, R>,
+    opened: &Opened,
+    wish: Wish,
+    trials: Trials,
+    progress: &mut P,
+) -> Result<Swept, Stop> {
+    let mut trials = trials;
+    let ends = trials.try_end_pairs(alloc, sweep, opened)?;
+    let stops = stops_of(wish, ends);
+    let mut pairs = Pairs {
+        moments: Vec::new(alloc),
+        settled: Vec::new(alloc),
+        skipped: 0,
+    };
+    pairs.sweep_part(alloc, sweep, opened, wish, &mut trials, stops, progress)?;
+    Ok(Swept {
+        outcomes: trials.outcomes,
+        moments: pairs.moments,
+        settled: pairs.settled,
+        skipped: pairs.skipped,
+        before: ends.before,
+        behind: ends.behind,
+    })
+}
+
+/// How many places there are, and how many steps all runs take at most.
+fn lengths<R: Runs>(
+    alloc: Global,
+    sweep: &Sweep<'_, R>,
+    opened: &Opened,
+) -> Result<(usize, usize), Stop> {
+    let count = opened.count();
+    if !sweep.is_double() {
+        return Ok((count, count.saturating_mul(opened.length())));
+    }
+    let mut pairs = 0usize;
+    let mut steps = 0usize;
+    for first in 0..count {
+        let inner = sweep.inner(alloc, opened, first)?;
+        let count = inner.count();
+        pairs = pairs.saturating_add(count);
+        steps = steps.saturating_add(count.saturating_mul(inner.length()));
+    }
+    Ok((pairs, steps))
+}
+
+/// Makes a sweep.
+pub fn make_sweep<R: Runs, P: Progress>(
+    alloc: Global,
+    sweep: &Sweep<'_, R>,
+    opened: &Opened,
+    wish: Wish,
+    progress: &mut P,
+) -> Result<Swept, Stop>
+    ensures { length sweep.now.parts.second.now ≡ 0 → IfOk result (λ s. IsSweptOnce (R.is_seen sweep.now.bench.runs.now) sweep.now.bench.reactions.now sweep.now.parts.swept.now sweep.now.parts.behind.now opened.now
+        (part_end (vec_len opened.now.all) (wish.part - 1) wish.parts) (part_end (vec_len opened.now.all) wish.part wish.parts) wish.first s) }
+{
+    let (all, steps) = lengths(alloc, sweep, opened)?;
+    if steps > MOST_IN_ALL {
+        return Err(Stop::TooManyInAll);
+    }
+    let trials = Trials::new(alloc, all);
+    if sweep.is_double() {
+        sweep_twice(alloc, sweep, opened, wish, trials, progress)
+    } else {
+        sweep_places(alloc, sweep, opened, wish, trials, progress)
+    }
+}

@@ -1,0 +1,6 @@
+//! What timers do, by times: laws over the timer block and over the machine of the timer driver.
+#![tactic(auto)]
+
+pub mod channels;
+pub mod chip;
+pub mod counts;

@@ -1,0 +1,4 @@
+pub mod ChangeLaws
+pub mod Groups
+pub mod Setting
+pub mod Steps

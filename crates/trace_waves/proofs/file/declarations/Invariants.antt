@@ -1,0 +1,9 @@
+use Rattle.std.proofs.Common.{◌≡◌, ◌++◌, length, string_bytes}
+use Rattle.trace_waves.specs.File as spec
+use Rattle.trace_waves.proofs.file.declarations.Given as goal
+
+abbrev pub invariant-loop-rest : goal.invariant-loop-rest
+invariant-loop-rest l = spec.declarations l.scope l.signals ≡ string_bytes l.text ++ spec.declarations l.scope l.rest
+
+abbrev pub decreases-loop-rest : goal.decreases-loop-rest
+decreases-loop-rest l = length l.rest
