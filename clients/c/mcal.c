@@ -13,6 +13,7 @@
 #include "Port.h"
 #include "Pwm.h"
 #include "Spi.h"
+#include "Wdg.h"
 
 /* ---- what the program tells */
 
@@ -44,15 +45,17 @@ static void stop(const char *what, const char *why) {
   abort();
 }
 static void held_by_default(const char *service, const char *cause) { stop(service, cause); }
-static void reset_by_default(const char *reason, uint32 dropped) { (void)dropped; stop("a reset dropped services", reason); }
+static void reset_by_default(const char *reason, uint32 dropped) { (void)dropped; stop("a reset", reason); }
 void (*Mcal_OnHeld)(const char *, const char *) = held_by_default;
 void (*Mcal_OnReset)(const char *, uint32) = reset_by_default;
 void (*Mcal_OnError)(const char *, const char *, uint8, boolean);
 void (*Mcal_OnNotice)(const char *, uint32);
 
 static void copy(char *to, const char *from) {
-  strncpy(to, from ? from : "", WORD - 1);
-  to[WORD - 1] = 0;
+  size_t length = from ? strlen(from) : 0;
+  if (length > WORD - 1) length = WORD - 1;
+  if (length) memcpy(to, from, length);
+  to[length] = 0;
 }
 
 /* The numbers behind a word of a state line. */
@@ -125,8 +128,8 @@ static boolean read_answer(Row row, void *to) {
       return TRUE;
     }
     if (line[0] == '#') continue;
-    if (!strncmp(line, "configuration", 13) || !strncmp(line, "too long", 8)) {
-      strncpy(refusal, line, sizeof refusal - 1);
+    if (!strncmp(line, "configuration", 13) || !strncmp(line, "too long", 8) || !strncmp(line, "no program", 10)) {
+      snprintf(refusal, sizeof refusal, "%s", line);
       Mcal_Refusal = refusal;
       return FALSE;
     }
@@ -145,20 +148,21 @@ static void ask_rows(Row row, void *to, const char *line) {
   say(line);
   if (!read_answer(row, to)) stop(line, Mcal_Refusal);
 }
-static Told hear_told(const char *line) {
+
+/* Says a line, and hears what it tells. */
+static Told ask_line(const char *line) {
   Told told = {0};
+  say(line);
   if (!read_answer(take_line, &told)) stop(line, Mcal_Refusal);
   return told;
 }
-
 static Told ask(const char *format, ...) {
   char line[128];
   va_list arguments;
   va_start(arguments, format);
   vsnprintf(line, sizeof line, format, arguments);
   va_end(arguments);
-  say(line);
-  return hear_told(line);
+  return ask_line(line);
 }
 
 /* ---- callbacks, errors, and steps */
@@ -167,8 +171,43 @@ typedef struct { char kind[WORD]; uint32 number; void (*callback)(void); } Callb
 static Callback callbacks[128];
 static size_t callback_count;
 
+static const char *const notices[] = {
+  "GptNotification", "EcuM_CheckWakeup", "EcuM_SetWakeupEvent", "PwmNotification", "IcuSignalNotification",
+  "IcuTimestampNotification", "AdcNotification", "SpiJobEndNotification", "SpiSeqEndNotification", NULL
+};
+
+/* How many letters have to be changed, dropped or put in to make the one word of the other; of a word too long, its length. */
+static size_t apart(const char *one, const char *other) {
+  size_t costs[WORD], length = strlen(other);
+  if (strlen(one) >= WORD || length >= WORD) return strlen(one);
+  for (size_t at = 0; at <= length; at++) costs[at] = at;
+  for (size_t row = 1; one[row - 1]; row++) {
+    size_t corner = costs[0];
+    costs[0] = row;
+    for (size_t at = 1; at <= length; at++) {
+      size_t least = corner + (one[row - 1] != other[at - 1]);
+      corner = costs[at];
+      if (corner + 1 < least) least = corner + 1;
+      if (costs[at - 1] + 1 < least) least = costs[at - 1] + 1;
+      costs[at] = least;
+    }
+  }
+  return costs[length];
+}
+
+/* Stops where a word is no notice, with the nearest one. */
+static void check_notice(const char *kind) {
+  const char *nearest = notices[0];
+  for (size_t at = 0; notices[at]; at++)
+    if (apart(kind, notices[at]) < apart(kind, nearest)) nearest = notices[at];
+  if (!strcmp(kind, nearest)) return;
+  fprintf(stderr, "Mcal_On: no notice is %s; did you mean %s?\n", kind, nearest);
+  abort();
+}
+
 void Mcal_On(const char *kind, uint32 number, void (*callback)(void)) {
   size_t at = 0;
+  check_notice(kind);
   while (at < callback_count && (callbacks[at].number != number || strcmp(callbacks[at].kind, kind))) at++;
   if (at == sizeof callbacks / sizeof *callbacks) stop(kind, "too many callbacks");
   copy(callbacks[at].kind, kind);
@@ -201,13 +240,14 @@ static void tell_error(const Told *told) {
   if (Mcal_OnError) Mcal_OnError(told->service, told->error, value, told->runtime);
 }
 
+static void tell_reset(const Told *told) {
+  in_hook = FALSE;
+  Mcal_Level = 0;
+  Mcal_OnReset(told->reset, told->dropped);
+  stop("Mcal_OnReset", "it returned");
+}
 static void meet_reset(const Told *told) {
-  if (told->is_reset && told->dropped) {
-    in_hook = FALSE;
-    Mcal_Level = 0;
-    Mcal_OnReset(told->reset, told->dropped);
-    stop("Mcal_OnReset", "it returned");
-  }
+  if (told->is_reset && told->dropped) tell_reset(told);
 }
 
 static void hook(void) {
@@ -265,25 +305,22 @@ static Told finish(const Told *moved) {
   }
 }
 
-/* Calls a service with arguments as text; an empty answer where it is held. Where nothing is under way its first steps are
-   asked for in the same go. */
+/* Calls a service with arguments as text; an empty answer where it is held. Without a hook its first steps are asked for in the
+   same go. */
 static Told call(const char *service, const char *format, ...) {
-  char arguments[80], line[160];
-  boolean in_one_go = frames == 0 && !goes_by_steps();
-  va_list list;
-  va_start(list, format);
-  vsnprintf(arguments, sizeof arguments, format, list);
-  va_end(list);
-  snprintf(line, sizeof line, "call %u %s %s", (unsigned)Mcal_Level, service, arguments);
-  say(line);
-  if (in_one_go) say("next");
-  Told told = hear_told(line), moved = {0};
-  if (in_one_go) moved = hear_told("next");
+  char line[160];
+  boolean in_one_go = !goes_by_steps();
+  va_list arguments;
+  va_start(arguments, format);
+  int at = snprintf(line, 80, "%s %u %s ", in_one_go ? "next do" : "call", (unsigned)Mcal_Level, service);
+  vsnprintf(line + at, 80, format, arguments);
+  va_end(arguments);
+  Told told = ask_line(line);
   if (told.held[0]) {
     Mcal_OnHeld(service, told.held);
     return (Told){0};
   }
-  return finish(in_one_go ? &moved : NULL);
+  return finish(in_one_go ? &told : NULL);
 }
 
 /* The place of the answer's name among these, the last of which is NULL; of no answer this one. */
@@ -334,8 +371,15 @@ static void outside(Told told) {
   meet_reset(&told);
 }
 void Mcal_Tick(uint32 ticks) {
-  for (; ticks > MOST_TICKS; ticks -= MOST_TICKS) outside(ask("tick %lu", (unsigned long)MOST_TICKS));
-  outside(ask("tick %lu", (unsigned long)ticks));
+  Told reset = {0};
+  for (uint32 left = ticks, piece; ; left -= piece) {
+    piece = left < MOST_TICKS ? left : MOST_TICKS;
+    Told told = ask("tick %lu", (unsigned long)piece);
+    if (told.held[0]) outside(told);
+    if (told.is_reset) reset = told;
+    if (left == piece) break;
+  }
+  if (reset.is_reset) tell_reset(&reset);
 }
 void Mcal_SetLevel(uint8 pin, boolean level) { outside(ask("level %u %u", (unsigned)pin, level ? 1u : 0u)); }
 void Mcal_SetAnalog(uint8 input, uint16 value) { outside(ask("analog %u %u", (unsigned)input, (unsigned)value)); }
@@ -348,13 +392,21 @@ uint32 Mcal_Pending(void) { return pending; }
 
 const char *Mcal_Interrupt(uint8 line) {
   static char cause[WORD];
-  Told told = ask("enter %u", (unsigned)line);
+  boolean in_one_go = !goes_by_steps();
+  Told told = ask("%s %u", in_one_go ? "next serve" : "enter", (unsigned)line);
   if (told.held[0]) {
     copy(cause, told.held);
     return cause;
   }
-  finish(NULL);
+  finish(in_one_go ? &told : NULL);
   return NULL;
+}
+
+uint32 Mcal_Serve(void) {
+  uint32 lines = pending, entered = 0;
+  for (uint8 line = 0; line < 32; line++)
+    if (lines >> line & 1u && !Mcal_Interrupt(line)) entered++;
+  return entered;
 }
 
 typedef struct { uint32 pin; int level; } Seen;
@@ -569,3 +621,11 @@ Spi_SeqResultType Spi_GetSequenceResult(Spi_SequenceType sequence) { Told t = ca
 Spi_StatusType Spi_GetHWUnitStatus(Spi_HWUnitType unit) { Told t = call("Spi_GetHWUnitStatus", "%u", (unsigned)unit); return (Spi_StatusType)named(&t, SPI_UNINIT, STATUS); }
 Std_ReturnType Spi_SetAsyncMode(Spi_AsyncModeType mode) { Told t = call("Spi_SetAsyncMode", "%s", mode == SPI_POLLING_MODE ? "SPI_POLLING_MODE" : "SPI_INTERRUPT_MODE"); return ok(&t); }
 NONE(Spi_MainFunction_Handling)
+
+INIT(Wdg)
+Std_ReturnType Wdg_SetMode(WdgIf_ModeType mode) {
+  static const char *const modes[] = { "WDGIF_OFF_MODE", "WDGIF_SLOW_MODE", "WDGIF_FAST_MODE" };
+  Told t = call("Wdg_SetMode", "%s", (unsigned)mode < 3 ? modes[mode] : "INVALID");
+  return ok(&t);
+}
+ONE(Wdg_SetTriggerCondition, uint16)

@@ -1,5 +1,6 @@
 /* The program `mcal_live` on a pipe: $MCAL_LIVE, or the one on the path. */
 #define _POSIX_C_SOURCE 200809L
+#include <errno.h>
 #include <signal.h>
 #include <stdio.h>
 #include <stdlib.h>
@@ -15,13 +16,16 @@ static FILE *to_program, *from_program;
 static char *line_text;
 static size_t line_room;
 
+/* Becomes the program, or tells what it has in its place. */
 static void start_program(int to[2], int from[2]) {
-  const char *program = getenv("MCAL_LIVE");
+  const char *named = getenv("MCAL_LIVE"), *program = named ? named : "mcal_live";
   dup2(to[0], 0);
   dup2(from[1], 1);
   close(to[1]);
   close(from[0]);
-  execlp(program ? program : "mcal_live", "mcal_live", (char *)NULL);
+  execlp(program, "mcal_live", (char *)NULL);
+  dprintf(1, "no program: %s doesn't start (%s): build it by `tools/program mcal_live`, and give the path that this prints in MCAL_LIVE\n",
+    program, strerror(errno));
   _exit(127);
 }
 

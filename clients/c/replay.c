@@ -13,6 +13,7 @@
 #include "Port.h"
 #include "Pwm.h"
 #include "Spi.h"
+#include "Wdg.h"
 
 static unsigned line_number;
 static boolean told, was_held;
@@ -207,6 +208,10 @@ static void call_serial(void) {
   SERVICE(Spi_GetHWUnitStatus, STATUS(Spi_GetHWUnitStatus(BYTE(3)), "Spi_GetHWUnitStatus"))
   SERVICE(Spi_SetAsyncMode, STD(Spi_SetAsyncMode((Spi_AsyncModeType)named(3, NAMES("SPI_POLLING_MODE", "SPI_INTERRUPT_MODE"))), "Spi_SetAsyncMode")) exit(9);
 }
+static void call_watchdog(void) {
+  INIT(Wdg_Init) PLAIN(Wdg_SetTriggerCondition, HALF(3))
+  SERVICE(Wdg_SetMode, STD(Wdg_SetMode((WdgIf_ModeType)named(3, NAMES("WDGIF_OFF_MODE", "WDGIF_SLOW_MODE", "WDGIF_FAST_MODE"))), "Wdg_SetMode")) exit(9);
+}
 static void call(void) {
   Mcal_Level = BYTE(1);
   switch (words[2][0]) {
@@ -215,6 +220,7 @@ static void call(void) {
     case 'I': call_captures(); break;
     case 'A': call_converters(); break;
     case 'S': call_serial(); break;
+    case 'W': call_watchdog(); break;
     default: if (words[2][1] == 'w') call_pulses(); else call_clock_and_pins();
   }
   Mcal_Level = 0;

@@ -13,11 +13,18 @@ None, a name as text, a number, or a list of them. Callbacks run where the drive
 """
 
 import contextlib
+import difflib
 import os
 import subprocess
 
 
 MOST_TICKS = 1_000_000      # in one line
+
+NOTICES = ('GptNotification', 'EcuM_CheckWakeup', 'EcuM_SetWakeupEvent', 'PwmNotification', 'IcuSignalNotification',
+           'IcuTimestampNotification', 'AdcNotification', 'SpiJobEndNotification', 'SpiSeqEndNotification')
+
+HOW_TO_START = ("build it by `tools/program mcal_live` in the repository, which prints its path, and give that as `program`"
+                " or in the environment's MCAL_LIVE")
 
 
 class Held(Exception):
@@ -33,7 +40,7 @@ class LetThrough(Exception):
 
 
 class WasReset(Exception):
-    """The chip was reset while services or handlers were under way: they are gone, and never return."""
+    """The chip was reset by its watchdog, or while services or handlers were under way: they are gone, and never return."""
 
     def __init__(self, reason, dropped):
         super().__init__(f'{reason}, {dropped} dropped')
@@ -41,7 +48,7 @@ class WasReset(Exception):
 
 
 class Refused(Exception):
-    """The program refuses the configuration or a line."""
+    """The program refuses the configuration or a line, or doesn't start."""
 
 
 class Step:
@@ -76,7 +83,10 @@ class Board:
         self._last = ''                 # the last line of the program
         self._callbacks, self._notices, self._errors = {}, [], []
         self._hook, self._hooking, self._device = None, False, {}
-        self._pipe = subprocess.Popen([program], stdin=subprocess.PIPE, stdout=subprocess.PIPE)
+        try:
+            self._pipe = subprocess.Popen([program], stdin=subprocess.PIPE, stdout=subprocess.PIPE)
+        except OSError as error:
+            raise Refused(f'{program} doesn\'t start ({error.strerror}): {HOW_TO_START}') from None
         if configuration and not configuration.endswith('\n'):
             configuration += '\n'
         if '---' in configuration.splitlines():
@@ -161,24 +171,23 @@ class Board:
     def call(self, service, *arguments):
         """Calls a service at the board's level, and returns its answer."""
         words = ' '.join('null' if argument is None else str(argument) for argument in arguments)
-        line = f'call {self.level} {service} {words}'
-        if self.depth == 0 and not self._by_steps():
-            return self._call_in_one_go(line)
-        self._do(line)
-        return self._finish()
+        if self._by_steps():
+            self._do(f'call {self.level} {service} {words}')
+            return self._finish(self.depth)
+        return self._in_one_go(f'do {self.level} {service} {words}')
 
-    def _call_in_one_go(self, line):
-        """Begins a call where nothing is under way, and asks for its first steps in the same go."""
-        self._send(one_line(line) + '\nnext')
-        begun, moved = self._answer(), self._answer()
-        self._refuse(line, begun)
-        self._hold(line, begun)
-        return self._finish(moved)
+    def _in_one_go(self, line):
+        """Begins a call or a handler, and asks for its first steps in the same go."""
+        depth = self.depth + 1
+        return self._finish(depth, self._do(f'next {line}'))
 
     def interrupt(self, line):
         """Lets the interrupt of a line enter, and runs its handler to its end."""
-        self._do(f'enter {line}')
-        self._finish()
+        if self._by_steps():
+            self._do(f'enter {line}')
+            self._finish(self.depth)
+        else:
+            self._in_one_go(f'serve {line}')
 
     def serve(self):
         """Lets the pending interrupts enter, until none may, and returns how many entered."""
@@ -191,6 +200,9 @@ class Board:
 
     def on(self, kind, number, callback):
         """Has a callback called for a notice of this kind and object."""
+        if kind not in NOTICES:
+            nearest = difflib.get_close_matches(kind, NOTICES, 1, 0)[0]
+            raise ValueError(f'no notice is {kind!r}; did you mean {nearest!r}?')
         self._callbacks[kind, number] = callback
 
     def at_notice(self, watcher):
@@ -209,10 +221,10 @@ class Board:
         """Answers the words that a serial unit sends without a device: `exchange(word)` gives the one that comes in."""
         self._device[unit] = exchange
 
-    def _finish(self, moved=None):
-        """Makes steps of the top frame until it ends, the first of which were `moved`, and returns its answer. Where a callback or
-        a hook raises an exception the frame goes to its end without them."""
-        level, depth = self.level, self.depth if moved is None else 1
+    def _finish(self, depth, moved=None):
+        """Makes steps of the top frame, at this depth, until it ends, the first of which were `moved`, and returns its answer.
+        Where a callback or a hook raises an exception the frame goes to its end without them."""
+        level = self.level
         try:
             while True:
                 for words in self._move_on() if moved is None else moved:
@@ -293,15 +305,18 @@ class Board:
                 raise WasReset(words[1], int(words[2]))
 
     def tick(self, ticks):
-        """Lets time go by, in ticks of the oscillator."""
+        """Lets time go by, in ticks of the oscillator: all of them, also where the watchdog resets the chip at one of them."""
+        reset = None
         while True:
             piece = min(ticks, MOST_TICKS)
             for words in self._do(f'tick {piece}'):
                 if words[0] == 'reset':
-                    raise WasReset(words[1], int(words[2]))
+                    reset = WasReset(words[1], int(words[2]))
             ticks -= piece
             if ticks == 0:
                 break
+        if reset:
+            raise reset
 
     def pin(self, pin, high):
         """Sets the level outside of a pin."""

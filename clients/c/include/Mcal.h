@@ -13,7 +13,7 @@ void Mcal_PowerCycle(void);
 void Mcal_PowerOff(void);
 extern const char *Mcal_Refusal;
 
-/* What happens outside. */
+/* What happens outside. All ticks go by, also where the watchdog resets the chip at one of them. */
 void Mcal_Tick(uint32 ticks);
 void Mcal_SetLevel(uint8 pin, boolean level);
 void Mcal_SetAnalog(uint8 input, uint16 value);
@@ -27,6 +27,8 @@ void Mcal_Reset(const char *kind);
 /* An interrupt: the handler of a line runs to its end, above whatever is under way. NULL_PTR, or the word for why it may not
    enter now. */
 const char *Mcal_Interrupt(uint8 line);
+/* The handlers of all lines that are pending enter, lowest line first, but for those that may not; how many did. */
+uint32 Mcal_Serve(void);
 /* The interrupt lines that are pending, line 0 in bit 0. */
 uint32 Mcal_Pending(void);
 /* The level of a pin, 0 or 1, where no service and no handler is under way; -1 where one is, or the pin isn't configured. */
@@ -39,7 +41,8 @@ void Mcal_Line(const char *line, void (*tell)(const char *row));
 /* The level at which calls begin: a task's own. A callback has that of its handler or its caller. */
 extern uint8 Mcal_Level;
 
-/* Has a function called for a notice by its name and object: Mcal_On("GptNotification", 0, Alarm). */
+/* Has a function called for a notice by its name and object: Mcal_On("GptNotification", 0, Alarm). A name that no notice
+   has is told with the nearest one, and aborts. */
 void Mcal_On(const char *kind, uint32 number, void (*callback)(void));
 
 /* Called at each notice, ahead of its callback. */
@@ -56,8 +59,8 @@ extern unsigned long Mcal_Steps;
 extern void (*Mcal_OnHeld)(const char *service, const char *cause);
 /* Called at each error report; `runtime` where it is a runtime error. */
 extern void (*Mcal_OnError)(const char *service, const char *error, uint8 value, boolean runtime);
-/* Called where a reset dropped services or handlers: what stands on the C stack for them has to go, by longjmp. Mcal_Level
-   is 0 then. The default prints it and aborts, and so does what returns. */
+/* Called where a reset dropped services or handlers, or was the watchdog's: what stands on the C stack for them has to go, by
+   longjmp. Mcal_Level is 0 then. The default prints it and aborts, and so does what returns. */
 extern void (*Mcal_OnReset)(const char *reason, uint32 dropped);
 /* Asked for the word that comes in on a serial unit without a device, before the step that begins one. NULL_PTR: no device. */
 extern uint16 (*Mcal_Exchange)(uint8 unit, uint16 sent);

@@ -9,7 +9,7 @@ use Rattle.adc_groups.specs.declared.body.AdcBody.{AdcBody}
 use Rattle.adc_groups.specs.declared.body.Place.TheVariants.{Flag}
 use Rattle.adc_groups.specs.declared.window.Window.{Window}
 use Rattle.adc_groups.specs.declared.window.Window.TheVariants as windows
-use Rattle.adc_groups.specs.laws.Look.{AnyBody}
+use Rattle.adc_groups.specs.laws.services.LookSteps.{AnyBody}
 
 -- the first of so many groups from this one on that a trigger input triggers, 16 where there is none
 abbrev pub first_on : AdcTable → (input many from : ℕ) → ℕ

@@ -1,3 +1,4 @@
 pub mod Handlers
 pub mod Requests
+pub mod Terms
 pub mod laws

@@ -31,7 +31,7 @@ impl Module for AdcDriver {
     type State = AdcMachine;
 
     ghost use Rattle.service_outline.specs.Services.{services_driver};
-    ghost use Rattle.adc_driver.specs.laws.Joined.{joined, joined_lawful};
+    ghost use Rattle.adc_driver.specs.laws.bookkeeping.Joined.{joined, joined_lawful};
 
     ghost spec = { λ d. services_driver (joined d.table) };
 
@@ -75,7 +75,7 @@ impl Module for AdcDriver {
 impl Caller for AdcDriver {
     ghost use Rattle.adc_machine.specs.Requests.{has_service};
     ghost use Rattle.adc_driver.specs.Requests.{asked_call};
-    ghost use Rattle.adc_driver.specs.laws.Joined.{joined_slow};
+    ghost use Rattle.adc_driver.specs.laws.bookkeeping.Joined.{joined_slow};
 
     ghost has_service = { λ _. has_service };
 

@@ -5,8 +5,8 @@ ghost use Rattle.chip_model.specs.Chip.{word_of};
 ghost use Rattle.run_model.specs.World.{World};
 ghost use Rattle.adc_machine.specs.Turns.{AdcState, group_at};
 ghost use Rattle.adc_machine.specs.Words.{place_count};
-ghost use Rattle.adc_groups.specs.Ground.{AdcAgrees, FitsAdc};
-ghost use Rattle.adc_driver.specs.laws.Told as spec;
+ghost use Rattle.adc_groups.specs.Refinement.{AdcRepresents, FitsAdc};
+ghost use Rattle.adc_driver.specs.laws.words.WordsToState as spec;
 
 use crate::driver::AdcDriver;
 use adc_groups::{Word, word_number};
@@ -18,7 +18,7 @@ impl AdcDriver {
     /// The buffer of a group that was set up last, where there is one. It is the machine's wherever no service is under
     /// way.
     pub fn chosen(&self, bus: &Bus, group: u32) -> Option<ResultBuffer>
-        ensures { (w : World) (s : AdcState) → FitsAdc self.now.table → AdcAgrees self.now.table [] None bus.now w s → result ≡ (group_at s group).chosen }
+        ensures { (w : World) (s : AdcState) → FitsAdc self.now.table → AdcRepresents self.now.table [] None bus.now w s → result ≡ (group_at s group).chosen }
     {
         self.chosen_told(bus, group)
     }

@@ -1,5 +1,6 @@
-pub mod Ground
-pub mod Owed
+pub mod Refinement
+pub mod PendingWrites
 pub mod Places
 pub mod Stored
+pub mod Terms
 pub mod laws

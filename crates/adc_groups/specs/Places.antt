@@ -10,16 +10,16 @@ use Rattle.run_model.specs.Frame.{Origin, Called, Entered}
 use Rattle.run_model.specs.Machine.{no_answer}
 use Rattle.run_model.specs.World.{World}
 use Rattle.service_outline.specs.Done.{named, named_with, numbers}
-use Rattle.service_outline.specs.Owing.{owing, Under, Windows, windows as windows_of}
-use Rattle.service_outline.specs.Past.{Past, nothing_yet, Being}
-use Rattle.service_outline.specs.Services.{Basis, Spot, Within, Outside, Looking, LongBodies}
+use Rattle.service_outline.specs.DeferredWrites.{deferring_writes, Under, Windows, windows as windows_of}
+use Rattle.service_outline.specs.FrameHistory.{FrameHistory, fresh_history, IsThisFrame}
+use Rattle.service_outline.specs.Services.{SharedRefinement, PointAssertion, Within, Outside, Looking, LongBodies}
 use Rattle.service_outline.specs.declared.done.Done.{Done}
-use Rattle.service_outline.specs.declared.done.Owed.TheVariants.{Nothing}
+use Rattle.service_outline.specs.declared.done.Epilogue.TheVariants.{Nothing}
 use Rattle.word_shapes.specs.Order.{Entry, choice, chosen, waiting}
 use Rattle.word_shapes.specs.Playing.{Ends}
-use Rattle.word_shapes.specs.Ranked.{Holds as HoldsOrder, own_of, choosing_front, choosing_next}
+use Rattle.word_shapes.specs.PriorityQueue.{Holds as HoldsOrder, own_of, choosing_front, choosing_next}
 use Rattle.word_shapes.specs.declared.choosing.Front.{Front}
-use Rattle.word_shapes.specs.Trio.{free, put_start, take_left}
+use Rattle.word_shapes.specs.TripleBuffer.{free, put_start, take_left}
 use Rattle.word_shapes.specs.declared.take.Take.{Take}
 use Rattle.word_shapes.specs.declared.take.Take.TheVariants as takes
 use Rattle.word_shapes.specs.declared.choosing.Next.{Next}
@@ -31,10 +31,10 @@ use Rattle.adc_stream.specs.declared.copying.Copied as streams
 use Rattle.adc_stream.specs.declared.copying.Copied.TheVariants as copied
 use Rattle.adc_stream.specs.declared.copying.Copying.{Copying}
 use Rattle.adc_stream.specs.declared.rounds.Bank.TheVariants.{Zero}
-use Rattle.adc_groups.specs.Ground.{Hold, Starts, Yields, Fills, Full, Keeps, Whole, Claims, Copies, Reads, Holds, Foot, bare, some_hold, claims_on, phase_of, kept_in, take_of, first_held, IsOrder}
+use Rattle.adc_groups.specs.Refinement.{Reservation, Starts, Yields, Fills, Full, Keeps, Whole, Claims, Copies, Reads, Reservations, Footprint, bare, some_hold, claims_on, phase_of, kept_in, take_of, first_held, IsOrder}
 use Rattle.adc_machine.specs.Groups.{Status, Idle, Busy, Completed, StreamCompleted, Round, inputs_of, samples_of, is_finished, is_full, status_read, ends_with_stream, place_in}
 use Rattle.adc_machine.specs.Machine.{is_done, is_under_way, is_start_busy, is_busy, takes_one, is_unit_line}
-use Rattle.adc_groups.specs.Owed.{Owed, owed_of, making_owed}
+use Rattle.adc_groups.specs.PendingWrites.{PendingWrites, owed_of, making_owed}
 use Rattle.adc_machine.specs.Configured.{unit_of, four_from, ranks_of, is_of}
 use Rattle.adc_groups.specs.Stored.{word_number, phase_number, order_of, rounds_of}
 use Rattle.adc_machine.specs.Table.{group_of}
@@ -50,13 +50,13 @@ use Rattle.adc_machine.specs.declared.call.GroupCall.{GroupCall}
 use Rattle.adc_machine.specs.declared.call.GroupCall.TheVariants.{SetupResultBuffer, StartGroupConversion, StopGroupConversion, ReadGroup, EnableHardwareTrigger, DisableHardwareTrigger, Notification, GetGroupStatus, GetStreamLastPointer}
 use Rattle.adc_machine.specs.declared.call.ResultBuffer.{ResultBuffer}
 use Rattle.adc_machine.specs.declared.table.AdcTable.{AdcTable}
-use Rattle.adc_groups.specs.declared.making.Deed.{Deed}
-use Rattle.adc_groups.specs.declared.making.Deed.TheVariants as deeds
-use Rattle.adc_groups.specs.declared.making.Making.{Making}
-use Rattle.adc_groups.specs.declared.making.Shape.{Shape}
-use Rattle.adc_groups.specs.declared.making.Shape.TheVariants as shapes
-use Rattle.adc_groups.specs.declared.making.Then.{Then}
-use Rattle.adc_groups.specs.declared.making.Then.TheVariants as thens
+use Rattle.adc_groups.specs.declared.making.WindowWrite.{WindowWrite}
+use Rattle.adc_groups.specs.declared.making.WindowWrite.TheVariants as deeds
+use Rattle.adc_groups.specs.declared.making.WriteBatch.{WriteBatch}
+use Rattle.adc_groups.specs.declared.making.StructureOp.{StructureOp}
+use Rattle.adc_groups.specs.declared.making.StructureOp.TheVariants as shapes
+use Rattle.adc_groups.specs.declared.making.Continuation.{Continuation}
+use Rattle.adc_groups.specs.declared.making.Continuation.TheVariants as thens
 use Rattle.adc_groups.specs.declared.outside.Copied.{Copied}
 use Rattle.adc_groups.specs.declared.outside.Copied.TheVariants.{Serves, Tells, Keeps as KeepsThem}
 use Rattle.adc_groups.specs.declared.outside.Outside.{Outside as OutPlace}
@@ -70,11 +70,11 @@ use Rattle.adc_groups.specs.declared.window.Window.{Window}
 use Rattle.adc_groups.specs.declared.window.Window.TheVariants as windows
 use Rattle.adc_groups.specs.declared.words.Phase.{Phase}
 use Rattle.adc_groups.specs.declared.words.Word.TheVariants as words
-use Rattle.adc_groups.specs.laws.Body.{body_work, body_takes, pin_of}
-use Rattle.adc_groups.specs.laws.Deciding.{clean_in, unit_in, done, start, enable, close, pulse_by, quieted, stop_by, nothing_more, round_seen, serving, lists_for, moves_ahead, conversion}
-use Rattle.adc_groups.specs.laws.Look.{is_wrong}
-use Rattle.adc_groups.specs.laws.Making.{making}
-use Rattle.adc_groups.specs.laws.Windows.{words_of}
+use Rattle.adc_groups.specs.laws.services.BodySteps.{body_work, body_takes, pin_of}
+use Rattle.adc_groups.specs.laws.services.Decisions.{clean_in, unit_in, done, start, enable, close, pulse_by, quieted, stop_by, nothing_more, round_seen, serving, lists_for, moves_ahead, conversion}
+use Rattle.adc_groups.specs.laws.services.LookSteps.{is_wrong}
+use Rattle.adc_groups.specs.laws.services.WriteBatchSteps.{making}
+use Rattle.adc_groups.specs.laws.words.WindowWords.{words_of}
 
 -- ---- what a frame is, and what it has done
 
@@ -84,24 +84,24 @@ pub record MayCall (d : AdcTable) (s : AdcState) (g : ℕ) (call : GroupCall) : 
   pub there : is_some (group_of d g) ≡ true
   pub right : is_wrong call (group_of d g) ≡ false
 
-abbrev pub IsCalling : AdcTable → AdcState → ℕ → GroupCall → Origin Call → Past → Type 0
-IsCalling d s g call o p = Being (Called (calls.Group g call)) nothing_yet o p × MayCall d s g call
+abbrev pub IsCalling : AdcTable → AdcState → ℕ → GroupCall → Origin Call → FrameHistory → Type 0
+IsCalling d s g call o p = IsThisFrame (Called (calls.Group g call)) fresh_history o p × MayCall d s g call
 
 -- a call whose answer is empty has acted, or a handler has served its line; and it owes no notice
-abbrev pub acted : Past
-acted = record nothing_yet { acted = Some no_answer }
+abbrev pub acted : FrameHistory
+acted = record fresh_history { acted = Some no_answer }
 
-abbrev pub has_served : ℕ → Past
-has_served l = record nothing_yet { served = l ∷ [] }
+abbrev pub has_served : ℕ → FrameHistory
+has_served l = record fresh_history { served = l ∷ [] }
 
 -- a handler of a unit's line serves this unit alone, which no frame below claims
-abbrev pub MayTurn : (unit line : ℕ) → Holds → Type 0
+abbrev pub MayTurn : (unit line : ℕ) → Reservations → Type 0
 MayTurn u l below = is_unit_line l ≡ true → (l ≡ 24 + u) × (some_hold (claims_on u) below ≡ false)
 
 -- what it has done leaves it this unit to start
-pub data HasDone (u : ℕ) (below : Holds) (o : Origin Call) (p : Past) : Type 0 where
-  Has_acted : (c : Call) → Being (Called c) acted o p → HasDone u below o p
-  Has_served : (l : ℕ) → MayTurn u l below → Being (Entered l) (has_served l) o p → HasDone u below o p
+pub data HasDone (u : ℕ) (below : Reservations) (o : Origin Call) (p : FrameHistory) : Type 0 where
+  Has_acted : (c : Call) → IsThisFrame (Called c) acted o p → HasDone u below o p
+  Has_served : (l : ℕ) → MayTurn u l below → IsThisFrame (Entered l) (has_served l) o p → HasDone u below o p
 
 -- the calls that stop a group
 abbrev pub IsStop : GroupCall → Type 0
@@ -110,30 +110,30 @@ IsStop DisableHardwareTrigger = Unit {0}
 IsStop _ = ⊥
 
 -- a handler that has served nothing yet
-abbrev pub IsServing : ℕ → Origin Call → Past → Type 0
-IsServing l o p = Being (Entered l) nothing_yet o p
+abbrev pub IsServing : ℕ → Origin Call → FrameHistory → Type 0
+IsServing l o p = IsThisFrame (Entered l) fresh_history o p
 
 -- it has served its line, and owes this notice
-abbrev pub owes_note : (line group : ℕ) → Past
+abbrev pub owes_note : (line group : ℕ) → FrameHistory
 owes_note l g = record (has_served l) { owed = record { notice = record { kind = AdcNotification; id = g }; served = true } ∷ [] }
 
 -- no frame below is the handler of this line
-abbrev pub IsAlone : (line : ℕ) → Holds → Type 0
+abbrev pub IsAlone : (line : ℕ) → Reservations → Type 0
 IsAlone l [] = Unit {0}
 IsAlone l (h ∷ hs) = (h.by ≢ Entered l) × IsAlone l hs
 
 -- and none claims the unit either
-abbrev pub IsAtUnit : (unit : ℕ) → Holds → Type 0
+abbrev pub IsAtUnit : (unit : ℕ) → Reservations → Type 0
 IsAtUnit u below = IsAlone (24 + u) below × (some_hold (claims_on u) below ≡ false)
 
 -- no frame below reads a bank of this group
-abbrev pub IsOnlyReader : (group : ℕ) → Holds → Type 0
+abbrev pub IsOnlyReader : (group : ℕ) → Reservations → Type 0
 IsOnlyReader g below = first_held (take_of g) below ≡ None
 
 -- ---- windows
 
 -- what a frame holds in a window
-abbrev pub hold_in : Window → List Hold
+abbrev pub hold_in : Window → List Reservation
 hold_in (windows.Yield u) = Yields u ∷ Starts u ∷ []
 hold_in (windows.Suspend u g) = Yields u ∷ Starts u ∷ []
 hold_in (windows.Keep r) = Whole r.unit r.group r.kept ∷ Starts r.unit ∷ []
@@ -162,8 +162,8 @@ pub record IsTaken (d : AdcTable) (w : World) (s : AdcState) (u g : ℕ) : Type 
   pub finished : is_finished w (group_of d g) round ≡ true
 
 -- what is known in a window
-abbrev pub InWindow : AdcTable → Window → Holds → World → AdcState → Origin Call → Past → Type 0
-InWindow d windows.Close below w s o p = Being (Called calls.DeInit) nothing_yet o p × (s.initialised ≡ true) × (below ≡ [])
+abbrev pub InWindow : AdcTable → Window → Reservations → World → AdcState → Origin Call → FrameHistory → Type 0
+InWindow d windows.Close below w s o p = IsThisFrame (Called calls.DeInit) fresh_history o p × (s.initialised ≡ true) × (below ≡ [])
 InWindow d (windows.Setup g b) below w s o p = IsCalling d s g (SetupResultBuffer (Some b)) o p
 InWindow d (windows.Status g) below w s o p = IsCalling d s g GetGroupStatus o p
 InWindow d (windows.Point g) below w s o p = IsCalling d s g GetStreamLastPointer o p
@@ -184,15 +184,15 @@ InWindow d (windows.Serve t) below w s o p = IsServing (24 + t.unit) o p × (t.u
 InWindow d (windows.Trigger i g) below w s o p = IsServing (28 + i) o p × (i < 4) × (has_input i (group_of d g) ≡ true) × (mark_at s i ≡ true)
 
 -- the words that a window has seen are those of the chip
-abbrev pub seen_of : AdcTable → Foot → Window → (many : ℕ) → List ℕ
+abbrev pub seen_of : AdcTable → Footprint → Window → (many : ℕ) → List ℕ
 seen_of d f w n = take n (map (λ x. f.word (word_number d x)) (words_of w))
 
 -- the bank that a round is to be put into is neither the newest nor pinned
-abbrev pub IsChosen : AdcTable → Foot → Window → Type 0
+abbrev pub IsChosen : AdcTable → Footprint → Window → Type 0
 IsChosen d f (windows.Claim t) = bank_number t.bank ≡ free (f.word (trio_of (rounds_of d t.group)).control)
 IsChosen d f w = Unit {0}
 
-abbrev pub HasSeen : AdcTable → Foot → Window → List ℕ → Type 0
+abbrev pub HasSeen : AdcTable → Footprint → Window → List ℕ → Type 0
 HasSeen d f w seen = (seen ≡ seen_of d f w (length seen)) × (length seen < length (words_of w)) × IsChosen d f w
 
 -- a survey has come to this group, and none before it is under way
@@ -213,11 +213,11 @@ sought_unit (windows.Begin u) = u
 sought_unit (windows.Leave u) = u
 sought_unit w = 0
 
-abbrev pub IsSeeking : AdcTable → Foot → Window → Front → Type 0
+abbrev pub IsSeeking : AdcTable → Footprint → Window → Front → Type 0
 IsSeeking d f w r = (n : ℕ) × (xs : List Entry) × (n ≤ 3) × HoldsOrder (order_of (sought_unit w)) f.word xs × Ends choosing_front (own_of (order_of (sought_unit w))) n r f.word (λ m found. HoldsOrder (order_of (sought_unit w)) m xs × (found ≡ choice (ranks_of d) xs ∷ []))
 
 -- what it knows of the unit
-abbrev pub MaySeek : AdcTable → Window → Holds → World → AdcState → Origin Call → Past → Type 0
+abbrev pub MaySeek : AdcTable → Window → Reservations → World → AdcState → Origin Call → FrameHistory → Type 0
 MaySeek d (windows.Suspend u g) below w s o p = HasDone u below o p × (u < 2) × (s.initialised ≡ true) × (some_hold (claims_on u) below ≡ false) × IsOutranked d s u g
 MaySeek d (windows.Begin u) below w s o p = HasDone u below o p × (u < 2) × (s.initialised ≡ true) × (some_hold (claims_on u) below ≡ false) × (round_at s u ≡ None)
 MaySeek d (windows.Leave u) below w s o p = IsServing (24 + u) o p × (u < 2) × (s.initialised ≡ true) × IsAlone (24 + u) below × (round_at s u ≡ None)
@@ -238,17 +238,17 @@ abbrev pub ended_count : streams.Copied → ℕ
 ended_count (copied.Ended r u n e) = n
 ended_count _ = 0
 
-abbrev pub hold_bank : streams.Copied → (done : ℕ) → (value : Option ℕ) → List Hold
+abbrev pub hold_bank : streams.Copied → (done : ℕ) → (value : Option ℕ) → List Reservation
 hold_bank (copied.Bank r b c) i x = Copies b c i x ∷ []
 hold_bank _ i x = []
 
 -- what is held while values are copied, and the unit and the group that they are of
-abbrev pub hold_copying : Copying → Copied → List Hold
+abbrev pub hold_copying : Copying → Copied → List Reservation
 hold_copying c (Serves t) = Fills t.unit t.group (kept_count c.what) t.bank c.done c.value ∷ Starts t.unit ∷ []
 hold_copying c (Tells u g on) = hold_bank c.what c.done c.value ++ Starts u ∷ []
 hold_copying c (KeepsThem r) = Keeps r.unit r.group (kept_from c.what) (Some (ended_count c.what)) c.done c.value ∷ Starts r.unit ∷ []
 
-abbrev pub hold_out : OutPlace → List Hold
+abbrev pub hold_out : OutPlace → List Reservation
 hold_out (outsides.Copies c a) = hold_copying c a
 hold_out (outsides.Counts r) = Keeps r.unit r.group r.kept None 0 None ∷ Starts r.unit ∷ []
 hold_out (outsides.Reads g b) = Reads g b [] ∷ []
@@ -263,38 +263,38 @@ IsCopy d (copied.Ended r u n e) (KeepsThem x) = (r ≡ rounds_of d x.group) × (
 IsCopy d c a = ⊥
 
 -- what a frame is that copies, and where it goes on
-abbrev pub MayCopy : AdcTable → Holds → Copied → Origin Call → Past → Type 0
+abbrev pub MayCopy : AdcTable → Reservations → Copied → Origin Call → FrameHistory → Type 0
 MayCopy d below (Serves t) o p = IsServing (24 + t.unit) o p × IsAlone (24 + t.unit) below × (t.unit < 2) × (is_on t.unit (group_of d t.group) ≡ true)
-MayCopy d below (Tells u g true) o p = Being (Entered (24 + u)) (owes_note (24 + u) g) o p × IsAtUnit u below × (u < 2) × (is_on u (group_of d g) ≡ true)
-MayCopy d below (Tells u g false) o p = Being (Entered (24 + u)) (has_served (24 + u)) o p × IsAtUnit u below × (u < 2) × (is_on u (group_of d g) ≡ true)
+MayCopy d below (Tells u g true) o p = IsThisFrame (Entered (24 + u)) (owes_note (24 + u) g) o p × IsAtUnit u below × (u < 2) × (is_on u (group_of d g) ≡ true)
+MayCopy d below (Tells u g false) o p = IsThisFrame (Entered (24 + u)) (has_served (24 + u)) o p × IsAtUnit u below × (u < 2) × (is_on u (group_of d g) ≡ true)
 MayCopy d below (KeepsThem r) o p = HasDone r.unit below o p × (r.unit < 2) × (is_on r.unit (group_of d r.group) ≡ true)
 
 -- what is known with the mask open before a window
-abbrev pub MayClose : AdcTable → Window → Holds → Origin Call → Past → Type 0
+abbrev pub MayClose : AdcTable → Window → Reservations → Origin Call → FrameHistory → Type 0
 MayClose d (windows.Yield u) below o p = HasDone u below o p × (u < 2)
 MayClose d (windows.Begin u) below o p = HasDone u below o p × (u < 2)
 MayClose d (windows.Keep r) below o p = HasDone r.unit below o p × (r.unit < 2) × (is_on r.unit (group_of d r.group) ≡ true)
 MayClose d (windows.Serve t) below o p = IsServing (24 + t.unit) o p × IsAlone (24 + t.unit) below × (t.unit < 2) × (is_on t.unit (group_of d t.group) ≡ true)
 MayClose d w below o p = ⊥
 
-abbrev pub place_out : AdcTable → OutPlace → Holds → Origin Call → Past → Type 0
+abbrev pub place_out : AdcTable → OutPlace → Reservations → Origin Call → FrameHistory → Type 0
 place_out d (outsides.Copies c a) below o p = IsCopy d c.what a × (c.done < count_of c.what) × MayCopy d below a o p
 place_out d (outsides.Counts r) below o p = HasDone r.unit below o p × (r.unit < 2) × (is_on r.unit (group_of d r.group) ≡ true) × (r.kept ≤ length (inputs_of (group_of d r.group)))
-place_out d (outsides.Reads g b) below o p = IsOnlyReader g below × ((whole : List ℕ) × Being (Called (calls.Group g ReadGroup)) (record nothing_yet { acted = Some (named_with EOk whole) }) o p)
-place_out d (outsides.Notes g u) below o p = Being (Entered (24 + u)) (owes_note (24 + u) g) o p × IsAtUnit u below × (u < 2) × (is_on u (group_of d g) ≡ true)
+place_out d (outsides.Reads g b) below o p = IsOnlyReader g below × ((whole : List ℕ) × IsThisFrame (Called (calls.Group g ReadGroup)) (record fresh_history { acted = Some (named_with EOk whole) }) o p)
+place_out d (outsides.Notes g u) below o p = IsThisFrame (Entered (24 + u)) (owes_note (24 + u) g) o p × IsAtUnit u below × (u < 2) × (is_on u (group_of d g) ≡ true)
 place_out d (outsides.Closes w) below o p = MayClose d w below o p
 
 -- ---- what comes after the moves of a window
 
 -- a frame that ends with this has acted, and owes nothing
-pub data MayLeave (o : Origin Call) (p : Past) (n : Done) : Type 0 where
-  Leaves_acted : (c : Call) → Being (Called c) (record nothing_yet { acted = Some n.answer }) o p → n.owed ≡ Nothing → MayLeave o p n
+pub data MayLeave (o : Origin Call) (p : FrameHistory) (n : Done) : Type 0 where
+  Leaves_acted : (c : Call) → IsThisFrame (Called c) (record fresh_history { acted = Some n.answer }) o p → n.owed ≡ Nothing → MayLeave o p n
 
-abbrev pub hold_then : Then → List Hold
+abbrev pub hold_then : Continuation → List Reservation
 hold_then (thens.Ends n) = []
 hold_then (thens.Goes o) = hold_out o
 
-abbrev pub place_then : AdcTable → Then → Holds → Origin Call → Past → Type 0
+abbrev pub place_then : AdcTable → Continuation → Reservations → Origin Call → FrameHistory → Type 0
 place_then d (thens.Ends n) below o p = MayLeave o p n
 place_then d (thens.Goes o) below o1 p = place_out d o below o1 p
 
@@ -319,7 +319,7 @@ pub record MayPulse (d : AdcTable) (s : AdcState) (i g : ℕ) : Type 0 where
   pub listens : listener d s i ≡ Some g
 
 -- a call is to make its change
-pub data IsDealing (d : AdcTable) (below : Holds) (foot : Foot) (w : World) (s : AdcState) (o : Origin Call) (p : Past) : Making → Type 0 where
+pub data IsDealing (d : AdcTable) (below : Reservations) (foot : Footprint) (w : World) (s : AdcState) (o : Origin Call) (p : FrameHistory) : WriteBatch → Type 0 where
   Sets_up : (g : ℕ) (b : ResultBuffer) → IsCalling d s g (SetupResultBuffer (Some b)) o p → (group_at s g).status ≡ Idle
       → IsDealing d below foot w s o p (making (Some events.Act) (deeds.Set (words.Chosen g) (1 + buffer_number b) ∷ []) (thens.Ends (done (named EOk))))
   Notifies : (g : ℕ) (on : Bool) → IsCalling d s g (Notification on) o p
@@ -333,31 +333,31 @@ pub data IsDealing (d : AdcTable) (below : Holds) (foot : Foot) (w : World) (s :
   Stops_turn : (g : ℕ) (call : GroupCall) (run lost : Bool) → IsStop call → IsCalling d s g call o p → ((group_at s g).status ≡ Idle → ⊥) → has_turn s g ≡ true → is_round_of g (round_at s (unit_of (group_of d g))) ≡ run → (foot.word (word_number d (words.Claim (unit_of (group_of d g)))) == 2 + g) ≡ lost
       → IsDealing d below foot w s o p (stop_by d (unit_of (group_of d g)) g run lost)
   -- no group is under way, and no frame of the module is below
-  Closes_module : Being (Called calls.DeInit) nothing_yet o p → s.initialised ≡ true → is_busy d s calls.DeInit ≡ false → below ≡ [] → IsDealing d below foot w s o p close
+  Closes_module : IsThisFrame (Called calls.DeInit) fresh_history o p → s.initialised ≡ true → is_busy d s calls.DeInit ≡ false → below ≡ [] → IsDealing d below foot w s o p close
   -- a handler serves the pulse of an input, for the group that listens to it
   Pulses : (i g : ℕ) (turned : Bool) → IsServing (28 + i) o p → MayPulse d s i g → has_turn s g ≡ turned → IsDealing d below foot w s o p (pulse_by d i g turned)
 
 -- ---- a start
 
 -- a claim ends with it
-abbrev pub ends_claim : Deed → Bool
+abbrev pub ends_claim : WindowWrite → Bool
 ends_claim (deeds.Set (words.Claim u) v) = true
 ends_claim x = false
 
 -- the group that waits first on a unit starts, with so many inputs that are left
-pub record IsStart (d : AdcTable) (below : Holds) (w : World) (s : AdcState) (o : Origin Call) (p : Past) (u g e left : ℕ) (claimed : Bool) : Type 0 where
+pub record IsStart (d : AdcTable) (below : Reservations) (w : World) (s : AdcState) (o : Origin Call) (p : FrameHistory) (u g e left : ℕ) (claimed : Bool) : Type 0 where
   pub window : InWindow d (windows.Convert u g claimed) below w s o p
   pub kept : length (kept_in d s g) ≡ e
   pub all : e + left ≡ length (inputs_of (group_of d g))
 
 -- the list registers and the words of the unit after so many moves that name what they change
-pub record HasMade (d : AdcTable) (f : Foot) (u g e left : ℕ) (claimed : Bool) (made : ℕ) : Type 0 where
+pub record HasMade (d : AdcTable) (f : Footprint) (u g e left : ℕ) (claimed : Bool) (made : ℕ) : Type 0 where
   pub lists : (i : ℕ) → i < made → i < lists_for left → slice_index (slice_index_or f.lists u []) i ≡ four_from (inputs_of (group_of d g)) (e + 4 * i)
   pub running : lists_for left < made → f.word (word_number d (words.Running u)) ≡ 1 + g
   pub claim : (claimed ≡ false) ⊎ (lists_for left + 1 < made) → f.word (word_number d (words.Claim u)) ≡ 0
 
 -- first the order changes, and then the registers and words take what the round has
-pub data IsStarting (d : AdcTable) (below : Holds) (f : Foot) (w : World) (s : AdcState) (o : Origin Call) (p : Past) (u : ℕ) : Making → Type 0 where
+pub data IsStarting (d : AdcTable) (below : Reservations) (f : Footprint) (w : World) (s : AdcState) (o : Origin Call) (p : FrameHistory) (u : ℕ) : WriteBatch → Type 0 where
   Orders : (g e left : ℕ) (claimed : Bool) (n : ℕ) (r : Next) (xs : List Entry) → IsStart d below w s o p u g e left claimed → IsOrder d s u xs → choice (ranks_of d) xs ≡ g
       → Ends choosing_next (own_of (order_of u)) n r f.word (λ m ws. HoldsOrder (order_of u) m (chosen (choice (ranks_of d) xs) xs) × (ws ≡ choice (ranks_of d) xs ∷ [])) → HasMade d f u g e left claimed 0
       → IsStarting d below f w s o p u (record (conversion d u g e left claimed) { order = Some (shapes.Next r) })
@@ -367,7 +367,7 @@ pub data IsStarting (d : AdcTable) (below : Holds) (f : Foot) (w : World) (s : A
 -- ---- readers and lines
 
 -- a handler reads the register of its line
-abbrev pub InFlag : AdcTable → Window → Holds → Origin Call → Past → Type 0
+abbrev pub InFlag : AdcTable → Window → Reservations → Origin Call → FrameHistory → Type 0
 InFlag d (windows.Take u) below o p = IsServing (24 + u) o p × (u < 2) × IsAlone (24 + u) below
 InFlag d (windows.Trigger i g) below o p = IsServing (28 + i) o p × (i < 4) × (has_input i (group_of d g) ≡ true)
 InFlag d w below o p = ⊥
@@ -379,11 +379,11 @@ pub record IsPinning (d : AdcTable) (s : AdcState) (g : ℕ) (x : Phase) : Type 
   pub some : (status ≡ Completed) ⊎ (status ≡ StreamCompleted)
   pub phase : phase_number x ≡ phase_of (status_read (ends_with_stream (group_of d g)) status) true
 
-abbrev pub IsReading : AdcTable → ℕ → List ℕ → Origin Call → Past → Type 0
-IsReading d g whole o p = Being (Called (calls.Group g ReadGroup)) (record nothing_yet { acted = Some (named_with EOk whole) }) o p
+abbrev pub IsReading : AdcTable → ℕ → List ℕ → Origin Call → FrameHistory → Type 0
+IsReading d g whole o p = IsThisFrame (Called (calls.Group g ReadGroup)) (record fresh_history { acted = Some (named_with EOk whole) }) o p
 
-abbrev pub AdcGround : AdcTable → Basis AdcState Call
-AdcGround d = owing (bare d) (making_owed d)
+abbrev pub AdcGround : AdcTable → SharedRefinement AdcState Call
+AdcGround d = deferring_writes (bare d) (making_owed d)
 
 -- the pin is to end, by the control word
 abbrev pub IsReleasing : AdcTable → ℕ → (ℕ → ℕ) → Take → Type 0
@@ -391,7 +391,7 @@ IsReleasing d g word (takes.Release c) = c ≡ (trio_of (rounds_of d g)).control
 IsReleasing d g word (takes.Free c v) = (c ≡ (trio_of (rounds_of d g)).control) × (v ≡ word c % 4)
 IsReleasing d g word r = ⊥
 
-abbrev pub read_spot : (d : AdcTable) → Newest → Stage → Spot (AdcGround d)
+abbrev pub read_spot : (d : AdcTable) → Newest → Stage → PointAssertion (AdcGround d)
 read_spot d n stages.Reads = Outside (Reads n.group n.reading.bank n.reading.values ∷ []) (λ below o p. (n.reading.rounds ≡ rounds_of d n.group) × (length n.reading.values < n.reading.rounds.inputs) × IsOnlyReader n.group below × ((whole : List ℕ) × IsReading d n.group whole o p))
 read_spot d n stages.Shuts = Outside (Reads n.group n.reading.bank n.reading.values ∷ []) (λ below o p. (n.reading.rounds ≡ rounds_of d n.group) × IsOnlyReader n.group below × IsReading d n.group n.reading.values o p)
 read_spot d n (stages.Releases t) = Within (Under None) (Reads n.group n.reading.bank n.reading.values ∷ []) (λ below f w s o p. (n.reading.rounds ≡ rounds_of d n.group) × IsOnlyReader n.group below × IsReading d n.group n.reading.values o p × IsReleasing d n.group f.word t)
@@ -401,54 +401,54 @@ read_spot d n stages.Over = Outside [] (λ below o p. ⊥)
 -- ---- how it stands
 
 -- so many of a making were made: what is owed then
-abbrev pub owes_making : AdcTable → Making → Option Owed
+abbrev pub owes_making : AdcTable → WriteBatch → Option PendingWrites
 owes_making d m = if is_some m.event && nat_le m.made m.ahead then None else owed_of d m.order m.banks (drop m.made m.deeds) m.after
 
-abbrev pub owes_at : AdcTable → Place → Option Owed
+abbrev pub owes_at : AdcTable → Place → Option PendingWrites
 owes_at d (Makes m) = owes_making d m
 owes_at d k = None
 
 -- a call is to pin the newest bank, as the control word has it
-abbrev pub pinning : AdcTable → (group : ℕ) → Phase → (value : ℕ) → Making
+abbrev pub pinning : AdcTable → (group : ℕ) → Phase → (value : ℕ) → WriteBatch
 pinning d g x v = record (making (Some events.Act) (deeds.Set (words.Phase g) (phase_number x) ∷ []) (thens.Goes (outsides.Reads g (bank_of (v % 4))))) { banks = Some (shapes.Take (take_left (pin_of d g) v)) }
 
-abbrev pub MayPin : AdcTable → Holds → Foot → AdcState → Origin Call → Past → Making → Type 0
+abbrev pub MayPin : AdcTable → Reservations → Footprint → AdcState → Origin Call → FrameHistory → WriteBatch → Type 0
 MayPin d below f s o p m = (g : ℕ) × (x : Phase) × IsCalling d s g ReadGroup o p × IsOnlyReader g below × IsPinning d s g x × (m ≡ pinning d g x (f.word (trio_of (rounds_of d g)).control))
 
 -- a handler is to serve the round that is in its bank, by the words that it has seen
-abbrev pub round_words : AdcTable → Foot → Taken → RoundSeen
+abbrev pub round_words : AdcTable → Footprint → Taken → RoundSeen
 round_words d f t = round_seen (map (λ x. f.word (word_number d x)) (words_of (windows.Serve t)))
 
-abbrev pub counted : AdcTable → Foot → Taken → ℕ
+abbrev pub counted : AdcTable → Footprint → Taken → ℕ
 counted d f t = one_more (round_words d f t).count (samples_of (group_of d t.group))
 
-abbrev pub MayServe : AdcTable → Holds → Foot → AdcState → Origin Call → Past → Making → Type 0
+abbrev pub MayServe : AdcTable → Reservations → Footprint → AdcState → Origin Call → FrameHistory → WriteBatch → Type 0
 MayServe d below f s o p m = (t : Taken) × (r : Round) × IsServing (24 + t.unit) o p × (t.unit < 2) × IsAlone (24 + t.unit) below × (is_some (group_of d t.group) ≡ true) × (round_at s t.unit ≡ Some r) × (m ≡ serving d t (round_words d f t) (counted d f t) (is_full (group_of d t.group) (counted d f t)))
 
 -- the bank is full until the round is served
-abbrev pub hold_full : (unit group : ℕ) → streams.Copied → List Hold
+abbrev pub hold_full : (unit group : ℕ) → streams.Copied → List Reservation
 hold_full u g (copied.Bank r b c) = Full u g b ∷ Starts u ∷ []
 hold_full u g _ = []
 
-abbrev pub hold_served : Then → List Hold
+abbrev pub hold_served : Continuation → List Reservation
 hold_served (thens.Goes (outsides.Copies c (Tells u g on))) = hold_full u g c.what
 hold_served t = []
 
-abbrev pub banks_spot : (d : AdcTable) → Making → Option Shape → Spot (AdcGround d)
+abbrev pub banks_spot : (d : AdcTable) → WriteBatch → Option StructureOp → PointAssertion (AdcGround d)
 banks_spot d m None = Within (Under None) [] (λ below f wd s o p. IsDealing d below f wd s o p m)
 banks_spot d m (Some (shapes.Put q)) = Within (Under None) (hold_served m.after) (λ below f wd s o p. MayServe d below f s o p m)
 banks_spot d m (Some q) = Within (Under None) [] (λ below f wd s o p. MayPin d below f s o p m)
 
 -- a frame that starts a round stores the unit's words ahead of the start
-abbrev pub spot_start : (d : AdcTable) → Making → Option ℕ → (claimed : Bool) → Spot (AdcGround d)
+abbrev pub spot_start : (d : AdcTable) → WriteBatch → Option ℕ → (claimed : Bool) → PointAssertion (AdcGround d)
 spot_start d m (Some u) c = Within (Under (Some u)) (hold_in (windows.Convert u 0 c)) (λ below f wd s o p. IsStarting d below f wd s o p u m)
 spot_start d m None c = Within (Under None) [] (λ below f wd s o p. ⊥)
 
-abbrev pub spot_making : (d : AdcTable) → Making → Option Event → Spot (AdcGround d)
+abbrev pub spot_making : (d : AdcTable) → WriteBatch → Option Event → PointAssertion (AdcGround d)
 spot_making d m (Some (events.Start x)) = spot_start d m (number_of x) (list_any ends_claim m.deeds)
 spot_making d m e = banks_spot d m m.banks
 
-abbrev pub spot_at : (d : AdcTable) → Place → Spot (AdcGround d)
+abbrev pub spot_at : (d : AdcTable) → Place → PointAssertion (AdcGround d)
 spot_at d (Flag w) = Within (Under None) [] (λ below f wd s o p. InFlag d w below o p)
 spot_at d (Looks w seen) = Within (Under None) (hold_in w) (λ below f wd s o p. InWindow d w below wd s o p × HasSeen d f w seen)
 spot_at d (Surveys w g) = Within (Under None) [] (λ below f wd s o p. InWindow d w below wd s o p × HasLooked d w s × HasSurveyed d w s g)
@@ -471,20 +471,20 @@ clean_at (Surveys w g) = true
 clean_at k = false
 
 -- a body is the driver's
-abbrev pub of_driver : {d : AdcTable} → Type 0 → Spot (AdcGround d) → Spot (AdcGround d)
+abbrev pub of_driver : {d : AdcTable} → Type 0 → PointAssertion (AdcGround d) → PointAssertion (AdcGround d)
 of_driver P (Within gap hs place) = Within gap hs (λ below f w s o p. P × place below f w s o p)
 of_driver P (Outside hs place) = Outside hs (λ below o p. P × place below o p)
 of_driver P (Looking gap hs place) = Looking gap hs (λ below f w s o p. P × place below f w s o p)
 
 -- the steps after the moves of a window: those from the opening of the mask on
-abbrev pub steps_then : (fuel : AdcBody → ℕ) → AdcTable → Then → ℕ
+abbrev pub steps_then : (fuel : AdcBody → ℕ) → AdcTable → Continuation → ℕ
 steps_then fuel d (thens.Ends n) = 0
 steps_then fuel d (thens.Goes o) = fuel (record { table = d; place = Opens o })
 
 -- the bodies of the driver, with these steps and moves that are left at most
-abbrev pub adc_windows : (d : AdcTable) (fuel room : AdcBody → ℕ) → Windows (bare d) Owed (AdcTable × Then) AdcBody (making_owed d)
+abbrev pub adc_windows : (d : AdcTable) (fuel room : AdcBody → ℕ) → Windows (bare d) PendingWrites (AdcTable × Continuation) AdcBody (making_owed d)
 adc_windows d fuel room = record {
-  bodies = record { work_of = body_work; takes = body_takes; fuel = fuel; room = room; clean = λ k. clean_at k.place; spot = λ k. of_driver (k.table ≡ d) (spot_at d k.place) };
+  bodies = record { work_of = body_work; takes = body_takes; fuel = fuel; room = room; clean = λ k. clean_at k.place; assertion = λ k. of_driver (k.table ≡ d) (spot_at d k.place) };
   owes = λ k. owes_at k.table k.place;
   about = λ x. (x.table, x.after);
   hold = λ a. hold_then a.1;

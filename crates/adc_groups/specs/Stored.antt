@@ -1,6 +1,6 @@
 -- The driver's words by number, and the numbers that they have for phases, groups and bits.
 use Rattle.std.specs.Prelude.{ℕ, ◌+◌, ◌-◌, ◌*◌, ◌%◌, ◌^◌, ◌==◌, ◌&&◌, nat_lt, nat_le, Bool, true, false, if◌then◌else◌, Option, Some, None, length}
-use Rattle.word_shapes.specs.declared.ranked.Ranked.{Ranked}
+use Rattle.word_shapes.specs.declared.priority_queue.PriorityQueue.{PriorityQueue}
 use Rattle.adc_stream.specs.declared.rounds.Rounds.{Rounds}
 use Rattle.adc_machine.specs.Groups.{inputs_of}
 use Rattle.adc_machine.specs.Table.{group_of}
@@ -35,7 +35,7 @@ word_number d (Place g) = group_word d g 5
 word_number d (Kept g) = group_word d g 6
 
 -- the order of a unit's requests, and where the rounds of a group stand
-abbrev pub order_of : ℕ → Ranked
+abbrev pub order_of : ℕ → PriorityQueue
 order_of u = record { at = STATE + 10 + 8 * u }
 
 abbrev pub rounds_of : AdcTable → ℕ → Rounds

@@ -1,7 +1,7 @@
 ghost use Rattle.std.specs.Prelude.{◌≡◌};
 ghost use Rattle.adc_machine.specs.Checks as checks;
 ghost use Rattle.adc_machine.specs.Table.{group_of};
-ghost use Rattle.adc_groups.specs.laws.Look as spec;
+ghost use Rattle.adc_groups.specs.laws.services.LookSteps as spec;
 
 use crate::body::{AdcBody, Place};
 use crate::service::module::{InitBody, Setup};
@@ -12,7 +12,7 @@ use adc_machine::{AdcTable, Call, GroupCall};
 use det_errors::{Facts, first_error};
 use mcal_base::{Answer, AnswerName, ErrorName};
 use service_outline::{
-    Done, Looked, Or, Owed, Place as SweepPlace, Reply, Sweep, named, nothing, zero_null,
+    Done, Epilogue, Looked, Or, Place as SweepPlace, Reply, Sweep, named, nothing, zero_null,
 };
 
 /// A place in any body of the driver.
@@ -30,7 +30,7 @@ pub struct Asked {
 impl service_outline::Service for Asked {
     type Body = AnyBody;
 
-    ghost use Rattle.adc_groups.specs.laws.Look.{adc_looked, any_ends};
+    ghost use Rattle.adc_groups.specs.laws.services.LookSteps.{adc_looked, any_ends};
     ghost use Rattle.adc_groups.specs.declared.words.TheConstants.{STATE};
 
     ghost WORD = { STATE };

@@ -1,7 +1,7 @@
 ghost use Rattle.std.specs.Prelude.{◌≡◌, None};
-ghost use Rattle.adc_groups.specs.laws.Body as spec;
+ghost use Rattle.adc_groups.specs.laws.services.BodySteps as spec;
 
-use crate::making::{Making, Then};
+use crate::making::{Continuation, WriteBatch};
 use crate::outside::{Outside, Suspended};
 use crate::service::read::Newest;
 use crate::service::{self, read, request, serve, turn};
@@ -10,11 +10,11 @@ use crate::words::{Phase, Word, rounds_of, word_number};
 use adc_machine::AdcTable;
 use adc_stream::Bank;
 use mcal_base::{Answer, Move, Reg, Routine, Short};
-use service_outline::{Body, BodyTaken, Owed, ends, goes, nothing};
+use service_outline::{Body, BodyTaken, Epilogue, ends, goes, nothing};
 use word_shapes::{Front, Put, Take, TakePart};
 
 /// What a window has seen of its words.
-pub type Seen = Short<u32, 6>;
+pub type Snapshot = Short<u32, 6>;
 
 /// A place in a frame of the driver, from the load of the state word on.
 #[derive(Drop)]
@@ -22,7 +22,7 @@ pub enum Place {
     /// It reads a register that tells whether the line is ready.
     Flag(Window),
     /// It looks at the words that decide, one after the other.
-    Looks(Window, Seen),
+    Looks(Window, Snapshot),
     /// It looks whether this group is under way, and then at the next one.
     Surveys(Window, u8),
     /// It looks which request waits first on a unit.
@@ -36,7 +36,7 @@ pub enum Place {
     /// It aborts a unit's round, if that isn't finished.
     Aborts(Suspended),
     /// It makes its moves.
-    Makes(Making),
+    Makes(WriteBatch),
     /// It has nothing to serve, and ends with its claim on this unit.
     Quits(u8),
     /// It opens the mask.
@@ -63,7 +63,7 @@ pub struct AdcBody {
 }
 
 impl Body for AdcBody {
-    ghost use Rattle.adc_groups.specs.laws.Body.{body_work, body_takes};
+    ghost use Rattle.adc_groups.specs.laws.services.BodySteps.{body_work, body_takes};
 
     ghost work_of = { body_work };
 
@@ -95,11 +95,11 @@ impl Body for AdcBody {
                 let event = making.took(value);
                 if making.is_over() {
                     match making.after {
-                        Then::Ends(done) => BodyTaken {
+                        Continuation::Ends(done) => BodyTaken {
                             event,
                             done: Some(done),
                         },
-                        Then::Goes(outside) => {
+                        Continuation::Goes(outside) => {
                             self.place = Place::Opens(outside);
                             BodyTaken { event, done: None }
                         }
@@ -132,7 +132,7 @@ impl Body for AdcBody {
                 goes()
             }
             Place::Reads(newest) => newest.took(value),
-            Place::Quits(_) => ends(None, nothing(), Owed::Nothing),
+            Place::Quits(_) => ends(None, nothing(), Epilogue::Nothing),
             Place::Flag(window) => {
                 let decided = service::flagged(*window, value);
                 self.follows(decided)

@@ -10,8 +10,8 @@ mod window;
 mod words;
 
 pub use asked::{AnyBody, Asked};
-pub use body::{AdcBody, Decided, Place, Seen};
-pub use making::{Deed, Deeds, Making, Shape, Then};
+pub use body::{AdcBody, Decided, Place, Snapshot};
+pub use making::{Continuation, StructureOp, WindowWrite, WindowWrites, WriteBatch};
 pub use outside::{Copied, Outside, Suspended, Taken};
 pub use service::module::{InitBody, Setup};
 pub use service::read::{Newest, Stage};

@@ -1,6 +1,6 @@
 ghost use Rattle.std.specs.Prelude.{◌≡◌};
 ghost use Rattle.std.specs.Option.{option_map};
-ghost use Rattle.adc_groups.specs.laws.Making as spec;
+ghost use Rattle.adc_groups.specs.laws.services.WriteBatchSteps as spec;
 
 use crate::outside::Outside;
 use crate::words::{LINES, Word, word_number};
@@ -11,7 +11,7 @@ use word_shapes::{Add, Again, Dropped, Next, Put, Take};
 
 /// A move that a window makes of what it has seen.
 #[derive(Clone, Copy, Default)]
-pub enum Deed {
+pub enum WindowWrite {
     /// It stores a value in a word.
     Set(Word, u32),
     /// It writes a register.
@@ -23,26 +23,26 @@ pub enum Deed {
     Disable,
 }
 
-impl Deed {
+impl WindowWrite {
     /// The move.
     pub fn made(self, table: &AdcTable) -> Move
         ensures { result ≡ spec.deed_move table.now self }
     {
         match self {
-            Deed::Set(word, value) => Move::Store(word_number(table, word), value),
-            Deed::Write(register, value) => Move::Write(register, value),
-            Deed::Abort(unit) => Move::Read(Reg::ConverterAbort(u32::from(unit))),
-            Deed::Disable => Move::Write(Reg::EnableClear, LINES),
+            WindowWrite::Set(word, value) => Move::Store(word_number(table, word), value),
+            WindowWrite::Write(register, value) => Move::Write(register, value),
+            WindowWrite::Abort(unit) => Move::Read(Reg::ConverterAbort(u32::from(unit))),
+            WindowWrite::Disable => Move::Write(Reg::EnableClear, LINES),
         }
     }
 }
 
 /// The moves of a window, in their order.
-pub type Deeds = Short<Deed, 11>;
+pub type WindowWrites = Short<WindowWrite, 11>;
 
 /// A change of a unit's order of requests, or of a group's banks, under way.
 #[derive(Clone, Copy)]
-pub enum Shape {
+pub enum StructureOp {
     /// A request is put in the last place.
     Add(Add),
     /// A request waits again.
@@ -57,18 +57,18 @@ pub enum Shape {
     Take(Take),
 }
 
-impl Shape {
+impl StructureOp {
     /// Its next move.
     pub fn next(&self) -> Move
         ensures { result ≡ spec.shape_move self.now }
     {
         match self {
-            Shape::Add(work) => work.next(),
-            Shape::Again(work) => work.next(),
-            Shape::Drop(work) => work.next(),
-            Shape::Next(work) => work.next(),
-            Shape::Put(work) => work.next(),
-            Shape::Take(work) => work.next(),
+            StructureOp::Add(work) => work.next(),
+            StructureOp::Again(work) => work.next(),
+            StructureOp::Drop(work) => work.next(),
+            StructureOp::Next(work) => work.next(),
+            StructureOp::Put(work) => work.next(),
+            StructureOp::Take(work) => work.next(),
         }
     }
 
@@ -78,19 +78,19 @@ impl Shape {
         ensures over { result ≡ spec.shape_over self.old value }
     {
         match self {
-            Shape::Add(work) => work.took(value).ended.is_some(),
-            Shape::Again(work) => work.took(value).ended.is_some(),
-            Shape::Drop(work) => work.took(value).ended.is_some(),
-            Shape::Next(work) => work.took(value).ended.is_some(),
-            Shape::Put(work) => work.took(value).ended.is_some(),
-            Shape::Take(work) => work.took(value).ended.is_some(),
+            StructureOp::Add(work) => work.took(value).ended.is_some(),
+            StructureOp::Again(work) => work.took(value).ended.is_some(),
+            StructureOp::Drop(work) => work.took(value).ended.is_some(),
+            StructureOp::Next(work) => work.took(value).ended.is_some(),
+            StructureOp::Put(work) => work.took(value).ended.is_some(),
+            StructureOp::Take(work) => work.took(value).ended.is_some(),
         }
     }
 }
 
 /// What comes after the moves of a window.
 #[derive(Clone, Copy)]
-pub enum Then {
+pub enum Continuation {
     /// The frame is done.
     Ends(Done),
     /// It opens the mask and goes on so.
@@ -99,9 +99,9 @@ pub enum Then {
 
 /// The moves of a window that are left, after all that it looks at.
 #[derive(Drop)]
-pub struct Making {
+pub struct WriteBatch {
     /// The moves that name what they change.
-    pub deeds: Deeds,
+    pub deeds: WindowWrites,
     /// How many of them were made.
     pub made: u8,
     /// The event, which stands at the move that comes after so many.
@@ -109,14 +109,14 @@ pub struct Making {
     /// How many of them come before that of the event.
     pub ahead: u8,
     /// What changes in the unit's order: after the first of them where the event stands at that, and else before all.
-    pub order: Option<Shape>,
+    pub order: Option<StructureOp>,
     /// What changes in the group's banks after that.
-    pub banks: Option<Shape>,
+    pub banks: Option<StructureOp>,
     /// What comes after it.
-    pub after: Then,
+    pub after: Continuation,
 }
 
-impl Making {
+impl WriteBatch {
     /// Its next move.
     pub fn next(&self, table: &AdcTable) -> Move
         ensures { result ≡ spec.making_move table.now self.now }
@@ -131,7 +131,7 @@ impl Making {
     }
 
     /// The change of an order or of banks that it is at.
-    fn under_work(&self) -> Option<&Shape>
+    fn under_work(&self) -> Option<&StructureOp>
         ensures { option_map (λ s. s.now) result ≡ spec.under_work self.now }
     {
         if self.is_first() {
@@ -215,10 +215,10 @@ impl Making {
 }
 
 /// Moves in one window with this event at the first, and what comes after them.
-pub fn moves_of(event: Option<Event>, deeds: Deeds, after: Then) -> Making
+pub fn moves_of(event: Option<Event>, deeds: WindowWrites, after: Continuation) -> WriteBatch
     ensures { result ≡ spec.making event deeds after }
 {
-    Making {
+    WriteBatch {
         deeds,
         made: 0,
         event,

@@ -1,5 +1,5 @@
 ghost use Rattle.std.specs.Prelude.{◌≡◌};
-ghost use Rattle.adc_groups.specs.laws.Body as spec;
+ghost use Rattle.adc_groups.specs.laws.services.BodySteps as spec;
 
 use crate::body::Place;
 use crate::service::entered;

@@ -9,15 +9,15 @@ pub mod stop;
 pub mod turn;
 
 ghost use Rattle.std.specs.Prelude.{◌≡◌};
-ghost use Rattle.adc_groups.specs.laws.Deciding as spec;
+ghost use Rattle.adc_groups.specs.laws.services.Decisions as spec;
 
 use crate::body::{Decided, Place};
-use crate::making::Making;
+use crate::making::WriteBatch;
 use crate::window::Window;
 use adc_machine::AdcTable;
 use mcal_base::Event;
 use serve::RoundSeen;
-use service_outline::{Done, Owed, Reply, ends, nothing};
+use service_outline::{Done, Epilogue, Reply, ends, nothing};
 use stop::StopSeen;
 
 /// A word that a window has seen, 0 where it hasn't.
@@ -138,25 +138,25 @@ fn is_ready(window: Window, value: u32) -> bool
 pub fn looking(window: Window) -> Place
     ensures { result ≡ spec.looking window }
 {
-    Place::Looks(window, crate::body::Seen::new())
+    Place::Looks(window, crate::body::Snapshot::new())
 }
 
 /// A frame that is done, and answers nothing.
 pub fn over() -> Decided
     ensures { result ≡ spec.over }
 {
-    Decided::Ends(ends(None, nothing(), Owed::Nothing))
+    Decided::Ends(ends(None, nothing(), Epilogue::Nothing))
 }
 
 /// A call that acts with this answer, and is done.
-pub fn acts_and_ends(answer: Reply, owed: Owed) -> Decided
+pub fn acts_and_ends(answer: Reply, owed: Epilogue) -> Decided
     ensures { result ≡ spec.acts_and_ends answer owed }
 {
     Decided::Ends(ends(Some(Event::Act), answer, owed))
 }
 
 /// It makes its moves.
-pub fn makes(making: Making) -> Decided
+pub fn makes(making: WriteBatch) -> Decided
     ensures { result ≡ spec.makes making }
 {
     Decided::Goes(Place::Makes(making))
@@ -168,6 +168,6 @@ pub fn done(answer: Reply) -> Done
 {
     Done {
         answer,
-        owed: Owed::Nothing,
+        owed: Epilogue::Nothing,
     }
 }

@@ -1,6 +1,6 @@
 ghost use Rattle.std.specs.Prelude.{◌≡◌, ◌∷◌, [], slice_get};
 ghost use Rattle.adc_groups.specs.declared.window.Window.TheVariants as windows;
-ghost use Rattle.adc_groups.specs.laws.Windows as spec;
+ghost use Rattle.adc_groups.specs.laws.words.WindowWords as spec;
 
 use crate::outside::{Suspended, Taken};
 use crate::words::Word;

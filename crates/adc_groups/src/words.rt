@@ -4,7 +4,7 @@ ghost use Rattle.adc_groups.specs.Stored as spec;
 
 use adc_machine::AdcTable;
 use adc_stream::{FIRST, Rounds};
-use word_shapes::Ranked;
+use word_shapes::PriorityQueue;
 
 /// The module's first word, which tells whether it is initialised.
 pub const STATE: u32 = FIRST;
@@ -149,10 +149,10 @@ pub fn word_number(table: &AdcTable, word: Word) -> u32
 }
 
 /// The order of a unit's requests.
-pub fn order_of(unit: u8) -> Ranked
+pub fn order_of(unit: u8) -> PriorityQueue
     ensures { result ≡ spec.order_of unit }
 {
-    Ranked {
+    PriorityQueue {
         at: STATE + 10 + 8 * u32::from(unit),
     }
 }

@@ -2,6 +2,7 @@
 use Rattle.std.proofs.Common.{◌≡◌, ℕ, zero, suc, ◌<◌, ◌≤◌, Bool, true, false, cond, ◌&&◌, ◌||◌, ◌==◌, nat_lt, List, [], ◌∷◌, Option, Some, None, refl, subst, arith}
 use Rattle.std.specs.Prelude.{slice_get, if◌then◌else◌, is_some, slice_index_or}
 use Rattle.std.proofs.lemmas.Bool.Decides.{nat_tests}
+use Rattle.plain_facts.specs.Truths.{and_first}
 use Rattle.adc_machine.specs.Laws.{IsNext, IsBefore}
 use Rattle.adc_machine.specs.Table.{group_of, all_groups}
 use Rattle.adc_machine.specs.Turns.{AdcState, group_at, is_on, waits_for, rank_of, number_in, comes_before, first_of, next_among, next_group}
@@ -68,12 +69,8 @@ configured : (d : AdcTable) (u g : ℕ) (b : Bool) → nat_lt g 16 ≡ b → is_
 configured d u g true lt on = grind (arith, nat_tests)
 configured d u g false lt on = absurd (cc on)
 
-on_first : (a b : Bool) → (a && b) ≡ true → a ≡ true
-on_first true b e = refl
-on_first false b e = absurd (cc e)
-
 waits_below : (d : AdcTable) (s : AdcState) (u g : ℕ) → waits_for d s u g ≡ true → g < 16
-waits_below d s u g e = configured d u g (nat_lt g 16) refl (on_first (is_on u (group_of d g)) (is_some (group_at s g).waiting) e)
+waits_below d s u g e = configured d u g (nat_lt g 16) refl (and_first (is_on u (group_of d g)) (is_some (group_at s g).waiting) e)
 
 pub listed : (g : ℕ) → g < 16 → slice_get all_groups g ≡ Some g
 listed zero lt = refl

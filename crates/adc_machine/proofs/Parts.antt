@@ -1,13 +1,10 @@
 -- The parts of a state that was changed.
 use Rattle.std.proofs.Common.{◌≡◌, ◌≢◌, ℕ, zero, suc, ◌<◌, Bool, true, false, cond, ◌==◌, [], ◌∷◌, Option, None, refl, ◌∙◌, ap, arith}
 use Rattle.std.specs.Prelude.{slice_index_or}
-use Rattle.std.proofs.lemmas.Bool.Decides.{nat_tests}
+use Rattle.plain_facts.specs.Numbers.{eq_other, eq_self}
 use Rattle.adc_machine.specs.Groups.{GroupState, Round, untouched}
 use Rattle.adc_machine.specs.Table.{by_group}
 use Rattle.adc_machine.specs.Turns.{AdcState, group_at, round_at, with_group, with_round}
-
-same_number : (n : ℕ) → (n == n) ≡ true
-same_number n = grind (arith, nat_tests)
 
 -- a fact about each group of a list, and about one that isn't there
 pub each_of : (P : GroupState → Type 0) (f : ℕ → GroupState) → P untouched → ((h : ℕ) → P (f h)) → (h : ℕ) → P (slice_index_or (by_group f) h untouched)
@@ -60,14 +57,11 @@ each_with P s g x none at new = each_of P (λ h. cond (h == g) x (group_at s h))
 
 -- the group that was changed
 pub group_same : (s : AdcState) (g : ℕ) (x : GroupState) → g < 16 → group_at (with_group s g x) g ≡ x
-group_same s g x lt = of_group (λ h. cond (h == g) x (group_at s h)) g lt ∙ ap (λ b. cond b x (group_at s g)) (same_number g)
-
-other_number : (n m : ℕ) → n ≢ m → (n == m) ≡ false
-other_number n m ne = grind (arith, nat_tests, ne)
+group_same s g x lt = of_group (λ h. cond (h == g) x (group_at s h)) g lt ∙ ap (λ b. cond b x (group_at s g)) (eq_self g)
 
 -- a group that wasn't changed
 pub group_other : (s : AdcState) (g : ℕ) (x : GroupState) (h : ℕ) → h < 16 → h ≢ g → group_at (with_group s g x) h ≡ group_at s h
-group_other s g x h lt ne = of_group (λ i. cond (i == g) x (group_at s i)) h lt ∙ ap (λ b. cond b x (group_at s h)) (other_number h g ne)
+group_other s g x h lt ne = of_group (λ i. cond (i == g) x (group_at s i)) h lt ∙ ap (λ b. cond b x (group_at s h)) (eq_other h g ne)
 
 -- a fact about each of two rounds, and about a free unit
 pub each_round : (P : Option Round → Type 0) (a b : Option Round) → P None → P a → P b → (u : ℕ) → P (slice_index_or (a ∷ b ∷ []) u None)

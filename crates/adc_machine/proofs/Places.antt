@@ -1,8 +1,9 @@
 -- Where results are stored, and what leaves them.
 use Rattle.std.proofs.Common.{◌≡◌, ◌≢◌, ℕ, zero, suc, ◌+◌, ◌-◌, ◌*◌, ◌<◌, Bool, true, false, cond, ◌&&◌, ◌==◌, List, [], ◌∷◌, length, Option, Some, None, refl, sym, ◌∙◌, ap, subst, arith}
 use Rattle.std.specs.Prelude.{slice_get}
-use Rattle.std.proofs.lemmas.Bool.Decides.{nat_tests}
 use Rattle.std.proofs.Math.Nat.{suc-mul}
+use Rattle.std.proofs.lemmas.Bool.{and_from, and_left, and_right}
+use Rattle.plain_facts.specs.Numbers.{eq_other, eq_self}
 use Rattle.mcal_base.specs.declared.error_name.ErrorName.{ErrorName}
 use Rattle.mcal_base.specs.declared.directive.Order.{Order}
 use Rattle.mcal_base.specs.declared.directive.Order.TheVariants as orders
@@ -13,7 +14,7 @@ use Rattle.adc_machine.specs.Laws.{IsStored, StoresNothing}
 use Rattle.adc_machine.specs.Machine.{acts, acts_by, circumstances, group_work, happens, ready, served, served_round, after_round, with_values, is_unit_line, starting, starts_on, aborting, aborts_on, moved, reads, points}
 use Rattle.adc_machine.specs.Checks.{error_by}
 use Rattle.adc_machine.specs.Table.{group_of}
-use Rattle.adc_machine.specs.Triggers.{without_mark, listener, pulsed, with_mark, requested_unless_turn, served_trigger}
+use Rattle.adc_machine.specs.Triggers.{without_mark, listener, with_mark, requested_unless_turn, served_trigger}
 use Rattle.adc_machine.specs.Turns.{AdcState, group_at, round_at, with_group, with_round, has_turn, requested, number_of, starts, aborts}
 use Rattle.adc_machine.specs.declared.call.Call.{Call}
 use Rattle.adc_machine.specs.declared.call.Call.TheVariants.{Init, DeInit, Group}
@@ -28,18 +29,12 @@ use Rattle.adc_machine.proofs.Parts.{either}
 
 -- ---- places
 
-same_yes : (n : ℕ) → (n == n) ≡ true
-same_yes n = grind (arith, nat_tests)
-
-other_no : (n m : ℕ) → n ≢ m → (n == m) ≡ false
-other_no n m ne = grind (arith, nat_tests)
-
 -- a place that no value goes to
 elsewhere : (place step : ℕ) (vs : List ℕ) (held : ℕ → ℕ) (p : ℕ) → ((j : ℕ) → j < length vs → p ≢ j * step + place) → stored_from place step vs held p ≡ held p
 elsewhere place step [] held p isnt = refl
 elsewhere place step (v ∷ vs) held p isnt =
     elsewhere (place + step) step vs (with_at held place v) p (λ j lt e. isnt (suc j) (omega (arith, lt)) (later j e))
-    ∙ ap (λ b. cond b v (held p)) (other_no p place (λ e. isnt 0 (omega arith) (omega (arith, e))))
+    ∙ ap (λ b. cond b v (held p)) (eq_other p place (λ e. isnt 0 (omega arith) (omega (arith, e))))
   where
     later : (j : ℕ) → p ≡ j * step + (place + step) → p ≡ suc j * step + place
     later j e = omega (arith, e, suc-mul j step)
@@ -52,7 +47,7 @@ value_at place step (x ∷ xs) held zero v pos e =
     let same : x ≡ v = cc in
     ap (λ p. stored_from (place + step) step xs (with_at held place x) p) here
     ∙ elsewhere (place + step) step xs (with_at held place x) place (λ j lt f. omega (arith, pos, f))
-    ∙ ap (λ b. cond b x (held place)) (same_yes place)
+    ∙ ap (λ b. cond b x (held place)) (eq_self place)
     ∙ same
 value_at place step (x ∷ xs) held (suc j) v pos e =
     let there : suc j * step + place ≡ j * step + (place + step) = omega (arith, suc-mul j step) in
@@ -68,30 +63,20 @@ other_buffer Zero One ne = refl
 other_buffer One Zero ne = refl
 other_buffer One One ne = absurd (ne refl)
 
-both : (a b : Bool) → a ≡ true → b ≡ true → (a && b) ≡ true
-both a b x y = rw (x, y) refl
-
-not_second : (a b : Bool) → b ≡ false → (a && b) ≡ false
-not_second true b e = e
-not_second false b e = refl
-
-not_first : (a b : Bool) → a ≡ false → (a && b) ≡ false
-not_first a b e = rw e refl
-
 -- a round that is stored
 pub stored : (k : Option configured.Group) (r g : ℕ) (b : ResultBuffer) (vs : List ℕ) (held : Results) → 0 < samples_of k → IsStored k r g b vs held (with_round_of k r g (Some b) vs held)
 stored k r g b vs held pos = record {
   values_at = λ j v e. here (j * samples_of k + place_in k r) ∙ value_at (place_in k r) (samples_of k) vs (held_in held g b) j v pos e;
   places = λ p isnt. here p ∙ elsewhere (place_in k r) (samples_of k) vs (held_in held g b) p isnt;
-  groups = λ h c p ne. away h c p (not_first (h == g) (is_same c b) (other_no h g ne));
-  buffers = λ c p ne. away g c p (not_second (g == g) (is_same c b) (other_buffer c b ne));
+  groups = λ h c p ne. away h c p (and_left (h == g) (is_same c b) (eq_other h g ne));
+  buffers = λ c p ne. away g c p (and_right (g == g) (is_same c b) (other_buffer c b ne));
 }
   where
     new : ℕ → ℕ
     new = stored_from (place_in k r) (samples_of k) vs (held_in held g b)
 
     here : (p : ℕ) → held_in (with_round_of k r g (Some b) vs held) g b p ≡ new p
-    here p = ap (λ q. (cond q new (held_in held g b)) p) (both (g == g) (is_same b b) (same_yes g) (same_buffer b))
+    here p = ap (λ q. (cond q new (held_in held g b)) p) (and_from (g == g) (is_same b b) (eq_self g) (same_buffer b))
 
     away : (h : ℕ) (c : ResultBuffer) (p : ℕ) → (h == g && is_same c b) ≡ false → held_in (with_round_of k r g (Some b) vs held) h c p ≡ held_in held h c p
     away h c p e = ap (λ q. (cond q new (held_in held h c)) p) e

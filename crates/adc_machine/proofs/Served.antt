@@ -1,6 +1,6 @@
 -- A group after a serving of its round.
-use Rattle.std.proofs.Common.{◌≡◌, ◌≢◌, ℕ, ◌+◌, ◌-◌, ◌<◌, ◌==◌, Bool, true, false, cond, List, [], ◌∷◌, ◌++◌, length, Option, Some, None, refl, sym, ◌∙◌, ap, arith}
-use Rattle.std.proofs.lemmas.Bool.Decides.{nat_tests}
+use Rattle.std.proofs.Common.{◌≡◌, ◌≢◌, ℕ, ◌+◌, ◌-◌, ◌<◌, ◌==◌, Bool, true, false, cond, List, [], ◌∷◌, ◌++◌, length, Option, Some, None, refl, sym, ◌∙◌, ap}
+use Rattle.plain_facts.specs.Numbers.{eq_from, eq_other}
 use Rattle.run_model.specs.World.{World}
 use Rattle.run_model.specs.Machine.{Serves, Outcome, outcome, tells_nothing}
 use Rattle.adc_machine.specs.Groups.{Round, Status, Idle, Busy, Completed, StreamCompleted, status_after, is_continuous, is_full, place_in, samples_of, values_of, trigger_input, with_round_of}
@@ -71,16 +71,10 @@ status_is d w s l received r out line is_round lt e =
     ∙ turn_status d (before_turn d s (l - 24) r values) r.group r.request.number _ _ lt
     ∙ ap (λ x. x.status) (group_same (with_round s (l - 24) None) r.group (with_values (group_of d r.group) (group_at s r.group) values) lt)
 
-equal_yes : (n m : ℕ) → n ≡ m → (n == m) ≡ true
-equal_yes n m e = grind (arith, nat_tests, e)
-
-equal_no : (n m : ℕ) → n ≢ m → (n == m) ≡ false
-equal_no n m ne = grind (arith, nat_tests, ne)
-
 pub last_round : (d : AdcTable) (w : World) (s : AdcState) (l received : ℕ) (r : Round) (out : Outcome AdcState) → is_unit_line l ≡ true → round_at s (l - 24) ≡ Some r → r.group < 16 → happens d w s (Serves l received) ≡ Some out
     → place_in (group_of d r.group) (length (group_at s r.group).rounds) + 1 ≡ samples_of (group_of d r.group) → (group_at out.state r.group).status ≡ StreamCompleted
 last_round d w s l received r out line is_round lt e at =
-    status_is d w s l received r out line is_round lt e ∙ ap (λ b. status_after b (group_at s r.group).status) (equal_yes _ _ at)
+    status_is d w s l received r out line is_round lt e ∙ ap (λ b. status_after b (group_at s r.group).status) (eq_from _ _ at)
 
 again_by : (b : Bool) → status_after b StreamCompleted ≡ StreamCompleted
 again_by true = refl
@@ -100,7 +94,7 @@ other_by StreamCompleted ne = absurd (ne refl)
 pub other_round : (d : AdcTable) (w : World) (s : AdcState) (l received : ℕ) (r : Round) (out : Outcome AdcState) → is_unit_line l ≡ true → round_at s (l - 24) ≡ Some r → r.group < 16 → happens d w s (Serves l received) ≡ Some out
     → place_in (group_of d r.group) (length (group_at s r.group).rounds) + 1 ≢ samples_of (group_of d r.group) → (group_at s r.group).status ≢ StreamCompleted → (group_at out.state r.group).status ≡ Completed
 other_round d w s l received r out line is_round lt e isnt wasnt =
-    status_is d w s l received r out line is_round lt e ∙ ap (λ b. status_after b (group_at s r.group).status) (equal_no _ _ isnt) ∙ other_by (group_at s r.group).status wasnt
+    status_is d w s l received r out line is_round lt e ∙ ap (λ b. status_after b (group_at s r.group).status) (eq_other _ _ isnt) ∙ other_by (group_at s r.group).status wasnt
 
 -- ---- the number
 

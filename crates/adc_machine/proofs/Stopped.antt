@@ -1,7 +1,7 @@
 -- What a stop leaves.
-use Rattle.std.proofs.Common.{◌≡◌, ℕ, zero, suc, ◌<◌, Bool, true, false, cond, ◌||◌, ◌==◌, Option, Some, None, refl, sym, ◌∙◌, ap, subst, arith}
+use Rattle.std.proofs.Common.{◌≡◌, ℕ, zero, suc, ◌<◌, Bool, true, false, cond, ◌||◌, ◌==◌, Option, Some, None, refl, sym, ◌∙◌, ap, subst}
 use Rattle.std.specs.Prelude.{is_some}
-use Rattle.std.proofs.lemmas.Bool.Decides.{nat_tests}
+use Rattle.plain_facts.specs.Numbers.{eq_is}
 use Rattle.mcal_base.specs.declared.error_name.ErrorName.{ErrorName}
 use Rattle.adc_machine.specs.Checks.{error_by}
 use Rattle.adc_machine.specs.Groups.{GroupState, Idle, Round, trigger_input}
@@ -24,12 +24,9 @@ mark_of s (suc (suc zero)) = refl
 mark_of s (suc (suc (suc zero))) = refl
 mark_of s (suc (suc (suc (suc i)))) = refl
 
-equal_by : (j i : ℕ) → (j == i) ≡ true → j ≡ i
-equal_by j i e = grind (arith, nat_tests)
-
 unmarked : (s : AdcState) (o : Option ℕ) (i : ℕ) → is_input i o ≡ true → mark_at (without_mark s o) i ≡ false
 unmarked s None i e = absurd (cc e)
-unmarked s (Some j) i e = subst (λ k. mark_at (with_mark s k false) i ≡ false) (sym (equal_by j i e)) (mark_of s i)
+unmarked s (Some j) i e = subst (λ k. mark_at (with_mark s k false) i ≡ false) (sym (eq_is j i e)) (mark_of s i)
 
 -- ---- the group
 

@@ -9,11 +9,11 @@ ghost use Rattle.adc_machine.specs.Turns.{is_on, rank_of};
 
 use crate::table::{AdcTable, Group};
 use mcal_base::{ErrorName, Service};
-use service_outline::{Owed, error};
+use service_outline::{Epilogue, error};
 
 impl AdcTable {
     /// What is owed for an error.
-    pub fn owed(&self, service: Service, name: ErrorName) -> Owed
+    pub fn owed(&self, service: Service, name: ErrorName) -> Epilogue
         ensures { result ≡ owed_error (reporting self.now) service name }
     {
         error(self.detect, self.classification, service, name)

@@ -2,8 +2,8 @@
 use Rattle.std.specs.Prelude.{ℕ, ◌+◌, ◌*◌, ◌==◌, if◌then◌else◌}
 use Rattle.mcal_base.specs.Bits.{bit_of}
 use Rattle.mcal_base.specs.declared.layout.TheConstants.{USERS}
-use Rattle.word_shapes.specs.Trio.{word_at}
-use Rattle.word_shapes.specs.declared.trio.Trio.{Trio}
+use Rattle.word_shapes.specs.TripleBuffer.{word_at}
+use Rattle.word_shapes.specs.declared.triple_buffer.TripleBuffer.{TripleBuffer}
 use Rattle.adc_stream.specs.declared.column.Column.{Column}
 use Rattle.adc_stream.specs.declared.rounds.Bank.{Bank}
 use Rattle.adc_stream.specs.declared.rounds.Bank.TheVariants.{Zero, One, Two}
@@ -23,7 +23,7 @@ abbrev pub banks_of : Rounds → ℕ
 banks_of r = FIRST + r.start + 32
 
 -- the three banks with their control word
-abbrev pub trio_of : Rounds → Trio
+abbrev pub trio_of : Rounds → TripleBuffer
 trio_of r = record { banks = banks_of r; control = FIRST + r.start + 7; len = r.inputs }
 
 -- the word of an input in a bank, and that of a kept value

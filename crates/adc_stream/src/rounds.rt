@@ -1,8 +1,8 @@
 ghost use Rattle.std.specs.Prelude.{◌≡◌, ◌<◌};
-ghost use Rattle.word_shapes.specs.Trio.{Fits};
+ghost use Rattle.word_shapes.specs.TripleBuffer.{Fits};
 ghost use Rattle.adc_stream.specs.Rounds as spec;
 
-use word_shapes::Trio;
+use word_shapes::TripleBuffer;
 
 /// The first driver word of the module.
 pub const FIRST: u32 = 40_960;
@@ -57,11 +57,11 @@ pub struct Rounds {
 
 impl Rounds {
     /// The three banks, with the word that tells which one is the newest, and which one is read.
-    pub fn trio(&self) -> Trio
+    pub fn trio(&self) -> TripleBuffer
         ensures is { result ≡ spec.trio_of self.now }
         ensures fits { Fits result }
     {
-        Trio {
+        TripleBuffer {
             banks: self.banks(),
             control: FIRST + u32::from(self.start) + 7,
             len: u32::from(self.inputs),

@@ -1,11 +1,2 @@
-pub mod Aborting
-pub mod Begun
-pub mod Ended
-pub mod Going
-pub mod Keeping
-pub mod Listed
-pub mod Made
-pub mod Outranked
-pub mod Quitting
-pub mod Starting
-pub mod Turning
+pub mod Terms
+pub mod laws

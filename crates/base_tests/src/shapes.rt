@@ -1,7 +1,7 @@
 ghost use Rattle.std.specs.Prelude.{length, ◌<◌, ◌^◌, ◌≡◌};
 
 use mcal_base::{Answer, Move, Routine};
-use word_shapes::{PutPart, Ranked, TakePart, Trio};
+use word_shapes::{PriorityQueue, PutPart, TakePart, TripleBuffer};
 
 /// Where the order of the tests lies, and the banks with their control word.
 const AT: u32 = 2;
@@ -92,8 +92,8 @@ fn play<R: Routine + Drop>(routine: R, words: &mut [u32]) -> u32 {
 
 /// Whether the words do as the line says.
 fn follows(words: &mut [u32], line: Line) -> bool {
-    let ranked = Ranked { at: AT };
-    let trio = Trio {
+    let ranked = PriorityQueue { at: AT };
+    let trio = TripleBuffer {
         banks: BANKS,
         control: CONTROL,
         len: LEN,

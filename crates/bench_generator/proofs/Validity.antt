@@ -4,7 +4,7 @@ use Rattle.std.specs.Prelude.{Option, Bool, true, false, take, slice_index_or}
 use Rattle.std.proofs.lemmas.List.Elements.{All-nil, All-cons}
 use Rattle.mcal_base.specs.declared.config.adc.AdcGroup.{AdcGroup}
 use Rattle.config_facts.specs.Ids.{InRange, IsList, IsTable, Keeps, has_id}
-use Rattle.config_facts.specs.Rules.{ends_past, overlaps, initial_not_allowed, shares_pin, hardware_continuous, shares_trigger, single_with_samples, streaming_once, names_channel_twice, names_job_twice, mixes_units, shares_channel}
+use Rattle.config_facts.specs.Rules.{ends_past, overlaps, initial_not_allowed, shares_pin, hardware_continuous, shares_trigger, single_with_samples, streaming_once, names_channel_twice, names_job_twice, mixes_units, shares_channel, mask_off_offset}
 use Rattle.config_facts.specs.Valid.{IsValid, IsTimer, IsUnit, IsGroup, timer_id, unit_id, group_id}
 use Rattle.bench_generator.specs.Board.{board, the_timer, the_unit, the_group}
 
@@ -75,4 +75,6 @@ board_is_valid = record {
     rules = record { hardware = one_kept hardware_continuous the_group refl; triggers = one_kept shares_trigger the_group refl; single = one_kept single_with_samples the_group refl; streaming = one_kept streaming_once the_group refl };
   };
   spi = record { tables = record { classification = first_class; levels = ones; channels = no_elements _ _ 16; jobs = no_elements _ _ 16; sequences = no_elements _ _ 8 }; references = record { channels = All-nil _; jobs = All-nil _ }; rules = record { channels_once = nothing_kept names_channel_twice; jobs_once = nothing_kept names_job_twice; one_unit = nothing_kept (mixes_units []); shared = nothing_kept shares_channel } };
+  dio = record { tables = record { groups = no_elements _ _ 8 }; ports = All-nil _; rules = record { masks = nothing_kept mask_off_offset } };
+  wdg = record { tables = record { initial_ticks = in_range 1 65535 1000 (omega arith) (omega arith); max_ticks = in_range 1 65535 65535 (omega arith) (omega arith) }; initial = refl };
 }

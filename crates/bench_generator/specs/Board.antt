@@ -14,6 +14,8 @@ use Rattle.mcal_base.specs.declared.config.gpt.GptChannelMode.TheVariants.{Conti
 use Rattle.mcal_base.specs.declared.config.gpt.GptConfig.{GptConfig}
 use Rattle.mcal_base.specs.declared.config.mcu.McuConfig.{McuConfig}
 use Rattle.mcal_base.specs.declared.config.spi.SpiConfig.{SpiConfig}
+use Rattle.mcal_base.specs.declared.config.wdg.WdgMode.TheVariants.{Off}
+use Rattle.mcal_base.specs.declared.config.wdg.WdgConfig.{WdgConfig}
 use Rattle.mcal_base.specs.declared.config.whole.Config.{Config}
 
 -- timer 0: continuous, with a notification
@@ -56,6 +58,10 @@ no_clock = record { dev_error_detect = true; clock_settings = []; modes = []; ra
 abbrev pub no_serial : SpiConfig
 no_serial = record { dev_error_detect = true; classification = 1; levels = 1 ∷ 1 ∷ []; channels = []; jobs = []; sequences = [] }
 
+-- the watchdog with its defaults, off
+abbrev pub watchdog_off : WdgConfig
+watchdog_off = record { dev_error_detect = true; default_mode = Off; disable_allowed = true; initial_ticks = 1000; max_ticks = 65535 }
+
 unfoldable pub board : Config
 board = record {
   mcu = no_clock;
@@ -65,4 +71,6 @@ board = record {
   icu = record { dev_error_detect = true; classification = 1; channels = [] };
   adc = converters;
   spi = no_serial;
+  dio = record { dev_error_detect = true; groups = [] };
+  wdg = watchdog_off;
 }

@@ -4,8 +4,9 @@ ghost use Rattle.bench_generator.specs.Board as spec;
 
 use mcal_base::{
     AdcAccessMode, AdcConfig, AdcConversionMode, AdcGroup, AdcGroupReplacement, AdcHwUnit,
-    AdcPriorityImplementation, AdcStreamBufferMode, AdcTriggerSource, Config, GptChannel,
-    GptChannelMode, GptConfig, IcuConfig, McuConfig, PortConfig, PwmConfig, Short, SpiConfig,
+    AdcPriorityImplementation, AdcStreamBufferMode, AdcTriggerSource, Config, DioConfig,
+    GptChannel, GptChannelMode, GptConfig, IcuConfig, McuConfig, PortConfig, PwmConfig, Short,
+    SpiConfig, WdgConfig, WdgMode,
 };
 
 /// One timer: continuous, with a notification.
@@ -106,6 +107,19 @@ fn no_clock() -> McuConfig
     }
 }
 
+/// The watchdog with its defaults, off.
+fn watchdog_off() -> WdgConfig
+    ensures { result ≡ spec.watchdog_off }
+{
+    WdgConfig {
+        dev_error_detect: true,
+        default_mode: WdgMode::Off,
+        disable_allowed: true,
+        initial_ticks: 1000,
+        max_ticks: 65_535,
+    }
+}
+
 /// All modules of the board.
 #[tactic(auto, unfolding(crate::specs::Board::board))]
 fn all_modules() -> Config
@@ -129,6 +143,11 @@ fn all_modules() -> Config
         },
         adc: converters(),
         spi: no_serial(),
+        dio: DioConfig {
+            dev_error_detect: true,
+            groups: Short::new(),
+        },
+        wdg: watchdog_off(),
     }
 }
 

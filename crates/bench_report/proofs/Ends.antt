@@ -3,7 +3,7 @@ use Rattle.std.proofs.Common.{◌≡◌, ℕ, ◌<◌, Bool, List, [], ap, sym, 
 use Rattle.mcal_base.specs.declared.directive.Directive.{Directive}
 use Rattle.run_model.specs.Entry.{Entry}
 use Rattle.bench_report.specs.Limit.{most_bytes}
-use Rattle.bench_report.specs.Pages.{Course, ended, fitting_text, beginning, script_put}
+use Rattle.bench_report.specs.Pages.{ReportWriter, ended, fitting_text, beginning, script_put}
 use Rattle.bench_report.specs.Report.{report, left_over}
 use Rattle.bench_report.specs.Rows.{Row}
 use Rattle.bench_report.specs.Shown.{kept, texts_of}
@@ -12,18 +12,18 @@ use Rattle.bench_report.proofs.Pages.{report_is}
 use Rattle.bench_report.proofs.Sizes.{shown_in_report}
 
 -- what a course over the texts that are kept ends with
-ended_is : (traced : Bool) (script : List Directive) (es : List Entry) (shows : List (List Row)) (shown : Option (List (List ℕ))) (texts : List (List ℕ)) (c : Course) →
+ended_is : (traced : Bool) (script : List Directive) (es : List Entry) (shows : List (List Row)) (shown : Option (List (List ℕ))) (texts : List (List ℕ)) (c : ReportWriter) →
     shown ≡ kept (texts_of es shows) → shown ≡ Some texts → c ≡ script_put traced (beginning texts) script es → ended c.page ≡ fitting_text (report traced script es shows)
 ended_is traced script es shows shown texts c k s is =
-    ap (λ (x : Course). ended x.page) is
+    ap (λ (x : ReportWriter). ended x.page) is
     ∙ ap (λ (ts : List (List ℕ)). ended (script_put traced (beginning ts) script es).page) (sym (kept_all (texts_of es shows) texts (sym k ∙ s)))
     ∙ report_is traced script es shows
 
-pub is_report : (traced : Bool) (script : List Directive) (es : List Entry) (shows : List (List Row)) (shown : Option (List (List ℕ))) (texts : List (List ℕ)) (c : Course) (text : List ℕ) →
+pub is_report : (traced : Bool) (script : List Directive) (es : List Entry) (shows : List (List Row)) (shown : Option (List (List ℕ))) (texts : List (List ℕ)) (c : ReportWriter) (text : List ℕ) →
     shown ≡ kept (texts_of es shows) → shown ≡ Some texts → c ≡ script_put traced (beginning texts) script es → ended c.page ≡ Some text → text ≡ report traced script es shows
 is_report traced script es shows shown texts c text k s is e = (fits (report traced script es shows) text (sym (ended_is traced script es shows shown texts c k s is) ∙ e)).0
 
-pub is_longer : (traced : Bool) (script : List Directive) (es : List Entry) (shows : List (List Row)) (shown : Option (List (List ℕ))) (texts : List (List ℕ)) (c : Course) →
+pub is_longer : (traced : Bool) (script : List Directive) (es : List Entry) (shows : List (List Row)) (shown : Option (List (List ℕ))) (texts : List (List ℕ)) (c : ReportWriter) →
     shown ≡ kept (texts_of es shows) → shown ≡ Some texts → c ≡ script_put traced (beginning texts) script es → ended c.page ≡ None → most_bytes < length (report traced script es shows)
 is_longer traced script es shows shown texts c k s is e = too_long (report traced script es shows) (sym (ended_is traced script es shows shown texts c k s is) ∙ e)
 

@@ -8,13 +8,13 @@ use Rattle.mcal_base.specs.declared.directive.Order.{Order}
 use Rattle.mcal_base.specs.declared.directive.Order.TheVariants as orders
 use Rattle.mcal_base.specs.declared.directive.Reason.TheVariants.{PowerOn, Watchdog, Software}
 use Rattle.mcal_base.specs.declared.directive.Request.{Request}
-use Rattle.run_model.specs.declared.reach.Reach.{Reach}
-use Rattle.run_model.specs.declared.reach.Reach.TheVariants.{Count, Until, Whole}
+use Rattle.run_model.specs.declared.stop_condition.StopCondition.{StopCondition}
+use Rattle.run_model.specs.declared.stop_condition.StopCondition.TheVariants.{Count, Until, Whole}
 use Rattle.run_model.specs.Entry as entry
 use Rattle.run_model.specs.Entry.{Entry, Said}
 use Rattle.run_model.specs.Frame.{Open, resets_chip}
 use Rattle.run_model.specs.Follows.{IsOne, Ticks, ticks_left, IsStep, GoesOn, Goes, BeginsOnly, BeginsWhole, HappensOnly, Shows, Gives, ends_within, is_reached}
-use Rattle.run_model.specs.Moment.{Setting, Moment, Deed, Steps, Happens, after}
+use Rattle.run_model.specs.Moment.{Setting, Moment, Transition, Steps, Happens, after}
 
 -- the order shows something
 abbrev pub is_show : Order → Bool
@@ -49,8 +49,8 @@ none_each line P items is = subst (λ (es : List Entry). Each line P es) (sym is
 
 -- ---- steps
 
-step_each : {State Call : Type 0} (g : Setting State Call) (line : ℕ) (reach : Reach) (made : ℕ) (m : Moment State Call) (e : Entry) (es : List Entry) (More : ℕ → Deed Call → Type 0) →
-    (said : Said) → e.said ≡ said → ((n : ℕ) (deed : Deed Call) → More n deed → Each line shows_nothing es) → IsStep g line reach made m e es said More → Each line shows_nothing (e ∷ es)
+step_each : {State Call : Type 0} (g : Setting State Call) (line : ℕ) (reach : StopCondition) (made : ℕ) (m : Moment State Call) (e : Entry) (es : List Entry) (More : ℕ → Transition Call → Type 0) →
+    (said : Said) → e.said ≡ said → ((n : ℕ) (deed : Transition Call) → More n deed → Each line shows_nothing es) → IsStep g line reach made m e es said More → Each line shows_nothing (e ∷ es)
 step_each g line reach made m e es More (entry.Steps s) is more h = (
   h.0,
   subst shows_nothing (sym is) tt,
@@ -70,11 +70,11 @@ step_each g line reach made m e es More entry.Begins is more h = absurd h
 step_each g line reach made m e es More (entry.Stays c) is more h = absurd h
 step_each g line reach made m e es More (entry.Resets r k) is more h = absurd h
 
-goes_on_each : {State Call : Type 0} (g : Setting State Call) (line : ℕ) (reach : Reach) (items : List Entry) (made : ℕ) (m : Moment State Call) → GoesOn g line reach made m items → Each line shows_nothing items
+goes_on_each : {State Call : Type 0} (g : Setting State Call) (line : ℕ) (reach : StopCondition) (items : List Entry) (made : ℕ) (m : Moment State Call) → GoesOn g line reach made m items → Each line shows_nothing items
 goes_on_each g line reach [] made m h = absurd h
 goes_on_each g line reach (e ∷ es) made m h = step_each g line reach made m e es (λ n deed. GoesOn g line reach n (after g m deed) es) e.said refl (λ n deed k. goes_on_each g line reach es n (after g m deed) k) h
 
-goes_each : {State Call : Type 0} (g : Setting State Call) (line : ℕ) (reach : Reach) (m : Moment State Call) (os : List (Open Call)) (items : List Entry) → Goes g line reach m os items → Each line shows_nothing items
+goes_each : {State Call : Type 0} (g : Setting State Call) (line : ℕ) (reach : StopCondition) (m : Moment State Call) (os : List (Open Call)) (items : List Entry) → Goes g line reach m os items → Each line shows_nothing items
 goes_each g line reach m [] items h = one_each m line shows_nothing (entry.Stays Empty) items tt h
 goes_each g line (Count zero) m (o ∷ os) items h = none_each line shows_nothing items h
 goes_each g line (Count (suc n)) m (o ∷ os) items h = goes_on_each g line (Count (suc n)) items 0 m h
@@ -87,7 +87,7 @@ begins_each : {State Call : Type 0} (m : Moment State Call) (line : ℕ) (held :
 begins_each m line (Some c) items h = one_each m line shows_nothing (entry.Stays c) items tt h
 begins_each m line None items h = one_each m line shows_nothing entry.Begins items tt h
 
-whole_each : {State Call : Type 0} (g : Setting State Call) (m : Moment State Call) (line : ℕ) (deed : Deed Call) (held : Option Held) (items : List Entry) → BeginsWhole g m line deed held items → Each line shows_nothing items
+whole_each : {State Call : Type 0} (g : Setting State Call) (m : Moment State Call) (line : ℕ) (deed : Transition Call) (held : Option Held) (items : List Entry) → BeginsWhole g m line deed held items → Each line shows_nothing items
 whole_each g m line deed (Some c) items h = one_each m line shows_nothing (entry.Stays c) items tt h
 whole_each g m line deed None items h = subst (λ (es : List Entry). Each line shows_nothing es) (sym h.is) (refl, tt, goes_on_each g line Whole h.steps 0 (after g m deed) h.goes)
 

@@ -6,6 +6,7 @@ use Rattle.std.proofs.lemmas.Bool.Decides.{nat_tests}
 use Rattle.std.proofs.lemmas.Bool.{eqb-true}
 use Rattle.std.proofs.lemmas.List.{append-nil, map-append, length-append}
 use Rattle.std.proofs.lemmas.List.Folds.{list_all-append}
+use Rattle.plain_facts.specs.Truths.{and_true}
 use Rattle.mcal_base.specs.declared.directive.Directive.{Directive}
 use Rattle.mcal_base.specs.declared.directive.Order.{Order}
 use Rattle.mcal_base.specs.declared.directive.Order.TheVariants as orders
@@ -19,15 +20,11 @@ use Rattle.bench_report.specs.Shown.{rows_text, next_rows, order_texts, said_tex
 use Rattle.bench_report.specs.declared.tally.Tally.{Tally}
 use Rattle.bench_report.proofs.Counts.{calls_after, handlers_after, held_after, errors_after, notes_after}
 use Rattle.bench_report.specs.Report.{Numbered, order_lines, said_lines, step_lines, wait_lines, steps_next, move_lines, end_lines, frames_after, frames_after_end, is_traced, chapter_lines, chapter_frames, chapter_shows, with_done, own_entries, later_entries, report_lines, report, all_numbered, is_return, is_leave, is_hold, is_error, is_note, end_of}
-use Rattle.bench_report.specs.Pages.{Page, Course, blank, beginning, fitting, fitting_text, with_line, with_text, with_lines, put, paste, ended, say, say_all, text_put, order_put, said_put, step_put, entry_put, entries_put, closed, chapter_put, script_put, page_after}
+use Rattle.bench_report.specs.Pages.{Page, ReportWriter, blank, beginning, fitting, fitting_text, with_line, with_text, with_lines, put, paste, ended, say, say_all, text_put, order_put, said_put, step_put, entry_put, entries_put, closed, chapter_put, script_put, page_after}
 
 and_assoc : (a b c : Bool) → ((a && b) && c) ≡ (a && (b && c))
 and_assoc true b c = refl
 and_assoc false b c = refl
-
-and_true : (a : Bool) → (a && true) ≡ a
-and_true true = refl
-and_true false = refl
 
 -- ---- texts that grow
 
@@ -92,20 +89,20 @@ rows_silent n (row ∷ rows) = numbered_some n (Shows row) (rows_text n rows)
 
 -- ---- lines of one number, said one after the other
 
-said_is : (c : Course) (n : ℕ) (lines : List Line) → say_all c n lines ≡ record { page = page_after c.page (all_numbered n lines); frames = c.frames; silent = c.silent && list_all is_traced lines; shows = c.shows }
+said_is : (c : ReportWriter) (n : ℕ) (lines : List Line) → say_all c n lines ≡ record { page = page_after c.page (all_numbered n lines); frames = c.frames; silent = c.silent && list_all is_traced lines; shows = c.shows }
 said_is c n [] = ap (λ s. record { page = c.page; frames = c.frames; silent = s; shows = c.shows }) (sym (and_true c.silent))
 said_is c n (line ∷ lines) = said_is (say c n line) n lines ∙ ap (λ s. record { page = page_after (put c.page n line) (all_numbered n lines); frames = c.frames; silent = s; shows = c.shows }) (and_assoc c.silent (is_traced line) (list_all is_traced lines))
 
 -- lines said in two parts
-say_all-append : (c : Course) (n : ℕ) (xs ys : List Line) → say_all c n (xs ++ ys) ≡ say_all (say_all c n xs) n ys
+say_all-append : (c : ReportWriter) (n : ℕ) (xs ys : List Line) → say_all c n (xs ++ ys) ≡ say_all (say_all c n xs) n ys
 say_all-append c n [] ys = refl
 say_all-append c n (x ∷ xs) ys = say_all-append (say c n x) n xs ys
 
 -- what stands after lines
-made : List Purpose → List (List ℕ) → Option Page → Bool → Course
+made : List Purpose → List (List ℕ) → Option Page → Bool → ReportWriter
 made frames shows page silent = record { page = page; frames = frames; silent = silent; shows = shows }
 
-after_lines : Course → ℕ → List Line → List Purpose → List (List ℕ) → Course
+after_lines : ReportWriter → ℕ → List Line → List Purpose → List (List ℕ) → ReportWriter
 after_lines c n lines frames shows = made frames shows (page_after c.page (all_numbered n lines)) (c.silent && list_all is_traced lines)
 
 page_twice : (page : Option Page) (n : ℕ) (xs ys : List Line) → page_after (page_after page (all_numbered n xs)) (all_numbered n ys) ≡ page_after page (all_numbered n (xs ++ ys))
@@ -115,52 +112,52 @@ page_twice page n xs ys =
 silent_twice : (a : Bool) (xs ys : List Line) → ((a && list_all is_traced xs) && list_all is_traced ys) ≡ (a && list_all is_traced (xs ++ ys))
 silent_twice a xs ys = and_assoc a (list_all is_traced xs) (list_all is_traced ys) ∙ ap (λ b. a && b) (sym (list_all-append is_traced xs ys))
 
-after_twice : (c : Course) (n : ℕ) (xs ys : List Line) (fs gs : List Purpose) (ts us : List (List ℕ)) → after_lines (after_lines c n xs fs ts) n ys gs us ≡ after_lines c n (xs ++ ys) gs us
+after_twice : (c : ReportWriter) (n : ℕ) (xs ys : List Line) (fs gs : List Purpose) (ts us : List (List ℕ)) → after_lines (after_lines c n xs fs ts) n ys gs us ≡ after_lines c n (xs ++ ys) gs us
 unfolding after_lines made
 after_twice c n xs ys fs gs ts us =
     ap (λ (p : Option Page). made gs us p ((c.silent && list_all is_traced xs) && list_all is_traced ys)) (page_twice c.page n xs ys)
     ∙ ap (λ (s : Bool). made gs us (page_after c.page (all_numbered n (xs ++ ys))) s) (silent_twice c.silent xs ys)
 
-after_none : (c : Course) (n : ℕ) (ts : List (List ℕ)) → c.shows ≡ ts → c ≡ after_lines c n [] c.frames ts
+after_none : (c : ReportWriter) (n : ℕ) (ts : List (List ℕ)) → c.shows ≡ ts → c ≡ after_lines c n [] c.frames ts
 unfolding after_lines made
 after_none c n ts h = ap (λ (us : List (List ℕ)). made c.frames us c.page c.silent) h ∙ ap (λ (s : Bool). made c.frames ts c.page s) (sym (and_true c.silent))
 
 -- ---- an item
 
 -- lines that are said, with what the frames after them were begun for
-said_after : (c : Course) (n : ℕ) (lines : List Line) (frames : List Purpose) (ts : List (List ℕ)) → c.shows ≡ ts → record (say_all c n lines) { frames = frames } ≡ after_lines c n lines frames ts
+said_after : (c : ReportWriter) (n : ℕ) (lines : List Line) (frames : List Purpose) (ts : List (List ℕ)) → c.shows ≡ ts → record (say_all c n lines) { frames = frames } ≡ after_lines c n lines frames ts
 unfolding after_lines made
-said_after c n lines frames ts h = ap (λ (k : Course). record k { frames = frames }) (said_is c n lines) ∙ ap (λ (us : List (List ℕ)). made frames us (page_after c.page (all_numbered n lines)) (c.silent && list_all is_traced lines)) h
+said_after c n lines frames ts h = ap (λ (k : ReportWriter). record k { frames = frames }) (said_is c n lines) ∙ ap (λ (us : List (List ℕ)). made frames us (page_after c.page (all_numbered n lines)) (c.silent && list_all is_traced lines)) h
 
 -- lines that leave the frames
-waits_after : (c : Course) (n : ℕ) (lines : List Line) (ts : List (List ℕ)) → c.shows ≡ ts → say_all c n lines ≡ after_lines c n lines c.frames ts
+waits_after : (c : ReportWriter) (n : ℕ) (lines : List Line) (ts : List (List ℕ)) → c.shows ≡ ts → say_all c n lines ≡ after_lines c n lines c.frames ts
 unfolding after_lines made
 waits_after c n lines ts h = said_is c n lines ∙ ap (λ (us : List (List ℕ)). made c.frames us (page_after c.page (all_numbered n lines)) (c.silent && list_all is_traced lines)) h
 
 -- the lines of a step
-three : (c : Course) (n : ℕ) (xs ys zs : List Line) → say_all (say_all (say_all c n xs) n ys) n zs ≡ say_all c n (xs ++ (ys ++ zs))
+three : (c : ReportWriter) (n : ℕ) (xs ys zs : List Line) → say_all (say_all (say_all c n xs) n ys) n zs ≡ say_all c n (xs ++ (ys ++ zs))
 three c n xs ys zs = sym (say_all-append (say_all c n xs) n ys zs) ∙ sym (say_all-append c n xs (ys ++ zs))
 
 -- the frames and the texts stay, whatever lines are said
-said_frames : (c : Course) (n : ℕ) (lines : List Line) → (say_all c n lines).frames ≡ c.frames
-said_frames c n lines = ap (λ (k : Course). k.frames) (said_is c n lines)
+said_frames : (c : ReportWriter) (n : ℕ) (lines : List Line) → (say_all c n lines).frames ≡ c.frames
+said_frames c n lines = ap (λ (k : ReportWriter). k.frames) (said_is c n lines)
 
 -- a step's three kinds of lines
-step_of : Course → List Purpose → ℕ → Stepped → Course
+step_of : ReportWriter → List Purpose → ℕ → Stepped → ReportWriter
 step_of k frames n e = record (say_all k n (end_lines frames e.ended)) { frames = frames_after_end frames e.ended }
 
-step_is : (traced : Bool) (c : Course) (n depth : ℕ) (e : Stepped) →
+step_is : (traced : Bool) (c : ReportWriter) (n depth : ℕ) (e : Stepped) →
     step_put traced c n depth e ≡ after_lines c n (step_lines traced depth e ++ (move_lines e.made ++ end_lines c.frames e.ended)) (frames_after_end c.frames e.ended) c.shows
 unfolding step_of
 step_is traced c n depth e =
     let k = say_all (say_all c n (step_lines traced depth e)) n (move_lines e.made) in
     let frames : k.frames ≡ c.frames = said_frames (say_all c n (step_lines traced depth e)) n (move_lines e.made) ∙ said_frames c n (step_lines traced depth e) in
     ap (λ (fs : List Purpose). step_of k fs n e) frames
-    ∙ ap (λ (x : Course). record x { frames = frames_after_end c.frames e.ended }) (three c n (step_lines traced depth e) (move_lines e.made) (end_lines c.frames e.ended))
+    ∙ ap (λ (x : ReportWriter). record x { frames = frames_after_end c.frames e.ended }) (three c n (step_lines traced depth e) (move_lines e.made) (end_lines c.frames e.ended))
     ∙ said_after c n (step_lines traced depth e ++ (move_lines e.made ++ end_lines c.frames e.ended)) (frames_after_end c.frames e.ended) c.shows refl
 
 -- a show
-show_is : (c : Course) (p : Page) (n : ℕ) (rows : List Row) (ts : List (List ℕ)) → c.page ≡ fitting p → c.shows ≡ rows_text n rows ∷ ts →
+show_is : (c : ReportWriter) (p : Page) (n : ℕ) (rows : List Row) (ts : List (List ℕ)) → c.page ≡ fitting p → c.shows ≡ rows_text n rows ∷ ts →
     text_put c c.shows ≡ after_lines c n (map (λ row. Shows row) rows) c.frames ts
 unfolding after_lines made
 show_is c p n rows ts fits h =
@@ -169,14 +166,14 @@ show_is c p n rows ts fits h =
     ∙ ap (λ (q : Option Page). made c.frames ts q (c.silent && list_all is_traced (map (λ row. Shows row) rows)))
     (subst (λ (q : Option Page). paste q (rows_text n rows) ≡ page_after q (all_numbered n (map (λ row. Shows row) rows))) (sym fits) (rows_pasted p n rows))
 
-order_is : (waited : Bool) (c : Course) (p : Page) (n : ℕ) (shows : List (List Row)) (o : Order) (ts : List (List ℕ)) → c.page ≡ fitting p → c.shows ≡ order_texts n shows o ++ ts →
+order_is : (waited : Bool) (c : ReportWriter) (p : Page) (n : ℕ) (shows : List (List Row)) (o : Order) (ts : List (List ℕ)) → c.page ≡ fitting p → c.shows ≡ order_texts n shows o ++ ts →
     order_put waited c n o ≡ after_lines c n (order_lines waited (next_rows shows) o) c.frames ts
 order_is waited c p n shows (orders.Show what) ts fits h = show_is c p n (next_rows shows) ts fits h
 order_is waited c p n shows (orders.Tick ticks) ts fits h = waits_after c n (wait_lines waited ticks) ts h
 order_is waited c p n shows _ ts fits h = after_none c n ts h
 
 -- an item
-said_one : (traced : Bool) (d : Directive) (c : Course) (p : Page) (depth : ℕ) (shows : List (List Row)) (next : Bool) (said : Said) (ts : List (List ℕ)) → c.page ≡ fitting p → c.shows ≡ said_texts d.line shows said ++ ts →
+said_one : (traced : Bool) (d : Directive) (c : ReportWriter) (p : Page) (depth : ℕ) (shows : List (List Row)) (next : Bool) (said : Said) (ts : List (List ℕ)) → c.page ≡ fitting p → c.shows ≡ said_texts d.line shows said ++ ts →
     said_put traced d c depth next said ≡ after_lines c d.line (said_lines traced depth c.frames (next_rows shows) next said) (frames_after d.order c.frames said) ts
 said_one traced d c p depth shows next (Happens o) ts fits h = order_is (traced && next) c p d.line shows o ts fits h
 said_one traced d c p depth shows next Begins ts fits h = said_after c d.line [] (frames_after d.order c.frames Begins) ts h
@@ -187,16 +184,16 @@ said_one traced d c p depth shows next (Resets reason k) ts fits h = said_after 
 -- ---- the items of a directive
 
 -- what stands after them
-after_own : Bool → Directive → Course → List (List Row) → (own later : List Entry) → Course
+after_own : Bool → Directive → ReportWriter → List (List Row) → (own later : List Entry) → ReportWriter
 after_own traced d c shows own later = after_lines c d.line (chapter_lines traced d.order c.frames shows own) (chapter_frames d.order c.frames own) (texts_of later (chapter_shows shows own))
 
-none_own : (traced : Bool) (d : Directive) (c : Course) (shows : List (List Row)) (es : List Entry) → c.shows ≡ texts_of es shows → c ≡ after_own traced d c shows [] es
+none_own : (traced : Bool) (d : Directive) (c : ReportWriter) (shows : List (List Row)) (es : List Entry) → c.shows ≡ texts_of es shows → c ≡ after_own traced d c shows [] es
 unfolding after_own
 none_own traced d c shows es told = after_none c d.line (texts_of es shows) told
 
 -- one more in front
-entries_one : (traced : Bool) (d : Directive) (c : Course) (p : Page) (shows : List (List Row)) (e : Entry) (es : List Entry) → c.page ≡ fitting p → c.shows ≡ texts_of (e ∷ es) shows → e.line ≡ d.line →
-    ((k : Course) (q : Page) (later : List (List Row)) → k.page ≡ fitting q → k.shows ≡ texts_of es later → entries_put traced d k (own_entries d.line es) ≡ after_own traced d k later (own_entries d.line es) (later_entries d.line es)) →
+entries_one : (traced : Bool) (d : Directive) (c : ReportWriter) (p : Page) (shows : List (List Row)) (e : Entry) (es : List Entry) → c.page ≡ fitting p → c.shows ≡ texts_of (e ∷ es) shows → e.line ≡ d.line →
+    ((k : ReportWriter) (q : Page) (later : List (List Row)) → k.page ≡ fitting q → k.shows ≡ texts_of es later → entries_put traced d k (own_entries d.line es) ≡ after_own traced d k later (own_entries d.line es) (later_entries d.line es)) →
     entries_put traced d (entry_put traced d c (steps_next (own_entries d.line es)) e) (own_entries d.line es) ≡ after_own traced d c shows (e ∷ own_entries d.line es) (later_entries d.line es)
 unfolding after_own after_lines made
 entries_one traced d c p shows e es fits told same more =
@@ -208,19 +205,19 @@ entries_one traced d c p shows e es fits told same more =
     let q = with_lines p (all_numbered d.line lines) in
     let fitted : page_after c.page (all_numbered d.line lines) ≡ fitting q = ap (λ x. page_after x (all_numbered d.line lines)) fits ∙ after_fits p (all_numbered d.line lines) in
     let one : entry_put traced d c next e ≡ k = said_one traced d c p e.depth shows next e.said rest fits (told ∙ ap (λ (n : ℕ). said_texts n shows e.said ++ rest) same) in
-    ap (λ (x : Course). entries_put traced d x (own_entries d.line es)) one
+    ap (λ (x : ReportWriter). entries_put traced d x (own_entries d.line es)) one
     ∙ more k q (shows_after shows e.said) fitted refl
     ∙ after_twice c d.line lines (chapter_lines traced d.order frames (shows_after shows e.said) (own_entries d.line es)) frames (chapter_frames d.order frames (own_entries d.line es)) rest
     (texts_of (later_entries d.line es) (chapter_shows (shows_after shows e.said) (own_entries d.line es)))
 
 -- all of them, by whether the first is the directive's
-entries_by : (b : Bool) (traced : Bool) (d : Directive) (c : Course) (p : Page) (shows : List (List Row)) (e : Entry) (es : List Entry) → c.page ≡ fitting p → c.shows ≡ texts_of (e ∷ es) shows → (e.line == d.line) ≡ b →
-    ((k : Course) (q : Page) (later : List (List Row)) → k.page ≡ fitting q → k.shows ≡ texts_of es later → entries_put traced d k (own_entries d.line es) ≡ after_own traced d k later (own_entries d.line es) (later_entries d.line es)) →
+entries_by : (b : Bool) (traced : Bool) (d : Directive) (c : ReportWriter) (p : Page) (shows : List (List Row)) (e : Entry) (es : List Entry) → c.page ≡ fitting p → c.shows ≡ texts_of (e ∷ es) shows → (e.line == d.line) ≡ b →
+    ((k : ReportWriter) (q : Page) (later : List (List Row)) → k.page ≡ fitting q → k.shows ≡ texts_of es later → entries_put traced d k (own_entries d.line es) ≡ after_own traced d k later (own_entries d.line es) (later_entries d.line es)) →
     entries_put traced d c (cond b (e ∷ own_entries d.line es) []) ≡ after_own traced d c shows (cond b (e ∷ own_entries d.line es) []) (cond b (later_entries d.line es) (e ∷ es))
 entries_by true traced d c p shows e es fits told is more = entries_one traced d c p shows e es fits told (eqb-true e.line d.line is) more
 entries_by false traced d c p shows e es fits told is more = none_own traced d c shows (e ∷ es) told
 
-entries_are : (traced : Bool) (d : Directive) (es : List Entry) (c : Course) (p : Page) (shows : List (List Row)) → c.page ≡ fitting p → c.shows ≡ texts_of es shows →
+entries_are : (traced : Bool) (d : Directive) (es : List Entry) (c : ReportWriter) (p : Page) (shows : List (List Row)) → c.page ≡ fitting p → c.shows ≡ texts_of es shows →
     entries_put traced d c (own_entries d.line es) ≡ after_own traced d c shows (own_entries d.line es) (later_entries d.line es)
 entries_are traced d [] c p shows fits told = none_own traced d c shows [] told
 entries_are traced d (e ∷ es) c p shows fits told = entries_by (e.line == d.line) traced d c p shows e es fits told refl (λ k q later f t. entries_are traced d es k q later f t)
@@ -234,24 +231,24 @@ unfolding made
 closed_is page n lines frames ts true = ap (λ (q : Option Page). made frames ts q false) (page_twice page n lines (Done ∷ []))
 closed_is page n lines frames ts false = refl
 
-spoken : Course → Course
+spoken : ReportWriter → ReportWriter
 spoken c = record c { silent = true }
 
 -- what stands after a directive with its items
-after_chapter : Bool → Directive → Course → List (List Row) → List Entry → Bool → Course
+after_chapter : Bool → Directive → ReportWriter → List (List Row) → List Entry → Bool → ReportWriter
 after_chapter traced d c shows es b = made (chapter_frames d.order c.frames (own_entries d.line es)) (texts_of (later_entries d.line es) (chapter_shows shows (own_entries d.line es)))
     (page_after c.page (all_numbered d.line (with_done (chapter_lines traced d.order c.frames shows (own_entries d.line es))))) b
 
-chapter_is : (traced : Bool) (d : Directive) (c : Course) (p : Page) (shows : List (List Row)) (es : List Entry) → c.page ≡ fitting p → c.shows ≡ texts_of es shows →
+chapter_is : (traced : Bool) (d : Directive) (c : ReportWriter) (p : Page) (shows : List (List Row)) (es : List Entry) → c.page ≡ fitting p → c.shows ≡ texts_of es shows →
     chapter_put traced d c es ≡ after_chapter traced d c shows es (list_all is_traced (chapter_lines traced d.order c.frames shows (own_entries d.line es)) && false)
 unfolding after_own after_lines spoken after_chapter
 chapter_is traced d c p shows es fits told =
-    ap (λ (k : Course). closed d.line k) (entries_are traced d es (spoken c) p shows fits told)
+    ap (λ (k : ReportWriter). closed d.line k) (entries_are traced d es (spoken c) p shows fits told)
     ∙ closed_is c.page d.line (chapter_lines traced d.order c.frames shows (own_entries d.line es)) (chapter_frames d.order c.frames (own_entries d.line es))
     (texts_of (later_entries d.line es) (chapter_shows shows (own_entries d.line es))) (list_all is_traced (chapter_lines traced d.order c.frames shows (own_entries d.line es)))
 
 -- ---- a script
-script_is : (traced : Bool) (ds : List Directive) (c : Course) (p : Page) (shows : List (List Row)) (es : List Entry) → c.page ≡ fitting p → c.shows ≡ texts_of es shows →
+script_is : (traced : Bool) (ds : List Directive) (c : ReportWriter) (p : Page) (shows : List (List Row)) (es : List Entry) → c.page ≡ fitting p → c.shows ≡ texts_of es shows →
     (script_put traced c ds es).page ≡ fitting (with_lines p (report_lines traced c.frames shows ds es))
 unfolding after_chapter made
 script_is traced [] c p shows es fits told = fits
@@ -261,7 +258,7 @@ script_is traced (d ∷ ds) c p shows es fits told =
     let lines = all_numbered d.line (with_done (chapter_lines traced d.order c.frames shows own)) in
     let k = after_chapter traced d c shows es (list_all is_traced (chapter_lines traced d.order c.frames shows own) && false) in
     let fitted : page_after c.page lines ≡ fitting (with_lines p lines) = ap (λ x. page_after x lines) fits ∙ after_fits p lines in
-    ap (λ (x : Course). (script_put traced x ds later).page) (chapter_is traced d c p shows es fits told)
+    ap (λ (x : ReportWriter). (script_put traced x ds later).page) (chapter_is traced d c p shows es fits told)
     ∙ script_is traced ds k (with_lines p lines) (chapter_shows shows own) later fitted refl
     ∙ ap (λ (q : Page). fitting q) (sym (with_lines-append p lines (report_lines traced (chapter_frames d.order c.frames own) (chapter_shows shows own) ds later)))
 

@@ -59,7 +59,7 @@ ended None = None
 ended (Some page) = fitting_text (page.text ++ end_text page.tally)
 
 -- the page, what the frames were begun for, whether the directive printed nothing but steps and waits yet, and the texts of the shows to come
-pub record Course : Type 0 where
+pub record ReportWriter : Type 0 where
   pub page : Option Page
   pub frames : List Purpose
   pub silent : Bool
@@ -69,61 +69,61 @@ pub record Course : Type 0 where
 abbrev pub blank : Page
 blank = record { text = []; tally = record { calls = 0; handlers = 0; held = 0; errors = 0; notes = 0 } }
 
-abbrev pub beginning : (shows : List (List ℕ)) → Course
+abbrev pub beginning : (shows : List (List ℕ)) → ReportWriter
 beginning shows = record { page = Some blank; frames = []; silent = true; shows = shows }
 
 -- after one more line, and after lines
-abbrev pub say : Course → ℕ → Line → Course
+abbrev pub say : ReportWriter → ℕ → Line → ReportWriter
 say c number line = record c { page = put c.page number line; silent = c.silent && is_traced line }
 
-abbrev pub say_all : Course → ℕ → List Line → Course
+abbrev pub say_all : ReportWriter → ℕ → List Line → ReportWriter
 say_all c number [] = c
 say_all c number (line ∷ lines) = say_all (say c number line) number lines
 
 -- after the line of an end of the topmost frame, which it takes off
-abbrev pub end_put : Course → ℕ → Option Answer → Course
+abbrev pub end_put : ReportWriter → ℕ → Option Answer → ReportWriter
 end_put c number ended = record (say_all c number (end_lines c.frames ended)) { frames = frames_after_end c.frames ended }
 
 -- after the lines of a step
-abbrev pub step_put : Bool → Course → ℕ → ℕ → Stepped → Course
+abbrev pub step_put : Bool → ReportWriter → ℕ → ℕ → Stepped → ReportWriter
 step_put traced c number depth step = end_put (say_all (say_all c number (step_lines traced depth step)) number (move_lines step.made)) number step.ended
 
 -- after the lines of a show
-abbrev pub text_put : Course → List (List ℕ) → Course
+abbrev pub text_put : ReportWriter → List (List ℕ) → ReportWriter
 text_put c [] = c
 text_put c (text ∷ texts) = record c { page = paste c.page text; silent = c.silent && (length text == 0); shows = texts }
 
 -- after the lines of what happened
-abbrev pub order_put : (waited : Bool) → Course → ℕ → Order → Course
+abbrev pub order_put : (waited : Bool) → ReportWriter → ℕ → Order → ReportWriter
 order_put waited c number (orders.Show what) = text_put c c.shows
 order_put waited c number (orders.Tick ticks) = say_all c number (wait_lines waited ticks)
 order_put waited c number _ = c
 
 -- after an item of a directive, by whether a step comes next, and after items
-abbrev pub said_put : Bool → Directive → Course → ℕ → (next : Bool) → Said → Course
+abbrev pub said_put : Bool → Directive → ReportWriter → ℕ → (next : Bool) → Said → ReportWriter
 said_put traced directive c depth next (Happens what) = order_put (traced && next) c directive.line what
 said_put traced directive c depth next Begins = record c { frames = frames_after directive.order c.frames Begins }
 said_put traced directive c depth next (Stays cause) = say c directive.line (Holds cause)
 said_put traced directive c depth next (Steps step) = step_put traced c directive.line depth step
 said_put traced directive c depth next (Resets reason dropped) = record (say c directive.line (Restarts reason dropped)) { frames = [] }
 
-abbrev pub entry_put : Bool → Directive → Course → (next : Bool) → Entry → Course
+abbrev pub entry_put : Bool → Directive → ReportWriter → (next : Bool) → Entry → ReportWriter
 entry_put traced directive c next entry = said_put traced directive c entry.depth next entry.said
 
-abbrev pub entries_put : Bool → Directive → Course → List Entry → Course
+abbrev pub entries_put : Bool → Directive → ReportWriter → List Entry → ReportWriter
 entries_put traced directive c [] = c
 entries_put traced directive c (entry ∷ entries) = entries_put traced directive (entry_put traced directive c (steps_next entries) entry) entries
 
 -- after a directive's last item
-abbrev pub closed : ℕ → Course → Course
+abbrev pub closed : ℕ → ReportWriter → ReportWriter
 closed number c = if c.silent then say c number Done else c
 
 -- after a directive with its items
-abbrev pub chapter_put : Bool → Directive → Course → List Entry → Course
+abbrev pub chapter_put : Bool → Directive → ReportWriter → List Entry → ReportWriter
 chapter_put traced directive c entries = closed directive.line (entries_put traced directive (record c { silent = true }) (own_entries directive.line entries))
 
 -- after a script
-abbrev pub script_put : Bool → Course → List Directive → List Entry → Course
+abbrev pub script_put : Bool → ReportWriter → List Directive → List Entry → ReportWriter
 script_put traced c [] entries = c
 script_put traced c (directive ∷ script) entries = script_put traced (chapter_put traced directive c entries) script (later_entries directive.line entries)
 

@@ -35,7 +35,7 @@ fn steps_next(line: u32, items: &[Item]) -> bool
 
 /// Whether a step prints nothing where steps aren't traced.
 fn is_silent(logged: &Logged) -> bool
-    ensures { (c : pages.Course) (number depth : ℕ) (words : List ℕ) → OnTrue result (pages.step_put false c number depth (step_at words logged.now) ≡ c) }
+    ensures { (c : pages.ReportWriter) (number depth : ℕ) (words : List ℕ) → OnTrue result (pages.step_put false c number depth (step_at words logged.now) ≡ c) }
 {
     logged.ended.is_none() && !matches!(logged.made, Move::Note(_) | Move::Report(_))
 }
@@ -43,28 +43,28 @@ fn is_silent(logged: &Logged) -> bool
 /// A report under way: its lines, what the frames were begun for, whether the directive printed nothing but steps and waits
 /// yet, and the lines of the shows to come.
 #[derive(Drop)]
-pub(crate) struct Course<'a> {
+pub(crate) struct ReportWriter<'a> {
     page: Page,
     frames: Frames,
     silent: bool,
     shows: &'a [String],
 }
 
-impl<'a> Model for Course<'a> {
+impl<'a> Model for ReportWriter<'a> {
     ghost use Rattle.std.specs.Prelude.{map, string_bytes};
     ghost use Rattle.bench_report.specs.Pages as pages;
 
-    ghost Value = { pages.Course };
+    ghost Value = { pages.ReportWriter };
 
     ghost view = { λ c. record { page = c.page; frames = c.frames; silent = c.silent; shows = map string_bytes c.shows.now } };
 }
 
-impl<'a> Course<'a> {
+impl<'a> ReportWriter<'a> {
     /// The beginning of a report, with the lines of its shows.
-    pub(crate) fn new(alloc: Global, shows: &'a [String]) -> Course<'a>
+    pub(crate) fn new(alloc: Global, shows: &'a [String]) -> ReportWriter<'a>
         ensures { result ≡ pages.beginning (map string_bytes shows.now) }
     {
-        Course {
+        ReportWriter {
             page: Page::new(alloc),
             frames: Frames::new(alloc),
             silent: true,

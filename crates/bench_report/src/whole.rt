@@ -6,7 +6,7 @@ ghost use Rattle.bench_report.specs.Shown.{kept, texts_of};
 ghost use Rattle.bench_report.specs.Pages as pages;
 ghost use Rattle.run_model.specs.Entry.{entries};
 
-use crate::course::Course;
+use crate::course::ReportWriter;
 use crate::limit::ReportEnd;
 use crate::shown::ShownTexts;
 use mcal_base::Directive;
@@ -21,10 +21,10 @@ fn written<'a>(
     items: &[Item],
     shows: &'a [String],
     traced: bool,
-) -> Result<Course<'a>, AllocError>
+) -> Result<ReportWriter<'a>, AllocError>
     ensures { IfOk result (λ c. c ≡ pages.script_put traced (pages.beginning (map string_bytes shows.now)) script.now (entries words.now items.now)) }
 {
-    let mut course = Course::new(alloc, shows);
+    let mut course = ReportWriter::new(alloc, shows);
     let mut rest = items;
     for directive in script {
         rest = course.chapter(traced, directive, words, rest)?;

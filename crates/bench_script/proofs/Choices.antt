@@ -96,6 +96,16 @@ service_again services.SpiGetSequenceResult = refl
 service_again services.SpiGetHwUnitStatus = refl
 service_again services.SpiSetAsyncMode = refl
 service_again services.SpiMainFunctionHandling = refl
+service_again services.DioReadChannel = refl
+service_again services.DioFlipChannel = refl
+service_again services.DioWriteChannel = refl
+service_again services.DioReadPort = refl
+service_again services.DioWritePort = refl
+service_again services.DioReadChannelGroup = refl
+service_again services.DioWriteChannelGroup = refl
+service_again services.WdgInit = refl
+service_again services.WdgSetMode = refl
+service_again services.WdgSetTriggerCondition = refl
 
 -- a place where `upto` may stop
 pub stop_again : (s : Stop) → choice stop_text all_stops (stop_text s) ≡ Ok s
@@ -145,3 +155,11 @@ name_again sets.Destination n (inr (inr none)) = absurd none
 name_again sets.AsyncMode n (inl e) = rw e refl
 name_again sets.AsyncMode n (inr (inl e)) = rw e refl
 name_again sets.AsyncMode n (inr (inr none)) = absurd none
+name_again sets.PinLevel n (inl e) = rw e refl
+name_again sets.PinLevel n (inr (inl e)) = rw e refl
+name_again sets.PinLevel n (inr (inr none)) = absurd none
+name_again sets.WdgMode n (inl e) = rw e refl
+name_again sets.WdgMode n (inr (inl e)) = rw e refl
+name_again sets.WdgMode n (inr (inr (inl e))) = rw e refl
+name_again sets.WdgMode n (inr (inr (inr (inl e)))) = rw e refl
+name_again sets.WdgMode n (inr (inr (inr (inr none)))) = absurd none

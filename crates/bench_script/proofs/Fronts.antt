@@ -1,29 +1,24 @@
 -- The services that a word may name, by its first letter and its length, and the keywords, by their first letter.
-use Rattle.std.proofs.Common.{◌≡◌, ℕ, ◌+◌, ◌≤◌, ◌==◌, List, [], ◌∷◌, None, Bool, true, false, not, ap, length, refl, sym, ◌∙◌, arith, eq-eqb, get_or}
+use Rattle.std.proofs.Common.{◌≡◌, ℕ, ◌+◌, ◌≤◌, ◌==◌, List, [], ◌∷◌, None, Bool, true, not, ap, length, refl, sym, ◌∙◌, arith, eq-eqb, get_or}
 use Rattle.std.specs.Prelude.{◌&&◌}
 use Rattle.std.specs.List.{filter}
+use Rattle.std.proofs.lemmas.Bool.{and_from, not-true}
+use Rattle.plain_facts.specs.Truths.{and_first, and_second}
 use Rattle.mcal_base.specs.Names.{service_text}
 use Rattle.mcal_base.specs.declared.service.Service.{Service}
 use Rattle.bench_script.specs.Scanned.{begins}
 use Rattle.bench_script.specs.Words.{named, all_services, keyword_text, all_keywords}
 use Rattle.bench_script.specs.declared.words.Keyword.{Keyword}
 use Rattle.bench_script.proofs.Keywords.{alike}
-use Rattle.bench_script.proofs.Table.{first_holds, second_holds}
 
 -- those that begin so
 under_letter : (letter : ℕ) (rest : List ℕ) → named service_text all_services (letter ∷ rest) ≡ named service_text (filter (λ s. begins (λ b. letter == b) (service_text s)) all_services) (letter ∷ rest)
 under_letter letter rest = alike service_text (begins (λ b. letter == b)) all_services (letter ∷ rest) (eq-eqb letter letter refl)
 
--- those of them that are so long
-both_pass : (a b : Bool) → a ≡ true → b ≡ true → (a && b) ≡ true
-both_pass true true e f = refl
-both_pass true false e f = f
-both_pass false b e f = e
-
 so_long : (letter n : ℕ) (rest : List ℕ) → length rest + 1 ≡ n → (begins (λ b. letter == b) (letter ∷ rest) && n == length (letter ∷ rest)) ≡ true
 so_long letter n rest e =
     let long : n ≡ length (letter ∷ rest) = omega arith in
-    both_pass _ _ (eq-eqb letter letter refl) (eq-eqb n (length (letter ∷ rest)) long)
+    and_from _ _ (eq-eqb letter letter refl) (eq-eqb n (length (letter ∷ rest)) long)
 
 pub of_length : (letter n : ℕ) (rest : List ℕ) → length rest + 1 ≡ n → named service_text (filter (λ s. begins (λ b. letter == b) (service_text s) && n == length (service_text s)) all_services) (letter ∷ rest) ≡ named service_text all_services (letter ∷ rest)
 of_length letter n rest e = sym (alike service_text (λ w. begins (λ b. letter == b) w && n == length w) all_services (letter ∷ rest) (so_long letter n rest e))
@@ -33,13 +28,9 @@ abbrev pub none_pass : {T : Type 0} → (T → Bool) → List T → Bool
 none_pass p [] = true
 none_pass p (x ∷ xs) = not (p x) && none_pass p xs
 
-fails : (b : Bool) → not b ≡ true → b ≡ false
-fails true e = sym e
-fails false e = refl
-
 none_left : {T : Type 0} (p : T → Bool) (xs : List T) → none_pass p xs ≡ true → filter p xs ≡ []
 none_left p [] e = refl
-none_left p (x ∷ xs) e = rw (fails (p x) (first_holds _ _ e)) (none_left p xs (second_holds _ _ e))
+none_left p (x ∷ xs) e = rw (not-true (p x) (and_first _ _ e)) (none_left p xs (and_second _ _ e))
 
 none_named : (some : List Service) (word : List ℕ) → some ≡ [] → named service_text [] word ≡ named service_text some word
 none_named some word e = ap (λ (ss : List Service). named service_text ss word) (sym e)

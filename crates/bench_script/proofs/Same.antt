@@ -1,18 +1,15 @@
 -- Two words of one length are compared by eight bytes, of which the last overlap those before.
-use Rattle.std.proofs.Common.{◌≡◌, ℕ, ◌+◌, ◌≤◌, List, [], ◌∷◌, ◌++◌, Bool, true, false, not, length, take, drop, refl, sym, ◌∙◌, ap, arith, eq-eqb}
+use Rattle.std.proofs.Common.{◌≡◌, ℕ, ◌+◌, ◌≤◌, List, [], ◌∷◌, ◌++◌, false, not, length, take, drop, refl, sym, ◌∙◌, ap, arith, eq-eqb}
 use Rattle.std.specs.Prelude.{bytes_eq}
 use Rattle.std.proofs.Math.Seq.{take-add}
 use Rattle.std.proofs.lemmas.List.{take-take, take_all}
 use Rattle.std.proofs.lemmas.Slice.Eq.{bytes_eq-Decides}
-
-pub holds : (b : Bool) → not b ≡ false → b ≡ true
-holds true e = refl
-holds false e = sym e
+use Rattle.std.proofs.lemmas.Bool.{not-false}
 
 -- eight bytes more
 pub eight_more : (xs ys : List ℕ) (place : ℕ) → take place xs ≡ take place ys → not (bytes_eq (take 8 (drop place xs)) (take 8 (drop place ys))) ≡ false → take (place + 8) xs ≡ take (place + 8) ys
 eight_more xs ys place before e =
-    let next = (bytes_eq-Decides (take 8 (drop place xs)) (take 8 (drop place ys))).0 (holds _ e) in
+    let next = (bytes_eq-Decides (take 8 (drop place xs)) (take 8 (drop place ys))).0 (not-false _ e) in
     take-add place 8 xs ∙ (rw (before, next) refl ∙ sym (take-add place 8 ys))
 
 -- bytes behind the same ones

@@ -5,6 +5,7 @@ use Rattle.std.specs.List.{slice_split, onto_first, position, position_or_len, f
 use Rattle.std.specs.Str.Lines.{lines, lines_of_parts, strip_carriage_return}
 use Rattle.std.proofs.lemmas.Bool.{ne_eqb}
 use Rattle.std.proofs.lemmas.Bool.Decides.{nat_tests}
+use Rattle.plain_facts.specs.Truths.{and_false}
 use Rattle.bench_script.specs.Lines.{before_comment, is_plain, is_text, is_blank, words_of}
 use Rattle.bench_script.specs.Scanned.{begins, first_line, after_line, words_of_line, line_words, is_letter, with_word}
 use Rattle.bench_script.specs.Orders.{order_of}
@@ -91,10 +92,6 @@ text_more x false line = refl
 comment_more : (x : ℕ) (line : List ℕ) → (x == 35) ≡ false → before_comment (x ∷ line) ≡ x ∷ before_comment line
 comment_more x line e = rw e (one_taken _ x line)
 
-and_no : (b : Bool) → (b && false) ≡ false
-and_no true = refl
-and_no false = refl
-
 line_more : (x : ℕ) (xs : List ℕ) → (x == 10) ≡ false → (begins (λ c. c == 10) xs && x == 13) ≡ false → first_line (x ∷ xs) ≡ x ∷ first_line xs
 line_more x xs e r = rw (e, r) refl
 
@@ -105,7 +102,7 @@ parts_on x xs e r c = ap cut_of (ap before_comment (line_more x xs e r) ∙ comm
 parts_more : (x : ℕ) (xs : List ℕ) → (x == 10) ≡ false → (x == 13) ≡ false → (x == 35) ≡ false → is_plain x ≡ true → parts (x ∷ xs) ≡ option_map (byte_onto x) (parts xs)
 unfolding parts byte_onto cut_of
 parts_more x xs e r c p =
-    let no : (begins (λ c. c == 10) xs && x == 13) ≡ false = rw r (and_no (begins (λ c. c == 10) xs)) in
+    let no : (begins (λ c. c == 10) xs && x == 13) ≡ false = rw r (and_false (begins (λ c. c == 10) xs)) in
     parts_on x xs e no c ∙ rw p (text_more x (is_text (before_comment (first_line xs))) (before_comment (first_line xs)))
 
 -- the bytes of words and blanks
@@ -290,4 +287,4 @@ line_amiss line h = amiss_by (is_text (before_comment line)) (words_of (before_c
 
 -- another byte is no text
 pub no_text : (x : ℕ) (xs : List ℕ) → (x == 10) ≡ false → (x == 13) ≡ false → (x == 35) ≡ false → is_blank x ≡ false → is_letter x ≡ false → line_words (x ∷ xs) ≡ None
-no_text x xs e r c b l = no_words x xs e (rw r (and_no (begins (λ c. c == 10) xs))) c b l
+no_text x xs e r c b l = no_words x xs e (rw r (and_false (begins (λ c. c == 10) xs))) c b l

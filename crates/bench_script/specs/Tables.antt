@@ -19,6 +19,8 @@ names_of sets.IcuEdge = names.IcuRisingEdge ∷ names.IcuFallingEdge ∷ names.I
 names_of sets.Source = names.Source ∷ names.Null ∷ []
 names_of sets.Destination = names.Destination ∷ names.Null ∷ []
 names_of sets.AsyncMode = names.SpiPollingMode ∷ names.SpiInterruptMode ∷ []
+names_of sets.PinLevel = names.StdHigh ∷ names.StdLow ∷ []
+names_of sets.WdgMode = names.WdgifOffMode ∷ names.WdgifSlowMode ∷ names.WdgifFastMode ∷ names.Invalid ∷ []
 
 -- any number of the language
 abbrev pub any : Kind
@@ -27,6 +29,10 @@ any = Number 4294967295
 -- a number of 16 bits
 abbrev pub half : Kind
 half = Number 65535
+
+-- a number of 8 bits
+abbrev pub byte : Kind
+byte = Number 255
 
 -- what stands for the arguments of a service, in their order
 abbrev pub arguments_of : Service → List Kind
@@ -106,3 +112,13 @@ arguments_of services.SpiGetSequenceResult = any ∷ []
 arguments_of services.SpiGetHwUnitStatus = any ∷ []
 arguments_of services.SpiSetAsyncMode = Name sets.AsyncMode ∷ []
 arguments_of services.SpiMainFunctionHandling = []
+arguments_of services.DioReadChannel = any ∷ []
+arguments_of services.DioFlipChannel = any ∷ []
+arguments_of services.DioWriteChannel = any ∷ Name sets.PinLevel ∷ []
+arguments_of services.DioReadPort = any ∷ []
+arguments_of services.DioWritePort = any ∷ byte ∷ []
+arguments_of services.DioReadChannelGroup = any ∷ []
+arguments_of services.DioWriteChannelGroup = any ∷ byte ∷ []
+arguments_of services.WdgInit = []
+arguments_of services.WdgSetMode = Name sets.WdgMode ∷ []
+arguments_of services.WdgSetTriggerCondition = half ∷ []

@@ -73,7 +73,7 @@ reason_text reasons.Software = codes "software"
 abbrev pub all_reasons : List Reason
 all_reasons = reasons.PowerOn ∷ reasons.Watchdog ∷ []
 
--- the services that a script may name, module by module
+-- the services, module by module
 abbrev pub all_services : List Service
 all_services =
     services.McuInit ∷ services.McuInitRamSection ∷ services.McuInitClock ∷ services.McuDistributePllClock ∷
@@ -102,6 +102,9 @@ all_services =
     services.SpiAsyncTransmit ∷ services.SpiCancel ∷ services.SpiGetStatus ∷ services.SpiGetJobResult ∷
     services.SpiGetSequenceResult ∷ services.SpiGetHwUnitStatus ∷ services.SpiSetAsyncMode ∷
     services.SpiMainFunctionHandling ∷
+    services.DioReadChannel ∷ services.DioFlipChannel ∷ services.DioWriteChannel ∷ services.DioReadPort ∷
+    services.DioWritePort ∷ services.DioReadChannelGroup ∷ services.DioWriteChannelGroup ∷
+    services.WdgInit ∷ services.WdgSetMode ∷ services.WdgSetTriggerCondition ∷
     []
 
 -- among these is each service that a word of so many letters may name, by its first letter

@@ -137,6 +137,33 @@ fn spi_services(letters: usize) -> &'static [Service]
     }
 }
 
+/// The services of Dio whose names have so many letters.
+fn dio_services(letters: usize) -> &'static [Service]
+    ensures { FindsAll result.now 68 letters }
+{
+    match letters {
+        12 => &[Service::DioReadPort],
+        13 => &[Service::DioWritePort],
+        15 => &[Service::DioReadChannel, Service::DioFlipChannel],
+        16 => &[Service::DioWriteChannel],
+        20 => &[Service::DioReadChannelGroup],
+        21 => &[Service::DioWriteChannelGroup],
+        _ => &[],
+    }
+}
+
+/// The services of Wdg whose names have so many letters.
+fn wdg_services(letters: usize) -> &'static [Service]
+    ensures { FindsAll result.now 87 letters }
+{
+    match letters {
+        8 => &[Service::WdgInit],
+        11 => &[Service::WdgSetMode],
+        23 => &[Service::WdgSetTriggerCondition],
+        _ => &[],
+    }
+}
+
 /// The services that a word of so many letters may name, by its first letter.
 fn services_under(letter: u8, letters: usize) -> &'static [Service]
     ensures { FindsAll result.now letter letters }
@@ -148,6 +175,8 @@ fn services_under(letter: u8, letters: usize) -> &'static [Service]
         b'I' => icu_services(letters),
         b'A' => adc_services(letters),
         b'S' => spi_services(letters),
+        b'D' => dio_services(letters),
+        b'W' => wdg_services(letters),
         _ => &[],
     }
 }

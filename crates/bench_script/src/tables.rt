@@ -33,6 +33,10 @@ pub(crate) enum NameSet {
     Destination,
     /// A mode of asynchronous transmission.
     AsyncMode,
+    /// A level of a pin.
+    PinLevel,
+    /// A mode of the watchdog, or `INVALID`.
+    WdgMode,
 }
 
 /// Any number of the language.
@@ -40,6 +44,9 @@ const ANY: Kind = Kind::Number(u32::MAX);
 
 /// A number of 16 bits.
 const HALF: Kind = Kind::Number(65_535);
+
+/// A number of 8 bits.
+const BYTE: Kind = Kind::Number(255);
 
 /// The names of a set.
 pub(crate) fn names_of(set: NameSet) -> &'static [ArgumentName]
@@ -74,6 +81,13 @@ pub(crate) fn names_of(set: NameSet) -> &'static [ArgumentName]
         NameSet::Source => &[ArgumentName::Source, ArgumentName::Null],
         NameSet::Destination => &[ArgumentName::Destination, ArgumentName::Null],
         NameSet::AsyncMode => &[ArgumentName::SpiPollingMode, ArgumentName::SpiInterruptMode],
+        NameSet::PinLevel => &[ArgumentName::StdHigh, ArgumentName::StdLow],
+        NameSet::WdgMode => &[
+            ArgumentName::WdgifOffMode,
+            ArgumentName::WdgifSlowMode,
+            ArgumentName::WdgifFastMode,
+            ArgumentName::Invalid,
+        ],
     }
 }
 
@@ -101,7 +115,8 @@ pub(crate) fn arguments_of(service: Service) -> &'static [Kind]
         | Service::SpiInit
         | Service::SpiDeInit
         | Service::SpiGetStatus
-        | Service::SpiMainFunctionHandling => &[],
+        | Service::SpiMainFunctionHandling
+        | Service::WdgInit => &[],
         Service::McuInitRamSection
         | Service::McuInitClock
         | Service::McuSetMode
@@ -145,7 +160,11 @@ pub(crate) fn arguments_of(service: Service) -> &'static [Kind]
         | Service::SpiCancel
         | Service::SpiGetJobResult
         | Service::SpiGetSequenceResult
-        | Service::SpiGetHwUnitStatus => &[ANY],
+        | Service::SpiGetHwUnitStatus
+        | Service::DioReadChannel
+        | Service::DioFlipChannel
+        | Service::DioReadPort
+        | Service::DioReadChannelGroup => &[ANY],
         Service::PortSetPinDirection => &[ANY, Kind::Name(NameSet::Direction)],
         Service::PortSetPinMode => &[ANY, Kind::Name(NameSet::PinMode)],
         Service::GptStartTimer => &[ANY, ANY],
@@ -164,5 +183,9 @@ pub(crate) fn arguments_of(service: Service) -> &'static [Kind]
             ANY,
         ],
         Service::SpiSetAsyncMode => &[Kind::Name(NameSet::AsyncMode)],
+        Service::DioWriteChannel => &[ANY, Kind::Name(NameSet::PinLevel)],
+        Service::DioWritePort | Service::DioWriteChannelGroup => &[ANY, BYTE],
+        Service::WdgSetMode => &[Kind::Name(NameSet::WdgMode)],
+        Service::WdgSetTriggerCondition => &[HALF],
     }
 }

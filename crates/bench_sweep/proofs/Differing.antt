@@ -1,29 +1,22 @@
 -- Outcomes of which no two tell the same.
-use Rattle.std.proofs.Common.{◌≡◌, ◌≢◌, ◌⊎◌, ℕ, ◌<◌, ◌≤◌, ◌&&◌, ◌++◌, Bool, true, false, cond, List, [], ◌∷◌, Option, Some, None, length, get_or, zero, suc, refl, sym, ap, ap₂, subst, inl, inr, ◌∙◌, arith, eq-eqb, eqb-true}
+use Rattle.std.proofs.Common.{◌≡◌, ◌≢◌, ◌⊎◌, ℕ, ◌<◌, ◌≤◌, ◌&&◌, ◌++◌, Bool, true, false, cond, List, [], ◌∷◌, Option, Some, None, length, get_or, zero, suc, refl, sym, ap, subst, inl, inr, ◌∙◌, arith, eq-eqb, eqb-true}
 use Rattle.std.specs.Prelude.{nat_lt, slice_get, string_bytes}
 use Rattle.std.specs.List.{position, position_or_len}
-use Rattle.std.proofs.lemmas.Bool.Decides.{nat_tests}
 use Rattle.std.proofs.lemmas.List.Quantifiers.{position-Some}
 use Rattle.std.proofs.lemmas.List.Sums.{fails_before_first}
 use Rattle.std.proofs.lemmas.Option.{get_or_from_slice_get, same_Some, slice_get-get_or, slice_get_within}
 use Rattle.std.proofs.lemmas.Slice.Eq.{bytes_eq-Decides}
+use Rattle.std.proofs.lemmas.Bool.{and_from, and_parts}
+use Rattle.plain_facts.specs.Numbers.{lt_isnt}
 use Rattle.bench_sweep.specs.declared.outcomes.Outcome.{Outcome}
 use Rattle.bench_sweep.specs.declared.outcomes.Told.{Told}
 use Rattle.bench_sweep.specs.Lines.{or_length}
 use Rattle.bench_sweep.specs.Outcomes.{AreDifferent, Tells, are_told, is_same, is_told, number_of, telling, told_in, with_found, with_outcome}
 
-both : (a b : Bool) → (a && b) ≡ true → (a ≡ true) × (b ≡ true)
-both true true e = (refl, refl)
-both true false e = absurd (cc)
-both false b e = absurd (cc)
-
-and_true : (a b : Bool) → a ≡ true → b ≡ true → (a && b) ≡ true
-and_true a b e f = ap₂ (λ (x y : Bool). x && y) e f
-
 -- what says the same tells the same
 same_told : (x y : Told) → is_told x y ≡ true → (x.line ≡ y.line) × (string_bytes x.text ≡ string_bytes y.text)
 same_told x y e =
-    let b = both _ _ e in
+    let b = and_parts _ _ e in
     (eqb-true x.line y.line b.0, (bytes_eq-Decides (string_bytes x.text) (string_bytes y.text)).0 b.1)
 
 same_in : (xs ys : List Told) → are_told xs ys ≡ true → told_in xs ≡ told_in ys
@@ -31,7 +24,7 @@ same_in [] [] e = refl
 same_in [] (y ∷ ys) e = absurd (cc)
 same_in (x ∷ xs) [] e = absurd (cc)
 same_in (x ∷ xs) (y ∷ ys) e =
-    let b : (is_told x y ≡ true) × (are_told xs ys ≡ true) = both (is_told x y) (are_told xs ys) e in
+    let b : (is_told x y ≡ true) × (are_told xs ys ≡ true) = and_parts (is_told x y) (are_told xs ys) e in
     let t : (x.line ≡ y.line) × (string_bytes x.text ≡ string_bytes y.text) = same_told x y b.0 in
     let h : told_in xs ≡ told_in ys = same_in xs ys b.1 in
     rw (t.0, t.1, h) refl
@@ -48,8 +41,8 @@ told_same (x ∷ xs) (y ∷ ys) e =
     let b : ℕ × List ℕ = (y.line, string_bytes y.text) in
     let h : a ≡ b = heads a b (told_in xs) (told_in ys) e in
     let t : told_in xs ≡ told_in ys = cc in
-    and_true (is_told x y) (are_told xs ys)
-    (and_true _ _ (eq-eqb x.line y.line (ap (λ (p : ℕ × List ℕ). p.0) h)) ((bytes_eq-Decides (string_bytes x.text) (string_bytes y.text)).1 (ap (λ (p : ℕ × List ℕ). p.1) h)))
+    and_from (is_told x y) (are_told xs ys)
+    (and_from _ _ (eq-eqb x.line y.line (ap (λ (p : ℕ × List ℕ). p.0) h)) ((bytes_eq-Decides (string_bytes x.text) (string_bytes y.text)).1 (ap (λ (p : ℕ × List ℕ). p.1) h)))
     (told_same xs ys t)
 
 -- an element among more, and the last of those
@@ -75,15 +68,12 @@ none_there : (b : Bool) (n : ℕ) → cond b (Some n) None ≡ None → b ≡ fa
 none_there true n e = absurd (cc)
 none_there false n e = refl
 
-not_below : (a b : ℕ) → nat_lt a b ≡ false → b ≤ a
-not_below a b e = grind (arith, nat_tests)
-
 -- no other tells the same where none was found
 not_found : (outcome : Outcome) (all : List Outcome) → position (λ other. is_same other outcome) all ≡ None → (i : ℕ) (a : Outcome) → slice_get all i ≡ Some a → telling a ≢ telling outcome
 not_found outcome all e i a g = λ t.
     let n = position_or_len (λ (other : Outcome). is_same other outcome) all in
     let f : nat_lt n (length all) ≡ false = none_there (nat_lt n (length all)) n e in
-    let l : i < n = omega (arith, not_below n (length all) f, slice_get_within all i a g) in
+    let l : i < n = omega (arith, lt_isnt n (length all) f, slice_get_within all i a g) in
     let h : is_same (get_or all i a) outcome ≡ false = fails_before_first (λ (other : Outcome). is_same other outcome) all i a l in
     let s : is_same a outcome ≡ true = told_same a.told.items outcome.told.items t in
     let r : get_or all i a ≡ a = get_or_from_slice_get all i a a g in

@@ -14,6 +14,10 @@ pub enum SweepFault {
     Notice(u32),
     /// What follows a notice is not one call to its end.
     Reaction(u32),
+    /// The call that follows a notice has no level.
+    Level(u32),
+    /// A line before this one, which comes second here, says already what follows the notice.
+    Doubled(u32, u32),
     /// No directive of the block makes a step. The line is that of `over`.
     NoStep(u32),
 }
@@ -22,6 +26,12 @@ impl SweepFault {
     /// The line that is printed.
     pub fn text(self, alloc: Global) -> Result<String, AllocError> {
         match self {
+            SweepFault::Misplaced(line, mark, Part::Behind) => {
+                let mark = mark.text();
+                format!(in alloc;
+                    "sweep fault {line} Misplaced: {mark} behind end, where no mark may stand\n"
+                )
+            }
             SweepFault::Misplaced(line, mark, part) => {
                 let mark = mark.text();
                 let ends = part.ends_text();
@@ -49,6 +59,16 @@ impl SweepFault {
             SweepFault::Reaction(line) => {
                 format!(in alloc;
                     "sweep fault {line} Reaction: what follows a notice must be one do L SERVICE ..\n"
+                )
+            }
+            SweepFault::Level(line) => {
+                format!(in alloc;
+                    "sweep fault {line} Level: do without a level, where do L SERVICE .. must stand, with L from 0 to 7\n"
+                )
+            }
+            SweepFault::Doubled(line, first) => {
+                format!(in alloc;
+                    "sweep fault {line} Doubled: on for the notice of line {first}, where one line may name it\n"
                 )
             }
             SweepFault::NoStep(line) => {

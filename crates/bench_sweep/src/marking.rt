@@ -179,6 +179,15 @@ pub struct ReactionLine<'a> {
     pub order: &'a [u8],
 }
 
+impl ReactionLine<'_> {
+    /// Whether the call is without a level, which is a number.
+    pub fn lacks_level(&self) -> bool {
+        let (first, rest) = split_word(self.order);
+        let (level, _) = split_word(rest);
+        first == b"do".as_slice() && !matches!(level, [b'0'..=b'9', ..])
+    }
+}
+
 /// What a line says that follows a notice, where it says so.
 pub fn reaction_on(line: &[u8], number: u32) -> Option<ReactionLine<'_>> {
     let (first, rest) = split_word(asked(line));

@@ -53,8 +53,8 @@ pub generated_ends : (devices seed count : ℕ) (es : List Entry) (text : List �
     Ends devices (Generates seed count) (record { status = 0; text = text }) es
 generated_ends devices seed count es text whole is = (whole, ap (λ (t : List ℕ). record { status = 0; text = t }) is)
 
-pub generated_keeps : (devices seed count : ℕ) (es : List Entry) → IsWholeRun devices board (generated seed count) es → Keeps devices (Generates seed count) es
-generated_keeps devices seed count es whole = whole_keeps devices board (generated seed count) es board_is_valid whole
+pub generated_keeps : (devices seed count : ℕ) (es : List Entry) → count ≤ 20000 → IsWholeRun devices board (generated seed count) es → Keeps devices (Generates seed count) es
+generated_keeps devices seed count es few whole = whole_keeps devices board (generated seed count) es board_is_valid (generated_is_script seed count few) whole
 
 -- its status
 pub generated_status : (devices seed count status : ℕ) (es : List Entry) (before after : Option (List ℕ)) (faults now : ℕ) → Concludes devices (Generates seed count) status es before after faults now → status ≢ 3 → status ≢ 4 → status ≡ 0

@@ -10,13 +10,13 @@ use Rattle.mcal_base.specs.declared.directive.Order.{Order}
 use Rattle.mcal_base.specs.declared.directive.Order.TheVariants as orders
 use Rattle.mcal_base.specs.declared.directive.Reason.TheVariants.{Watchdog}
 use Rattle.mcal_base.specs.declared.directive.Request.{Request}
-use Rattle.run_model.specs.declared.reach.Reach.{Reach}
-use Rattle.run_model.specs.declared.reach.Reach.TheVariants.{Count, Until, Whole}
+use Rattle.run_model.specs.declared.stop_condition.StopCondition.{StopCondition}
+use Rattle.run_model.specs.declared.stop_condition.StopCondition.TheVariants.{Count, Until, Whole}
 use Rattle.run_model.specs.Entry as entry
 use Rattle.run_model.specs.Entry.{Entry, Said}
 use Rattle.run_model.specs.Follows.{call_held, line_held, deeds_in, is_reached, BeginsWhole, Follows, Gives, Goes, GoesOn, IsOne, IsStep, ComesAwaited, Waits, ends_within}
 use Rattle.run_model.specs.Frame.{Open, resets_chip}
-use Rattle.run_model.specs.Moment.{Setting, Moment, Deed, Begins, Enters, Steps, Happens, after, after_all, start_moment}
+use Rattle.run_model.specs.Moment.{Setting, Moment, Transition, Begins, Enters, Steps, Happens, after, after_all, start_moment}
 use Rattle.run_model.specs.Stops.{BeginsToStop, FollowsToStop, GivesToStop, GoesToStop, IsStepBefore, StopsWithin, WaitsBefore}
 use Rattle.script_runner.specs.Scripts.{LinesRise, IsScript, chip_for}
 use Rattle.mcal_system.specs.Setting.{system_setting, call_of}
@@ -43,8 +43,8 @@ waits_not g line m n es More h k more = by (ends_within (wait_on m.chip h.unit) 
     by true over = within_self n (subst (λ t. ends_within n t ≡ false) over.0 k.in_time)
     by false on = more on.2
 
-step_not : {State Call : Type 0} (g : Setting State Call) (line : ℕ) (reach : Reach) (made : ℕ) (m : Moment State Call) (e : Entry) (es : List Entry) (said : Said) →
-    ((n : ℕ) (deed : Deed Call) → GoesOn g line reach n (after g m deed) es → GoesToStop g line reach n (after g m deed) es → ⊥) → IsStep g line reach made m e es said (λ n deed. GoesOn g line reach n (after g m deed) es) →
+step_not : {State Call : Type 0} (g : Setting State Call) (line : ℕ) (reach : StopCondition) (made : ℕ) (m : Moment State Call) (e : Entry) (es : List Entry) (said : Said) →
+    ((n : ℕ) (deed : Transition Call) → GoesOn g line reach n (after g m deed) es → GoesToStop g line reach n (after g m deed) es → ⊥) → IsStep g line reach made m e es said (λ n deed. GoesOn g line reach n (after g m deed) es) →
     IsStepBefore g line reach made m e es said (λ n deed. GoesToStop g line reach n (after g m deed) es) → ⊥
 step_not g line reach made m e es (entry.Steps s) more h k =
     more (made + 1) (Steps s) (goes_by _ _ (resets_chip s.made) (is_some s.ended || is_reached reach (made + 1) s) k.2 h.2) k.3
@@ -54,18 +54,18 @@ step_not g line reach made m e es entry.Begins more h k = k
 step_not g line reach made m e es (entry.Stays c) more h k = k
 step_not g line reach made m e es (entry.Resets r n) more h k = k
 
-goes_not : {State Call : Type 0} (g : Setting State Call) (line : ℕ) (reach : Reach) (es : List Entry) (made : ℕ) (m : Moment State Call) → GoesOn g line reach made m es → GoesToStop g line reach made m es → ⊥
+goes_not : {State Call : Type 0} (g : Setting State Call) (line : ℕ) (reach : StopCondition) (es : List Entry) (made : ℕ) (m : Moment State Call) → GoesOn g line reach made m es → GoesToStop g line reach made m es → ⊥
 goes_not g line reach [] made m h k = h
 goes_not g line reach (e ∷ es) made m h k = step_not g line reach made m e es e.said (λ n deed. goes_not g line reach es n (after g m deed)) h k
 
-within_not : {State Call : Type 0} (g : Setting State Call) (line : ℕ) (reach : Reach) (m : Moment State Call) (os : List (Open Call)) (items : List Entry) → Goes g line reach m os items → StopsWithin g line reach m os items → ⊥
+within_not : {State Call : Type 0} (g : Setting State Call) (line : ℕ) (reach : StopCondition) (m : Moment State Call) (os : List (Open Call)) (items : List Entry) → Goes g line reach m os items → StopsWithin g line reach m os items → ⊥
 within_not g line reach m [] items h k = k
 within_not g line (Count zero) m (o ∷ os) items h k = k
 within_not g line (Count (suc n)) m (o ∷ os) items h k = goes_not g line (Count (suc n)) items 0 m h k
 within_not g line (Until stop) m (o ∷ os) items h k = goes_not g line (Until stop) items 0 m h k
 within_not g line Whole m (o ∷ os) items h k = goes_not g line Whole items 0 m h k
 
-begins_not : {State Call : Type 0} (g : Setting State Call) (m : Moment State Call) (line : ℕ) (deed : Deed Call) (cause held : Option Held) (items : List Entry) → held ≡ cause → BeginsWhole g m line deed cause items →
+begins_not : {State Call : Type 0} (g : Setting State Call) (m : Moment State Call) (line : ℕ) (deed : Transition Call) (cause held : Option Held) (items : List Entry) → held ≡ cause → BeginsWhole g m line deed cause items →
     BeginsToStop g line m deed held items → ⊥
 begins_not g m line deed (Some c) held items e h k = let free = k.free in cc
 begins_not g m line deed None held items e h k =
@@ -82,8 +82,8 @@ gives_not g call_of m line _ items h k = k
 
 -- ---- the items up to a stop have the directive's line
 
-before_each : {State Call : Type 0} (g : Setting State Call) (line : ℕ) (reach : Reach) (made : ℕ) (m : Moment State Call) (e : Entry) (es : List Entry) (said : Said) (More : (made : ℕ) → Deed Call → Type 0) →
-    ((n : ℕ) (deed : Deed Call) → More n deed → Each line any es) → IsStepBefore g line reach made m e es said More → Each line any (e ∷ es)
+before_each : {State Call : Type 0} (g : Setting State Call) (line : ℕ) (reach : StopCondition) (made : ℕ) (m : Moment State Call) (e : Entry) (es : List Entry) (said : Said) (More : (made : ℕ) → Transition Call → Type 0) →
+    ((n : ℕ) (deed : Transition Call) → More n deed → Each line any es) → IsStepBefore g line reach made m e es said More → Each line any (e ∷ es)
 before_each g line reach made m e es (entry.Steps s) More more h = (h.0, tt, more (made + 1) (Steps s) h.3)
 before_each g line reach made m e es (entry.Happens (orders.Tick n)) More more h = (h.0, tt, more made (Happens (orders.Tick n)) h.3)
 before_each g line reach made m e es (entry.Happens o) More more h = absurd h
@@ -91,19 +91,19 @@ before_each g line reach made m e es entry.Begins More more h = absurd h
 before_each g line reach made m e es (entry.Stays c) More more h = absurd h
 before_each g line reach made m e es (entry.Resets r n) More more h = absurd h
 
-stop_each : {State Call : Type 0} (g : Setting State Call) (line : ℕ) (reach : Reach) (es : List Entry) (made : ℕ) (m : Moment State Call) → GoesToStop g line reach made m es → Each line any es
+stop_each : {State Call : Type 0} (g : Setting State Call) (line : ℕ) (reach : StopCondition) (es : List Entry) (made : ℕ) (m : Moment State Call) → GoesToStop g line reach made m es → Each line any es
 stop_each g line reach [] made m h = tt
 stop_each g line reach (e ∷ es) made m h =
     before_each g line reach made m e es e.said (λ n deed. GoesToStop g line reach n (after g m deed) es) (λ n deed k. stop_each g line reach es n (after g m deed) k) h
 
-within_each : {State Call : Type 0} (g : Setting State Call) (line : ℕ) (reach : Reach) (m : Moment State Call) (os : List (Open Call)) (items : List Entry) → StopsWithin g line reach m os items → Each line any items
+within_each : {State Call : Type 0} (g : Setting State Call) (line : ℕ) (reach : StopCondition) (m : Moment State Call) (os : List (Open Call)) (items : List Entry) → StopsWithin g line reach m os items → Each line any items
 within_each g line reach m [] items h = absurd h
 within_each g line (Count zero) m (o ∷ os) items h = absurd h
 within_each g line (Count (suc n)) m (o ∷ os) items h = stop_each g line (Count (suc n)) items 0 m h
 within_each g line (Until stop) m (o ∷ os) items h = stop_each g line (Until stop) items 0 m h
 within_each g line Whole m (o ∷ os) items h = stop_each g line Whole items 0 m h
 
-begun_each : {State Call : Type 0} (g : Setting State Call) (m : Moment State Call) (line : ℕ) (deed : Deed Call) (held : Option Held) (items : List Entry) → BeginsToStop g line m deed held items → Each line any items
+begun_each : {State Call : Type 0} (g : Setting State Call) (m : Moment State Call) (line : ℕ) (deed : Transition Call) (held : Option Held) (items : List Entry) → BeginsToStop g line m deed held items → Each line any items
 begun_each g m line deed held items h = subst (λ (es : List Entry). Each line any es) (sym h.is) (refl, tt, stop_each g line Whole h.steps 0 (after g m deed) h.goes)
 
 stop_lines : {State Call : Type 0} (g : Setting State Call) (call_of : Request → Call) (m : Moment State Call) (line : ℕ) (order : Order) (items : List Entry) → GivesToStop g call_of m line order items → Each line any items

@@ -5,7 +5,7 @@ use Rattle.mcal_base.specs.declared.directive.Directive.{Directive}
 use Rattle.run_model.specs.Entry.{Entry}
 use Rattle.run_model.specs.Legal.{IsLegal}
 use Rattle.run_model.specs.Moment.{start_moment}
-use Rattle.script_runner.specs.Scripts.{chip_for}
+use Rattle.script_runner.specs.Scripts.{LinesRise, IsRun, IsStopped, chip_for}
 use Rattle.config_facts.specs.Valid.{IsValid}
 use Rattle.adc_machine.specs.Table as converter_table
 use Rattle.spi_machine.specs.Fits.{FitsSpi}
@@ -14,15 +14,18 @@ use Rattle.spi_machine.specs.Table.{job_of, priority_by}
 use Rattle.spi_machine.specs.Table as serial_table
 use Rattle.spi_machine.specs.declared.table.Job.{Job}
 use Rattle.spi_machine.specs.declared.table.SpiTable.{SpiTable}
-use Rattle.spi_driver.specs.laws.Fits as serial_fits
+use Rattle.spi_driver.specs.laws.words.ConfigurationFits as serial_fits
 use Rattle.whole_runs.proofs.EndsOnce.{end_once}
 use Rattle.whole_runs.proofs.WholeRounds.{whole_rounds}
 use Rattle.whole_runs.proofs.Promises.{groups_keep, sequences_keep, journal_says}
 use Rattle.mcal_system.proofs.SoundSerial.{sound_serial}
-use Rattle.mcal_system.specs.Setting.{system_setting}
+use Rattle.mcal_system.specs.Setting.{system_setting, call_of}
+use Rattle.board_promises.specs.Expiries.{ResetsInTime}
 use Rattle.board_promises.specs.Places.{converter_place, serial_place}
 use Rattle.board_promises.specs.Promised.{KeepsPromises, deeds_in}
+use Rattle.board_promises.proofs.Expiries.{ends_in_time, whole_in_time, stopped_in_time}
 use Rattle.board_promises.proofs.Parts.{converter_part, serial_part}
+use Rattle.board_promises.proofs.Watchdog.{system_down}
 
 -- the jobs of a configuration that is valid have the priorities 0 to 3
 has_priorities : (d : SpiTable) → FitsSpi d → HasPriorities d
@@ -32,9 +35,10 @@ has_priorities d fits job = by (job_of d job) refl
     by None e = omega arith
     by (Some k) e = (fits.jobs job k e).priority
 
-pub promises_kept : (devices : ℕ) (c : Config) (script : List Directive) (journal : List Entry) → IsValid c → IsLegal (system_setting c) (start_moment (system_setting c) (chip_for devices c script)) (deeds_in script journal) → KeepsPromises devices c script journal
+promises_kept : (devices : ℕ) (c : Config) (script : List Directive) (journal : List Entry) → IsValid c → IsLegal (system_setting c) (start_moment (system_setting c) (chip_for devices c script)) (deeds_in script journal)
+    → ResetsInTime (system_setting c) call_of script (start_moment (system_setting c) (chip_for devices c script)) journal → KeepsPromises devices c script journal
 unfolding system_setting
-promises_kept devices c script journal valid legal =
+promises_kept devices c script journal valid legal resets =
     let rounds = groups_keep (converter_table.table_of c.adc) (system_setting c) (converter_place c) (converter_part c) refl (chip_for devices c script) (deeds_in script journal) legal in
     let kept = sequences_keep (serial_table.table_of c.spi) (system_setting c) (serial_place c) (serial_part c) refl (chip_for devices c script) (deeds_in script journal) legal in
     record {
@@ -43,7 +47,18 @@ promises_kept devices c script journal valid legal =
       results = kept.results;
       ends = kept.ends;
       frames = journal_says (system_setting c) (chip_for devices c script) (deeds_in script journal) legal;
+      expiry = ends_in_time (system_setting c) (start_moment (system_setting c) (chip_for devices c script)) (deeds_in script journal) legal;
+      watchdog = resets;
     }
+
+-- of a journal that follows its script, or follows it up to a stop
+pub followed_keeps : (devices : ℕ) (c : Config) (script : List Directive) (journal : List Entry) → IsValid c → LinesRise 0 script → IsRun (system_setting c) (chip_for devices c script) call_of script journal → KeepsPromises devices c script journal
+followed_keeps devices c script journal valid rise run =
+    promises_kept devices c script journal valid run.legal (whole_in_time (system_setting c) call_of (system_down c) script (start_moment (system_setting c) (chip_for devices c script)) journal rise run.follows)
+
+pub stopped_keeps : (devices : ℕ) (c : Config) (script : List Directive) (journal : List Entry) (most : ℕ) → IsValid c → LinesRise 0 script → IsStopped (system_setting c) (chip_for devices c script) call_of most script journal → KeepsPromises devices c script journal
+stopped_keeps devices c script journal most valid rise run =
+    promises_kept devices c script journal valid run.legal (stopped_in_time (system_setting c) call_of (system_down c) script (start_moment (system_setting c) (chip_for devices c script)) journal rise run.follows)
 
 -- and so does a journal of nothing, under any configuration
 pub nothing_kept : (devices : ℕ) (c : Config) (script : List Directive) → KeepsPromises devices c script []
@@ -53,4 +68,6 @@ nothing_kept devices c script = record {
   results = tt;
   ends = λ sequence. end_once (serial_table.table_of c.spi) [] sequence tt;
   frames = tt;
+  expiry = tt;
+  watchdog = tt;
 }

@@ -1,2 +1,4 @@
+pub mod Expiries
 pub mod Kept
 pub mod Parts
+pub mod Watchdog

@@ -1,2 +1,3 @@
+pub mod Expiries
 pub mod Places
 pub mod Promised

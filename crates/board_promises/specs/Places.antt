@@ -4,6 +4,8 @@ use Rattle.run_model.specs.Moment.{Setting}
 use Rattle.step_runner.specs.declared.either.Either.{Either}
 use Rattle.mcu_driver.specs.Machine.{McuState}
 use Rattle.mcu_driver.specs.declared.call.Call as clocks
+use Rattle.wdg_driver.specs.Machine.{WdgState}
+use Rattle.wdg_driver.specs.declared.call.Call as watchdogs
 use Rattle.port_driver.specs.Machine.{PortState}
 use Rattle.port_driver.specs.declared.call.Call as pins
 use Rattle.gpt_driver.specs.Machine.{GptState}
@@ -17,11 +19,14 @@ use Rattle.adc_machine.specs.declared.call.Call as converter
 use Rattle.spi_machine.specs.State.{SpiState}
 use Rattle.spi_machine.specs.declared.call.Call as serial
 use Rattle.whole_runs.specs.Members.{Place, first_place, second_place, within}
-use Rattle.mcal_system.specs.Setting.{SystemState, SystemCall, joined, clock_setting, pin_setting, timer_setting, pulse_setting, capture_setting, converter_setting, serial_setting}
+use Rattle.mcal_system.specs.Setting.{SystemState, SystemCall, joined, clock_setting, watchdog_setting, pin_setting, timer_setting, pulse_setting, capture_setting, converter_setting, serial_setting}
 
--- clock, pins and timers as one; pulses and captures; converter and serial units; and all but the first three
-abbrev pub first_modules : Config → Setting (McuState × (PortState × GptState)) (Either clocks.Call (Either pins.Call timers.Call))
-first_modules c = joined (clock_setting c) (joined (pin_setting c) (timer_setting c))
+-- clock and watchdog as one; those with pins and timers; pulses and captures; converter and serial units; and all but the first four
+abbrev pub watched_modules : Config → Setting (McuState × WdgState) (Either clocks.Call watchdogs.Call)
+watched_modules c = joined (clock_setting c) (watchdog_setting c)
+
+abbrev pub first_modules : Config → Setting ((McuState × WdgState) × (PortState × GptState)) (Either (Either clocks.Call watchdogs.Call) (Either pins.Call timers.Call))
+first_modules c = joined (watched_modules c) (joined (pin_setting c) (timer_setting c))
 
 abbrev pub edge_modules : Config → Setting (PwmState × IcuState) (Either pulses.Call captures.Call)
 edge_modules c = joined (pulse_setting c) (capture_setting c)

@@ -3,7 +3,7 @@ use Rattle.std.specs.Prelude.{ℕ, List}
 use Rattle.mcal_base.specs.declared.config.whole.Config.{Config}
 use Rattle.mcal_base.specs.declared.directive.Directive.{Directive}
 use Rattle.run_model.specs.Entry.{Entry}
-use Rattle.run_model.specs.Moment.{Deed}
+use Rattle.run_model.specs.Moment.{Transition, start_moment}
 use Rattle.run_model.specs.Script.{deeds_of}
 use Rattle.script_runner.specs.Scripts.{chip_for}
 use Rattle.adc_machine.specs.Table as converter_table
@@ -18,10 +18,11 @@ use Rattle.whole_runs.specs.Rounds.{AreWhole}
 use Rattle.whole_runs.specs.Runs.{Event}
 use Rattle.whole_runs.specs.SequenceRuns as sequences
 use Rattle.mcal_system.specs.Setting.{SystemCall, system_setting, call_of}
+use Rattle.board_promises.specs.Expiries.{EndsInTime, ResetsInTime}
 use Rattle.board_promises.specs.Places.{converter_place, serial_place}
 
 -- the deeds of a journal, and those of its events that are of converter groups or of the serial driver, the newest first
-abbrev pub deeds_in : List Directive → List Entry → List (Deed SystemCall)
+abbrev pub deeds_in : List Directive → List Entry → List (Transition SystemCall)
 deeds_in script journal = deeds_of call_of script journal
 
 abbrev pub group_events : (devices : ℕ) → Config → List Directive → List Entry → List (Event converter.Call)
@@ -41,3 +42,6 @@ pub record KeepsPromises (devices : ℕ) (c : Config) (script : List Directive) 
   pub ends : (sequence : ℕ) → HasOneEnd sequence (sequences.seen_of (serial_table.table_of c.spi) (sequence_events devices c script journal))
   -- a frame that ends has given each notice that its events told, once, in their order, and prints the answer of its act
   pub frames : FramesSay (system_setting c) (chip_for devices c script) (deeds_in script journal)
+  -- where the watchdog's time is over its reset comes next, and a reset by the watchdog that no directive asks for comes nowhere else
+  pub expiry : EndsInTime (system_setting c) (start_moment (system_setting c) (chip_for devices c script)) (deeds_in script journal)
+  pub watchdog : ResetsInTime (system_setting c) call_of script (start_moment (system_setting c) (chip_for devices c script)) journal

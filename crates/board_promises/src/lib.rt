@@ -1,2 +1,2 @@
-//! What is promised of a whole run of a board: whole rounds, the standard's order, one end.
+//! What is promised of a whole run of a board: whole rounds, the standard's order, one end, the watchdog's time.
 #![tactic(auto)]

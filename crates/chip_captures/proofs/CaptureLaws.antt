@@ -4,6 +4,7 @@ use Rattle.std.specs.Prelude.{if◌then◌else◌}
 use Rattle.std.specs.List.{AllByRecursion}
 use Rattle.std.proofs.lemmas.Bool.Decides.{nat_tests}
 use Rattle.std.proofs.lemmas.List.{length-take, take_all, take-append-le}
+use Rattle.plain_facts.specs.Numbers.{same_or_other}
 use Rattle.mcal_base.specs.Bits.{has_bit, bit_of}
 use Rattle.mcal_base.proofs.BitLaws.{length-at_bits, get_or-at_bits, has_bit-bits_of}
 use Rattle.mcal_base.specs.declared.register.Reg.{Reg}
@@ -17,9 +18,6 @@ use Rattle.chip_captures.specs.declared.capture.Capture.{Capture}
 use Rattle.chip_captures.specs.declared.capture.Edge.{Edge}
 use Rattle.chip_captures.specs.declared.capture.Mode.{Mode}
 use Rattle.chip_captures.specs.declared.capture.Mode.TheVariants.{Keeps, Counts}
-
-pub same_or_other : (c k : ℕ) → (c ≡ k) ⊎ (c ≢ k)
-same_or_other c k = grind arith
 
 -- ---- a channel after a change
 

@@ -4,12 +4,13 @@ use Rattle.std.specs.Prelude.{if◌then◌else◌}
 use Rattle.std.specs.List.{AllByRecursion}
 use Rattle.std.proofs.lemmas.Bool.Decides.{nat_tests}
 use Rattle.std.proofs.lemmas.List.{drop-append-le, drop-drop}
+use Rattle.plain_facts.specs.Numbers.{same_or_other}
 use Rattle.mcal_base.specs.declared.register.Reg.{Reg}
 use Rattle.mcal_base.specs.declared.register.Reg.TheVariants.{CaptureCondition, CaptureMode, CaptureGateSet, CaptureGateClear, CaptureZero, CapturePop, CaptureFlush}
 use Rattle.chip_captures.specs.Captures.{Captures, capture_at, with_capture, with_condition, with_mode, zeroed, popped as popped_once, take_edge, after_write}
 use Rattle.chip_captures.specs.Accesses.{Access, after, after_all, HasChannel, comes, is_keeping, kept_by, kept, popped_by, popped, LeavesWaiting}
 use Rattle.chip_captures.specs.Accesses as accesses
-use Rattle.chip_captures.proofs.CaptureLaws.{same_or_other, capture_at-same, capture_at-other, capture_at-edge, with_seen, four_seen, two_seen, acted_seen, has_channel-after, seen, seen-after_read, append_nil}
+use Rattle.chip_captures.proofs.CaptureLaws.{capture_at-same, capture_at-other, capture_at-edge, with_seen, four_seen, two_seen, acted_seen, has_channel-after, seen, seen-after_read, append_nil}
 use Rattle.chip_captures.specs.declared.capture.Act.TheVariants.{Open, Close}
 use Rattle.chip_captures.specs.declared.capture.Capture.{Capture}
 use Rattle.chip_captures.specs.declared.capture.Edge.{Edge}

@@ -1,9 +1,10 @@
 -- What is known of the converter block's units.
-use Rattle.std.proofs.Common.{◌≡◌, ℕ, ◌<◌, ◌≤◌, Bool, false, not, ◌&&◌, List, [], ◌∷◌, length, get_or, set, refl, sym, ◌∙◌, ap, arith, length-set, max, ◌⊎◌, inl, inr}
+use Rattle.std.proofs.Common.{◌≡◌, ℕ, ◌<◌, ◌≤◌, Bool, not, ◌&&◌, List, [], ◌∷◌, length, get_or, set, refl, sym, ◌∙◌, ap, arith, length-set, max, ◌⊎◌, inl, inr}
 use Rattle.std.proofs.lemmas.List.{get_or_past, get_or_default, get_or-replicate}
 use Rattle.std.specs.Prelude.{if◌then◌else◌, nat_lt, map, replicate}
 use Rattle.std.proofs.lemmas.Bool.Decides.{nat_tests}
 use Rattle.std.proofs.lemmas.List.FromFn.{fill_by_all}
+use Rattle.plain_facts.specs.Numbers.{lt_zero}
 use Rattle.chip_converter.specs.Rounds.{no_round, ended, has_ended, input_of}
 use Rattle.chip_converter.specs.Converters.{Converters, level_at, result, settled, unused, unit_at, with_unit, with_level, after_analog}
 use Rattle.chip_converter.specs.declared.converter.Converter.{Converter}
@@ -14,11 +15,8 @@ use Rattle.chip_converter.specs.declared.converter.Levels.{Levels}
 pub unit_at-above : (b : Converters) (u : ℕ) → length b.units ≤ u → unit_at b u ≡ unused
 unit_at-above b u le = get_or_past b.units u unused le
 
-none_below : (i : ℕ) → nat_lt i 0 ≡ false
-none_below i = grind (arith, nat_tests)
-
 nothing_ended : (i e : ℕ) (q : Bool) (x y : ℕ) → e ≡ 0 → (if nat_lt i e && q then x else y) ≡ y
-nothing_ended i e q x y none = rw (none, none_below i) refl
+nothing_ended i e q x y none = rw (none, lt_zero i) refl
 
 zeros_at : (i : ℕ) → (i < 32) ⊎ (32 ≤ i) → get_or (replicate {A = ℕ} 32 0) i 0 ≡ 0
 zeros_at i (inl lt) = get_or-replicate {A = ℕ} 32 i 0 0 lt

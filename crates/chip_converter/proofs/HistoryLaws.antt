@@ -5,17 +5,15 @@ use Rattle.std.specs.List.{AllByRecursion}
 use Rattle.std.proofs.lemmas.Bool.Decides.{nat_tests}
 use Rattle.std.proofs.lemmas.List.{get_or-map, length-map}
 use Rattle.std.proofs.lemmas.List.FromFn.{get_or-map-range_with_len}
+use Rattle.plain_facts.specs.Numbers.{same_or_other}
 use Rattle.mcal_base.specs.declared.register.Reg.{Reg}
 use Rattle.mcal_base.specs.declared.register.Reg.TheVariants.{ConverterList, ConverterGo, ConverterAbort, ConverterAck, TriggerSet, TriggerClear, TriggerFlags}
 use Rattle.chip_converter.specs.Rounds.{Round, ended, has_ended, is_idle, is_finished, is_running, input_of, over}
 use Rattle.chip_converter.specs.Converters.{Converters, level_at, result, settled, unused, unit_at, with_unit, gone, listed, aborted, acknowledged, after_read, after_write, after_analog, after_pulse, ticked}
-use Rattle.chip_converter.specs.Accesses.{Access, after, after_all, LeavesFinished, LeavesRound, LeavesResults, round_at, ends_at, HasUnit, Converts}
+use Rattle.chip_converter.specs.Accesses.{Access, after, after_all, LeavesRound, LeavesResults, round_at, ends_at, HasUnit, Converts}
 use Rattle.chip_converter.specs.Accesses as accesses
 use Rattle.chip_converter.specs.declared.converter.Converter.{Converter}
 use Rattle.chip_converter.specs.declared.converter.Levels.{Levels}
-
-pub same_or_other : (u k : ℕ) → (u ≡ k) ⊎ (u ≢ k)
-same_or_other u k = grind arith
 
 -- ---- a unit after a change
 

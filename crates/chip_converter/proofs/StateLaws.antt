@@ -6,15 +6,18 @@ use Rattle.std.proofs.lemmas.Bool.Decides.{nat_tests}
 use Rattle.std.proofs.lemmas.List.{set-get_or}
 use Rattle.std.proofs.lemmas.List.FromFn.{get_or-map-range_with_len}
 use Rattle.std.proofs.lemmas.Nat.Bits.{bit_at_cat_low, bit_at_cat_high}
+use Rattle.std.proofs.lemmas.Bool.{and_from}
+use Rattle.plain_facts.specs.Truths.{and_false, and_second, or_true}
+use Rattle.plain_facts.specs.Numbers.{eq_from, eq_is, same_or_other}
 use Rattle.mcal_base.specs.Bits.{has_bit, bit_of}
 use Rattle.mcal_base.proofs.BitLaws.{has_bit-or, has_bit-pow_same}
 use Rattle.mcal_base.specs.declared.register.Reg.TheVariants.{ConverterList, ConverterGo, ConverterAbort, ConverterAck}
 use Rattle.chip_converter.specs.Rounds.{Round, opened, ended, has_ended, is_idle, is_finished, is_running, over}
 use Rattle.chip_converter.specs.Converters.{Converters, result, settled, unused, unit_at, with_unit, gone, listed, begun, aborted, acknowledged, flags_of, after_read, after_write, after_pulse}
-use Rattle.chip_converter.specs.Accesses.{Access, after, after_all, LeavesFinished, LeavesResults, round_at, ends_at, HasUnit}
+use Rattle.chip_converter.specs.Accesses.{Access, after, after_all, LeavesFinished, LeavesResults, round_at, HasUnit}
 use Rattle.chip_converter.specs.Accesses as accesses
 use Rattle.chip_converter.specs.declared.converter.Converter.{Converter}
-use Rattle.chip_converter.proofs.HistoryLaws.{same_or_other, unit_at-with_unit_same, unit_at-analog, either_seen, with_seen, gone-busy, has_unit-after, time-after, ended-later, has_ended-not_yet, finished_on, result_at, result-waits}
+use Rattle.chip_converter.proofs.HistoryLaws.{unit_at-with_unit_same, unit_at-analog, either_seen, with_seen, gone-busy, has_unit-after, time-after, ended-later, has_ended-not_yet, finished_on, result_at, result-waits}
 
 -- ---- what does nothing
 
@@ -60,29 +63,16 @@ result-until_ended b u i count xs h idle some few lt left early =
 
 -- ---- a finished round
 
-both : (p q : Bool) → p ≡ true → q ≡ true → (p && q) ≡ true
-both p q e f = rw (e, f) refl
-
-right_of : (p q : Bool) → (p && q) ≡ true → q ≡ true
-right_of true q e = e
-right_of false q e = absurd (cc e)
-
-same_count : (a count : ℕ) → (a == count) ≡ true → a ≡ count
-same_count a count e = grind (arith, nat_tests)
-
-count_same : (a count : ℕ) → a ≡ count → (a == count) ≡ true
-count_same a count e = grind (arith, nat_tests)
-
 most : (count k : ℕ) → min count k ≤ count
 most count k = omega arith
 
 pub finished-later : (r : Round) (a b : ℕ) → a ≤ b → is_finished r a ≡ true → is_finished r b ≡ true
 finished-later r a b le e =
     let on : is_idle r ≡ false = finished_on a r e in
-    let all : ended r a ≡ r.count = same_count (ended r a) r.count (right_of (not (is_idle r)) (ended r a == r.count) e) in
+    let all : ended r a ≡ r.count = eq_is (ended r a) r.count (and_second (not (is_idle r)) (ended r a == r.count) e) in
     let upper : ended r b ≤ r.count = most r.count _ in
     let same : ended r b ≡ r.count = omega (arith, all, ended-later r a b le, upper) in
-    both (not (is_idle r)) (ended r b == r.count) (rw on refl) (count_same (ended r b) r.count same)
+    and_from (not (is_idle r)) (ended r b == r.count) (rw on refl) (eq_from (ended r b) r.count same)
 
 not_running : (idle all : Bool) → (not idle && all) ≡ true → (not idle && not all) ≡ false
 not_running true all e = refl
@@ -173,20 +163,12 @@ flag-pulse b k =
 
 -- ---- trigger inputs
 
-true_or : (q : Bool) → (q || true) ≡ true
-true_or true = refl
-true_or false = refl
-
 below_four : (k : ℕ) → k < 4 → nat_lt k 4 ≡ true
 below_four k lt = grind (arith, nat_tests)
 
 pub pulse-gated : (b : Converters) (k : ℕ) → k < 4 → has_bit b.gates k ≡ true → has_bit (after_pulse b k).pulses k ≡ true
 pulse-gated b k lt on =
-    rw (below_four k lt, on) (has_bit-or b.pulses (2 ^ k) k ∙ rw (has_bit-pow_same k) (true_or (has_bit b.pulses k)))
-
-and_false : (q : Bool) → (q && false) ≡ false
-and_false true = refl
-and_false false = refl
+    rw (below_four k lt, on) (has_bit-or b.pulses (2 ^ k) k ∙ rw (has_bit-pow_same k) (or_true (has_bit b.pulses k)))
 
 pub pulse-ignored : (b : Converters) (k : ℕ) → has_bit b.gates k ≡ false → after_pulse b k ≡ b
 pulse-ignored b k off = rw (off, and_false (nat_lt k 4)) refl

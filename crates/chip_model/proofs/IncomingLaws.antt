@@ -3,6 +3,7 @@ use Rattle.std.proofs.Common.{◌≡◌, ℕ, ◌<◌, ◌≢◌, Bool, true, fa
 use Rattle.std.specs.Prelude.{◌==◌, ◌-◌, ◌&&◌, not, slice_index_or, slice_set}
 use Rattle.std.proofs.lemmas.List.{take-append-drop}
 use Rattle.std.proofs.lemmas.Bool.Decides.{nat_tests}
+use Rattle.plain_facts.specs.Numbers.{eq_is}
 use Rattle.mcal_base.specs.declared.directive.Order.{Order}
 use Rattle.mcal_base.specs.declared.directive.Order.TheVariants.{Tick, Level, Analog, Trigger, Miso, SpiFault, Detach, Fill}
 use Rattle.mcal_base.specs.declared.moves.Move.{Move}
@@ -19,9 +20,6 @@ use Rattle.chip_model.proofs.HistoryLaws.{level_leaves}
 abbrev waits : Chip → ℕ → List ℕ
 waits c u = (incoming_at c u).waiting
 
-same_number : (a b : ℕ) → (a == b) ≡ true → a ≡ b
-same_number a b h = grind (arith, nat_tests)
-
 other_number : (a b : ℕ) → (a == b) ≡ false → b ≢ a
 other_number a b h = λ e. grind (arith, nat_tests)
 
@@ -35,7 +33,7 @@ none = record { waiting = []; room = 0 }
 begun_at : (c : Chip) (u k : ℕ) (w : Waiting) (b : Bool) → (k == u) ≡ b → u < length c.incoming → w.waiting ≡ drop 1 (waits c k)
     → waits c u ++ [] ≡ cond b (take 1 (waits c u)) [] ++ waits (record c { incoming = slice_set c.incoming k w }) u
 begun_at c u k w true e lt made =
-    let at : k ≡ u = same_number k u e in
+    let at : k ≡ u = eq_is k u e in
     let set_here : waits (record c { incoming = slice_set c.incoming k w }) u ≡ drop 1 (waits c u) =
     rw at (ap (λ (x : Waiting). x.waiting) (get_or-set_same c.incoming u w none lt) ∙ made ∙ ap (λ n. drop 1 (waits c n)) at) in
     append-nil (waits c u) ∙ sym (take-append-drop 1 (waits c u)) ∙ ap (λ xs. take 1 (waits c u) ++ xs) (sym set_here)
@@ -51,7 +49,7 @@ begun_by c u k false w lt made = begun_at c u k w (k == u) refl lt made
 given_at : (c : Chip) (u k : ℕ) (ws : List ℕ) (w : Waiting) (b : Bool) → (k == u) ≡ b → u < length c.incoming → w.waiting ≡ waits c k ++ ws
     → waits c u ++ cond b ws [] ≡ [] ++ waits (record c { incoming = slice_set c.incoming k w }) u
 given_at c u k ws w true e lt made =
-    let at : k ≡ u = same_number k u e in
+    let at : k ≡ u = eq_is k u e in
     sym (rw at (ap (λ (x : Waiting). x.waiting) (get_or-set_same c.incoming u w none lt) ∙ made ∙ ap (λ n. waits c n ++ ws) at))
 given_at c u k ws w false e lt made =
     append-nil (waits c u) ∙ sym (ap (λ (x : Waiting). x.waiting) (get_or-set_other c.incoming k u w none (other_number k u e)))

@@ -1,9 +1,9 @@
 -- The bit of a line in the flags of its block is the line's flag.
-use Rattle.std.proofs.Common.{◌≡◌, ℕ, ◌+◌, ◌-◌, ◌*◌, ◌^◌, ◌<◌, ◌≤◌, ◌⊎◌, inl, inr, true, false, sym, ◌∙◌, ap, arith}
-use Rattle.std.specs.Prelude.{nat_lt, ◌==◌}
+use Rattle.std.proofs.Common.{◌≡◌, ℕ, ◌+◌, ◌-◌, ◌*◌, ◌^◌, ◌<◌, ◌≤◌, ◌⊎◌, inl, inr, sym, ◌∙◌, ap, arith}
+use Rattle.std.specs.Prelude.{◌==◌}
 use Rattle.std.proofs.lemmas.Nat.{pow_pos}
-use Rattle.std.proofs.lemmas.Bool.Decides.{nat_tests}
 use Rattle.std.proofs.lemmas.Nat.Bits.{bit_at_cat_high}
+use Rattle.plain_facts.specs.Numbers.{lt_from, lt_since}
 use Rattle.mcal_base.specs.Bits.{has_bit}
 use Rattle.mcal_base.proofs.BitLaws.{has_bit-bits_of}
 use Rattle.chip_timers.specs.Timers as timers
@@ -16,29 +16,23 @@ use Rattle.chip_units.specs.Serials as serials
 use Rattle.chip_units.proofs.SerialLaws as serial_laws
 use Rattle.chip_model.specs.Chip.{Chip, flag_of}
 
-pub below : (a b : ℕ) → a < b → nat_lt a b ≡ true
-below a b lt = grind (arith, nat_tests)
-
-pub above : (a b : ℕ) → b ≤ a → nat_lt a b ≡ false
-above a b le = grind (arith, nat_tests)
-
 has_bit-shifted : (x n k : ℕ) → n ≤ k → has_bit (x * 2 ^ n) k ≡ has_bit x (k - n)
 has_bit-shifted x n k le =
     let none : x * 2 ^ n ≡ x * 2 ^ n + 0 = omega arith in
     rw none (ap (λ b. b == 1) (bit_at_cat_high x n 0 k (pow_pos n) le))
 
 pub flag-timer : (c : Chip) (line : ℕ) → line < 8 → has_bit (timers.flags_of c.timers) line ≡ flag_of c line
-flag-timer c line lt = rw (below line 8 lt) (has_bit-flags_of c.timers line lt)
+flag-timer c line lt = rw (lt_from line 8 lt) (has_bit-flags_of c.timers line lt)
 
 pub flag-pulse : (c : Chip) (line : ℕ) → 8 ≤ line → line < 16 → has_bit (pulses.lines_of c.pulses) line ≡ flag_of c line
 flag-pulse c line least lt =
-    rw (above line 8 least, below line 16 lt)
+    rw (lt_since line 8 least, lt_from line 16 lt)
     (has_bit-shifted (pulses.due_channels c.pulses) 8 line least
     ∙ has_bit-bits_of (λ k. pulses.is_due c.pulses k) 8 (line - 8) (omega arith))
 
 pub flag-capture : (c : Chip) (line : ℕ) → 16 ≤ line → line < 24 → has_bit (captures.lines_of c.captures) line ≡ flag_of c line
 flag-capture c line least lt =
-    rw (above line 8 (omega arith), above line 16 least, below line 24 lt)
+    rw (lt_since line 8 (omega arith), lt_since line 16 least, lt_from line 24 lt)
     (has_bit-shifted (captures.waiting_channels c.captures) 16 line least
     ∙ has_bit-bits_of (λ k. captures.is_waiting (captures.capture_at c.captures k)) 8 (line - 16) (omega arith))
 
@@ -60,5 +54,5 @@ flag-serial c line least lt = elim (one_of 26 line least lt) [
 pub flag-trigger : (c : Chip) (line : ℕ) → 28 ≤ line → has_bit (converters.flags_of c.converters) line ≡ flag_of c line
 flag-trigger c line least =
     let there : 28 + (line - 28) ≡ line = omega arith in
-    rw (above line 8 (omega arith), above line 16 (omega arith), above line 24 (omega arith), above line 26 (omega arith), above line 28 least)
+    rw (lt_since line 8 (omega arith), lt_since line 16 (omega arith), lt_since line 24 (omega arith), lt_since line 26 (omega arith), lt_since line 28 least)
     (ap (λ k. has_bit (converters.flags_of c.converters) k) (sym there) ∙ converter_laws.flag-pulse c.converters (line - 28))

@@ -1,6 +1,7 @@
 -- The level of a pin, and the flags of the lines.
 use Rattle.std.proofs.Common.{◌≡◌, ℕ, ◌-◌, ◌<◌, ◌≤◌, true, false, ◌&&◌, refl, arith}
 use Rattle.std.specs.Prelude.{Some, None, Bool, if◌then◌else◌}
+use Rattle.plain_facts.specs.Numbers.{lt_from, lt_since}
 use Rattle.mcal_base.specs.Bits.{has_bit}
 use Rattle.chip_timers.specs.Timers as timers
 use Rattle.chip_pulses.specs.Pulses as pulses
@@ -10,7 +11,6 @@ use Rattle.chip_converter.specs.Rounds as rounds
 use Rattle.chip_units.specs.Serials as serials
 use Rattle.chip_units.specs.Pins as pins
 use Rattle.chip_model.specs.Chip.{Chip, outside_at, channel_from, is_pending, pin_of}
-use Rattle.chip_model.proofs.LineLaws.{below, above}
 
 pub pin-outside : (c : Chip) (p : ℕ) → pins.is_out c.pins p ≡ false → pin_of c p ≡ outside_at c p
 pin-outside c p e = rw e refl
@@ -33,26 +33,26 @@ pin-other_mode c p out mode = rw (out, mode) refl
 
 pub line-timer : (c : Chip) (line : ℕ) → line < 8
     → is_pending c line ≡ (timers.is_flagged (timers.timer_at c.timers line) c.timers.time && has_bit c.control.enabled line)
-line-timer c line lt = rw (below line 8 lt) refl
+line-timer c line lt = rw (lt_from line 8 lt) refl
 
 pub line-pulse : (c : Chip) (line : ℕ) → 8 ≤ line → line < 16
     → is_pending c line ≡ (pulses.is_due c.pulses (line - 8) && has_bit c.control.enabled line)
-line-pulse c line le lt = rw (above line 8 le, below line 16 lt) refl
+line-pulse c line le lt = rw (lt_since line 8 le, lt_from line 16 lt) refl
 
 pub line-capture : (c : Chip) (line : ℕ) → 16 ≤ line → line < 24
     → is_pending c line ≡ (captures.is_waiting (captures.capture_at c.captures (line - 16)) && has_bit c.control.enabled line)
-line-capture c line le lt = rw (above line 8 (omega (arith, le)), above line 16 le, below line 24 lt) refl
+line-capture c line le lt = rw (lt_since line 8 (omega (arith, le)), lt_since line 16 le, lt_from line 24 lt) refl
 
 pub line-converter : (c : Chip) (line : ℕ) → 24 ≤ line → line < 26
     → is_pending c line ≡ (rounds.is_finished (converters.unit_at c.converters (line - 24)).round c.converters.time && has_bit c.control.enabled line)
-line-converter c line le lt = rw (above line 8 (omega (arith, le)), above line 16 (omega (arith, le)), above line 24 le, below line 26 lt) refl
+line-converter c line le lt = rw (lt_since line 8 (omega (arith, le)), lt_since line 16 (omega (arith, le)), lt_since line 24 le, lt_from line 26 lt) refl
 
 pub line-serial : (c : Chip) (line : ℕ) → 26 ≤ line → line < 28
     → is_pending c line ≡ (serials.is_done (serials.unit_at c.serials (line - 26)) c.serials.time && has_bit c.control.enabled line)
 line-serial c line le lt =
-    rw (above line 8 (omega (arith, le)), above line 16 (omega (arith, le)), above line 24 (omega (arith, le)), above line 26 le, below line 28 lt) refl
+    rw (lt_since line 8 (omega (arith, le)), lt_since line 16 (omega (arith, le)), lt_since line 24 (omega (arith, le)), lt_since line 26 le, lt_from line 28 lt) refl
 
 pub line-trigger : (c : Chip) (line : ℕ) → 28 ≤ line
     → is_pending c line ≡ (has_bit c.converters.pulses (line - 28) && has_bit c.control.enabled line)
 line-trigger c line le =
-    rw (above line 8 (omega (arith, le)), above line 16 (omega (arith, le)), above line 24 (omega (arith, le)), above line 26 (omega (arith, le)), above line 28 le) refl
+    rw (lt_since line 8 (omega (arith, le)), lt_since line 16 (omega (arith, le)), lt_since line 24 (omega (arith, le)), lt_since line 26 (omega (arith, le)), lt_since line 28 le) refl

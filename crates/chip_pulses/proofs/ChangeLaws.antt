@@ -1,25 +1,14 @@
 -- Where an output changes its level: the definition's counts against the levels from one unit of time to the next.
 use Rattle.std.proofs.Common.{◌≡◌, ℕ, ◌+◌, ◌-◌, ◌*◌, ◌/◌, ◌%◌, ◌<◌, ◌≤◌, Bool, true, false, not, ◌&&◌, ◌==◌, nat_lt, refl, sym, ◌∙◌, ap, arith, ◌⊎◌, inl, inr}
 use Rattle.std.specs.Prelude.{if◌then◌else◌}
-use Rattle.std.proofs.lemmas.Bool.Decides.{nat_tests}
 use Rattle.std.proofs.lemmas.Nat.{div-add-mod', mod-mul-add, le-div}
 use Rattle.std.proofs.Math.Nat.{mod-lt, mul-mod_left, mul-le-mul_right, div-mul-le_self}
+use Rattle.std.proofs.lemmas.Bool.{and_from, and_parts}
+use Rattle.plain_facts.specs.Numbers.{isnt_zero, lt_from, lt_is, lt_isnt, lt_since, zero_from}
 use Rattle.chip_pulses.specs.Regime.{regime_level, regime_changed, changes_by, periods_by, duties_by, alternates, turns_to}
 use Rattle.chip_pulses.specs.declared.regime.Regime.{Regime}
 
 -- ---- numbers
-
-pub is_below : (a b : ℕ) → nat_lt a b ≡ true → a < b
-is_below a b e = grind (arith, nat_tests)
-
-pub isnt_below : (a b : ℕ) → nat_lt a b ≡ false → b ≤ a
-isnt_below a b e = grind (arith, nat_tests)
-
-pub test_below : (a b : ℕ) → a < b → nat_lt a b ≡ true
-test_below a b h = grind (arith, nat_tests)
-
-pub test_not_below : (a b : ℕ) → b ≤ a → nat_lt a b ≡ false
-test_not_below a b h = grind (arith, nat_tests)
 
 -- from one unit of time to the next, with x units after the start before it: the duty test changes so
 pub record Turn (p a x y : ℕ) (before after : Bool) : Type 0 where
@@ -35,9 +24,6 @@ over q = if q then 0 else 1
 
 abbrev duties : (p a x : ℕ) → ℕ
 duties p a x = x / p + over (nat_lt (x % p) a)
-
-some_test : (n : ℕ) → 0 < n → (n == 0) ≡ false
-some_test n h = grind (arith, nat_tests)
 
 less_or_same_or_more : (n m : ℕ) → (n ≤ m) ⊎ (m + 1 ≤ n)
 less_or_same_or_more n m = grind arith
@@ -62,8 +48,8 @@ period_turn_at k x y p a some less at more =
       at = (k + 1) * p;
       above = omega (arith, up, rest, whole);
       within = end;
-      was = ap (λ n. nat_lt n a) last ∙ test_not_below (p - 1) a (omega (arith, less));
-      is = ap (λ n. nat_lt n a) zero_at ∙ test_below 0 a some;
+      was = ap (λ n. nat_lt n a) last ∙ lt_since (p - 1) a (omega (arith, less));
+      is = ap (λ n. nat_lt n a) zero_at ∙ lt_from 0 a some;
     }
 
 pub period_turn : (x y p a : ℕ) → 0 < a → a < p → x / p < y / p → Turn p a x y false true
@@ -79,13 +65,13 @@ duty_within k y p a false e less at =
     let whole : y / p * p + y % p ≡ y = div-add-mod' y p in
     let same : y / p ≡ k = omega (arith, at) in
     let is : y / p * p ≡ k * p = ap (λ n. n * p) same in
-    omega (arith, whole, is, isnt_below (y % p) a e)
+    omega (arith, whole, is, lt_isnt (y % p) a e)
 
 duty_above : (k x p a : ℕ) (q : Bool) → nat_lt (x % p) a ≡ q → 0 < p → x / p + over q ≤ k → x < k * p + a
 duty_above k x p a true e pos few =
     let whole : x / p * p + x % p ≡ x = div-add-mod' x p in
     let up : x / p * p ≤ k * p = mul-le-mul_right p (omega (arith, few)) in
-    omega (arith, whole, up, is_below (x % p) a e)
+    omega (arith, whole, up, lt_is (x % p) a e)
 duty_above k x p a false e pos few =
     let whole : x / p * p + x % p ≡ x = div-add-mod' x p in
     let rest : x % p < p = mod-lt x pos in
@@ -102,8 +88,8 @@ duty_turn_at k x y p a some less at few =
       was =
           ap (λ n. nat_lt (n % p) a) (duty_back_one k p a some)
           ∙ ap (λ n. nat_lt n a) (mod-mul-add k p (a - 1) (omega (arith, less)))
-          ∙ test_below (a - 1) a (omega (arith, some));
-      is = ap (λ n. nat_lt n a) (mod-mul-add k p a less) ∙ test_not_below a a (omega arith);
+          ∙ lt_from (a - 1) a (omega (arith, some));
+      is = ap (λ n. nat_lt n a) (mod-mul-add k p a less) ∙ lt_since a a (omega arith);
     }
 
 pub duty_turn : (x y p a : ℕ) → 0 < a → a < p → duties p a x < duties p a y → Turn p a x y true false
@@ -138,15 +124,15 @@ next_end z p h = ap (λ n. n % p) (end_is z p h) ∙ mul-mod_left (z / p + 1) p
 pub period_back : (x y z p a : ℕ) → x ≤ z → z + 1 ≤ y → 0 < p → nat_lt (z % p) a ≡ false → nat_lt ((z + 1) % p) a ≡ true → Counted p a (x / p) (y / p)
 period_back x y z p a le within pos was is = elim (next_or_last (z % p) p (mod-lt z pos)) [
   | inl more ↦
-      let now : (z + 1) % p < a = is_below ((z + 1) % p) a is in
-      absurd (omega (arith, now, next_in z p more, isnt_below (z % p) a was))
+      let now : (z + 1) % p < a = lt_is ((z + 1) % p) a is in
+      absurd (omega (arith, now, next_in z p more, lt_isnt (z % p) a was))
   | inr last ↦
-      let now : (z + 1) % p < a = is_below ((z + 1) % p) a is in
+      let now : (z + 1) % p < a = lt_is ((z + 1) % p) a is in
       let up : z / p + 1 ≤ y / p = le-div (z / p + 1) y p pos (omega (arith, within, end_is z p last)) in
       let low : x / p ≤ z / p = quotient_le x z p pos le in
       record {
         some = omega (arith, now, next_end z p last);
-        less = omega (arith, isnt_below (z % p) a was, last);
+        less = omega (arith, lt_isnt (z % p) a was, last);
         more = omega (arith, up, low);
       }
 ]
@@ -172,7 +158,7 @@ quotient_few k x p a pos h less = elim (less_or_same_or_more (x / p) k) [
 
 few_at : (k x p a : ℕ) (q : Bool) → nat_lt (x % p) a ≡ q → x < k * p + a → x / p ≡ k → x / p + over q ≤ k
 few_at k x p a true e h at = omega (arith, at)
-few_at k x p a false e h at = absurd (omega (arith, h, whole_part x p k at, isnt_below (x % p) a e))
+few_at k x p a false e h at = absurd (omega (arith, h, whole_part x p k at, lt_isnt (x % p) a e))
 
 few_duties : (k x p a : ℕ) → 0 < p → a < p → x < k * p + a → duties p a x ≤ k
 few_duties k x p a pos less h = elim (less_or_same (x / p) k (quotient_few k x p a pos h less)) [
@@ -181,7 +167,7 @@ few_duties k x p a pos less h = elim (less_or_same (x / p) k (quotient_few k x p
 ]
 
 many_at : (k y p a : ℕ) (q : Bool) → nat_lt (y % p) a ≡ q → k * p + a ≤ y → k ≡ y / p → k + 1 ≤ y / p + over q
-many_at k y p a true e h at = absurd (omega (arith, h, whole_part y p k (sym at), is_below (y % p) a e))
+many_at k y p a true e h at = absurd (omega (arith, h, whole_part y p k (sym at), lt_is (y % p) a e))
 many_at k y p a false e h at = omega (arith, at)
 
 over_many : (q : Bool) (n k : ℕ) → k < n → k + 1 ≤ n + over q
@@ -201,8 +187,8 @@ many_duties k y p a pos h =
 pub duty_back : (x y z p a : ℕ) → x ≤ z → z + 1 ≤ y → 0 < p → nat_lt (z % p) a ≡ true → nat_lt ((z + 1) % p) a ≡ false → Counted p a (duties p a x) (duties p a y)
 duty_back x y z p a le within pos was is = elim (next_or_last (z % p) p (mod-lt z pos)) [
   | inl more ↦
-      let on : z % p < a = is_below (z % p) a was in
-      let off : a ≤ (z + 1) % p = isnt_below ((z + 1) % p) a is in
+      let on : z % p < a = lt_is (z % p) a was in
+      let off : a ≤ (z + 1) % p = lt_isnt ((z + 1) % p) a is in
       let whole : z / p * p + z % p ≡ z = div-add-mod' z p in
       let at : z + 1 ≡ z / p * p + a = omega (arith, whole, on, off, next_in z p more) in
       let less : a < p = omega (arith, on, off, next_in z p more, more) in
@@ -210,8 +196,8 @@ duty_back x y z p a le within pos was is = elim (next_or_last (z % p) p (mod-lt 
       let many : z / p < duties p a y = many_duties (z / p) y p a pos (omega (arith, at, within)) in
       record { some = omega (arith, on); less = less; more = omega (arith, few, many) }
   | inr last ↦
-      let on : z % p < a = is_below (z % p) a was in
-      let off : a ≤ (z + 1) % p = isnt_below ((z + 1) % p) a is in
+      let on : z % p < a = lt_is (z % p) a was in
+      let off : a ≤ (z + 1) % p = lt_isnt ((z + 1) % p) a is in
       absurd (omega (arith, on, off, next_end z p last))
 ]
 
@@ -220,7 +206,7 @@ duty_back x y z p a le within pos was is = elim (next_or_last (z % p) p (mod-lt 
 -- the level by the duty test, where there is a period
 level_by : (r : Regime) (t : ℕ) (q : Bool) → 0 < r.wave.period → nat_lt ((t - r.start) % r.wave.period) r.wave.duty ≡ q
     → regime_level r t ≡ (if q then r.wave.high else not r.wave.high)
-level_by r t q pos e = rw (some_test r.wave.period pos, e) refl
+level_by r t q pos e = rw (isnt_zero r.wave.period pos, e) refl
 
 -- the output changes to this level with the unit that ends at a time
 pub record Changes (to : Bool) (level : ℕ → Bool) (first last : ℕ) : Type 0 where
@@ -228,13 +214,6 @@ pub record Changes (to : Bool) (level : ℕ → Bool) (first last : ℕ) : Type 
   pub after : first < time
   pub within : time ≤ last
   pub turns : turns_to to (level (time - 1)) (level time) ≡ true
-
-pub both_true : (p q : Bool) → (p && q) ≡ true → (p ≡ true) × (q ≡ true)
-both_true true q e = (refl, e)
-both_true false q e = absurd (cc e)
-
-pub of_both : (p q : Bool) → p ≡ true → q ≡ true → (p && q) ≡ true
-of_both p q hp hq = rw (hp, hq) refl
 
 turned : (to high before after : Bool) → turns_to to (if before then high else not high) (if after then high else not high) ≡ true → ((to ≡ high) × (before ≡ false) × (after ≡ true)) ⊎ ((to ≡ not high) × (before ≡ true) × (after ≡ false))
 turned true true false true e = inl (refl, refl, refl)
@@ -306,12 +285,12 @@ turns_opposite false false e = absurd (cc e)
 
 pub regime-changes : (to : Bool) (r : Regime) (first last : ℕ) → r.start ≤ first → regime_changed to r first last ≡ true → Changes to (regime_level r) first last
 regime-changes to r first last begun e =
-    let all = both_true (alternates r.wave) (nat_lt (changes_by to r first) (changes_by to r last)) e in
-    let ends = both_true (nat_lt 0 r.wave.duty) (nat_lt r.wave.duty r.wave.period) all.0 in
-    let some : 0 < r.wave.duty = is_below 0 r.wave.duty ends.0 in
-    let less : r.wave.duty < r.wave.period = is_below r.wave.duty r.wave.period ends.1 in
+    let all = and_parts (alternates r.wave) (nat_lt (changes_by to r first) (changes_by to r last)) e in
+    let ends = and_parts (nat_lt 0 r.wave.duty) (nat_lt r.wave.duty r.wave.period) all.0 in
+    let some : 0 < r.wave.duty = lt_is 0 r.wave.duty ends.0 in
+    let less : r.wave.duty < r.wave.period = lt_is r.wave.duty r.wave.period ends.1 in
     let pos : 0 < r.wave.period = omega (arith, less) in
-    let more : changes_by to r first < changes_by to r last = is_below (changes_by to r first) (changes_by to r last) all.1 in
+    let more : changes_by to r first < changes_by to r last = lt_is (changes_by to r first) (changes_by to r last) all.1 in
     elim (same_or_not to r.wave.high) [
       | inl polarity ↦
           let by : periods_by r first < periods_by r last = rw (← changes_polarity to r first polarity, ← changes_polarity to r last polarity) more in
@@ -328,9 +307,6 @@ regime-changes to r first last begun e =
 none_or_some : (n : ℕ) → (n ≡ 0) ⊎ (0 < n)
 none_or_some n = grind arith
 
-zero_test : (n : ℕ) → n ≡ 0 → (n == 0) ≡ true
-zero_test n e = grind (arith, nat_tests)
-
 pub never_turns : (to q : Bool) → turns_to to q q ≡ true → ⊥
 never_turns true true e = absurd (cc e)
 never_turns true false e = absurd (cc e)
@@ -338,13 +314,13 @@ never_turns false true e = absurd (cc e)
 never_turns false false e = absurd (cc e)
 
 level_no_period : (r : Regime) (t : ℕ) → r.wave.period ≡ 0 → regime_level r t ≡ not r.wave.high
-level_no_period r t e = rw (zero_test r.wave.period e) refl
+level_no_period r t e = rw (zero_from r.wave.period e) refl
 
 counted_changes : (to : Bool) (r : Regime) (first last : ℕ) → 0 < r.wave.duty → r.wave.duty < r.wave.period → changes_by to r first < changes_by to r last → regime_changed to r first last ≡ true
 counted_changes to r first last some less more =
-    of_both (alternates r.wave) (nat_lt (changes_by to r first) (changes_by to r last))
-    (of_both (nat_lt 0 r.wave.duty) (nat_lt r.wave.duty r.wave.period) (test_below 0 r.wave.duty some) (test_below r.wave.duty r.wave.period less))
-    (test_below (changes_by to r first) (changes_by to r last) more)
+    and_from (alternates r.wave) (nat_lt (changes_by to r first) (changes_by to r last))
+    (and_from (nat_lt 0 r.wave.duty) (nat_lt r.wave.duty r.wave.period) (lt_from 0 r.wave.duty some) (lt_from r.wave.duty r.wave.period less))
+    (lt_from (changes_by to r first) (changes_by to r last) more)
 
 changed_back : (to : Bool) (r : Regime) (first last : ℕ) → r.start ≤ first → 0 < r.wave.period → Changes to (regime_level r) first last → regime_changed to r first last ≡ true
 changed_back to r first last begun pos t =

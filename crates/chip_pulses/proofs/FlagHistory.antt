@@ -2,9 +2,10 @@
 use Rattle.std.proofs.Common.{◌≡◌, ◌≢◌, ℕ, zero, suc, ◌+◌, ◌*◌, ◌/◌, ◌%◌, ◌^◌, ◌<◌, ◌≤◌, Bool, true, false, not, ◌||◌, ◌==◌, nat_lt, List, [], ◌∷◌, refl, sym, ◌∙◌, ap, arith, ◌⊎◌, inl, inr}
 use Rattle.std.specs.Prelude.{if◌then◌else◌, ◌↔◌}
 use Rattle.std.specs.List.{AllByRecursion}
-use Rattle.std.proofs.lemmas.Bool.Decides.{nat_tests}
 use Rattle.std.proofs.lemmas.Nat.{pow-add}
 use Rattle.std.proofs.Math.Nat.{div-div-eq-div-mul}
+use Rattle.std.proofs.lemmas.Bool.{or_left, or_right}
+use Rattle.plain_facts.specs.Numbers.{lt_isnt, positive}
 use Rattle.mcal_base.specs.Bits.{has_bit}
 use Rattle.mcal_base.specs.declared.register.Reg.{Reg}
 use Rattle.mcal_base.specs.declared.register.Reg.TheVariants.{PulsePeriod, PulseDuty, PulsePolarity, PulseCommit, PulseIdle, PulseEdges, PulseFlags}
@@ -14,8 +15,8 @@ use Rattle.chip_pulses.specs.Regime.{regime_at, next_of, turn_of, turns_to, peri
 use Rattle.chip_pulses.specs.Pulses.{Pulses, pulses_fresh, pulse_at, with_pulse, level_at, level_of, output_level, changed_between, committed, is_flagged, mark_of, marked, put_out, flag_clear, cleared, silent, after_write}
 use Rattle.chip_pulses.specs.Accesses.{after, after_all, HasChannel, place_of, LeavesStanding, ChangesBetween, ChangesBy, ChangesIn}
 use Rattle.chip_pulses.proofs.PulseLaws.{same_or_other, pulse_at-same, pulse_at-other, pulse_at-cleared, with_seen, output-cleared, has_channel-after, has_channel-cleared, time-after_write}
-use Rattle.chip_pulses.proofs.ChangeLaws.{isnt_below, never_turns}
-use Rattle.chip_pulses.proofs.FlagLaws.{Begun, either_true, or_left, or_right, output-changes, changes-output}
+use Rattle.chip_pulses.proofs.ChangeLaws.{never_turns}
+use Rattle.chip_pulses.proofs.FlagLaws.{Begun, either_true, output-changes, changes-output}
 use Rattle.chip_pulses.specs.declared.regime.Wave.{Wave}
 use Rattle.chip_pulses.specs.declared.regime.Regime.{Regime}
 use Rattle.chip_pulses.specs.declared.regime.Commit.{Commit}
@@ -44,17 +45,14 @@ begun-later (Turns r c) n m h le = (omega (arith, h.0, le), h.1)
 
 -- ---- what a commit leaves began
 
-period_there : (n : ℕ) → (n == 0) ≡ false → 0 < n
-period_there n e = grind (arith, nat_tests)
-
 over_begun : (q : Bool) (r : Regime) (w : Wave) (now : ℕ) → r.start ≤ now → (r.wave.period == 0) ≡ q
     → Begun (if q then Runs (record { start = now; wave = w }) else Turns r (record { begun = period_begin r now; wave = w })) now
 over_begun true r w now le e = omega arith
-over_begun false r w now le e = (le, period_there r.wave.period e)
+over_begun false r w now le e = (le, positive r.wave.period e)
 
 at_begun : (q : Bool) (r : Regime) (c : Commit) (now : ℕ) → r.start ≤ now → nat_lt now (turn_of r c) ≡ q → (if q then r else next_of r c).start ≤ now
 at_begun true r c now le e = le
-at_begun false r c now le e = isnt_below now (turn_of r c) e
+at_begun false r c now le e = lt_isnt now (turn_of r c) e
 
 committed-begun : (w : Wave) (now : ℕ) (o : Output) → Begun o now → Begun (committed w now o) now
 committed-begun w now (Idle level) h = omega arith

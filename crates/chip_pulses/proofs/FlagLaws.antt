@@ -1,10 +1,12 @@
 -- A flag stands exactly where a change of its kind came since it was cleared.
 use Rattle.std.proofs.Common.{◌≡◌, ℕ, ◌-◌, ◌<◌, ◌≤◌, max, Bool, true, false, ◌&&◌, ◌||◌, nat_lt, refl, sym, ◌∙◌, ap, arith, ◌⊎◌, inl, inr}
 use Rattle.std.specs.Prelude.{if◌then◌else◌}
+use Rattle.std.proofs.lemmas.Bool.{and_from, and_parts, or_left, or_right}
+use Rattle.plain_facts.specs.Numbers.{lt_from, lt_is, lt_isnt, lt_since}
 use Rattle.chip_pulses.specs.Regime.{regime_level, regime_changed, next_of, turn_of, turns_to}
 use Rattle.chip_pulses.specs.Pulses.{output_level, changed_between}
 use Rattle.chip_pulses.specs.Accesses.{ChangesBetween}
-use Rattle.chip_pulses.proofs.ChangeLaws.{is_below, isnt_below, test_below, test_not_below, both_true, of_both, never_turns, regime-changes, changes-regime}
+use Rattle.chip_pulses.proofs.ChangeLaws.{never_turns, regime-changes, changes-regime}
 use Rattle.chip_pulses.specs.declared.regime.Regime.{Regime}
 use Rattle.chip_pulses.specs.declared.regime.Commit.{Commit}
 use Rattle.chip_pulses.specs.declared.pulse.Output.{Output}
@@ -23,13 +25,6 @@ pub either_true : (p q : Bool) → (p || q) ≡ true → (p ≡ true) ⊎ (q ≡
 either_true true q e = inl refl
 either_true false q e = inr e
 
-pub or_left : (p q : Bool) → p ≡ true → (p || q) ≡ true
-or_left p q e = ap (λ b. b || q) e
-
-pub or_right : (p q : Bool) → q ≡ true → (p || q) ≡ true
-or_right true q e = refl
-or_right false q e = e
-
 -- the same levels turn the same way
 carried : (to p q p' q' : Bool) → p' ≡ p → q' ≡ q → turns_to to p q ≡ true → turns_to to p' q' ≡ true
 carried to p q p' q' hp hq e = ap (λ l. turns_to to l q') hp ∙ ap (λ l. turns_to to p l) hq ∙ e
@@ -37,10 +32,10 @@ carried to p q p' q' hp hq e = ap (λ l. turns_to to l q') hp ∙ ap (λ l. turn
 -- ---- before the turn and from it on
 
 level_before : (r : Regime) (c : Commit) (t : ℕ) → t < turn_of r c → output_level (Turns r c) t ≡ regime_level r t
-level_before r c t h = ap (λ q. regime_level (if q then r else next_of r c) t) (test_below t (turn_of r c) h)
+level_before r c t h = ap (λ q. regime_level (if q then r else next_of r c) t) (lt_from t (turn_of r c) h)
 
 level_from : (r : Regime) (c : Commit) (t : ℕ) → turn_of r c ≤ t → output_level (Turns r c) t ≡ regime_level (next_of r c) t
-level_from r c t h = ap (λ q. regime_level (if q then r else next_of r c) t) (test_not_below t (turn_of r c) h)
+level_from r c t h = ap (λ q. regime_level (if q then r else next_of r c) t) (lt_since t (turn_of r c) h)
 
 abbrev at_the_turn : Bool → Regime → Commit → ℕ → Bool
 at_the_turn to r c first = nat_lt first (turn_of r c) && turns_to to (regime_level r (turn_of r c - 1)) (regime_level (next_of r c) (turn_of r c))
@@ -71,8 +66,8 @@ over_turn to r c first last begun over e = elim (either_true (regime_changed to 
       }
   | inr rest ↦ elim (either_true (at_the_turn to r c first) (regime_changed to (next_of r c) (max first (turn_of r c)) last) rest) [
     | inl at ↦
-        let parts = both_true (nat_lt first (turn_of r c)) (turns_to to (regime_level r (turn_of r c - 1)) (regime_level (next_of r c) (turn_of r c))) at in
-        let above : first < turn_of r c = is_below first (turn_of r c) parts.0 in
+        let parts = and_parts (nat_lt first (turn_of r c)) (turns_to to (regime_level r (turn_of r c - 1)) (regime_level (next_of r c) (turn_of r c))) at in
+        let above : first < turn_of r c = lt_is first (turn_of r c) parts.0 in
         record {
           time = turn_of r c;
           after = above;
@@ -92,8 +87,8 @@ over_turn to r c first last begun over e = elim (either_true (regime_changed to 
 
 turn_forward : (to : Bool) (r : Regime) (c : Commit) (first last : ℕ) (q : Bool) → r.start ≤ first → nat_lt last (turn_of r c) ≡ q
     → (if q then regime_changed to r first last else over_the_turn to r c first last) ≡ true → ChangesBetween to (Turns r c) first last
-turn_forward to r c first last true begun at e = before_turn to r c first last begun (is_below last (turn_of r c) at) e
-turn_forward to r c first last false begun at e = over_turn to r c first last begun (isnt_below last (turn_of r c) at) e
+turn_forward to r c first last true begun at e = before_turn to r c first last begun (lt_is last (turn_of r c) at) e
+turn_forward to r c first last false begun at e = over_turn to r c first last begun (lt_isnt last (turn_of r c) at) e
 
 pub output-changes : (to : Bool) (o : Output) (first last : ℕ) → Begun o first → changed_between to o first last ≡ true → ChangesBetween to o first last
 output-changes to (Idle level) first last begun e = absurd (cc e)
@@ -133,7 +128,7 @@ back_over to r c first last begun over t =
                 let turns : turns_to to (output_level (Turns r c) (turn_of r c - 1)) (output_level (Turns r c) (turn_of r c)) ≡ true =
                 ap (λ n. turns_to to (output_level (Turns r c) (n - 1)) (output_level (Turns r c) n)) (sym at) ∙ t.turns in
                 or_left (at_the_turn to r c first) (regime_changed to (next_of r c) (max first (turn_of r c)) last)
-                (of_both (nat_lt first (turn_of r c)) _ (test_below first (turn_of r c) above)
+                (and_from (nat_lt first (turn_of r c)) _ (lt_from first (turn_of r c) above)
                 (carried to _ _ _ _ (sym (level_before r c (turn_of r c - 1) (omega (arith, above)))) (sym (level_from r c (turn_of r c) (omega arith))) turns))
             | inr later ↦
                 or_right (at_the_turn to r c first) (regime_changed to (next_of r c) (max first (turn_of r c)) last)
@@ -148,8 +143,8 @@ back_over to r c first last begun over t =
 
 turn_back : (to : Bool) (r : Regime) (c : Commit) (first last : ℕ) (q : Bool) → r.start ≤ first → nat_lt last (turn_of r c) ≡ q → ChangesBetween to (Turns r c) first last
     → (if q then regime_changed to r first last else over_the_turn to r c first last) ≡ true
-turn_back to r c first last true begun at t = back_before to r c first last begun (is_below last (turn_of r c) at) t
-turn_back to r c first last false begun at t = back_over to r c first last begun (isnt_below last (turn_of r c) at) t
+turn_back to r c first last true begun at t = back_before to r c first last begun (lt_is last (turn_of r c) at) t
+turn_back to r c first last false begun at t = back_over to r c first last begun (lt_isnt last (turn_of r c) at) t
 
 pub changes-output : (to : Bool) (o : Output) (first last : ℕ) → Begun o first → ChangesBetween to o first last → changed_between to o first last ≡ true
 changes-output to (Idle level) first last begun t = absurd (never_turns to level t.turns)

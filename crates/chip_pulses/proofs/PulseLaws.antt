@@ -2,8 +2,8 @@
 use Rattle.std.proofs.Common.{◌≡◌, ◌≢◌, ℕ, ◌+◌, ◌-◌, ◌*◌, ◌/◌, ◌<◌, ◌≤◌, Bool, true, false, ◌==◌, nat_lt, List, [], ◌∷◌, length, refl, sym, ◌∙◌, ap, arith, length-set, get_or-set_same, get_or-set_other, ◌⊎◌, inl, inr}
 use Rattle.std.specs.Prelude.{if◌then◌else◌, Some, None}
 use Rattle.std.specs.List.{AllByRecursion}
-use Rattle.std.proofs.lemmas.Bool.Decides.{nat_tests}
 use Rattle.std.proofs.lemmas.Nat.{div-add-mod'}
+use Rattle.plain_facts.specs.Numbers.{isnt_zero, zero_from}
 use Rattle.mcal_base.specs.Bits.{has_bit}
 use Rattle.mcal_base.proofs.BitLaws.{length-at_bits, get_or-at_bits}
 use Rattle.mcal_base.specs.declared.register.Reg.{Reg}
@@ -155,17 +155,11 @@ committed-standing w now (Idle level) r e = absurd (cc e)
 committed-standing w now (Runs r') r e = let is : r' ≡ r = cc in ap (λ k. commit_over k w now) is
 committed-standing w now (Turns r' c) r e = let is : regime_at r' c now ≡ r = cc in ap (λ k. commit_over k w now) is
 
-zero_test : (n : ℕ) → n ≡ 0 → (n == 0) ≡ true
-zero_test n e = grind (arith, nat_tests)
-
-some_test : (n : ℕ) → 0 < n → (n == 0) ≡ false
-some_test n h = grind (arith, nat_tests)
-
 over-no_period : (r : Regime) (w : Wave) (now : ℕ) → r.wave.period ≡ 0 → commit_over r w now ≡ Runs (record { start = now; wave = w })
-over-no_period r w now e = rw (zero_test r.wave.period e) refl
+over-no_period r w now e = rw (zero_from r.wave.period e) refl
 
 over-period : (r : Regime) (w : Wave) (now : ℕ) → 0 < r.wave.period → commit_over r w now ≡ Turns r (record { begun = period_begin r now; wave = w })
-over-period r w now h = rw (some_test r.wave.period h) refl
+over-period r w now h = rw (isnt_zero r.wave.period h) refl
 
 -- the end of the period, by where it began and by how many have ended
 ends_at : (s n p q m : ℕ) → s ≤ n → q * p + m ≡ n - s → (n - m) + p ≡ s + (q + 1) * p

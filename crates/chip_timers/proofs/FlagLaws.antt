@@ -4,6 +4,8 @@ use Rattle.std.specs.Prelude.{if◌then◌else◌}
 use Rattle.std.specs.List.{AllByRecursion}
 use Rattle.std.proofs.lemmas.Bool.Decides.{nat_tests}
 use Rattle.std.proofs.Math.Bool.{or_assoc}
+use Rattle.plain_facts.specs.Truths.{or_false}
+use Rattle.plain_facts.specs.Numbers.{same_or_other}
 use Rattle.mcal_base.specs.Bits.{has_bit}
 use Rattle.mcal_base.specs.Expiry.{count_of}
 use Rattle.mcal_base.proofs.ExpiryLaws.{expiries-later}
@@ -18,7 +20,7 @@ use Rattle.chip_timers.specs.declared.timer.Count.{Count}
 use Rattle.chip_timers.specs.declared.timer.Count.TheVariants.{Still, Since}
 use Rattle.chip_timers.specs.declared.timer.Timer.{Timer}
 use Rattle.chip_timers.proofs.TimerLaws.{timer_at-acted, timer_at-acted_on, timer_at-acted_off, timer_at-after_read, time-after_read}
-use Rattle.chip_timers.proofs.HistoryLaws.{same_or_other, with_seen, seen, or_false, has_channel-after, count-left_all, flagged-gate_set, flagged-gate_clear, flagged-zeroed, flagged-flag_clear}
+use Rattle.chip_timers.proofs.HistoryLaws.{with_seen, seen, has_channel-after, count-left_all, flagged-gate_set, flagged-gate_clear, flagged-zeroed, flagged-flag_clear}
 
 -- ---- an expiry in a span came in its first part or in its second
 

@@ -7,6 +7,8 @@ use Rattle.mcal_base.specs.Bits.{has_bit}
 use Rattle.mcal_base.specs.Expiry.{counts_since, count_of, runs_on}
 use Rattle.mcal_base.proofs.ExpiryLaws.{counts_since-start, count_of-stopped, runs_on-start, runs_on-later}
 use Rattle.std.proofs.Math.Nat.{zero-mod}
+use Rattle.plain_facts.specs.Truths.{or_false}
+use Rattle.plain_facts.specs.Numbers.{lt_itself, same_or_other}
 use Rattle.mcal_base.specs.declared.register.Reg.TheVariants.{TimerTarget, TimerPrescaler, TimerOneShot, TimerGateSet, TimerGateClear, TimerFlags, TimerZero}
 use Rattle.chip_timers.specs.Run.{Run, run_expiries, run_goes_on, restarted}
 use Rattle.chip_timers.specs.Timers.{Timers, counter, count_at, counts_on, expired_between, gate_clear, zero_count, zeroed, flag_clear, is_running, is_flagged, timer_at, with_timer, acting, gate_set, after_write}
@@ -17,9 +19,6 @@ use Rattle.chip_timers.specs.declared.timer.Count.{Count}
 use Rattle.chip_timers.specs.declared.timer.Count.TheVariants.{Still, Since}
 use Rattle.chip_timers.specs.declared.timer.Timer.{Timer}
 use Rattle.chip_timers.proofs.TimerLaws.{timer_at-with_timer_same, timer_at-with_timer_other, timer_at-acted, timer_at-acted_on, timer_at-acted_off, length-after_read, length-after_write, timer_at-after_read, time-after_read, time-after_write}
-
-pub same_or_other : (c k : ℕ) → (c ≡ k) ⊎ (c ≢ k)
-same_or_other c k = grind arith
 
 -- ---- the channels stay
 
@@ -118,17 +117,10 @@ counter-since_start b c bits xs h left =
 
 -- ---- flags
 
-not_since_now : (n : ℕ) → nat_lt n n ≡ false
-not_since_now n = grind (arith, nat_tests)
-
-pub or_false : (q : Bool) → (q || false) ≡ q
-or_false true = refl
-or_false false = refl
-
 -- nothing has expired since now
 pub expired_between-now : (k : Count) (now : ℕ) → expired_between k now now ≡ false
 expired_between-now (Still v) now = refl
-expired_between-now (Since r) now = not_since_now (run_expiries r now)
+expired_between-now (Since r) now = lt_itself (run_expiries r now)
 
 -- after a clearing the flag stands where the counter then under way has expired since
 pub flagged-since_clearing : (b : Timers) (c bits : ℕ) (xs : List Access) → HasChannel b c → has_bit bits c ≡ true → AllByRecursion (LeavesFlag c) xs

@@ -3,6 +3,8 @@ use Rattle.std.proofs.Common.{◌≡◌, ℕ, zero, suc, ◌+◌, ◌-◌, ◌*�
 use Rattle.std.specs.Prelude.{slice_index, bit_and, if◌then◌else◌}
 use Rattle.std.proofs.lemmas.Nat.{and_le_l, pow_below, pow_pos}
 use Rattle.std.proofs.lemmas.Nat.Bits.{bit_at_cat_low, bit_at_cat_high}
+use Rattle.std.proofs.lemmas.Bool.{and_left, and_right}
+use Rattle.plain_facts.specs.Numbers.{same_or_other}
 use Rattle.mcal_base.specs.Bits.{has_bit, without}
 use Rattle.mcal_base.proofs.BitLaws.{has_bit-zero, has_bit-above, has_bit-and, has_bit-pow_same, has_bit-pow_other}
 use Rattle.chip_units.specs.Pins.{Pins, bit_at, is_out, latch, ones_set, ones_clear, inverted, flip, at_port, chosen, replaced, put}
@@ -75,17 +77,9 @@ other_bit p q bits ne at = elim (beside p q ne at) [
 
 -- ---- bits of a half that are replaced
 
-and_off : (a b : Bool) → a ≡ false → (a && b) ≡ false
-and_off true b e = absurd (cc e)
-and_off false b e = refl
-
-off_and : (a b : Bool) → b ≡ false → (a && b) ≡ false
-off_and true b e = e
-off_and false b e = refl
-
 spares_some : (p half bits levels : ℕ) → Spares p half bits → Spares p half (bit_and bits levels)
 spares_some p half bits levels (inl ne) = inl ne
-spares_some p half bits levels (inr off) = inr (has_bit-and bits levels (p % 32) ∙ and_off _ _ off)
+spares_some p half bits levels (inr off) = inr (has_bit-and bits levels (p % 32) ∙ and_left _ _ off)
 
 replaced-spared : (hs : List ℕ) (p half bits levels : ℕ) → bits < 2 ^ 32 → Spares p half bits → bit_at (replaced hs half bits levels) p ≡ bit_at hs p
 replaced-spared hs p half bits levels fits s =
@@ -131,13 +125,13 @@ port_or_not : (q p : ℕ) → (q ≡ p / 8) ⊎ (q ≢ p / 8)
 port_or_not q p = grind arith
 
 spares_beside : (p q mask more : ℕ) → q ≢ p / 8 → (q / 4 ≡ p / 32) ⊎ (q / 4 ≢ p / 32) → Spares p (q / 4) (bit_and (at_port q mask) more)
-spares_beside p q mask more ne (inl at) = inr (has_bit-and (at_port q mask) more (p % 32) ∙ and_off _ _ (other_bit p q mask ne at))
+spares_beside p q mask more ne (inl at) = inr (has_bit-and (at_port q mask) more (p % 32) ∙ and_left _ _ (other_bit p q mask ne at))
 spares_beside p q mask more ne (inr far) = inl far
 
 spares_unasked : (p q word more : ℕ) → q ≡ p / 8 → has_bit word (8 + p % 8) ≡ false → Spares p (q / 4) (bit_and (at_port q (word / 256)) more)
 spares_unasked p q word more at off =
     let unasked : has_bit (at_port q (word / 256)) (p % 32) ≡ false = rw at (own_bit p (word / 256) ∙ mask_bit word (p % 8) ∙ off) in
-    inr (has_bit-and (at_port q (word / 256)) more (p % 32) ∙ and_off _ _ unasked)
+    inr (has_bit-and (at_port q (word / 256)) more (p % 32) ∙ and_left _ _ unasked)
 
 spares_put : (p q word more : ℕ) → (q ≡ p / 8) ⊎ (q ≢ p / 8) → PutSpares p q word → Spares p (q / 4) (bit_and (at_port q (word / 256)) more)
 spares_put p q word more (inr ne) s = spares_beside p q (word / 256) more ne (half_or_not (q / 4) p)
@@ -150,7 +144,7 @@ put-spared b p q word s =
     (spares_put p q word (slice_index b.out (q / 4)) (port_or_not q p) s)
 
 spares_in : (b : Pins) (p q mask : ℕ) → is_out b p ≡ false → (q / 4 ≡ p / 32) ⊎ (q / 4 ≢ p / 32) → Spares p (q / 4) (chosen b q mask)
-spares_in b p q mask e (inl at) = inr (has_bit-and (at_port q mask) (slice_index b.out (q / 4)) (p % 32) ∙ off_and _ _ (seen_out b p (q / 4) at ∙ e))
+spares_in b p q mask e (inl at) = inr (has_bit-and (at_port q mask) (slice_index b.out (q / 4)) (p % 32) ∙ and_right _ _ (seen_out b p (q / 4) at ∙ e))
 spares_in b p q mask e (inr far) = inl far
 
 -- the latch of a pin that is in stays
@@ -191,9 +185,6 @@ pub flip-other : (b : Pins) (p q : ℕ) → q ≢ p → latch (flip b q) p ≡ l
 flip-other b p q ne =
     either_latch b (record b { latches = inverted b.latches q }) p (is_out b q)
     (other_by b.latches p q (latch b q) (spares_flip p q (place_or_half p q ne)))
-
-same_or_other : (q p : ℕ) → (q ≡ p) ⊎ (q ≢ p)
-same_or_other q p = grind arith
 
 -- the latch of a pin that is in stays
 pub flip-in : (b : Pins) (p q : ℕ) → is_out b p ≡ false → latch (flip b q) p ≡ latch b p

@@ -3,6 +3,8 @@ use Rattle.std.proofs.Common.{◌≡◌, ℕ, ◌+◌, ◌-◌, ◌*◌, ◌^◌
 use Rattle.std.specs.Prelude.{if◌then◌else◌}
 use Rattle.std.specs.List.{AllByRecursion}
 use Rattle.std.proofs.lemmas.Bool.Decides.{nat_tests}
+use Rattle.plain_facts.specs.Truths.{and_false}
+use Rattle.plain_facts.specs.Numbers.{same_or_other}
 use Rattle.mcal_base.specs.Bits.{has_bit, bit_of}
 use Rattle.mcal_base.specs.declared.register.Reg.TheVariants.{SerialSelect, SerialWidth, SerialAck}
 use Rattle.chip_units.specs.Serials.{Serials, idle, masked, refused, is_done_at, is_busy, has_ended, is_done, last_received, received, begun, failing, faulted, acknowledged, flags_of, unit_at, with_unit, after_word, after_fault}
@@ -10,9 +12,6 @@ use Rattle.chip_units.specs.SerialAccesses.{Access, after, after_all, LeavesWord
 use Rattle.chip_units.specs.SerialAccesses as accesses
 use Rattle.chip_units.specs.declared.serial.Serial.{Serial}
 use Rattle.chip_units.specs.declared.serial.Word.{Word}
-
-same_or_other : (u k : ℕ) → (u ≡ k) ⊎ (u ≢ k)
-same_or_other u k = grind arith
 
 pub unit_at-with_unit_same : (b : Serials) (u : ℕ) (s : Serial) → HasUnit b u → unit_at (with_unit b u s) u ≡ s
 unit_at-with_unit_same b u s h = let within : u < length b.units = omega (arith, h.all, h.within) in get_or-set_same b.units u s idle within
@@ -109,10 +108,6 @@ eight_passed start t le = grind (arith, nat_tests)
 
 eight_to_come : (start t : ℕ) → t < start + 8 → nat_le 8 (t - start) ≡ false
 eight_to_come start t lt = grind (arith, nat_tests)
-
-and_false : (q : Bool) → (q && false) ≡ false
-and_false true = refl
-and_false false = refl
 
 pub received-word : (b : Serials) (u incoming : ℕ) (xs : List Access) → HasUnit b u → incoming ≢ 65536 → AllByRecursion (LeavesWord u) xs
     → b.time + 8 ≤ (after_all (after_word b u incoming) xs).time

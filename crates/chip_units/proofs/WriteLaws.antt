@@ -2,6 +2,7 @@
 use Rattle.std.proofs.Common.{◌≡◌, ℕ, ◌/◌, ◌%◌, ◌^◌, ◌<◌, ◌≤◌, ◌≢◌, Bool, true, false, not, ◌&&◌, ◌||◌, List, length, refl, sym, ◌∙◌, ap, arith, length-set, get_or-set_same, get_or-set_other, ◌⊎◌, inl, inr}
 use Rattle.std.specs.Prelude.{slice_index, slice_set, bit_or}
 use Rattle.std.proofs.lemmas.List.{get_or_past}
+use Rattle.plain_facts.specs.Truths.{or_false, or_true}
 use Rattle.mcal_base.specs.Bits.{has_bit, without}
 use Rattle.mcal_base.proofs.BitLaws.{has_bit-or, has_bit-without}
 use Rattle.chip_units.specs.Pins.{bit_at, ones_set, ones_clear}
@@ -12,14 +13,6 @@ bit_of_pin p = omega arith
 
 pub half_of_pin : (p : ℕ) → p < 64 → p / 32 < 2
 half_of_pin p lt = omega arith
-
-or_false : (q : Bool) → (q || false) ≡ q
-or_false true = refl
-or_false false = refl
-
-or_true : (q : Bool) → (q || true) ≡ true
-or_true true = refl
-or_true false = refl
 
 and_true : (q : Bool) → (q && not false) ≡ q
 and_true true = refl

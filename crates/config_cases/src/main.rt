@@ -17,7 +17,9 @@ fn print_record(rt: &HostRuntime, config: &Config) -> io::Result<()> {
     println!(rt; "  {:?}", config.pwm)?;
     println!(rt; "  {:?}", config.icu)?;
     println!(rt; "  {:?}", config.adc)?;
-    println!(rt; "  {:?}", config.spi)
+    println!(rt; "  {:?}", config.spi)?;
+    println!(rt; "  {:?}", config.dio)?;
+    println!(rt; "  {:?}", config.wdg)
 }
 
 /// Prints what a text gives.

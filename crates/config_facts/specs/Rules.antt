@@ -1,5 +1,6 @@
 -- The rules on the elements of arrays: whether an element breaks one, after those before it.
-use Rattle.std.specs.Prelude.{ℕ, ◌+◌, ◌==◌, nat_lt, ◌&&◌, ◌||◌, Bool, true, false, not, List, [], ◌∷◌, Option, Some}
+use Rattle.std.specs.Prelude.{ℕ, ◌+◌, ◌/◌, ◌==◌, nat_lt, ◌&&◌, ◌||◌, Bool, true, false, not, List, [], ◌∷◌, Option, Some}
+use Rattle.std.specs.Int.{trailing_zeros, w32}
 use Rattle.std.specs.List.{list_any}
 use Rattle.config_facts.specs.Ids.{same_id}
 use Rattle.mcal_base.specs.declared.config.mcu.McuRamSection.{McuRamSection}
@@ -14,8 +15,10 @@ use Rattle.mcal_base.specs.declared.config.adc.AdcConversionMode.TheVariants.{On
 use Rattle.mcal_base.specs.declared.config.adc.AdcTriggerSource.{AdcTriggerSource}
 use Rattle.mcal_base.specs.declared.config.adc.AdcTriggerSource.TheVariants.{Hardware}
 use Rattle.mcal_base.specs.declared.config.adc.AdcGroup.{AdcGroup}
+use Rattle.mcal_base.specs.declared.config.dio.DioChannelGroup.{DioChannelGroup}
 use Rattle.mcal_base.specs.declared.config.spi.SpiJob.{SpiJob}
 use Rattle.mcal_base.specs.declared.config.spi.SpiSequence.{SpiSequence}
+use Rattle.mcal_base.specs.declared.config.wdg.WdgConfig.{WdgConfig}
 
 -- rule 1: a RAM section ends past word 512
 abbrev pub ends_past : List McuRamSection → McuRamSection → Bool
@@ -105,3 +108,15 @@ share_channel one other = list_any (λ n. is_among n other) one
 
 abbrev pub shares_channel : List SpiJob → SpiJob → Bool
 shares_channel earlier j = list_any (λ (e : SpiJob). not (e.unit == j.unit) && share_channel e.channel_list j.channel_list) earlier
+
+-- a port is there where one of its eight pins is
+abbrev pub has_port : List PortPin → ℕ → Bool
+has_port pins q = list_any (λ (p : PortPin). p.id / 8 == q) pins
+
+-- rule 13: the lowest one of a group's mask isn't at its offset
+abbrev pub mask_off_offset : List DioChannelGroup → DioChannelGroup → Bool
+mask_off_offset earlier g = not (trailing_zeros w32 g.mask == g.offset)
+
+-- rule 14: the watchdog's first timeout is above its largest
+abbrev pub initial_above_most : WdgConfig → Bool
+initial_above_most g = nat_lt g.max_ticks g.initial_ticks

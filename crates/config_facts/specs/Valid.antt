@@ -1,5 +1,5 @@
 -- What a configuration that was read meets: ranges, lengths, ids, references and rules.
-use Rattle.std.specs.Prelude.{◌≡◌, ℕ, ◌≤◌, true, List, length, Option, Some, None, IsSome, IfSome, All}
+use Rattle.std.specs.Prelude.{◌≡◌, ℕ, ◌≤◌, true, false, List, length, Option, Some, None, IsSome, IfSome, All}
 use Rattle.mcal_base.specs.declared.config.mcu.McuClockSetting.{McuClockSetting}
 use Rattle.mcal_base.specs.declared.config.mcu.McuModeSetting.{McuModeSetting}
 use Rattle.mcal_base.specs.declared.config.mcu.McuRamSection.{McuRamSection}
@@ -23,9 +23,12 @@ use Rattle.mcal_base.specs.declared.config.spi.SpiChannel.{SpiChannel}
 use Rattle.mcal_base.specs.declared.config.spi.SpiJob.{SpiJob}
 use Rattle.mcal_base.specs.declared.config.spi.SpiSequence.{SpiSequence}
 use Rattle.mcal_base.specs.declared.config.spi.SpiConfig.{SpiConfig}
+use Rattle.mcal_base.specs.declared.config.dio.DioChannelGroup.{DioChannelGroup}
+use Rattle.mcal_base.specs.declared.config.dio.DioConfig.{DioConfig}
+use Rattle.mcal_base.specs.declared.config.wdg.WdgConfig.{WdgConfig}
 use Rattle.mcal_base.specs.declared.config.whole.Config.{Config}
 use Rattle.config_facts.specs.Ids.{InRange, IsList, IsTable, has_id, Refer, Keeps}
-use Rattle.config_facts.specs.Rules.{ends_past, overlaps, initial_not_allowed, shares_pin, hardware_continuous, shares_trigger, single_with_samples, streaming_once, names_channel_twice, names_job_twice, mixes_units, shares_channel}
+use Rattle.config_facts.specs.Rules.{ends_past, overlaps, initial_not_allowed, shares_pin, hardware_continuous, shares_trigger, single_with_samples, streaming_once, names_channel_twice, names_job_twice, mixes_units, shares_channel, has_port, mask_off_offset, initial_above_most}
 
 -- the ids of elements; a RAM section has none
 abbrev pub clock_setting_id : McuClockSetting → Option ℕ
@@ -63,6 +66,9 @@ job_id j = Some j.id
 
 abbrev pub sequence_id : SpiSequence → Option ℕ
 sequence_id s = Some s.id
+
+abbrev pub pin_group_id : DioChannelGroup → Option ℕ
+pin_group_id g = Some g.id
 
 -- the module Mcu
 pub record IsClockSetting (c : McuClockSetting) : Type 0 where
@@ -233,6 +239,37 @@ pub record IsSpi (spi : SpiConfig) : Type 0 where
   pub references : RefersInSpi spi
   pub rules : KeepsSpiRules spi
 
+-- the module Dio
+pub record IsPinGroup (g : DioChannelGroup) : Type 0 where
+  pub id : InRange 0 7 g.id
+  pub port : InRange 0 7 g.port
+  pub offset : InRange 0 7 g.offset
+  pub mask : InRange 1 255 g.mask
+
+pub record HasDioTables (dio : DioConfig) : Type 0 where
+  pub groups : IsTable IsPinGroup pin_group_id 8 dio.groups
+
+-- each group's port is there
+abbrev pub ReferToPorts : List PortPin → List DioChannelGroup → Type 0
+ReferToPorts pins groups = All (λ (g : DioChannelGroup). has_port pins g.port ≡ true) groups
+
+pub record KeepsDioRules (dio : DioConfig) : Type 0 where
+  pub masks : Keeps mask_off_offset dio.groups
+
+pub record IsDio (port : PortConfig) (dio : DioConfig) : Type 0 where
+  pub tables : HasDioTables dio
+  pub ports : ReferToPorts port.pins dio.groups
+  pub rules : KeepsDioRules dio
+
+-- the module Wdg
+pub record HasWdgTables (wdg : WdgConfig) : Type 0 where
+  pub initial_ticks : InRange 1 65535 wdg.initial_ticks
+  pub max_ticks : InRange 1 65535 wdg.max_ticks
+
+pub record IsWdg (wdg : WdgConfig) : Type 0 where
+  pub tables : HasWdgTables wdg
+  pub initial : initial_above_most wdg ≡ false
+
 -- a configuration that meets the tables
 pub record IsValid (c : Config) : Type 0 where
   pub mcu : IsMcu c.mcu
@@ -242,3 +279,5 @@ pub record IsValid (c : Config) : Type 0 where
   pub icu : IsIcu c.icu
   pub adc : IsAdc c.adc
   pub spi : IsSpi c.spi
+  pub dio : IsDio c.port c.dio
+  pub wdg : IsWdg c.wdg

@@ -36,6 +36,8 @@ use Rattle.mcal_base.specs.declared.config.adc.AdcStreamBufferMode.{AdcStreamBuf
 use Rattle.mcal_base.specs.declared.config.adc.AdcStreamBufferMode.TheVariants as adc_stream_buffer_mode
 use Rattle.config_keys.specs.declared.named.SpiBuffer.{SpiBuffer}
 use Rattle.config_keys.specs.declared.named.SpiBuffer.TheVariants as spi_buffer
+use Rattle.mcal_base.specs.declared.config.wdg.WdgMode.{WdgMode}
+use Rattle.mcal_base.specs.declared.config.wdg.WdgMode.TheVariants as wdg_mode
 
 abbrev pub key_text : KeyName → List ℕ
 key_text keys.McuDevErrorDetect = codes "McuDevErrorDetect"
@@ -124,6 +126,17 @@ key_text keys.SpiSequenceId = codes "SpiSequenceId"
 key_text keys.SpiInterruptibleSequence = codes "SpiInterruptibleSequence"
 key_text keys.SpiJobAssignment = codes "SpiJobAssignment"
 key_text keys.SpiSeqEndNotification = codes "SpiSeqEndNotification"
+key_text keys.DioDevErrorDetect = codes "DioDevErrorDetect"
+key_text keys.DioChannelGroup = codes "DioChannelGroup"
+key_text keys.DioChannelGroupId = codes "DioChannelGroupId"
+key_text keys.Port = codes "Port"
+key_text keys.DioPortOffset = codes "DioPortOffset"
+key_text keys.DioPortMask = codes "DioPortMask"
+key_text keys.WdgDevErrorDetect = codes "WdgDevErrorDetect"
+key_text keys.WdgDefaultMode = codes "WdgDefaultMode"
+key_text keys.WdgDisableAllowed = codes "WdgDisableAllowed"
+key_text keys.InitialTicks = codes "InitialTicks"
+key_text keys.MaxTicks = codes "MaxTicks"
 
 abbrev pub direction_named : List ℕ → Option PortPinDirection
 direction_named text = if bytes_eq text (codes "PORT_PIN_IN") then Some port_pin_direction.In else if bytes_eq text (codes "PORT_PIN_OUT") then Some port_pin_direction.Out else None
@@ -175,3 +188,6 @@ stream_buffer_mode_named text = if bytes_eq text (codes "ADC_STREAM_BUFFER_LINEA
 
 abbrev pub buffer_named : List ℕ → Option SpiBuffer
 buffer_named text = if bytes_eq text (codes "IB") then Some spi_buffer.Internal else if bytes_eq text (codes "EB") then Some spi_buffer.External else None
+
+abbrev pub wdg_mode_named : List ℕ → Option WdgMode
+wdg_mode_named text = if bytes_eq text (codes "WDGIF_OFF_MODE") then Some wdg_mode.Off else if bytes_eq text (codes "WDGIF_SLOW_MODE") then Some wdg_mode.Slow else if bytes_eq text (codes "WDGIF_FAST_MODE") then Some wdg_mode.Fast else None

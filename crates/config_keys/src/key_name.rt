@@ -179,6 +179,28 @@ pub enum KeyName {
     SpiJobAssignment,
     /// `SpiSeqEndNotification`
     SpiSeqEndNotification,
+    /// `DioDevErrorDetect`
+    DioDevErrorDetect,
+    /// `DioChannelGroup`
+    DioChannelGroup,
+    /// `DioChannelGroupId`
+    DioChannelGroupId,
+    /// `Port`
+    Port,
+    /// `DioPortOffset`
+    DioPortOffset,
+    /// `DioPortMask`
+    DioPortMask,
+    /// `WdgDevErrorDetect`
+    WdgDevErrorDetect,
+    /// `WdgDefaultMode`
+    WdgDefaultMode,
+    /// `WdgDisableAllowed`
+    WdgDisableAllowed,
+    /// `InitialTicks`
+    InitialTicks,
+    /// `MaxTicks`
+    MaxTicks,
 }
 
 impl KeyName {
@@ -273,6 +295,17 @@ impl KeyName {
             KeyName::SpiInterruptibleSequence => "SpiInterruptibleSequence",
             KeyName::SpiJobAssignment => "SpiJobAssignment",
             KeyName::SpiSeqEndNotification => "SpiSeqEndNotification",
+            KeyName::DioDevErrorDetect => "DioDevErrorDetect",
+            KeyName::DioChannelGroup => "DioChannelGroup",
+            KeyName::DioChannelGroupId => "DioChannelGroupId",
+            KeyName::Port => "Port",
+            KeyName::DioPortOffset => "DioPortOffset",
+            KeyName::DioPortMask => "DioPortMask",
+            KeyName::WdgDevErrorDetect => "WdgDevErrorDetect",
+            KeyName::WdgDefaultMode => "WdgDefaultMode",
+            KeyName::WdgDisableAllowed => "WdgDisableAllowed",
+            KeyName::InitialTicks => "InitialTicks",
+            KeyName::MaxTicks => "MaxTicks",
         }
     }
 }

@@ -5,7 +5,7 @@ use mcal_base::{
     AdcAccessMode, AdcConversionMode, AdcGroupReplacement, AdcPriorityImplementation,
     AdcStreamBufferMode, AdcTriggerSource, GptChannelMode, IcuMeasurementMode,
     IcuSignalMeasurementProperty, IcuStartEdge, IcuTimestampMeasurementProperty, PortPinDirection,
-    PortPinMode, PwmChannelClass, PwmOutputState,
+    PortPinMode, PwmChannelClass, PwmOutputState, WdgMode,
 };
 
 /// A parameter whose values are names.
@@ -245,6 +245,19 @@ impl Named for SpiBuffer {
         match text {
             "IB" => Some(SpiBuffer::Internal),
             "EB" => Some(SpiBuffer::External),
+            _ => None,
+        }
+    }
+}
+
+impl Named for WdgMode {
+    ghost named = { spec.wdg_mode_named };
+
+    fn from_name(text: &str) -> Option<WdgMode> {
+        match text {
+            "WDGIF_OFF_MODE" => Some(WdgMode::Off),
+            "WDGIF_SLOW_MODE" => Some(WdgMode::Slow),
+            "WDGIF_FAST_MODE" => Some(WdgMode::Fast),
             _ => None,
         }
     }

@@ -18,6 +18,8 @@ use Rattle.config_tables.specs.Pwm as pwm
 use Rattle.config_tables.specs.Icu as icu
 use Rattle.config_tables.specs.Adc as adc
 use Rattle.config_tables.specs.Spi as spi
+use Rattle.config_tables.specs.Dio as dio
+use Rattle.config_tables.specs.Wdg as wdg
 
 ruleset rows = (need, need_last, need_list, allow_list, skip, there, refl)
 
@@ -80,6 +82,10 @@ sequence_read : IsRead spi.sequences
 unfolding spi.sequence_checks spi.sequence_of
 sequence_read at ms = search rows depth 20
 
+pin_group_read : IsRead dio.groups
+unfolding dio.group_checks dio.group_of
+pin_group_read at ms = search rows depth 20
+
 -- the keys and arrays of each module
 mcu_keys : (ms : Members) → Recorded (mcu.key_checks ms) (mcu.value_of ms)
 unfolding mcu.key_checks mcu.value_of
@@ -100,6 +106,10 @@ adc_keys ms = search (tables, unit_read, group_read) depth 20
 spi_keys : (ms : Members) → Recorded (spi.key_checks ms) (spi.value_of ms)
 unfolding spi.key_checks spi.value_of
 spi_keys ms = search (tables, channel_read, job_read, sequence_read) depth 20
+
+wdg_keys : (ms : Members) → Recorded (wdg.key_checks ms) (wdg.value_of ms)
+unfolding wdg.key_checks wdg.value_of
+wdg_keys ms = there _ _
 
 -- the modules; references and rules read nothing
 pub mcu_read : IsReadPart mcu.part
@@ -129,3 +139,11 @@ adc_read ms = checked_after (adc.key_checks ms) _ (adc.value_of ms) (adc_keys ms
 pub spi_read : IsReadPart spi.part
 unfolding spi.checks
 spi_read ms = checked_after (spi.key_checks ms) _ (spi.value_of ms) (spi_keys ms)
+
+pub dio_read : IsReadPart dio.part
+unfolding dio.checks dio.value_of
+dio_read ms = search (tables, pin_group_read) depth 20
+
+pub wdg_read : IsReadPart wdg.part
+unfolding wdg.checks
+wdg_read ms = checked_after (wdg.key_checks ms) _ (wdg.value_of ms) (wdg_keys ms)

@@ -6,3 +6,5 @@ pub mod Icu
 pub mod Adc
 pub mod SpiRules
 pub mod Spi
+pub mod Dio
+pub mod Wdg

@@ -1,8 +1,9 @@
-//! The tables of a configuration's modules: what their keys and the elements of their arrays are read to. Of five modules
-//! the references and rules stand here too; those of `Mcu` and `Adc` stand above.
+//! The tables of a configuration's modules: what their keys and the elements of their arrays are read to. Of six modules
+//! the references and rules stand here too; those of `Mcu`, `Adc` and `Dio` stand above.
 #![tactic(auto)]
 
 pub mod adc;
+pub mod dio;
 mod gpt;
 mod icu;
 pub mod mcu;
@@ -11,9 +12,11 @@ mod pwm;
 mod spi;
 mod spi_rules;
 mod spi_tables;
+mod wdg;
 
 pub use gpt::Gpt;
 pub use icu::Icu;
 pub use port::Port;
 pub use pwm::Pwm;
 pub use spi::{Spi, both_at_one};
+pub use wdg::Wdg;

@@ -3,6 +3,10 @@ use Rattle.std.proofs.Common.{◌≡◌, ◌≢◌, ℕ, zero, suc, ◌+◌, ◌
 use Rattle.std.specs.Prelude.{◌↔◌, is_some, slice_get, slice_index_or, if◌then◌else◌, IsSome}
 use Rattle.std.specs.List.{list_all, list_any}
 use Rattle.std.proofs.lemmas.Bool.Decides.{nat_tests}
+use Rattle.std.proofs.lemmas.Bool.{and_from, and_parts, and_right, not-true}
+use Rattle.plain_facts.specs.Truths.{or_true}
+use Rattle.plain_facts.specs.Options.{some_is}
+use Rattle.plain_facts.specs.Numbers.{lt_from, lt_is}
 use Rattle.mcal_base.specs.declared.directive.Order.TheVariants as orders
 use Rattle.mcal_base.specs.declared.error_name.ErrorName.{ErrorName}
 use Rattle.mcal_base.specs.declared.error_name.ErrorName.TheVariants.{AdcBusy}
@@ -31,16 +35,13 @@ use Rattle.adc_machine.specs.declared.call.ResultBuffer.{ResultBuffer}
 use Rattle.adc_machine.specs.declared.table.AdcTable.{AdcTable}
 use Rattle.adc_machine.specs.declared.table.Group as configured
 use Rattle.converter_laws.specs.GroupRuns.{leaves_notification, leaves_stream, rounds_served, one_notice, ServesNoUnit, IsUnderWay, WhileBusy, WhileCompleted, WithTurn, WithTrigger, IsTaken, IsOutranked}
-use Rattle.converter_laws.proofs.GroupSteps.{both, notified_all, rounds_of, rounds_all, stored_in, new_group}
+use Rattle.converter_laws.proofs.GroupSteps.{notified_all, rounds_of, rounds_all, stored_in, new_group}
 
 -- ---- what was served
 
 serve_by : {A : Type 0} (b : Bool) (x out : A) → cond b (Some x) None ≡ Some out → x ≡ out
 serve_by true x out e = cc e
 serve_by false x out e = absurd (cc e)
-
-some_same : {A : Type 0} (x y : A) → Some x ≡ Some y → x ≡ y
-some_same x y e = cc e
 
 round_served : (d : AdcTable) (w : World) (s : AdcState) (line received : ℕ) (r : Round) (out : Outcome AdcState) → happens d w s (Serves line received) ≡ Some out → is_unit_line line ≡ true → round_at s (line - 24) ≡ Some r
     → served_round d w s (line - 24) (Some r) ≡ out
@@ -113,7 +114,7 @@ acts_quiet d s (Group g call) None = work_quiet d s g call
 
 starting_quiet : (w : World) (s : AdcState) (u : ℕ) (o : Option ℕ) (out : Outcome AdcState) → starting w s u o ≡ Some out → out.told.notices ≡ []
 starting_quiet w s u None out e = absurd (cc e)
-starting_quiet w s u (Some g) out e = ap (λ (x : Outcome AdcState). x.told.notices) (sym (some_same _ out e))
+starting_quiet w s u (Some g) out e = ap (λ (x : Outcome AdcState). x.told.notices) (sym (some_is _ out e))
 
 starts_quiet : (d : AdcTable) (w : World) (s : AdcState) (k : Option ℕ) (out : Outcome AdcState) → starts_on d w s k ≡ Some out → out.told.notices ≡ []
 starts_quiet d w s None out e = absurd (cc e)
@@ -121,21 +122,21 @@ starts_quiet d w s (Some u) out e = starting_quiet w s u (starts d s u) out e
 
 aborting_quiet : (d : AdcTable) (w : World) (s : AdcState) (u : ℕ) (o : Option Round) (out : Outcome AdcState) → aborting d w s u o ≡ Some out → out.told.notices ≡ []
 aborting_quiet d w s u None out e = absurd (cc e)
-aborting_quiet d w s u (Some r) out e = ap (λ (x : Outcome AdcState). x.told.notices) (sym (some_same _ out e))
+aborting_quiet d w s u (Some r) out e = ap (λ (x : Outcome AdcState). x.told.notices) (sym (some_is _ out e))
 
 aborts_quiet : (d : AdcTable) (w : World) (s : AdcState) (k : Option ℕ) (out : Outcome AdcState) → aborts_on d w s k ≡ Some out → out.told.notices ≡ []
 aborts_quiet d w s None out e = absurd (cc e)
 aborts_quiet d w s (Some u) out e = aborting_quiet d w s u (aborts d w s u) out e
 
 pub others_quiet : (d : AdcTable) (w : World) (s : AdcState) (h : Happening Call) (out : Outcome AdcState) → happens d w s h ≡ Some out → ServesNoUnit h → out.told.notices ≡ []
-others_quiet d w s (Acts call times) out e none = ap (λ (x : Outcome AdcState). x.told.notices) (sym (some_same _ out e)) ∙ acts_quiet d s call (error_by d call (circumstances d s call))
+others_quiet d w s (Acts call times) out e none = ap (λ (x : Outcome AdcState). x.told.notices) (sym (some_is _ out e)) ∙ acts_quiet d s call (error_by d call (circumstances d s call))
 others_quiet d w s (Serves line received) out e none =
     ap (λ (x : Outcome AdcState). x.told.notices) (sym (serve_by (ready d w s line) (served d w s line) out e))
     ∙ ap (λ b. (cond b (served_round d w s (line - 24) (round_at s (line - 24))) (outcome (served_trigger d s (line - 28)) tells_nothing)).told.notices) none
 others_quiet d w s (Starts u made_by received) out e none = starts_quiet d w s (number_of u) out e
 others_quiet d w s (Aborts u) out e none = aborts_quiet d w s (number_of u) out e
-others_quiet d w s (Moves order) out e none = ap (λ (x : Outcome AdcState). x.told.notices) (sym (some_same _ out e))
-others_quiet d w s (Restarts reason) out e none = ap (λ (x : Outcome AdcState). x.told.notices) (sym (some_same _ out e))
+others_quiet d w s (Moves order) out e none = ap (λ (x : Outcome AdcState). x.told.notices) (sym (some_is _ out e))
+others_quiet d w s (Restarts reason) out e none = ap (λ (x : Outcome AdcState). x.told.notices) (sym (some_is _ out e))
 
 -- ---- pointers
 
@@ -230,7 +231,7 @@ some_listener d s i (x ∷ gs) k g at e = by (listens d s i x) refl k at (λ j f
   by : (b : Bool) → listens d s i x ≡ b → (k : ℕ) → slice_get (x ∷ gs) k ≡ Some g → ((j : ℕ) → slice_get gs j ≡ Some g → is_some (listener_among d s i gs) ≡ true)
       → is_some (cond b (Some x) (listener_among d s i gs)) ≡ true
   by true is k at more = refl
-  by false is zero at more = absurd (cc (sym is ∙ (ap (λ n. listens d s i n) (some_same x g at) ∙ e)))
+  by false is zero at more = absurd (cc (sym is ∙ (ap (λ n. listens d s i n) (some_is x g at) ∙ e)))
   by false is (suc k) at more = more k at
 
 mark_on : (s : AdcState) (i : ℕ) → i < 4 → mark_at (with_mark s i true) i ≡ true
@@ -242,7 +243,7 @@ mark_on s (suc (suc (suc (suc i)))) lt = absurd (omega (arith, lt))
 
 pub pulse_marks : (d : AdcTable) (w : World) (s : AdcState) (input g : ℕ) (out : Outcome AdcState) → happens d w s (Moves (orders.Trigger input)) ≡ Some out → input < 4 → g < 16 → listens d s input g ≡ true → mark_at out.state input ≡ true
 pulse_marks d w s input g out made few lt on =
-    ap (λ (x : Outcome AdcState). mark_at x.state input) (sym (some_same _ out made))
+    ap (λ (x : Outcome AdcState). mark_at x.state input) (sym (some_is _ out made))
     ∙ (ap (λ b. mark_at (cond b (with_mark s input true) s) input) (some_listener d s input all_groups g g (listed g lt) on) ∙ mark_on s input few)
 
 -- ---- what is busy
@@ -254,13 +255,9 @@ any_of f (x ∷ xs) e = by (f x) refl e (λ h. any_of f xs h) where
   by true is h more = (x, is)
   by false is h more = more h
 
-or_true : (b : Bool) → (b || true) ≡ true
-or_true true = refl
-or_true false = refl
-
 is_any : (f : ℕ → Bool) (xs : List ℕ) (k x : ℕ) → slice_get xs k ≡ Some x → f x ≡ true → list_any f xs ≡ true
 is_any f [] k x at e = absurd (cc at)
-is_any f (y ∷ xs) zero x at e = ap (λ b. b || list_any f xs) (ap f (some_same y x at) ∙ e)
+is_any f (y ∷ xs) zero x at e = ap (λ b. b || list_any f xs) (ap f (some_is y x at) ∙ e)
 is_any f (y ∷ xs) (suc k) x at e = ap (λ b. f y || b) (is_any f xs k x at e) ∙ or_true (f y)
 
 way_of : (s : AdcState) (g : ℕ) (x : Status) (turn trigger : Bool) → (group_at s g).status ≡ x → has_turn s g ≡ turn → (group_at s g).trigger ≡ trigger → under_way_by x turn trigger ≡ true → IsUnderWay s g
@@ -299,32 +296,25 @@ is_on_unit u o k e at = ap (λ x. is_on u x) e ∙ (ap (λ n. n == u) at ∙ sam
   same : (n : ℕ) → (n == n) ≡ true
   same n = grind (arith, nat_tests)
 
-not_true : (b : Bool) → not b ≡ true → b ≡ false
-not_true true e = absurd (cc e)
-not_true false e = refl
-
 either : (p q : Bool) → (p || q) ≡ true → (p ≡ true) ⊎ (q ≡ true)
 either true q e = inl refl
 either false q e = inr e
 
-and_both : (p q : Bool) → p ≡ true → q ≡ true → (p && q) ≡ true
-and_both p q e f = ap (λ x. x && q) e ∙ f
-
 module _ (d : AdcTable) (s : AdcState) (g : ℕ) (k : configured.Group) (there : group_of d g ≡ Some k) where
   taken : (takes_one d && is_unit_taken d s (Some k)) ≡ true → IsTaken d s k.unit
   taken e =
-      let parts = both (takes_one d) (is_unit_taken d s (Some k)) e in
-      let one = both (not d.priorities) (not d.queuing) parts.0 in
+      let parts = and_parts (takes_one d) (is_unit_taken d s (Some k)) e in
+      let one = and_parts (not d.priorities) (not d.queuing) parts.0 in
       let h = any_of (λ h. is_on k.unit (group_of d h) && is_under_way s h) all_groups parts.1 in
-      let on = both (is_on k.unit (group_of d h.0)) (is_under_way s h.0) h.1 in
+      let on = and_parts (is_on k.unit (group_of d h.0)) (is_under_way s h.0) h.1 in
       let x = on_unit k.unit (group_of d h.0) on.0 in
-      record { priorities = not_true d.priorities one.0; queuing = not_true d.queuing one.1; group = h.0; configured = x.0; there = x.1; on = x.2; under_way = under_way s h.0 on.1 }
+      record { priorities = not-true d.priorities one.0; queuing = not-true d.queuing one.1; group = h.0; configured = x.0; there = x.1; on = x.2; under_way = under_way s h.0 on.1 }
 
   is_taken : IsTaken d s k.unit → (takes_one d && is_unit_taken d s (Some k)) ≡ true
   is_taken t =
-      and_both (takes_one d) (is_unit_taken d s (Some k)) (and_both (not d.priorities) (not d.queuing) (ap not t.priorities) (ap not t.queuing))
+      and_from (takes_one d) (is_unit_taken d s (Some k)) (and_from (not d.priorities) (not d.queuing) (ap not t.priorities) (ap not t.queuing))
       (is_any (λ h. is_on k.unit (group_of d h) && is_under_way s h) all_groups t.group t.group (listed t.group (in_table d t.group t.configured t.there))
-      (and_both (is_on k.unit (group_of d t.group)) (is_under_way s t.group) (is_on_unit k.unit (group_of d t.group) t.configured t.there t.on) (on_its_way s t.group t.under_way)))
+      (and_from (is_on k.unit (group_of d t.group)) (is_under_way s t.group) (is_on_unit k.unit (group_of d t.group) t.configured t.there t.on) (on_its_way s t.group t.under_way)))
 
   busy_is : is_start_busy d s g ≡ (is_under_way s g || (takes_one d && is_unit_taken d s (Some k)))
   busy_is = ap (λ o. is_under_way s g || (takes_one d && is_unit_taken d s o)) there
@@ -399,27 +389,21 @@ deinit_busy d s g on lt way =
 
 -- ---- aborts
 
-less : (a b : ℕ) → nat_lt a b ≡ true → a < b
-less a b e = grind (arith, nat_tests)
-
-is_less : (a b : ℕ) → a < b → nat_lt a b ≡ true
-is_less a b h = grind (arith, nat_tests)
-
 outranked_of : (d : AdcTable) (s : AdcState) (u g : ℕ) → is_outranked d s u g ≡ true → IsOutranked d s u g
 outranked_of d s u g e =
     let h = any_of (λ h. waits_for d s u h && nat_lt (rank_of d g) (rank_of d h)) all_groups e in
-    let parts = both (waits_for d s u h.0) (nat_lt (rank_of d g) (rank_of d h.0)) h.1 in
-    record { other = h.0; waits = parts.0; higher = less (rank_of d g) (rank_of d h.0) parts.1 }
+    let parts = and_parts (waits_for d s u h.0) (nat_lt (rank_of d g) (rank_of d h.0)) h.1 in
+    record { other = h.0; waits = parts.0; higher = lt_is (rank_of d g) (rank_of d h.0) parts.1 }
 
 waits_known : (d : AdcTable) (s : AdcState) (u h : ℕ) → waits_for d s u h ≡ true → h < 16
 waits_known d s u h e =
-    let parts = both (is_on u (group_of d h)) (is_some (group_at s h).waiting) e in
+    let parts = and_parts (is_on u (group_of d h)) (is_some (group_at s h).waiting) e in
     let k = on_unit u (group_of d h) parts.0 in in_table d h k.0 k.1
 
 of_outranked : (d : AdcTable) (s : AdcState) (u g : ℕ) → IsOutranked d s u g → is_outranked d s u g ≡ true
 of_outranked d s u g x =
     is_any (λ h. waits_for d s u h && nat_lt (rank_of d g) (rank_of d h)) all_groups x.other x.other (listed x.other (waits_known d s u x.other x.waits))
-    (and_both (waits_for d s u x.other) (nat_lt (rank_of d g) (rank_of d x.other)) x.waits (is_less (rank_of d g) (rank_of d x.other) x.higher))
+    (and_from (waits_for d s u x.other) (nat_lt (rank_of d g) (rank_of d x.other)) x.waits (lt_from (rank_of d g) (rank_of d x.other) x.higher))
 
 aborted_by : (d : AdcTable) (w : World) (s : AdcState) (u : ℕ) (r : Round) (q : Bool) (out : Outcome AdcState) → aborting d w s u (cond q (Some r) None) ≡ Some out → q ≡ true
 aborted_by d w s u r true out e = refl
@@ -430,14 +414,14 @@ pub abort_outranked : (d : AdcTable) (w : World) (s : AdcState) (unit : units.Un
 abort_outranked d w s unit u r out made is there =
     let made_so : aborting d w s u (aborts_by d w s u (Some r)) ≡ Some out = ap (λ o. aborting d w s u (aborts_by d w s u o)) (sym there) ∙ (ap (λ k. aborts_on d w s k) (sym is) ∙ made) in
     let both_hold = aborted_by d w s u r (not (is_finished w (group_of d r.group) r) && is_outranked d s u r.group) out made_so in
-    outranked_of d s u r.group (both (not (is_finished w (group_of d r.group) r)) (is_outranked d s u r.group) both_hold).1
+    outranked_of d s u r.group (and_parts (not (is_finished w (group_of d r.group) r)) (is_outranked d s u r.group) both_hold).1
 
 pub abort_allowed : (d : AdcTable) (w : World) (s : AdcState) (unit : units.Unit) (u : ℕ) (r : Round) → number_of unit ≡ Some u → round_at s u ≡ Some r → is_finished w (group_of d r.group) r ≡ false → IsOutranked d s u r.group
     → IsSome (happens d w s (Aborts unit))
 abort_allowed d w s unit u r is there open_still x =
     ap (λ k. is_some (aborts_on d w s k)) is
     ∙ (ap (λ o. is_some (aborting d w s u (aborts_by d w s u o))) there
-    ∙ ap (λ q. is_some (aborting d w s u (cond q (Some r) None))) (and_both (not (is_finished w (group_of d r.group) r)) (is_outranked d s u r.group) (ap not open_still) (of_outranked d s u r.group x)))
+    ∙ ap (λ q. is_some (aborting d w s u (cond q (Some r) None))) (and_from (not (is_finished w (group_of d r.group) r)) (is_outranked d s u r.group) (ap not open_still) (of_outranked d s u r.group x)))
 
 equal_ranks : (d : AdcTable) (g : ℕ) → d.priorities ≡ false → rank_of d g ≡ 0
 equal_ranks d g e = ap (λ b. cond b (priority_of (group_of d g)) 0) e
@@ -446,14 +430,10 @@ none_outranked : (d : AdcTable) (s : AdcState) (u g : ℕ) (q : Bool) → d.prio
 none_outranked d s u g false e f = refl
 none_outranked d s u g true e f = let x = outranked_of d s u g f in absurd (omega (arith, x.higher, equal_ranks d g e, equal_ranks d x.other e))
 
-and_false : (p q : Bool) → q ≡ false → (p && q) ≡ false
-and_false true q e = e
-and_false false q e = refl
-
 none_aborts : (d : AdcTable) (w : World) (s : AdcState) (u : ℕ) (o : Option Round) → d.priorities ≡ false → aborting d w s u (aborts_by d w s u o) ≡ None
 none_aborts d w s u None e = refl
 none_aborts d w s u (Some r) e =
-    ap (λ q. aborting d w s u (cond q (Some r) None)) (and_false (not (is_finished w (group_of d r.group) r)) (is_outranked d s u r.group) (none_outranked d s u r.group (is_outranked d s u r.group) e refl))
+    ap (λ q. aborting d w s u (cond q (Some r) None)) (and_right (not (is_finished w (group_of d r.group) r)) (is_outranked d s u r.group) (none_outranked d s u r.group (is_outranked d s u r.group) e refl))
 
 none_aborted : (d : AdcTable) (w : World) (s : AdcState) (k : Option ℕ) → d.priorities ≡ false → aborts_on d w s k ≡ None
 none_aborted d w s None e = refl

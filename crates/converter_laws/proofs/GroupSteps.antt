@@ -3,6 +3,8 @@ use Rattle.std.proofs.Common.{◌≡◌, ◌≢◌, ℕ, ◌+◌, ◌-◌, ◌<�
 use Rattle.std.specs.Prelude.{is_some}
 use Rattle.std.specs.List.{list_all}
 use Rattle.std.proofs.lemmas.Bool.Decides.{nat_tests}
+use Rattle.std.proofs.lemmas.Bool.{and_parts}
+use Rattle.plain_facts.specs.Numbers.{eq_other, eq_self, same_or_other}
 use Rattle.mcal_base.specs.declared.directive.Order.{Order}
 use Rattle.mcal_base.specs.declared.directive.Order.TheVariants as orders
 use Rattle.mcal_base.specs.declared.error_name.ErrorName.{ErrorName}
@@ -26,21 +28,8 @@ use Rattle.adc_machine.specs.declared.call.GroupCall.TheVariants.{SetupResultBuf
 use Rattle.adc_machine.specs.declared.table.AdcTable.{AdcTable}
 use Rattle.converter_laws.specs.GroupRuns.{leaves_notification, leaves_stream, serves_round, rounds_served}
 
-pub eq_self : (n : ℕ) → (n == n) ≡ true
-eq_self n = grind (arith, nat_tests)
-
-pub eq_other : (n k : ℕ) → n ≢ k → (n == k) ≡ false
-eq_other n k ne = grind (arith, nat_tests)
-
-pub same_or_other : (n k : ℕ) → (n ≡ k) ⊎ (n ≢ k)
-same_or_other n k = grind arith
-
 pub not_itself : (g n : ℕ) → not (g == n) ≡ true → n ≢ g
 not_itself g n e at = let no : not (g == n) ≡ false = ap (λ i. not (g == i)) at ∙ ap not (eq_self g) in absurd (cc (sym no ∙ e))
-
-pub both : (a b : Bool) → (a && b) ≡ true → (a ≡ true) × (b ≡ true)
-both true b h = (refl, h)
-both false b h = absurd (cc h)
 
 -- ---- a group that was put
 
@@ -201,7 +190,7 @@ module _ (d : AdcTable) (g : ℕ) (lt : g < 16) where
   pub notified_all : (s : AdcState) (run : List Step) → list_all (λ (x : Step). leaves_notification g x.happening) run ≡ true → notified (state_after d s run) g ≡ notified s g
   notified_all s [] left = refl
   notified_all s (x ∷ xs) left =
-      let parts = both (leaves_notification g x.happening) (list_all (λ (y : Step). leaves_notification g y.happening) xs) left in
+      let parts = and_parts (leaves_notification g x.happening) (list_all (λ (y : Step). leaves_notification g y.happening) xs) left in
       notified_all (state_by s (happens d x.world s x.happening)) xs parts.1 ∙ step_notified x.world s x.happening parts.0
 
 -- ---- the number of rounds
@@ -298,7 +287,7 @@ module _ (d : AdcTable) (g : ℕ) (lt : g < 16) where
   pub rounds_all : (s : AdcState) (run : List Step) → list_all (λ (x : Step). leaves_stream g x.happening) run ≡ true → length (rounds_of (state_after d s run) g) ≡ length (rounds_of s g) + rounds_served d s g run
   rounds_all s [] left = omega arith
   rounds_all s (x ∷ xs) left =
-      let parts = both (leaves_stream g x.happening) (list_all (λ (y : Step). leaves_stream g y.happening) xs) left in
+      let parts = and_parts (leaves_stream g x.happening) (list_all (λ (y : Step). leaves_stream g y.happening) xs) left in
       let next : AdcState = state_by s (happens d x.world s x.happening) in
       let one = step_rounds x.world s x.happening parts.0 in
       let rest = rounds_all next xs parts.1 in omega (arith, one, rest)

@@ -3,6 +3,9 @@ use Rattle.std.proofs.Common.{◌≡◌, ◌≢◌, ℕ, ◌<◌, ◌^◌, ◌==
 use Rattle.std.specs.Prelude.{◌↔◌, if◌then◌else◌}
 use Rattle.std.specs.List.{AllByRecursion}
 use Rattle.std.proofs.lemmas.Bool.Decides.{nat_tests}
+use Rattle.std.proofs.lemmas.Bool.{and_parts}
+use Rattle.plain_facts.specs.Truths.{and_false, and_true, clear_apart, or_false, or_true}
+use Rattle.plain_facts.specs.Numbers.{eq_is, eq_other, eq_self, same_or_other}
 use Rattle.mcal_base.specs.Bits.{has_bit}
 use Rattle.mcal_base.proofs.BitLaws.{has_bit-or, has_bit-without, has_bit-pow_same, has_bit-pow_other}
 use Rattle.mcal_base.specs.declared.register.Reg.{Reg}
@@ -11,34 +14,6 @@ use Rattle.chip_converter.specs.Converters.{Converters, after_read, after_write}
 use Rattle.chip_converter.specs.Accesses.{Access, after, after_all}
 use Rattle.chip_converter.specs.Accesses as accesses
 use Rattle.converter_laws.specs.Histories.{LeavesPulse, LeavesGate, PulseIn}
-
-or_none : (b : Bool) → (b || false) ≡ b
-or_none true = refl
-or_none false = refl
-
-or_true : (b : Bool) → (b || true) ≡ true
-or_true true = refl
-or_true false = refl
-
-and_true : (b : Bool) → (b && true) ≡ b
-and_true true = refl
-and_true false = refl
-
-and_false : (b : Bool) → (b && false) ≡ false
-and_false true = refl
-and_false false = refl
-
-eq_self : (n : ℕ) → (n == n) ≡ true
-eq_self n = grind (arith, nat_tests)
-
-eq_is : (n k : ℕ) → (n == k) ≡ true → n ≡ k
-eq_is n k e = grind (arith, nat_tests)
-
-same_or_other : (n k : ℕ) → (n ≡ k) ⊎ (n ≢ k)
-same_or_other n k = grind arith
-
-eq_other : (n k : ℕ) → n ≢ k → (n == k) ≡ false
-eq_other n k ne = grind (arith, nat_tests)
 
 -- ---- a flag
 
@@ -51,9 +26,6 @@ read_flags : (b : Converters) (r : Reg) (k : ℕ) → has_bit (after_read b r).p
 read_flags b (ConverterAbort u) k = refl
 read_flags b _ k = refl
 
-kept_flag : (p q : Bool) → q ≡ false → (p && not q) ≡ p
-kept_flag p q e = ap (λ x. p && not x) e ∙ and_true p
-
 write_flags : (b : Converters) (r : Reg) (value k : ℕ) → k < 4 → LeavesPulse k (accesses.Writes r value) → has_bit (after_write b r value).pulses k ≡ has_bit b.pulses k
 write_flags b (ConverterList u p) value k lt left = refl
 write_flags b (ConverterGo u) value k lt left = refl
@@ -61,11 +33,11 @@ write_flags b (ConverterAck u) value k lt left = refl
 write_flags b TriggerSet value k lt left = refl
 write_flags b TriggerClear value k lt left = refl
 write_flags b TriggerFlags value k lt left =
-    let few : k < 32 = omega (arith, lt) in has_bit-without b.pulses value k left.0 few ∙ kept_flag (has_bit b.pulses k) (has_bit value k) left.1
+    let few : k < 32 = omega (arith, lt) in has_bit-without b.pulses value k left.0 few ∙ clear_apart (has_bit b.pulses k) (has_bit value k) left.1
 write_flags b _ value k lt left = refl
 
 pulsed_by : (b : Converters) (j k : ℕ) (q : Bool) → (j == k && has_bit b.gates k) ≡ (j == k && q) → has_bit (if q then record b { pulses = bit_or b.pulses (2 ^ j) } else b).pulses k ≡ (has_bit b.pulses k || (j == k && q))
-pulsed_by b j k false e = sym (ap (λ x. has_bit b.pulses k || x) (and_false (j == k)) ∙ or_none (has_bit b.pulses k))
+pulsed_by b j k false e = sym (ap (λ x. has_bit b.pulses k || x) (and_false (j == k)) ∙ or_false (has_bit b.pulses k))
 pulsed_by b j k true e = has_bit-or b.pulses (2 ^ j) k ∙ ap (λ x. has_bit b.pulses k || x) (by (same_or_other k j)) where
   by : (k ≡ j) ⊎ (k ≢ j) → has_bit (2 ^ j) k ≡ (j == k && true)
   by (inl at) = ap (λ i. has_bit (2 ^ i) k) (sym at) ∙ (has_bit-pow_same k ∙ sym (and_true (j == k) ∙ (ap (λ i. i == k) (sym at) ∙ eq_self k)))
@@ -81,12 +53,12 @@ gate_of b j k lt = by (same_or_other j k) where
   by (inr ne) = ap (λ q. q && has_bit b.gates k) (eq_other j k ne) ∙ sym (ap (λ q. q && (nat_lt j 4 && has_bit b.gates j)) (eq_other j k ne))
 
 step_flag : (b : Converters) (k : ℕ) (x : Access) → k < 4 → LeavesPulse k x → has_bit (after b x).pulses k ≡ (has_bit b.pulses k || hits k b x)
-step_flag b k (accesses.Reads r) lt left = read_flags b r k ∙ sym (or_none (has_bit b.pulses k))
-step_flag b k (accesses.Writes r value) lt left = write_flags b r value k lt left ∙ sym (or_none (has_bit b.pulses k))
-step_flag b k (accesses.Sets input value) lt left = sym (or_none (has_bit b.pulses k))
+step_flag b k (accesses.Reads r) lt left = read_flags b r k ∙ sym (or_false (has_bit b.pulses k))
+step_flag b k (accesses.Writes r value) lt left = write_flags b r value k lt left ∙ sym (or_false (has_bit b.pulses k))
+step_flag b k (accesses.Sets input value) lt left = sym (or_false (has_bit b.pulses k))
 step_flag b k (accesses.Pulses j) lt left =
     pulsed_by b j k (nat_lt j 4 && has_bit b.gates j) (gate_of b j k lt) ∙ ap (λ x. has_bit b.pulses k || x) (sym (gate_of b j k lt))
-step_flag b k (accesses.Passes n) lt left = sym (or_none (has_bit b.pulses k))
+step_flag b k (accesses.Passes n) lt left = sym (or_false (has_bit b.pulses k))
 
 -- ---- histories
 
@@ -99,15 +71,11 @@ or_assoc true q r = refl
 or_assoc false q r = refl
 
 flag_all : (b : Converters) (k : ℕ) (xs : List Access) → k < 4 → AllByRecursion (LeavesPulse k) xs → has_bit (after_all b xs).pulses k ≡ (has_bit b.pulses k || hit_in k b xs)
-flag_all b k [] lt left = sym (or_none (has_bit b.pulses k))
+flag_all b k [] lt left = sym (or_false (has_bit b.pulses k))
 flag_all b k (x ∷ xs) lt left =
     flag_all (after b x) k xs lt left.1
     ∙ (ap (λ q. q || hit_in k (after b x) xs) (step_flag b k x lt left.0)
     ∙ or_assoc (has_bit b.pulses k) (hits k b x) (hit_in k (after b x) xs))
-
-both : (p q : Bool) → (p && q) ≡ true → (p ≡ true) × (q ≡ true)
-both true q e = (refl, e)
-both false q e = absurd (cc e)
 
 either : (p q : Bool) → (p || q) ≡ true → (p ≡ true) ⊎ (q ≡ true)
 either true q e = inl refl
@@ -115,7 +83,7 @@ either false q e = inr e
 
 here : (k : ℕ) (b : Converters) (x : Access) (xs : List Access) → hits k b x ≡ true → PulseIn b k (x ∷ xs)
 here k b (accesses.Pulses j) xs e =
-    let parts = both (j == k) (has_bit b.gates k) e in
+    let parts = and_parts (j == k) (has_bit b.gates k) e in
     record { before = []; rest = xs; is = ap (λ i. accesses.Pulses i ∷ xs) (eq_is j k parts.0); gate = parts.1 }
 here k b (accesses.Reads r) xs e = absurd (cc e)
 here k b (accesses.Writes r value) xs e = absurd (cc e)
@@ -158,8 +126,8 @@ write_gate : (b : Converters) (r : Reg) (value k : ℕ) → k < 32 → LeavesGat
 write_gate b (ConverterList u p) value k lt left = refl
 write_gate b (ConverterGo u) value k lt left = refl
 write_gate b (ConverterAck u) value k lt left = refl
-write_gate b TriggerSet value k lt left = has_bit-or b.gates value k ∙ (ap (λ q. has_bit b.gates k || q) left ∙ or_none (has_bit b.gates k))
-write_gate b TriggerClear value k lt left = has_bit-without b.gates value k left.0 lt ∙ kept_flag (has_bit b.gates k) (has_bit value k) left.1
+write_gate b TriggerSet value k lt left = has_bit-or b.gates value k ∙ (ap (λ q. has_bit b.gates k || q) left ∙ or_false (has_bit b.gates k))
+write_gate b TriggerClear value k lt left = has_bit-without b.gates value k left.0 lt ∙ clear_apart (has_bit b.gates k) (has_bit value k) left.1
 write_gate b TriggerFlags value k lt left = refl
 write_gate b _ value k lt left = refl
 

@@ -3,13 +3,14 @@ use Rattle.std.proofs.Common.{◌≡◌, ℕ, ◌+◌, ◌-◌, ◌*◌, ◌/◌
 use Rattle.std.specs.Prelude.{if◌then◌else◌, slice_index}
 use Rattle.std.specs.List.{AllByRecursion}
 use Rattle.std.proofs.lemmas.Bool.Decides.{nat_tests}
+use Rattle.plain_facts.specs.Numbers.{eq_from, same_or_other}
 use Rattle.mcal_base.specs.declared.register.Reg.TheVariants.{ConverterList, ConverterGo, ConverterState, ConverterDone, ConverterAbort, ConverterAck}
 use Rattle.chip_converter.specs.Rounds.{Round, opened, ended, has_ended, is_idle, is_finished, is_running, state, input_of, over}
 use Rattle.chip_converter.specs.Converters.{Converters, unit_at, gone, listed, aborted, acknowledged, read_of, after_read, after_write}
 use Rattle.chip_converter.specs.Accesses.{Access, after, after_all, LeavesRound, LeavesResults, round_at, ends_at, HasUnit}
 use Rattle.chip_converter.specs.Accesses as accesses
 use Rattle.chip_converter.specs.declared.converter.Converter.{Converter}
-use Rattle.chip_converter.proofs.HistoryLaws.{same_or_other, unit_at-with_unit_same, unit_at-analog, either_seen, with_seen, ended-open, has_unit-after, has_unit-after_all, time-after_all, round-left_all, result_at, stays-read, goes}
+use Rattle.chip_converter.proofs.HistoryLaws.{unit_at-with_unit_same, unit_at-analog, either_seen, with_seen, ended-open, has_unit-after, has_unit-after_all, time-after_all, round-left_all, result_at, stays-read, goes}
 use Rattle.chip_converter.proofs.StateLaws.{unit_at-begun, result-begun, result-until_ended}
 use Rattle.converter_laws.specs.Histories.{LeavesList}
 
@@ -114,14 +115,11 @@ module _ (b : Converters) (u count : ℕ) (xs : List Access) (h : HasUnit b u) (
   not_all : (a c : ℕ) → a < c → (a == c) ≡ false
   not_all a c lt = grind (arith, nat_tests)
 
-  are_all : (a c : ℕ) → a ≡ c → (a == c) ≡ true
-  are_all a c e = grind (arith, nat_tests)
-
   pub still_runs : (after_all b' xs).time < b.time + 4 * count → read_of (after_all b' xs) (ConverterState u) ≡ 1
   still_runs early = state_is false (not_all _ count (omega (arith, ends)))
 
   pub is_whole : b.time + 4 * count ≤ (after_all b' xs).time → read_of (after_all b' xs) (ConverterState u) ≡ 2
-  is_whole late = state_is true (are_all _ count (omega (arith, ends)))
+  is_whole late = state_is true (eq_from _ count (omega (arith, ends)))
 
 place_of : (p n : ℕ) → n < 4 → ((4 * p + n) / 4 ≡ p) × ((4 * p + n) % 4 ≡ n)
 place_of p n lt = (omega arith, omega arith)

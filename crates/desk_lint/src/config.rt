@@ -1,4 +1,5 @@
 use crate::found::{Found, key_at, value_at};
+use crate::members::has_same;
 use config_keys::KeyName;
 use desk_findings::allowed;
 use desk_places::Places;
@@ -8,7 +9,7 @@ use std::alloc::AllocError;
 use toml::Value;
 
 /// The modules that a configuration may have.
-const MODULES: [ModuleName; 7] = [
+const MODULES: [ModuleName; 9] = [
     ModuleName::Mcu,
     ModuleName::Port,
     ModuleName::Gpt,
@@ -16,10 +17,14 @@ const MODULES: [ModuleName; 7] = [
     ModuleName::Icu,
     ModuleName::Adc,
     ModuleName::Spi,
+    ModuleName::Dio,
+    ModuleName::Wdg,
 ];
 
 /// The names of the modules.
-const NAMES: [&str; 7] = ["Mcu", "Port", "Gpt", "Pwm", "Icu", "Adc", "Spi"];
+const NAMES: [&str; 9] = [
+    "Mcu", "Port", "Gpt", "Pwm", "Icu", "Adc", "Spi", "Dio", "Wdg",
+];
 
 /// A configuration that is looked through: where its keys stand, and what is found.
 #[derive(Drop)]
@@ -258,7 +263,7 @@ impl ConfigPass<'_> {
                 let earlier = items
                     .iter()
                     .take(number)
-                    .position(|other| has_same(other, item, key.text()));
+                    .position(|other| has_same(other, item, *key));
                 if let Some(earlier) = earlier {
                     self.repeated(path, key.text(), earlier, number)?;
                 }
@@ -282,17 +287,4 @@ impl ConfigPass<'_> {
         let other = value_at(self.places, first.as_str());
         self.found.error_of_two(span, other, what)
     }
-}
-
-/// Whether a key of two tables has the same whole number.
-fn has_same(one: &Value, other: &Value, key: &str) -> bool {
-    match (number_at(one, key), number_at(other, key)) {
-        (Some(one), Some(other)) => one == other,
-        _ => false,
-    }
-}
-
-/// The whole number of a key of a table.
-fn number_at(value: &Value, key: &str) -> Option<i64> {
-    value.as_table()?.get(key)?.as_integer()
 }

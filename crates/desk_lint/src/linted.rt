@@ -43,6 +43,31 @@ fn at_least_one(alloc: Global, mut errors: Vec<Finding>) -> Result<Vec<Finding>,
     Ok(errors)
 }
 
+/// Looks for all references that lead nowhere and all rules that are broken, where the readers found the first of them. That
+/// one is told by itself where nothing is found.
+fn beyond_rows(
+    pass: &mut ConfigPass<'_>,
+    values: &toml::Table,
+    fault: Option<ConfigFault>,
+) -> Result<(), AllocError> {
+    let Some(fault) = fault else {
+        return Ok(());
+    };
+    if !matches!(
+        fault,
+        ConfigFault::Unknown(..) | ConfigFault::Combination(..)
+    ) {
+        return Ok(());
+    }
+    let before = pass.found.errors.len();
+    pass.references(values)?;
+    pass.combinations(values)?;
+    if pass.found.errors.len() == before {
+        told(pass.found, pass.places, fault)?;
+    }
+    Ok(())
+}
+
 /// Looks through a text that is to be a configuration. Of one without TOML's form that is told alone.
 fn config_pass(
     found: &mut Found,
@@ -57,7 +82,7 @@ fn config_pass(
                 found,
             };
             pass.whole(&table)?;
-            told(pass.found, &places, fault)
+            beyond_rows(&mut pass, &table, fault)
         }
         Err(error) => {
             let Some(span) = error.span() else {

@@ -1,4 +1,4 @@
-use crate::rows::tables;
+use crate::all_tables::tables;
 use config_keys::KeyName;
 use mcal_base::ModuleName;
 

@@ -2,12 +2,13 @@
 //! kinds, and the words of a script.
 #![tactic(auto)]
 
+mod all_tables;
 mod keys;
 mod rows;
 mod service_rows;
 mod words;
 
+pub use all_tables::tables;
 pub use keys::{KeyRow, Kind, Need, Range, Table, table_of};
-pub use rows::tables;
 pub use service_rows::{ServiceRow, services};
 pub use words::{DirectiveRow, Place, directives};

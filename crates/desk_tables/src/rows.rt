@@ -1,6 +1,5 @@
-use crate::keys::{KeyRow, Kind, Need, Range, Table};
+use crate::keys::{KeyRow, Kind, Need, Range};
 use config_keys::KeyName;
-use mcal_base::ModuleName;
 
 /// The directions of a pin.
 const DIRECTIONS: [&str; 2] = ["PORT_PIN_IN", "PORT_PIN_OUT"];
@@ -76,8 +75,11 @@ const STREAMS: [&str; 2] = ["ADC_STREAM_BUFFER_LINEAR", "ADC_STREAM_BUFFER_CIRCU
 /// The keepers of serial words.
 const BUFFERS: [&str; 2] = ["IB", "EB"];
 
+/// The modes of the watchdog.
+const WATCHDOG_MODES: [&str; 3] = ["WDGIF_OFF_MODE", "WDGIF_SLOW_MODE", "WDGIF_FAST_MODE"];
+
 /// The keys of `[Mcu]`.
-const MCU_KEYS: [KeyRow; 4] = [
+pub(crate) const MCU_KEYS: [KeyRow; 4] = [
     KeyRow(
         KeyName::McuDevErrorDetect,
         Kind::Truth,
@@ -101,7 +103,7 @@ const MCU_KEYS: [KeyRow; 4] = [
 ];
 
 /// The keys of an element of `McuClockSettingConfig`.
-const MCU_CLOCK_SETTING_CONFIG_KEYS: [KeyRow; 2] = [
+pub(crate) const MCU_CLOCK_SETTING_CONFIG_KEYS: [KeyRow; 2] = [
     KeyRow(
         KeyName::McuClockSettingId,
         Kind::Whole(Range(0, 7)),
@@ -115,14 +117,14 @@ const MCU_CLOCK_SETTING_CONFIG_KEYS: [KeyRow; 2] = [
 ];
 
 /// The keys of an element of `McuModeSettingConf`.
-const MCU_MODE_SETTING_CONF_KEYS: [KeyRow; 1] = [KeyRow(
+pub(crate) const MCU_MODE_SETTING_CONF_KEYS: [KeyRow; 1] = [KeyRow(
     KeyName::McuMode,
     Kind::Whole(Range(0, 7)),
     Need::Id,
 )];
 
 /// The keys of an element of `McuRamSectorSettingConf`.
-const MCU_RAM_SECTOR_SETTING_CONF_KEYS: [KeyRow; 3] = [
+pub(crate) const MCU_RAM_SECTOR_SETTING_CONF_KEYS: [KeyRow; 3] = [
     KeyRow(
         KeyName::McuRamSectionBaseAddress,
         Kind::Whole(Range(0, 511)),
@@ -141,7 +143,7 @@ const MCU_RAM_SECTOR_SETTING_CONF_KEYS: [KeyRow; 3] = [
 ];
 
 /// The keys of `[Port]`.
-const PORT_KEYS: [KeyRow; 2] = [
+pub(crate) const PORT_KEYS: [KeyRow; 2] = [
     KeyRow(
         KeyName::PortDevErrorDetect,
         Kind::Truth,
@@ -151,7 +153,7 @@ const PORT_KEYS: [KeyRow; 2] = [
 ];
 
 /// The keys of an element of `PortPin`.
-const PORT_PIN_KEYS: [KeyRow; 7] = [
+pub(crate) const PORT_PIN_KEYS: [KeyRow; 7] = [
     KeyRow(KeyName::PortPinId, Kind::Whole(Range(0, 63)), Need::Id),
     KeyRow(
         KeyName::PortPinDirection,
@@ -186,7 +188,7 @@ const PORT_PIN_KEYS: [KeyRow; 7] = [
 ];
 
 /// The keys of `[Gpt]`.
-const GPT_KEYS: [KeyRow; 3] = [
+pub(crate) const GPT_KEYS: [KeyRow; 3] = [
     KeyRow(
         KeyName::GptDevErrorDetect,
         Kind::Truth,
@@ -205,7 +207,7 @@ const GPT_KEYS: [KeyRow; 3] = [
 ];
 
 /// The keys of an element of `GptChannelConfiguration`.
-const GPT_CHANNEL_CONFIGURATION_KEYS: [KeyRow; 7] = [
+pub(crate) const GPT_CHANNEL_CONFIGURATION_KEYS: [KeyRow; 7] = [
     KeyRow(KeyName::GptChannelId, Kind::Whole(Range(0, 7)), Need::Id),
     KeyRow(
         KeyName::GptChannelMode,
@@ -232,7 +234,7 @@ const GPT_CHANNEL_CONFIGURATION_KEYS: [KeyRow; 7] = [
 ];
 
 /// The keys of `[Pwm]`.
-const PWM_KEYS: [KeyRow; 2] = [
+pub(crate) const PWM_KEYS: [KeyRow; 2] = [
     KeyRow(
         KeyName::PwmDevErrorDetect,
         Kind::Truth,
@@ -242,7 +244,7 @@ const PWM_KEYS: [KeyRow; 2] = [
 ];
 
 /// The keys of an element of `PwmChannel`.
-const PWM_CHANNEL_KEYS: [KeyRow; 9] = [
+pub(crate) const PWM_CHANNEL_KEYS: [KeyRow; 9] = [
     KeyRow(KeyName::PwmChannelId, Kind::Whole(Range(0, 7)), Need::Id),
     KeyRow(
         KeyName::PwmChannelClass,
@@ -275,7 +277,7 @@ const PWM_CHANNEL_KEYS: [KeyRow; 9] = [
 ];
 
 /// The keys of `[Icu]`.
-const ICU_KEYS: [KeyRow; 3] = [
+pub(crate) const ICU_KEYS: [KeyRow; 3] = [
     KeyRow(
         KeyName::IcuDevErrorDetect,
         Kind::Truth,
@@ -290,7 +292,7 @@ const ICU_KEYS: [KeyRow; 3] = [
 ];
 
 /// The keys of an element of `IcuChannel`.
-const ICU_CHANNEL_KEYS: [KeyRow; 9] = [
+pub(crate) const ICU_CHANNEL_KEYS: [KeyRow; 9] = [
     KeyRow(KeyName::IcuChannelId, Kind::Whole(Range(0, 7)), Need::Id),
     KeyRow(
         KeyName::IcuDefaultStartEdge,
@@ -323,7 +325,7 @@ const ICU_CHANNEL_KEYS: [KeyRow; 9] = [
 ];
 
 /// The keys of `[Adc]`.
-const ADC_KEYS: [KeyRow; 6] = [
+pub(crate) const ADC_KEYS: [KeyRow; 6] = [
     KeyRow(
         KeyName::AdcDevErrorDetect,
         Kind::Truth,
@@ -349,13 +351,13 @@ const ADC_KEYS: [KeyRow; 6] = [
 ];
 
 /// The keys of an element of `AdcHwUnit`.
-const ADC_HW_UNIT_KEYS: [KeyRow; 2] = [
+pub(crate) const ADC_HW_UNIT_KEYS: [KeyRow; 2] = [
     KeyRow(KeyName::AdcHwUnitId, Kind::Whole(Range(0, 1)), Need::Id),
     KeyRow(KeyName::Level, Kind::Whole(Range(1, 7)), Need::Default("1")),
 ];
 
 /// The keys of an element of `AdcGroup`.
-const ADC_GROUP_KEYS: [KeyRow; 13] = [
+pub(crate) const ADC_GROUP_KEYS: [KeyRow; 13] = [
     KeyRow(KeyName::AdcGroupId, Kind::Whole(Range(0, 15)), Need::Id),
     KeyRow(KeyName::Unit, Kind::Whole(Range(0, 1)), Need::Required),
     KeyRow(
@@ -408,7 +410,7 @@ const ADC_GROUP_KEYS: [KeyRow; 13] = [
 ];
 
 /// The keys of `[Spi]`.
-const SPI_KEYS: [KeyRow; 6] = [
+pub(crate) const SPI_KEYS: [KeyRow; 6] = [
     KeyRow(
         KeyName::SpiDevErrorDetect,
         Kind::Truth,
@@ -430,7 +432,7 @@ const SPI_KEYS: [KeyRow; 6] = [
 ];
 
 /// The keys of an element of `SpiChannel`.
-const SPI_CHANNEL_KEYS: [KeyRow; 6] = [
+pub(crate) const SPI_CHANNEL_KEYS: [KeyRow; 6] = [
     KeyRow(KeyName::SpiChannelId, Kind::Whole(Range(0, 15)), Need::Id),
     KeyRow(
         KeyName::SpiChannelType,
@@ -460,7 +462,7 @@ const SPI_CHANNEL_KEYS: [KeyRow; 6] = [
 ];
 
 /// The keys of an element of `SpiJob`.
-const SPI_JOB_KEYS: [KeyRow; 6] = [
+pub(crate) const SPI_JOB_KEYS: [KeyRow; 6] = [
     KeyRow(KeyName::SpiJobId, Kind::Whole(Range(0, 15)), Need::Id),
     KeyRow(
         KeyName::SpiJobPriority,
@@ -478,7 +480,7 @@ const SPI_JOB_KEYS: [KeyRow; 6] = [
 ];
 
 /// The keys of an element of `SpiSequence`.
-const SPI_SEQUENCE_KEYS: [KeyRow; 4] = [
+pub(crate) const SPI_SEQUENCE_KEYS: [KeyRow; 4] = [
     KeyRow(KeyName::SpiSequenceId, Kind::Whole(Range(0, 7)), Need::Id),
     KeyRow(
         KeyName::SpiInterruptibleSequence,
@@ -493,106 +495,65 @@ const SPI_SEQUENCE_KEYS: [KeyRow; 4] = [
     KeyRow(KeyName::SpiSeqEndNotification, Kind::Text, Need::Optional),
 ];
 
-/// All tables, each module's own before those of its arrays.
-static TABLES: [Table; 19] = [
-    Table {
-        module: ModuleName::Mcu,
-        array: None,
-        rows: &MCU_KEYS,
-    },
-    Table {
-        module: ModuleName::Mcu,
-        array: Some(KeyName::McuClockSettingConfig),
-        rows: &MCU_CLOCK_SETTING_CONFIG_KEYS,
-    },
-    Table {
-        module: ModuleName::Mcu,
-        array: Some(KeyName::McuModeSettingConf),
-        rows: &MCU_MODE_SETTING_CONF_KEYS,
-    },
-    Table {
-        module: ModuleName::Mcu,
-        array: Some(KeyName::McuRamSectorSettingConf),
-        rows: &MCU_RAM_SECTOR_SETTING_CONF_KEYS,
-    },
-    Table {
-        module: ModuleName::Port,
-        array: None,
-        rows: &PORT_KEYS,
-    },
-    Table {
-        module: ModuleName::Port,
-        array: Some(KeyName::PortPin),
-        rows: &PORT_PIN_KEYS,
-    },
-    Table {
-        module: ModuleName::Gpt,
-        array: None,
-        rows: &GPT_KEYS,
-    },
-    Table {
-        module: ModuleName::Gpt,
-        array: Some(KeyName::GptChannelConfiguration),
-        rows: &GPT_CHANNEL_CONFIGURATION_KEYS,
-    },
-    Table {
-        module: ModuleName::Pwm,
-        array: None,
-        rows: &PWM_KEYS,
-    },
-    Table {
-        module: ModuleName::Pwm,
-        array: Some(KeyName::PwmChannel),
-        rows: &PWM_CHANNEL_KEYS,
-    },
-    Table {
-        module: ModuleName::Icu,
-        array: None,
-        rows: &ICU_KEYS,
-    },
-    Table {
-        module: ModuleName::Icu,
-        array: Some(KeyName::IcuChannel),
-        rows: &ICU_CHANNEL_KEYS,
-    },
-    Table {
-        module: ModuleName::Adc,
-        array: None,
-        rows: &ADC_KEYS,
-    },
-    Table {
-        module: ModuleName::Adc,
-        array: Some(KeyName::AdcHwUnit),
-        rows: &ADC_HW_UNIT_KEYS,
-    },
-    Table {
-        module: ModuleName::Adc,
-        array: Some(KeyName::AdcGroup),
-        rows: &ADC_GROUP_KEYS,
-    },
-    Table {
-        module: ModuleName::Spi,
-        array: None,
-        rows: &SPI_KEYS,
-    },
-    Table {
-        module: ModuleName::Spi,
-        array: Some(KeyName::SpiChannel),
-        rows: &SPI_CHANNEL_KEYS,
-    },
-    Table {
-        module: ModuleName::Spi,
-        array: Some(KeyName::SpiJob),
-        rows: &SPI_JOB_KEYS,
-    },
-    Table {
-        module: ModuleName::Spi,
-        array: Some(KeyName::SpiSequence),
-        rows: &SPI_SEQUENCE_KEYS,
-    },
+/// The keys of `[Dio]`.
+pub(crate) const DIO_KEYS: [KeyRow; 2] = [
+    KeyRow(
+        KeyName::DioDevErrorDetect,
+        Kind::Truth,
+        Need::Default("true"),
+    ),
+    KeyRow(
+        KeyName::DioChannelGroup,
+        Kind::Tables(8),
+        Need::Default("[]"),
+    ),
 ];
 
-/// All tables, each module's own before those of its arrays.
-pub fn tables() -> &'static [Table] {
-    &TABLES
-}
+/// The keys of an element of `DioChannelGroup`.
+pub(crate) const DIO_CHANNEL_GROUP_KEYS: [KeyRow; 4] = [
+    KeyRow(
+        KeyName::DioChannelGroupId,
+        Kind::Whole(Range(0, 7)),
+        Need::Id,
+    ),
+    KeyRow(KeyName::Port, Kind::Whole(Range(0, 7)), Need::Required),
+    KeyRow(
+        KeyName::DioPortOffset,
+        Kind::Whole(Range(0, 7)),
+        Need::Required,
+    ),
+    KeyRow(
+        KeyName::DioPortMask,
+        Kind::Whole(Range(1, 255)),
+        Need::Required,
+    ),
+];
+
+/// The keys of `[Wdg]`.
+pub(crate) const WDG_KEYS: [KeyRow; 5] = [
+    KeyRow(
+        KeyName::WdgDevErrorDetect,
+        Kind::Truth,
+        Need::Default("true"),
+    ),
+    KeyRow(
+        KeyName::WdgDefaultMode,
+        Kind::Name(&WATCHDOG_MODES),
+        Need::Default("WDGIF_OFF_MODE"),
+    ),
+    KeyRow(
+        KeyName::WdgDisableAllowed,
+        Kind::Truth,
+        Need::Default("true"),
+    ),
+    KeyRow(
+        KeyName::InitialTicks,
+        Kind::Whole(Range(1, 65535)),
+        Need::Default("1000"),
+    ),
+    KeyRow(
+        KeyName::MaxTicks,
+        Kind::Whole(Range(1, 65535)),
+        Need::Default("65535"),
+    ),
+];

@@ -41,6 +41,14 @@ const DESTINATIONS: [&str; 2] = ["dst", "null"];
 /// Modes of asynchronous transmission.
 const ASYNC_MODES: [&str; 2] = ["SPI_POLLING_MODE", "SPI_INTERRUPT_MODE"];
 
+/// Modes of the watchdog, and a word for none.
+const WATCHDOG_MODES: [&str; 4] = [
+    "WDGIF_OFF_MODE",
+    "WDGIF_SLOW_MODE",
+    "WDGIF_FAST_MODE",
+    "INVALID",
+];
+
 /// A RAM section.
 const SECTION: [Place; 1] = [Place::Number("section", MOST)];
 
@@ -66,7 +74,7 @@ const JOB: [Place; 1] = [Place::Number("job", MOST)];
 const UNIT: [Place; 1] = [Place::Number("unit", MOST)];
 
 /// The services, module by module.
-static SERVICES: [ServiceRow; 76] = [
+static SERVICES: [ServiceRow; 79] = [
     ServiceRow(Service::McuInit, &[]),
     ServiceRow(Service::McuInitRamSection, &SECTION),
     ServiceRow(Service::McuInitClock, &SETTING),
@@ -207,6 +215,12 @@ static SERVICES: [ServiceRow; 76] = [
         &[Place::Name("mode", &ASYNC_MODES)],
     ),
     ServiceRow(Service::SpiMainFunctionHandling, &[]),
+    ServiceRow(Service::WdgInit, &[]),
+    ServiceRow(Service::WdgSetMode, &[Place::Name("mode", &WATCHDOG_MODES)]),
+    ServiceRow(
+        Service::WdgSetTriggerCondition,
+        &[Place::Number("timeout", 65_535)],
+    ),
 ];
 
 /// The services, module by module.

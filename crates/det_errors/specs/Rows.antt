@@ -83,6 +83,16 @@ errors_of services.SpiGetSequenceResult = errors.SpiUninit ∷ errors.SpiParamSe
 errors_of services.SpiGetHwUnitStatus = errors.SpiUninit ∷ errors.SpiParamUnit ∷ []
 errors_of services.SpiSetAsyncMode = errors.SpiUninit ∷ []
 errors_of services.SpiMainFunctionHandling = []
+errors_of services.DioReadChannel = errors.DioParamInvalidChannelId ∷ []
+errors_of services.DioFlipChannel = errors.DioParamInvalidChannelId ∷ []
+errors_of services.DioWriteChannel = errors.DioParamInvalidChannelId ∷ []
+errors_of services.DioReadPort = errors.DioParamInvalidPortId ∷ []
+errors_of services.DioWritePort = errors.DioParamInvalidPortId ∷ []
+errors_of services.DioReadChannelGroup = errors.DioParamInvalidGroup ∷ []
+errors_of services.DioWriteChannelGroup = errors.DioParamInvalidGroup ∷ []
+errors_of services.WdgInit = []
+errors_of services.WdgSetMode = errors.WdgDriverState ∷ errors.WdgParamMode ∷ []
+errors_of services.WdgSetTriggerCondition = errors.WdgDriverState ∷ errors.WdgParamTimeout ∷ []
 
 -- the first error whose condition, at the same place, holds
 abbrev pub first_that_holds : List ErrorName → List Bool → Option ErrorName

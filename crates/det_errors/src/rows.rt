@@ -195,5 +195,15 @@ fn errors_of(service: Service) -> &'static [ErrorName]
         Service::SpiGetHwUnitStatus => &[ErrorName::SpiUninit, ErrorName::SpiParamUnit],
         Service::SpiSetAsyncMode => &[ErrorName::SpiUninit],
         Service::SpiMainFunctionHandling => &[],
+        Service::DioReadChannel => &[ErrorName::DioParamInvalidChannelId],
+        Service::DioFlipChannel => &[ErrorName::DioParamInvalidChannelId],
+        Service::DioWriteChannel => &[ErrorName::DioParamInvalidChannelId],
+        Service::DioReadPort => &[ErrorName::DioParamInvalidPortId],
+        Service::DioWritePort => &[ErrorName::DioParamInvalidPortId],
+        Service::DioReadChannelGroup => &[ErrorName::DioParamInvalidGroup],
+        Service::DioWriteChannelGroup => &[ErrorName::DioParamInvalidGroup],
+        Service::WdgInit => &[],
+        Service::WdgSetMode => &[ErrorName::WdgDriverState, ErrorName::WdgParamMode],
+        Service::WdgSetTriggerCondition => &[ErrorName::WdgDriverState, ErrorName::WdgParamTimeout],
     }
 }

@@ -53,5 +53,11 @@ pub fn text(error: ErrorName) -> &'static str
         ErrorName::SpiSeqPending => "SPI_E_SEQ_PENDING",
         ErrorName::SpiParamJob => "SPI_E_PARAM_JOB",
         ErrorName::SpiParamUnit => "SPI_E_PARAM_UNIT",
+        ErrorName::DioParamInvalidChannelId => "DIO_E_PARAM_INVALID_CHANNEL_ID",
+        ErrorName::DioParamInvalidPortId => "DIO_E_PARAM_INVALID_PORT_ID",
+        ErrorName::DioParamInvalidGroup => "DIO_E_PARAM_INVALID_GROUP",
+        ErrorName::WdgDriverState => "WDG_E_DRIVER_STATE",
+        ErrorName::WdgParamMode => "WDG_E_PARAM_MODE",
+        ErrorName::WdgParamTimeout => "WDG_E_PARAM_TIMEOUT",
     }
 }

@@ -3,7 +3,7 @@ use Rattle.std.proofs.Common.{◌≡◌, ℕ, suc, ◌<◌, ◌^◌, Bool, true,
 use Rattle.std.specs.Prelude.{All, if◌then◌else◌, is_some}
 use Rattle.mcal_base.specs.declared.config.gpt.GptChannel.{GptChannel}
 use Rattle.mcal_base.specs.declared.config.gpt.GptConfig.{GptConfig}
-use Rattle.gpt_driver.specs.laws.Ground.{within}
+use Rattle.gpt_driver.specs.laws.RefinementRight.{within}
 use Rattle.gpt_driver.specs.laws.Parts.{by_eight}
 use Rattle.gpt_driver.specs.Table.{channel_in, driver_of, channel_of, taken, FitsGpt}
 use Rattle.gpt_driver.specs.declared.driver.Channel.{Channel}

@@ -1,6 +1,6 @@
 pub mod Checks
 pub mod Fits
-pub mod Ground
+pub mod Refinement
 pub mod Machine
 pub mod Requests
 pub mod Table

@@ -3,7 +3,7 @@ pub mod Bodies
 pub mod Count
 pub mod Courses
 pub mod DeInit
-pub mod Ground
+pub mod RefinementRight
 pub mod Init
 pub mod Keeps
 pub mod Lawful

@@ -15,7 +15,7 @@ use crate::service::{ChannelBody, GptBody};
 use crate::words::STATE;
 use det_errors::{Facts, first_error};
 use mcal_base::{Answer, ErrorName, Service};
-use service_outline::{Done, Looked, Or, Owed, Reply, nothing, number};
+use service_outline::{Done, Epilogue, Looked, Or, Reply, nothing, number};
 
 /// A call with the driver that it is made of.
 #[derive(Clone, Copy)]
@@ -141,7 +141,7 @@ fn let_be() -> Looked<GptBody>
 {
     Looked::Refused(Done {
         answer: nothing(),
-        owed: Owed::Nothing,
+        owed: Epilogue::Nothing,
     })
 }
 

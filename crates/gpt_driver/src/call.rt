@@ -1,6 +1,6 @@
 ghost use Rattle.std.specs.Prelude.{◌≡◌};
 ghost use Rattle.gpt_driver.specs.Checks as spec;
-ghost use Rattle.gpt_driver.specs.Ground as setting;
+ghost use Rattle.gpt_driver.specs.Refinement as setting;
 
 use mcal_base::{ModuleName, Service};
 use run_model::{Class, Key, KeyKind, Kind};

@@ -6,7 +6,7 @@ ghost use Rattle.gpt_driver.specs.Table as spec;
 
 use crate::words::{CHANNELS, bit};
 use mcal_base::{Config, ErrorName, GptChannel, GptChannelMode, Service};
-use service_outline::Owed;
+use service_outline::Epilogue;
 
 /// A configured channel.
 #[derive(Clone, Copy)]
@@ -61,7 +61,7 @@ impl GptDriver {
     }
 
     /// What a call of a service owes for an error.
-    pub fn owed(&self, service: Service, error: ErrorName) -> Owed
+    pub fn owed(&self, service: Service, error: ErrorName) -> Epilogue
         ensures { result ≡ owed_error (reporting self.now) service error }
     {
         service_outline::error(self.detect, self.classification, service, error)

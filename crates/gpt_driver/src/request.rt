@@ -1,5 +1,5 @@
 ghost use Rattle.std.specs.Prelude.{◌≡◌, ◌≤◌, slice_get, true};
-ghost use Rattle.gpt_driver.specs.Ground.{whole_steps, counted};
+ghost use Rattle.gpt_driver.specs.Refinement.{whole_steps, counted};
 ghost use Rattle.gpt_driver.specs.Requests as spec;
 
 use crate::call::{Call, Change, ChannelCall, GptMode};

@@ -1,7 +1,7 @@
 -- A visitor is a guest, and two cells have it.
 use Rattle.std.proofs.Common.{◌≡◌, ℕ, ◌<◌, ◌||◌, ◌==◌, true, false, List, [], Option, Some, None, refl, sym, ap, subst, arith}
-use Rattle.std.proofs.lemmas.Bool.Decides.{nat_tests}
 use Rattle.std.proofs.lemmas.List.{get_or-set_same}
+use Rattle.plain_facts.specs.Numbers.{eq_is, eq_self}
 use Rattle.chip_model.specs.Chip.{Chip, chip_after, value_of, word_of}
 use Rattle.chip_model.specs.Histories.{Made}
 use Rattle.chip_model.proofs.WholeLaws.{all-step}
@@ -31,12 +31,6 @@ use Rattle.guest_example.specs.declared.visitor.VisitorCall.{VisitorCall}
 use Rattle.guest_example.specs.declared.visitor.VisitorCall.TheVariants.{Look, Leave, Stray}
 use Rattle.guest_example.specs.declared.visitor.VisitorFrame.{VisitorFrame}
 use Rattle.guest_example.specs.declared.visitor.VisitorFrame.TheVariants.{Access, Telling}
-
-same : (k : ℕ) → (k == k) ≡ true
-same k = grind (arith, nat_tests)
-
-is_same : (j k : ℕ) → (j == k) ≡ true → j ≡ k
-is_same j k e = grind (arith, nat_tests)
 
 -- ---- the visitor
 
@@ -73,7 +67,7 @@ module _ (word : ℕ) (fits : word < SOURCES) where
     ends = ((ap (λ x. Some (number_answer x)) (sym is), refl), refl, refl, refl, refl);
     starts = refl;
     writes = refl;
-    own = same word;
+    own = eq_self word;
     reset = refl;
     stays = λ e. cc;
     fuel = omega arith;
@@ -91,7 +85,7 @@ module _ (word : ℕ) (fits : word < SOURCES) where
     ends = ((refl, refl), refl, refl, refl, refl);
     starts = refl;
     writes = refl;
-    own = same word;
+    own = eq_self word;
     reset = refl;
     stays = λ e. cc;
     fuel = omega arith;
@@ -109,7 +103,7 @@ module _ (word : ℕ) (fits : word < SOURCES) where
     ends = tt;
     starts = tt;
     writes = tt;
-    own = same word;
+    own = eq_self word;
     reset = refl;
     stays = λ e. cc;
     fuel = omega arith;
@@ -142,9 +136,9 @@ module _ (word : ℕ) (fits : word < SOURCES) where
   there_of f o (Strayed c e was) = tt
 
   own_of : (f : VisitorFrame) (o : Open VisitorCall) → VisitorStands word f o → is_shared (visitor_move f) || names word (visitor_move f) ≡ true
-  own_of f o (Before Look tag) = same word
-  own_of f o (Before (Leave v) tag) = same word
-  own_of f o (Before Stray tag) = same word
+  own_of f o (Before Look tag) = eq_self word
+  own_of f o (Before (Leave v) tag) = eq_self word
+  own_of f o (Before Stray tag) = eq_self word
   own_of f o (Strayed c e was) = refl
 
   unmasked_of : (f : VisitorFrame) (o : Open VisitorCall) → VisitorStands word f o → o.inside ≡ false
@@ -203,7 +197,7 @@ module _ (word : ℕ) (fits : word < SOURCES) where
 cell_keeps : (word : ℕ) → word < SOURCES → (chip : Chip) (w : World) (ps : List (CellFrame × Open CellCall)) (s : ℕ) (made : Move) (received : ℕ) → names word made ≡ true → CellRelates word chip w ps s → CellRelates word (chip_after chip made received) w ps (cell_after made s)
 cell_keeps word fits chip w ps s (Load k) received mine h = h
 cell_keeps word fits chip w ps s (Store k v) received mine h =
-    let at : k ≡ word = is_same k word mine in
+    let at : k ≡ word = eq_is k word mine in
     let size = h.all.words in
     record {
       all = all-step chip (Made (Store k v) received) tt h.all;

@@ -2,6 +2,8 @@
 use Rattle.std.proofs.Common.{◌≡◌, ℕ, ◌+◌, ◌<◌, ◌≤◌, nat_lt, nat_le, Bool, true, false, not, ◌&&◌, ◌||◌, List, [], ◌∷◌, Option, Some, None, is_some, refl, sym, ◌∙◌, ap, subst, arith}
 use Rattle.std.specs.Prelude.{option_map}
 use Rattle.std.specs.List.{list_any, list_all}
+use Rattle.plain_facts.specs.Truths.{and_first}
+use Rattle.plain_facts.specs.Options.{some_same}
 use Rattle.chip_model.specs.Chip.{Chip, value_of, chip_after, happened, reset_chip, is_masked, is_pending}
 use Rattle.chip_model.specs.Histories.{Hardware, FillsThere}
 use Rattle.mcal_base.specs.Bits.{has_bit}
@@ -25,7 +27,7 @@ use Rattle.run_model.specs.World.{World, world_after}
 use Rattle.run_model.specs.declared.item.Stepped.{Stepped}
 use Rattle.run_model.proofs.OutsideLaws.{stands-move, stands-event, stands-reset}
 use Rattle.step_runner.specs.Driver.{Driver, most_steps, IsLawful, AllOutside, tags_in, origins_in, IsFree, ComesRight, KeepsStep, stepped}
-use Rattle.step_runner.specs.Lifts.{and-left, LiesIn, lift-keeps, out-at, same-state}
+use Rattle.step_runner.specs.Lifts.{LiesIn, lift-keeps, out-at, same-state}
 use Rattle.step_runner.specs.Union.{either, EitherFits, either_left, either_gave, lift_out, first_call, lift_origin, lift_open, IsMine, SameOn, others, Splits, Nothing_open, Left_open, Right_open}
 use Rattle.step_runner.specs.UnionLaws.{outside-split}
 use Rattle.step_runner.specs.declared.either.Either.{Either}
@@ -34,9 +36,6 @@ use Rattle.guest_runner.specs.Frames.{marked-call, marked-line, none-off, call-l
 use Rattle.guest_runner.specs.Guest.{Guest, guarded, lone_setting, lone_driver, StandsOn, IsGuest, keeps_off, Hosts, every, guest_setting, AreMarked, AllStand, NoneOff, GuestRelates, guest_of}
 
 -- ---- outcomes
-
-some-injective : {A : Type 0} {x y : A} → Some x ≡ Some y → x ≡ y
-some-injective e = cc
 
 lift-same : {S : Type 0} (x : Option (Outcome S)) → x ≡ lift_out (λ s. s) x
 lift-same None = refl
@@ -307,7 +306,7 @@ module _ {S C D F G : Type 0} (d : Driver S C F) (g : Guest S D G) (move_a : F �
   call-on fs gs c level stand enters apart = off-on g.block (d.frame_of c, opened (Called c) (call_tag d.setting c level)) fs gs (λ q qs is. lets q qs (subst (λ z. AllStand g z) is stand) (subst (λ z. list_all (λ t. not (blocks (d.setting.class_of c) t)) (tags_in z) ≡ true) is enters)) apart
     where
       lets : (q : G × Open D) (qs : List (G × Open D)) → AllStand g (q ∷ qs) → list_all (λ t. not (blocks (d.setting.class_of c) t)) (tags_in (q ∷ qs)) ≡ true → blocks (guarded g.block) (call_tag d.setting c level) ≡ false
-      lets q qs stand1 h = call-lets g.block (d.setting.class_of c) level q.1.tag stand1.1 (and-left (not (blocks (d.setting.class_of c) q.1.tag)) (list_all (λ t. not (blocks (d.setting.class_of c) t)) (tags_in qs)) h)
+      lets q qs stand1 h = call-lets g.block (d.setting.class_of c) level q.1.tag stand1.1 (and_first (not (blocks (d.setting.class_of c) q.1.tag)) (list_all (λ t. not (blocks (d.setting.class_of c) t)) (tags_in qs)) h)
 
   g-begins : (chip : Chip) (w : World) (ps : List (Either F G × Open (Either C D))) (s : S) (c : Either C D) (level : ℕ) → EitherFits d.can_call g.can_call c → is_masked chip ≡ false → AllOutside ps → may_reenter (both.class_of c) (tags_in ps) ≡ true → none_above (tags_in ps) level ≡ true → GRelates chip w ps s → GRelates chip w (((guest_of d g).frame_of c, opened (Called c) (call_tag both c level)) ∷ ps) s
   g-begins chip w ps s (Left c) level can masked out enters above h =
@@ -337,7 +336,7 @@ module _ {S C D F G : Type 0} (d : Driver S C F) (g : Guest S D G) (move_a : F �
   g-enters chip w ps s line u None at is masked pending out under h = absurd (cc)
   g-enters chip w ps s line u (Some f) at is masked pending out under h =
       let first : F × Open C = (f, opened (Entered line) (line_tag d.setting line)) in
-      subst (λ z. GRelates chip w ((z, opened (Entered line) (line_tag both line)) ∷ ps) s) (some-injective is) (record {
+      subst (λ z. GRelates chip w ((z, opened (Entered line) (line_tag both line)) ∷ ps) s) (some_same is) (record {
         hosts = first ∷ h.hosts;
         guests = h.guests;
         splits = Left_open f first.1 (λ l. false) ps h.hosts h.guests refl refl (λ l m. refl) h.splits;
@@ -440,7 +439,7 @@ module _ {S C D F G : Type 0} (d : Driver S C F) (g : Guest S D G) (move_a : F �
 
   g-error-leaves : (w : World) (s : S) (c : Either C D) (times : ℕ → ℕ) (out : Outcome S) → both.machine.happens w s (Acts c times) ≡ Some out → ErrorLeaves s out
   g-error-leaves w s (Left c) times out is = la.error_leaves w s c times out is
-  g-error-leaves w s (Right c) times out is = subst (λ o. ErrorLeaves s o) (some-injective is) (lb.error_leaves w s c)
+  g-error-leaves w s (Right c) times out is = subst (λ o. ErrorLeaves s o) (some_same is) (lb.error_leaves w s c)
 
   count-does : (w : World) (s : S) (c : D) → d.count (g.does w s c).state ≤ d.count s + 1
   count-does w s c =
@@ -450,7 +449,7 @@ module _ {S C D F G : Type 0} (d : Driver S C F) (g : Guest S D G) (move_a : F �
 
   g-count : (w : World) (s : S) (h : Happening (Either C D)) (out : Outcome S) → both.machine.happens w s h ≡ Some out → d.count out.state ≤ d.count s + 1
   g-count w s (Acts (Left c) times) out is = la.count_happens w s (Acts c times) out is
-  g-count w s (Acts (Right c) times) out is = subst (λ o. d.count o.state ≤ d.count s + 1) (some-injective is) (count-does w s c)
+  g-count w s (Acts (Right c) times) out is = subst (λ o. d.count o.state ≤ d.count s + 1) (some_same is) (count-does w s c)
   g-count w s (Serves l r) out is = la.count_happens w s (Serves l r) out is
   g-count w s (Starts u by r) out is = la.count_happens w s (Starts u (first_call by) r) out is
   g-count w s (Aborts u) out is = la.count_happens w s (Aborts u) out is
@@ -466,7 +465,7 @@ module _ {S C D F G : Type 0} (d : Driver S C F) (g : Guest S D G) (move_a : F �
   g-handled None y is = ap is_some is
 
   g-line-fuel : (line : ℕ) (u : Either F G) (x : Option F) → d.handler_of line ≡ x → option_map Left x ≡ Some u → either d.fuel g.fuel u ≤ d.setting.steps_of (Entered line)
-  g-line-fuel line u (Some f) at is = subst (λ z. either d.fuel g.fuel z ≤ d.setting.steps_of (Entered line)) (some-injective is) (la.line_fuel line f at)
+  g-line-fuel line u (Some f) at is = subst (λ z. either d.fuel g.fuel z ≤ d.setting.steps_of (Entered line)) (some_same is) (la.line_fuel line f at)
   g-line-fuel line u None at is = absurd (cc)
 
   -- a host and its guest that each keep their laws are a lawful driver

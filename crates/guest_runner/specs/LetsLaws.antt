@@ -1,6 +1,7 @@
 -- Two drivers as one let a guest in where one of them does, and the other owns nothing of what the guest does.
 use Rattle.std.proofs.Common.{◌≡◌, ℕ, Bool, true, false, cond, not, List, [], ◌∷◌, refl, arith}
 use Rattle.std.specs.List.{list_any}
+use Rattle.std.proofs.lemmas.Bool.{or_from, or_parts}
 use Rattle.chip_model.specs.Chip.{Chip, chip_after, is_masked}
 use Rattle.mcal_base.specs.declared.module_name.ModuleName.{ModuleName}
 use Rattle.mcal_base.specs.declared.moves.Move.{Move}
@@ -15,7 +16,7 @@ use Rattle.step_runner.specs.UnionLaws.{outside-split}
 use Rattle.step_runner.specs.declared.either.Either.{Either}
 use Rattle.step_runner.specs.declared.either.Either.TheVariants.{Left, Right}
 use Rattle.step_runner.proofs.Apart.{owns-neither}
-use Rattle.guest_runner.specs.Frames.{none-or, none-of, tags-first, tags-second}
+use Rattle.guest_runner.specs.Frames.{tags-first, tags-second}
 use Rattle.guest_runner.specs.Guest.{guarded, keeps_off, LetsIn}
 
 -- a driver owns none of these moves
@@ -81,12 +82,12 @@ other-line-off g block false line os h = h
 module _ {S T C D : Type 0} (ours : ℕ → Bool) (g : Setting S C) (h : Setting T D) (block : ModuleName) where
   pub off-first : (os : List (Origin (Either C D))) → list_any (keeps_off (union_setting ours g h) block) os ≡ false → list_any (keeps_off g block) (first_origins ours os) ≡ false
   off-first [] e = refl
-  off-first (Called (Left c) ∷ os) e = let k = none-of (keeps_off g block (Called c)) (list_any (keeps_off (union_setting ours g h) block) os) e in none-or (keeps_off g block (Called c)) (list_any (keeps_off g block) (first_origins ours os)) k.0 (off-first os k.1)
-  off-first (Called (Right c) ∷ os) e = off-first os (none-of (keeps_off h block (Called c)) (list_any (keeps_off (union_setting ours g h) block) os) e).1
+  off-first (Called (Left c) ∷ os) e = let k = or_parts (keeps_off g block (Called c)) (list_any (keeps_off (union_setting ours g h) block) os) e in or_from (keeps_off g block (Called c)) (list_any (keeps_off g block) (first_origins ours os)) k.0 (off-first os k.1)
+  off-first (Called (Right c) ∷ os) e = off-first os (or_parts (keeps_off h block (Called c)) (list_any (keeps_off (union_setting ours g h) block) os) e).1
   off-first (Entered l ∷ os) e = line-off g block (ours l) l (first_origins ours os) (off-first os e)
 
   pub off-second : (os : List (Origin (Either C D))) → list_any (keeps_off (union_setting ours g h) block) os ≡ false → list_any (keeps_off h block) (second_origins ours os) ≡ false
   off-second [] e = refl
-  off-second (Called (Left c) ∷ os) e = off-second os (none-of (keeps_off g block (Called c)) (list_any (keeps_off (union_setting ours g h) block) os) e).1
-  off-second (Called (Right c) ∷ os) e = let k = none-of (keeps_off h block (Called c)) (list_any (keeps_off (union_setting ours g h) block) os) e in none-or (keeps_off h block (Called c)) (list_any (keeps_off h block) (second_origins ours os)) k.0 (off-second os k.1)
+  off-second (Called (Left c) ∷ os) e = off-second os (or_parts (keeps_off g block (Called c)) (list_any (keeps_off (union_setting ours g h) block) os) e).1
+  off-second (Called (Right c) ∷ os) e = let k = or_parts (keeps_off h block (Called c)) (list_any (keeps_off (union_setting ours g h) block) os) e in or_from (keeps_off h block (Called c)) (list_any (keeps_off h block) (second_origins ours os)) k.0 (off-second os k.1)
   off-second (Entered l ∷ os) e = other-line-off h block (ours l) l (second_origins ours os) (off-second os e)

@@ -32,15 +32,15 @@ use Rattle.service_outline.specs.declared.body.Looked.TheVariants.{Refused, Goes
 use Rattle.service_outline.specs.declared.body.Or.{Or}
 use Rattle.service_outline.specs.declared.body.Or.TheVariants.{First, Second}
 use Rattle.service_outline.specs.declared.done.BodyTaken.{BodyTaken}
-use Rattle.service_outline.specs.declared.done.Owed.TheVariants.{Nothing}
+use Rattle.service_outline.specs.declared.done.Epilogue.TheVariants.{Nothing}
 use Rattle.service_outline.specs.declared.sweep.Place.TheVariants.{Opens}
 use Rattle.service_outline.specs.declared.sweep.Sweep.{Sweep}
 use Rattle.service_outline.specs.Both.{both}
 use Rattle.service_outline.specs.Done.{goes, acts, ends, numbers, owed_error, tells_error}
-use Rattle.service_outline.specs.Owing.{Owing, Under, owing, Windows, windows}
-use Rattle.service_outline.specs.Past.{Past, nothing_yet, Being}
-use Rattle.service_outline.specs.Services.{Held, Basis, Spot, Within, Outside, LongBodies, Services}
-use Rattle.service_outline.specs.Seen.{Plain}
+use Rattle.service_outline.specs.DeferredWrites.{DeferredWrites, Under, deferring_writes, Windows, windows}
+use Rattle.service_outline.specs.FrameHistory.{FrameHistory, fresh_history, IsThisFrame}
+use Rattle.service_outline.specs.Services.{ReservedBy, SharedRefinement, PointAssertion, Within, Outside, LongBodies, Services}
+use Rattle.service_outline.specs.WindowHistory.{Plain}
 use Rattle.service_outline.specs.Sweeping.{Sweeping, sweep}
 use Rattle.held_example.specs.declared.asking.Asking.{Asking}
 use Rattle.held_example.specs.declared.asking.Asking.TheVariants.{Want, OpenOnce, Tell, ShutAgain, Look, Go, Unmark}
@@ -212,16 +212,16 @@ setting = record {
 
 -- ---- what is held, and the agreement
 
-pub data Hold : Type 0 where
+pub data Reservation : Type 0 where
   -- the words below this place of the section have the value already
-  Part : (section value upto : ℕ) → Hold
+  Part : (section value upto : ℕ) → Reservation
   -- the start that is possible will be made
-  Promise : Hold
+  Promise : Reservation
   -- this bank stays as it is, and has what the frame answered
-  Pinned : (bank : ℕ) → Hold
+  Pinned : (bank : ℕ) → Reservation
 
-abbrev pub Holds : Type 0
-Holds = List (Held Call Hold)
+abbrev pub Reservations : Type 0
+Reservations = List (ReservedBy Call Reservation)
 
 -- the words: of a section, whether the unit waits, the state, the newest bank and the pinned one, each + 1, and a bank
 abbrev pub cell : ℕ → ℕ → ℕ
@@ -247,32 +247,32 @@ flag true = 1
 flag false = 0
 
 -- what a word of a section holds, where it held this but for one frame, and with all that is held
-abbrev pub want_by : Hold → ℕ → ℕ → ℕ → ℕ
+abbrev pub want_by : Reservation → ℕ → ℕ → ℕ → ℕ
 want_by (Part n v i) old c j = if c == n && nat_lt j i then v else old
 want_by Promise old c j = old
 want_by (Pinned b) old c j = old
 
-abbrev pub want : Holds → (ℕ → ℕ) → ℕ → ℕ → ℕ
+abbrev pub want : Reservations → (ℕ → ℕ) → ℕ → ℕ → ℕ
 want [] f c j = f c
 want (h ∷ hs) f c j = want_by h.what (want hs f c j) c j
 
-abbrev pub is_promise : Hold → Bool
+abbrev pub is_promise : Reservation → Bool
 is_promise (Part n v i) = false
 is_promise Promise = true
 is_promise (Pinned b) = false
 
 -- some frame has promised the start
-abbrev pub promised : Holds → Bool
+abbrev pub promised : Reservations → Bool
 promised [] = false
 promised (h ∷ hs) = is_promise h.what || promised hs
 
 -- what is held is the frame's; a pinned bank has what the frame answered
-abbrev pub HeldRight : Chip → Held Call Hold → Hold → Type 0
+abbrev pub HeldRight : Chip → ReservedBy Call Reservation → Reservation → Type 0
 HeldRight chip h (Part n v i) = h.by ≡ Called (Fill n v)
 HeldRight chip h Promise = Unit {0}
 HeldRight chip h (Pinned b) = (h.by ≡ Called Take) × (b < 2) × (word_of chip PIN ≡ 1 + b) × (h.acted ≡ Some (twice (word_of chip (bank b))))
 
-abbrev pub AllRight : Chip → Holds → Type 0
+abbrev pub AllRight : Chip → Reservations → Type 0
 AllRight chip [] = Unit {0}
 AllRight chip (h ∷ hs) = HeldRight chip h h.what × AllRight chip hs
 
@@ -295,7 +295,7 @@ KeptAgrees Settled chip kept = IsKept chip kept
 KeptAgrees Marking chip kept = IsKept chip kept
 
 -- the words agree with the state and with what is held, but for what is under work
-pub record Agrees (held : Holds) (work : Work) (chip : Chip) (w : World) (s : State) : Type 0 where
+pub record Agrees (held : Reservations) (work : Work) (chip : Chip) (w : World) (s : State) : Type 0 where
   pub right : AllRight chip held
   pub all : HasAll chip
   pub cells : (c j : ℕ) → c < 4 → j < 8 → word_of chip (cell c j) ≡ want held (cells_of s) c j
@@ -304,7 +304,7 @@ pub record Agrees (held : Holds) (work : Work) (chip : Chip) (w : World) (s : St
   pub starts : s.waiting ≡ true → promised held ≡ true
 
 -- of the chip the places see which bank is the newest, and which is pinned
-abbrev pub bare : Basis State Call
+abbrev pub bare : SharedRefinement State Call
 bare = record {
   setting = setting;
   wired = λ chip. Unit {0};
@@ -313,11 +313,11 @@ bare = record {
   owns = λ o made. owns made;
   count = λ s. 0;
   later = λ w s order. s;
-  Gap = Work;
+  Lag = Work;
   settled = Settled;
-  Hold = Hold;
-  agrees = Agrees;
-  Foot = ℕ × ℕ;
+  Reservation = Reservation;
+  represents = Agrees;
+  Footprint = ℕ × ℕ;
   foot = λ chip. (word_of chip NEWEST, word_of chip PIN);
 }
 
@@ -326,11 +326,11 @@ abbrev pub is_publishing : Move → Bool
 is_publishing (Store k v) = k == NEWEST
 is_publishing _ = false
 
-abbrev pub publishing : Owing ℕ
+abbrev pub publishing : DeferredWrites ℕ
 publishing = record { own = is_publishing; fits = λ b chip. Unit {0}; move = λ b. Store NEWEST (1 + b); left = λ b x. None; more = λ b. 0 }
 
-abbrev pub basis : Basis State Call
-basis = owing bare publishing
+abbrev pub basis : SharedRefinement State Call
+basis = deferring_writes bare publishing
 
 -- ---- a section is filled: a sweep of eight words, and then the act
 
@@ -350,29 +350,29 @@ abbrev pub filled_takes : Filled → ℕ → Filled × BodyTaken
 filled_takes k x = (k, ends (Some Act) no_answer Nothing)
 
 -- nothing of the section is held
-abbrev pub is_of : ℕ → Hold → Bool
+abbrev pub is_of : ℕ → Reservation → Bool
 is_of c (Part n v i) = c == n
 is_of c Promise = false
 is_of c (Pinned b) = false
 
-abbrev pub Free : ℕ → Holds → Type 0
+abbrev pub Free : ℕ → Reservations → Type 0
 Free c [] = Unit {0}
 Free c (h ∷ hs) = (is_of c h.what ≡ false) × Free c hs
 
-abbrev pub IsFilling : Job → Holds → Origin Call → Past → Type 0
-IsFilling r below o p = Being (Called (Fill r.section r.value)) nothing_yet o p × (r.section < 4) × Free r.section below
+abbrev pub IsFilling : Job → Reservations → Origin Call → FrameHistory → Type 0
+IsFilling r below o p = IsThisFrame (Called (Fill r.section r.value)) fresh_history o p × (r.section < 4) × Free r.section below
 
-abbrev pub part : Job → ℕ → List Hold
+abbrev pub part : Job → ℕ → List Reservation
 part r i = Part r.section r.value i ∷ []
 
 abbrev pub filling : Sweeping basis Job Filled
 filling = record { count = job_count; move = job_move; after = job_after; hold = part; place = IsFilling }
 
-abbrev pub filled_spot : Filled → Spot basis
+abbrev pub filled_spot : Filled → PointAssertion basis
 filled_spot (fills.Act r) = Within (Under Settled) (part r 8) (λ below f w s o p. IsFilling r below o p)
 
 abbrev pub filled_bodies : LongBodies basis Filled
-filled_bodies = record { work_of = filled_work; takes = filled_takes; fuel = λ k. 1; room = λ k. 1; clean = λ k. false; spot = filled_spot }
+filled_bodies = record { work_of = filled_work; takes = filled_takes; fuel = λ k. 1; room = λ k. 1; clean = λ k. false; assertion = filled_spot }
 
 abbrev pub fill_bodies : LongBodies basis (Sweep Job Filled)
 fill_bodies = sweep filling filled_bodies
@@ -424,27 +424,27 @@ ask_room Go = 2
 ask_room Unmark = 1
 
 -- the frame's past after its act, and after its notice
-abbrev pub promised_notice : Past
-promised_notice = record nothing_yet { acted = Some no_answer; owed = record { notice = notice; served = false } ∷ [] }
+abbrev pub promised_notice : FrameHistory
+promised_notice = record fresh_history { acted = Some no_answer; owed = record { notice = notice; served = false } ∷ [] }
 
-abbrev pub told_all : Past
-told_all = record nothing_yet { acted = Some no_answer }
+abbrev pub told_all : FrameHistory
+told_all = record fresh_history { acted = Some no_answer }
 
 -- from its act to its start the frame has promised
-abbrev pub promise : List Hold
+abbrev pub promise : List Reservation
 promise = Promise ∷ []
 
-abbrev pub ask_spot : Asking → Spot basis
-ask_spot Want = Within (Under Settled) [] (λ below f w s o p. Being (Called Ask) nothing_yet o p)
-ask_spot OpenOnce = Within (Under Settled) promise (λ below f w s o p. Being (Called Ask) promised_notice o p)
-ask_spot Tell = Outside promise (λ below o p. Being (Called Ask) promised_notice o p)
-ask_spot ShutAgain = Outside promise (λ below o p. Being (Called Ask) told_all o p)
-ask_spot Look = Within (Under Settled) promise (λ below f w s o p. Being (Called Ask) told_all o p)
-ask_spot Go = Within (Under Settled) promise (λ below f w s o p. Being (Called Ask) told_all o p × (s.waiting ≡ true))
-ask_spot Unmark = Within (Under Marking) [] (λ below f w s o p. Being (Called Ask) told_all o p × (s.waiting ≡ false))
+abbrev pub ask_spot : Asking → PointAssertion basis
+ask_spot Want = Within (Under Settled) [] (λ below f w s o p. IsThisFrame (Called Ask) fresh_history o p)
+ask_spot OpenOnce = Within (Under Settled) promise (λ below f w s o p. IsThisFrame (Called Ask) promised_notice o p)
+ask_spot Tell = Outside promise (λ below o p. IsThisFrame (Called Ask) promised_notice o p)
+ask_spot ShutAgain = Outside promise (λ below o p. IsThisFrame (Called Ask) told_all o p)
+ask_spot Look = Within (Under Settled) promise (λ below f w s o p. IsThisFrame (Called Ask) told_all o p)
+ask_spot Go = Within (Under Settled) promise (λ below f w s o p. IsThisFrame (Called Ask) told_all o p × (s.waiting ≡ true))
+ask_spot Unmark = Within (Under Marking) [] (λ below f w s o p. IsThisFrame (Called Ask) told_all o p × (s.waiting ≡ false))
 
 abbrev pub ask_bodies : LongBodies basis Asking
-ask_bodies = record { work_of = ask_work; takes = ask_takes; fuel = ask_fuel; room = ask_room; clean = λ k. false; spot = ask_spot }
+ask_bodies = record { work_of = ask_work; takes = ask_takes; fuel = ask_fuel; room = ask_room; clean = λ k. false; assertion = ask_spot }
 
 -- ---- a value is kept, in the bank that isn't pinned
 
@@ -463,9 +463,9 @@ put_fuel (puts.Look v) = 3
 put_fuel (puts.Keep b v) = 2
 put_fuel (puts.Publish b) = 1
 
-abbrev pub put_spot : Putting → Spot basis
-put_spot (puts.Look v) = Within (Under Settled) [] (λ below f w s o p. Being (Called (Put v)) nothing_yet o p)
-put_spot (puts.Keep b v) = Within (Under Settled) [] (λ below f w s o p. Being (Called (Put v)) nothing_yet o p × (b < 2) × (f.1 ≢ 1 + b))
+abbrev pub put_spot : Putting → PointAssertion basis
+put_spot (puts.Look v) = Within (Under Settled) [] (λ below f w s o p. IsThisFrame (Called (Put v)) fresh_history o p)
+put_spot (puts.Keep b v) = Within (Under Settled) [] (λ below f w s o p. IsThisFrame (Called (Put v)) fresh_history o p × (b < 2) × (f.1 ≢ 1 + b))
 put_spot (puts.Publish b) = Outside [] (λ below o p. ⊥)
 
 -- after its act the frame owes the store
@@ -475,11 +475,11 @@ put_owes _ = None
 
 abbrev pub put_windows : Windows bare ℕ (Unit {0}) Putting publishing
 put_windows = record {
-  bodies = record { work_of = put_work; takes = put_takes; fuel = put_fuel; room = put_fuel; clean = λ k. false; spot = put_spot };
+  bodies = record { work_of = put_work; takes = put_takes; fuel = put_fuel; room = put_fuel; clean = λ k. false; assertion = put_spot };
   owes = put_owes;
   about = λ b. tt;
   hold = λ a. [];
-  place = λ a below o p. (v : ℕ) × Being (Called (Put v)) told_all o p;
+  place = λ a below o p. (v : ℕ) × IsThisFrame (Called (Put v)) told_all o p;
   steps_after = λ a. 0;
   room_after = λ a. 0;
 }
@@ -551,28 +551,28 @@ take_clean Newest = true
 take_clean _ = false
 
 -- no frame below has pinned a bank
-abbrev pub is_pin : Hold → Bool
+abbrev pub is_pin : Reservation → Bool
 is_pin (Part n v i) = false
 is_pin Promise = false
 is_pin (Pinned b) = true
 
-abbrev pub NonePinned : Holds → Type 0
+abbrev pub NonePinned : Reservations → Type 0
 NonePinned [] = Unit {0}
 NonePinned (h ∷ hs) = (is_pin h.what ≡ false) × NonePinned hs
 
-abbrev pub answered : Answer → Past
-answered a = record nothing_yet { acted = Some a }
+abbrev pub answered : Answer → FrameHistory
+answered a = record fresh_history { acted = Some a }
 
 -- it has answered this
-abbrev pub IsTaking : Answer → Holds → Origin Call → Past → Type 0
-IsTaking a below o p = Being (Called Take) (answered a) o p × NonePinned below
+abbrev pub IsTaking : Answer → Reservations → Origin Call → FrameHistory → Type 0
+IsTaking a below o p = IsThisFrame (Called Take) (answered a) o p × NonePinned below
 
-abbrev pub pinned : ℕ → List Hold
+abbrev pub pinned : ℕ → List Reservation
 pinned b = Pinned b ∷ []
 
-abbrev pub take_spot : Taking → Spot basis
-take_spot Newest = Within (Under Settled) [] (λ below f w s o p. Being (Called Take) nothing_yet o p × NonePinned below)
-take_spot (Pin b) = Within (Under Settled) [] (λ below f w s o p. Being (Called Take) nothing_yet o p × NonePinned below × (b < 2) × (f.0 ≡ 1 + b))
+abbrev pub take_spot : Taking → PointAssertion basis
+take_spot Newest = Within (Under Settled) [] (λ below f w s o p. IsThisFrame (Called Take) fresh_history o p × NonePinned below)
+take_spot (Pin b) = Within (Under Settled) [] (λ below f w s o p. IsThisFrame (Called Take) fresh_history o p × NonePinned below × (b < 2) × (f.0 ≡ 1 + b))
 take_spot (Open b) = Within (Under Settled) (pinned b) (λ below f w s o p. (v : ℕ) × IsTaking (twice v) below o p)
 take_spot (Copy b) = Outside (pinned b) (λ below o p. (b < 2) × (v : ℕ) × IsTaking (twice v) below o p)
 take_spot (Again b x) = Outside (pinned b) (λ below o p. (b < 2) × IsTaking (twice x) below o p)
@@ -582,7 +582,7 @@ take_spot (Leave x y) = Within (Under Settled) [] (λ below f w s o p. IsTaking 
 take_spot (Over x y) = Outside [] (λ below o p. ⊥)
 
 abbrev pub take_bodies : LongBodies basis Taking
-take_bodies = record { work_of = take_work; takes = take_takes; fuel = take_fuel; room = take_room; clean = take_clean; spot = take_spot }
+take_bodies = record { work_of = take_work; takes = take_takes; fuel = take_fuel; room = take_room; clean = take_clean; assertion = take_spot }
 
 -- ---- a line is polled
 
@@ -598,15 +598,15 @@ poll_fuel polls.Act = 2
 poll_fuel polls.Serve = 1
 
 -- its past after its act: it polls the line
-abbrev pub polling : Past
-polling = record nothing_yet { acted = Some no_answer; polled = 0 ∷ [] }
+abbrev pub polling : FrameHistory
+polling = record fresh_history { acted = Some no_answer; polled = 0 ∷ [] }
 
-abbrev pub poll_spot : Polling → Spot basis
-poll_spot polls.Act = Within (Under Settled) [] (λ below f w s o p. Being (Called Poll) nothing_yet o p)
-poll_spot polls.Serve = Within (Under Settled) [] (λ below f w s o p. Being (Called Poll) polling o p)
+abbrev pub poll_spot : Polling → PointAssertion basis
+poll_spot polls.Act = Within (Under Settled) [] (λ below f w s o p. IsThisFrame (Called Poll) fresh_history o p)
+poll_spot polls.Serve = Within (Under Settled) [] (λ below f w s o p. IsThisFrame (Called Poll) polling o p)
 
 abbrev pub poll_bodies : LongBodies basis Polling
-poll_bodies = record { work_of = poll_work; takes = poll_takes; fuel = poll_fuel; room = poll_fuel; clean = λ k. false; spot = poll_spot }
+poll_bodies = record { work_of = poll_work; takes = poll_takes; fuel = poll_fuel; room = poll_fuel; clean = λ k. false; assertion = poll_spot }
 
 -- ---- the chip is reset
 
@@ -616,11 +616,11 @@ reboot_takes Reset x = (Reset, ends (Some Act) no_answer Nothing)
 abbrev pub reboot_work : Rebooting → Move
 reboot_work Reset = Write ResetRequest 1
 
-abbrev pub reboot_spot : Rebooting → Spot basis
-reboot_spot Reset = Within (Under Settled) [] (λ below f w s o p. Being (Called Reboot) nothing_yet o p)
+abbrev pub reboot_spot : Rebooting → PointAssertion basis
+reboot_spot Reset = Within (Under Settled) [] (λ below f w s o p. IsThisFrame (Called Reboot) fresh_history o p)
 
 abbrev pub reboot_bodies : LongBodies basis Rebooting
-reboot_bodies = record { work_of = reboot_work; takes = reboot_takes; fuel = λ k. 1; room = λ k. 1; clean = λ k. false; spot = reboot_spot }
+reboot_bodies = record { work_of = reboot_work; takes = reboot_takes; fuel = λ k. 1; room = λ k. 1; clean = λ k. false; assertion = reboot_spot }
 
 -- ---- the driver
 

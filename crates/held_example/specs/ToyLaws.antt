@@ -2,6 +2,8 @@
 use Rattle.std.proofs.Common.{◌≡◌, ℕ, ◌+◌, ◌*◌, ◌<◌, ◌≤◌, ◌≢◌, ◌==◌, nat_lt, Bool, true, false, ◌&&◌, ◌||◌, not, length, [], ◌∷◌, Option, Some, None, zero, suc, refl, sym, ◌∙◌, ap, subst, arith, get_or-set_same, get_or-set_other}
 use Rattle.std.specs.Prelude.{if◌then◌else◌, slice_index_or}
 use Rattle.std.proofs.lemmas.Bool.Decides.{nat_tests}
+use Rattle.plain_facts.specs.Truths.{if_false, if_true}
+use Rattle.plain_facts.specs.Options.{some_same}
 use Rattle.chip_model.specs.Chip.{Chip, chip_after, value_of, happened, reset_chip, is_masked, word_of}
 use Rattle.chip_model.specs.Histories.{HasAll, Made, Hardware, WasReset, FillsThere}
 use Rattle.mcal_base.specs.Reach.{IsThere, CanApply}
@@ -28,9 +30,9 @@ use Rattle.service_outline.specs.Acts.{Cleans}
 use Rattle.service_outline.specs.Both.{both}
 use Rattle.service_outline.specs.Done.{goes, acts}
 use Rattle.service_outline.specs.Fuel.{Shortens}
-use Rattle.service_outline.specs.Owing.{is_simple, same_chip, AreOwed, GoesFree, AreWindows, AreFree}
-use Rattle.service_outline.specs.Past.{Past, nothing_yet, Is_being}
-use Rattle.service_outline.specs.Services.{Held, IsBasis, Steady, Stand, AreEnding, AreLong, Right, RightOr, ended_at, Continues, Works, TurnsTo, AreEndingServices, Decides, Beside, AllLet, services_driver, mark_of, place_at}
+use Rattle.service_outline.specs.DeferredWrites.{is_simple, same_chip, AreOwed, GoesFree, AreWindows, AreFree}
+use Rattle.service_outline.specs.FrameHistory.{FrameHistory, fresh_history, Is_this_frame}
+use Rattle.service_outline.specs.Services.{ReservedBy, IsBasis, Steady, AssertedAt, AreEnding, AreLong, Right, RightOr, ended_at, Continues, Works, TurnsTo, AreEndingServices, Decides, Beside, AllLet, services_driver, mark_of, place_at}
 use Rattle.service_outline.specs.declared.body.Or.TheVariants.{First, Second}
 use Rattle.service_outline.specs.declared.done.BodyTaken.{BodyTaken}
 use Rattle.service_outline.specs.Short.{short_move, short_left, ending_gave, ended_by}
@@ -40,12 +42,12 @@ use Rattle.service_outline.specs.laws.Ending.{goes_right}
 use Rattle.service_outline.specs.laws.Duties.{no_duties, no_units}
 use Rattle.service_outline.specs.laws.Lawful.{services_lawful}
 use Rattle.service_outline.specs.laws.Owing.{owing_basis, windows_right}
-use Rattle.service_outline.specs.Seen.{is_windowed}
+use Rattle.service_outline.specs.WindowHistory.{is_windowed}
 use Rattle.service_outline.specs.laws.Seen.{free_windows}
 use Rattle.service_outline.specs.laws.SimpleMoves.{simple_owed}
 use Rattle.service_outline.specs.laws.Sweeping.{sweep_right}
 use Rattle.service_outline.specs.laws.Words.{stored_same, stored_other, stores_in, word_apart, word_later, fills_there}
-use Rattle.held_example.specs.Toy.{State, first_state, cells_of, table, put, filled, fills_by, tells_kept, starts_by, machine, class_of, is_own_word, is_own_register, owns, setting, Hold, Part, Promise, Pinned, Holds, cell, MARK, STATE, NEWEST, PIN, bank, flag, want_by, want, HeldRight, AllRight, Work, Settled, Marking, MarkAgrees, IsKept, KeptAgrees, Agrees, bare, is_publishing, publishing, basis, job_move, filled_bodies, filled_takes, is_of, Free, filling, fill_bodies, notice, tells_notice, told_all, ask_work, ask_bodies, ask_takes, ask_fuel, look_takes, put_work, put_takes, put_fuel, put_owes, put_windows, put_bodies, take_work, named, none_kept, take_takes, take_fuel, take_clean, take_ends, take_bodies, ends_with, both_read, twice, is_pin, NonePinned, answered, poll_work, poll_takes, poll_fuel, poll_bodies, reboot_work, reboot_takes, reboot_bodies, fill_looked, looked, toy}
+use Rattle.held_example.specs.Toy.{State, first_state, cells_of, table, put, filled, fills_by, tells_kept, starts_by, machine, class_of, is_own_word, is_own_register, owns, setting, Reservation, Part, Promise, Pinned, Reservations, cell, MARK, STATE, NEWEST, PIN, bank, flag, want_by, want, HeldRight, AllRight, Work, Settled, Marking, MarkAgrees, IsKept, KeptAgrees, Agrees, bare, is_publishing, publishing, basis, job_move, filled_bodies, filled_takes, is_of, Free, filling, fill_bodies, notice, tells_notice, told_all, ask_work, ask_bodies, ask_takes, ask_fuel, look_takes, put_work, put_takes, put_owes, put_windows, put_bodies, take_work, named, none_kept, take_takes, take_fuel, take_clean, take_ends, take_bodies, ends_with, both_read, twice, is_pin, NonePinned, answered, poll_work, poll_takes, poll_fuel, poll_bodies, reboot_work, reboot_takes, reboot_bodies, fill_looked, looked, toy}
 use Rattle.held_example.specs.declared.asking.Asking.{Asking}
 use Rattle.held_example.specs.declared.asking.Asking.TheVariants.{Want, OpenOnce, Tell, ShutAgain, Look, Go, Unmark}
 use Rattle.held_example.specs.declared.call.Call.{Call}
@@ -64,22 +66,22 @@ use Rattle.held_example.specs.declared.rebooting.Rebooting.TheVariants.{Reset}
 
 -- ---- parts of the agreement, by the words that they look at
 
-right_one : (a b : Chip) (h : Held Call Hold) (x : Hold) → word_of b PIN ≡ word_of a PIN → ((i : ℕ) → word_of a PIN ≡ 1 + i → i < 2 → word_of b (bank i) ≡ word_of a (bank i)) → HeldRight a h x → HeldRight b h x
+right_one : (a b : Chip) (h : ReservedBy Call Reservation) (x : Reservation) → word_of b PIN ≡ word_of a PIN → ((i : ℕ) → word_of a PIN ≡ 1 + i → i < 2 → word_of b (bank i) ≡ word_of a (bank i)) → HeldRight a h x → HeldRight b h x
 right_one a b h (Part n v i) pin banks r = r
 right_one a b h Promise pin banks r = tt
 right_one a b h (Pinned i) pin banks r = (r.0, r.1, pin ∙ r.2, r.3 ∙ ap (λ x. Some (twice x)) (sym (banks i r.2 r.1)))
 
-right_by : (a b : Chip) (held : Holds) → word_of b PIN ≡ word_of a PIN → ((i : ℕ) → word_of a PIN ≡ 1 + i → i < 2 → word_of b (bank i) ≡ word_of a (bank i)) → AllRight a held → AllRight b held
+right_by : (a b : Chip) (held : Reservations) → word_of b PIN ≡ word_of a PIN → ((i : ℕ) → word_of a PIN ≡ 1 + i → i < 2 → word_of b (bank i) ≡ word_of a (bank i)) → AllRight a held → AllRight b held
 right_by a b [] pin banks r = tt
 right_by a b (h ∷ hs) pin banks r = (right_one a b h h.what pin banks r.0, right_by a b hs pin banks r.1)
 
 -- where no bank is pinned none is looked at
-unpinned_one : (a b : Chip) (h : Held Call Hold) (x : Hold) → is_pin x ≡ false → HeldRight a h x → HeldRight b h x
+unpinned_one : (a b : Chip) (h : ReservedBy Call Reservation) (x : Reservation) → is_pin x ≡ false → HeldRight a h x → HeldRight b h x
 unpinned_one a b h (Part n v i) e r = r
 unpinned_one a b h Promise e r = tt
 unpinned_one a b h (Pinned i) e r = absurd (cc)
 
-unpinned : (a b : Chip) (held : Holds) → NonePinned held → AllRight a held → AllRight b held
+unpinned : (a b : Chip) (held : Reservations) → NonePinned held → AllRight a held → AllRight b held
 unpinned a b [] none r = tt
 unpinned a b (h ∷ hs) none r = (unpinned_one a b h h.what none.0 r.0, unpinned a b hs none.1 r.1)
 
@@ -131,7 +133,7 @@ reset_agrees chip w reason all = record {
 }
 
 -- the words are the same
-same_words : (held : Holds) (work : Work) (a b : Chip) (w x : World) (s : State) → HasAll b → ((k : ℕ) → is_own_word k ≡ true → word_of b k ≡ word_of a k) → Agrees held work a w s → Agrees held work b x s
+same_words : (held : Reservations) (work : Work) (a b : Chip) (w x : World) (s : State) → HasAll b → ((k : ℕ) → is_own_word k ≡ true → word_of b k ≡ word_of a k) → Agrees held work a w s → Agrees held work b x s
 same_words held work a b w x s all same h = record {
   right = right_by a b held (same PIN refl) (λ i p lt. same (bank i) (own_bank i lt)) h.right;
   all = all;
@@ -144,7 +146,7 @@ same_words held work a b w x s all same h = record {
 below_sources : (k : ℕ) → is_own_word k ≡ true → k < SOURCES
 below_sources k e = let lt : k < 32832 = grind (arith, nat_tests) in omega (arith, lt)
 
-later : (held : Holds) (work : Work) (chip : Chip) (w : World) (s : State) (order : Order) → FillsThere (Hardware order) → Agrees held work chip w s → Agrees held work (happened chip order) (world_after w chip.clock.rate order) s
+later : (held : Reservations) (work : Work) (chip : Chip) (w : World) (s : State) (order : Order) → FillsThere (Hardware order) → Agrees held work chip w s → Agrees held work (happened chip order) (world_after w chip.clock.rate order) s
 later held work chip w s order fills h = same_words held work chip (happened chip order) w (world_after w chip.clock.rate order) s (all-step chip (Hardware order) fills h.all) (λ k own. word_later chip order k h.all.words (below_sources k own)) h
 
 unstored : (made : Move) → owns made ≡ false → stores_in is_own_word made ≡ false
@@ -155,7 +157,7 @@ unstored _ e = refl
 all_moved : (chip : Chip) (made : Move) (received : ℕ) → HasAll chip → HasAll (chip_after chip made received)
 all_moved chip made received all = all-step chip (Made made received) tt all
 
-apart : (held : Holds) (work : Work) (chip : Chip) (w : World) (s : State) (made : Move) (received : ℕ) → owns made ≡ false → Agrees held work chip w s → Agrees held work (chip_after chip made received) w s
+apart : (held : Reservations) (work : Work) (chip : Chip) (w : World) (s : State) (made : Move) (received : ℕ) → owns made ≡ false → Agrees held work chip w s → Agrees held work (chip_after chip made received) w s
 apart held work chip w s made received e h = same_words held work chip (chip_after chip made received) w w s (all_moved chip made received h.all) (λ k own. word_apart is_own_word chip made received k (unstored made e) own) h
 
 plain : (made : Move) → owns made ≡ true → is_shared made ≡ false
@@ -211,9 +213,6 @@ waits chip w s Adc1 h = refl
 waits chip w s Spi0 h = refl
 waits chip w s Spi1 h = refl
 
-given : {A : Type 0} {x y : A} → Some x ≡ Some y → x ≡ y
-given e = cc
-
 -- only a section that isn't there and a value that was never kept are errors
 fill_leaves : (s : State) (n v : ℕ) (q : Bool) → ErrorLeaves s (fills_by s n v q)
 fill_leaves s n v true some = absurd (cc)
@@ -224,12 +223,12 @@ take_leaves s None some = (refl, refl)
 take_leaves s (Some v) some = absurd (cc)
 
 error_leaves : (w : World) (s : State) (c : Call) (times : ℕ → ℕ) (out : Outcome State) → machine.happens w s (Acts c times) ≡ Some out → ErrorLeaves s out
-error_leaves w s (Fill n v) times out e = subst (λ o. ErrorLeaves s o) (given e) (fill_leaves s n v (nat_lt n 4))
-error_leaves w s Ask times out e = subst (λ o. ErrorLeaves s o) (given e) (λ some. absurd (cc))
-error_leaves w s (Put v) times out e = subst (λ o. ErrorLeaves s o) (given e) (λ some. absurd (cc))
-error_leaves w s Take times out e = subst (λ o. ErrorLeaves s o) (given e) (take_leaves s s.kept)
-error_leaves w s Poll times out e = subst (λ o. ErrorLeaves s o) (given e) (λ some. absurd (cc))
-error_leaves w s Reboot times out e = subst (λ o. ErrorLeaves s o) (given e) (λ some. absurd (cc))
+error_leaves w s (Fill n v) times out e = subst (λ o. ErrorLeaves s o) (some_same e) (fill_leaves s n v (nat_lt n 4))
+error_leaves w s Ask times out e = subst (λ o. ErrorLeaves s o) (some_same e) (λ some. absurd (cc))
+error_leaves w s (Put v) times out e = subst (λ o. ErrorLeaves s o) (some_same e) (λ some. absurd (cc))
+error_leaves w s Take times out e = subst (λ o. ErrorLeaves s o) (some_same e) (take_leaves s s.kept)
+error_leaves w s Poll times out e = subst (λ o. ErrorLeaves s o) (some_same e) (λ some. absurd (cc))
+error_leaves w s Reboot times out e = subst (λ o. ErrorLeaves s o) (some_same e) (λ some. absurd (cc))
 
 bare_right : IsBasis bare
 bare_right = record {
@@ -276,21 +275,13 @@ publishing_right = simple_owed bare publishing publishing_simple (λ b chip. tt)
 pub basis_right : IsBasis basis
 basis_right = owing_basis bare publishing same_chip publishing_right bare_right
 
-masked : (held : Holds) (work : Work) (chip : Chip) (w : World) (s : State) → Agrees held work chip w s → Agrees held work (chip_after chip Mask 0) w s
+masked : (held : Reservations) (work : Work) (chip : Chip) (w : World) (s : State) → Agrees held work chip w s → Agrees held work (chip_after chip Mask 0) w s
 masked held work chip w s h = apart held work chip w s Mask 0 refl h
 
-unmasked : (held : Holds) (work : Work) (chip : Chip) (w : World) (s : State) → Agrees held work chip w s → Agrees held work (chip_after chip Unmask 0) w s
+unmasked : (held : Reservations) (work : Work) (chip : Chip) (w : World) (s : State) → Agrees held work chip w s → Agrees held work (chip_after chip Unmask 0) w s
 unmasked held work chip w s h = apart held work chip w s Unmask 0 refl h
 
 -- ---- a section is filled
-
-if_true : {A : Type 0} (b : Bool) (x y : A) → b ≡ true → (if b then x else y) ≡ x
-if_true true x y e = refl
-if_true false x y e = absurd (cc)
-
-if_false : {A : Type 0} (b : Bool) (x y : A) → b ≡ false → (if b then x else y) ≡ y
-if_false true x y e = absurd (cc)
-if_false false x y e = refl
 
 -- a word of another section, or another one of the section
 other_cell : (c j n i : ℕ) → j < 8 → i < 8 → (c == n && j == i) ≡ false → cell c j ≢ cell n i
@@ -305,7 +296,7 @@ small : (n i : ℕ) → n < 4 → i < 8 → cell n i < WORDS
 small n i p q = omega (arith, p, q)
 
 -- the words of sections after a store in one
-stored_cells : (held : Holds) (chip : Chip) (f : ℕ → ℕ) (n v i : ℕ) → n < 4 → i < 8 → length chip.words ≡ WORDS
+stored_cells : (held : Reservations) (chip : Chip) (f : ℕ → ℕ) (n v i : ℕ) → n < 4 → i < 8 → length chip.words ≡ WORDS
     → ((c j : ℕ) → c < 4 → j < 8 → word_of chip (cell c j) ≡ want_by (Part n v i) (want held f c j) c j)
     → (c j : ℕ) → c < 4 → j < 8 → word_of (chip_after chip (Store (cell n i) v) 0) (cell c j) ≡ want_by (Part n v (i + 1)) (want held f c j) c j
 stored_cells held chip f n v i p q size h c j a b = by (c == n && j == i) refl
@@ -326,11 +317,11 @@ stored_cells held chip f n v i p q size h c j a b = by (c == n && j == i) refl
         ∙ (h c j a b ∙ ap (λ x. if x then v else want held f c j) (grows e))
 
 -- where nothing of the section is held, its words are the machine's
-want_put : (held : Holds) (f : ℕ → ℕ) (n v c j : ℕ) → Free n held → want held (put f n v) c j ≡ (if c == n then v else want held f c j)
+want_put : (held : Reservations) (f : ℕ → ℕ) (n v c j : ℕ) → Free n held → want held (put f n v) c j ≡ (if c == n then v else want held f c j)
 want_put [] f n v c j h = refl
 want_put (x ∷ xs) f n v c j h = by x.what h.0 (want_put xs f n v c j h.1)
   where
-    by : (y : Hold) → is_of n y ≡ false → want xs (put f n v) c j ≡ (if c == n then v else want xs f c j) → want_by y (want xs (put f n v) c j) c j ≡ (if c == n then v else want_by y (want xs f c j) c j)
+    by : (y : Reservation) → is_of n y ≡ false → want xs (put f n v) c j ≡ (if c == n then v else want xs f c j) → want_by y (want xs (put f n v) c j) c j ≡ (if c == n then v else want_by y (want xs f c j) c j)
     by (Part m u i) e g = split (c == m && nat_lt j i) refl (c == n) refl
       where
         split : (q : Bool) → (c == m && nat_lt j i) ≡ q → (r : Bool) → (c == n) ≡ r → (if c == m && nat_lt j i then u else want xs (put f n v) c j) ≡ (if c == n then v else (if c == m && nat_lt j i then u else want xs f c j))
@@ -342,7 +333,7 @@ want_put (x ∷ xs) f n v c j h = by x.what h.0 (want_put xs f n v c j h.1)
     by (Pinned b) e g = g
 
 -- a store in a section leaves the rest
-grown : (held : Held Call Hold) (below : Holds) (chip : Chip) (w : World) (s : State) (r : Job) (i : ℕ) → r.section < 4 → i < 8 → Agrees (record held { what = Part r.section r.value i } ∷ below) Settled chip w s → Agrees (record held { what = Part r.section r.value (i + 1) } ∷ below) Settled (chip_after chip (job_move r i) 0) w s
+grown : (held : ReservedBy Call Reservation) (below : Reservations) (chip : Chip) (w : World) (s : State) (r : Job) (i : ℕ) → r.section < 4 → i < 8 → Agrees (record held { what = Part r.section r.value i } ∷ below) Settled chip w s → Agrees (record held { what = Part r.section r.value (i + 1) } ∷ below) Settled (chip_after chip (job_move r i) 0) w s
 grown held below chip w s r i p q h =
     let after = chip_after chip (job_move r i) 0 in
     record {
@@ -355,18 +346,18 @@ grown held below chip w s r i p q h =
     }
 
 -- the act: all words of the section have the value
-whole_by : (below : Holds) (f : ℕ → ℕ) (n v c j : ℕ) → j < 8 → Free n below → want_by (Part n v 8) (want below f c j) c j ≡ want below (put f n v) c j
+whole_by : (below : Reservations) (f : ℕ → ℕ) (n v c j : ℕ) → j < 8 → Free n below → want_by (Part n v 8) (want below f c j) c j ≡ want below (put f n v) c j
 whole_by below f n v c j lt free = ap (λ x. if x then v else want below f c j) (all (c == n)) ∙ sym (want_put below f n v c j free)
   where
     all : (q : Bool) → q && nat_lt j 8 ≡ q
     all true = grind (arith, nat_tests)
     all false = refl
 
-want_same : (held : Holds) (f g : ℕ → ℕ) (c j : ℕ) → f c ≡ g c → want held f c j ≡ want held g c j
+want_same : (held : Reservations) (f g : ℕ → ℕ) (c j : ℕ) → f c ≡ g c → want held f c j ≡ want held g c j
 want_same [] f g c j e = e
 want_same (x ∷ xs) f g c j e = ap (λ y. want_by x.what y c j) (want_same xs f g c j e)
 
-acted : (held : Held Call Hold) (below : Holds) (chip : Chip) (w : World) (s : State) (r : Job) → Free r.section below → Agrees (record held { what = Part r.section r.value 8 } ∷ below) Settled chip w s → Agrees below Settled chip w (filled s r.section r.value)
+acted : (held : ReservedBy Call Reservation) (below : Reservations) (chip : Chip) (w : World) (s : State) (r : Job) → Free r.section below → Agrees (record held { what = Part r.section r.value 8 } ∷ below) Settled chip w s → Agrees below Settled chip w (filled s r.section r.value)
 acted held below chip w s r free h = record {
   right = h.right.1;
   all = h.all;
@@ -376,7 +367,7 @@ acted held below chip w s r free h = record {
   starts = h.starts;
 }
 
-begun : (held : Held Call Hold) (below : Holds) (chip : Chip) (w : World) (s : State) (r : Job) → held.by ≡ Called (Fill r.section r.value) → Agrees below Settled chip w s → Agrees (record held { what = Part r.section r.value 0 } ∷ below) Settled chip w s
+begun : (held : ReservedBy Call Reservation) (below : Reservations) (chip : Chip) (w : World) (s : State) (r : Job) → held.by ≡ Called (Fill r.section r.value) → Agrees below Settled chip w s → Agrees (record held { what = Part r.section r.value 0 } ∷ below) Settled chip w s
 begun held below chip w s r e h = record {
   right = (e, h.right);
   all = h.all;
@@ -393,8 +384,8 @@ begun held below chip w s r e h = record {
 below_four : (n : ℕ) → n < 4 → nat_lt n 4 ≡ true
 below_four n p = grind (arith, nat_tests)
 
-filled_steps : (below : Holds) (chip : Chip) (w : World) (s : State) (k : Filled) (o : Origin Call) (y : ℕ) (t : Past) (m : ℕ → Bool) → Stand basis filled_bodies below chip w s k o t → Right basis filled_bodies below chip w s k o y t m
-filled_steps below chip w s (fills.Act r) o y t m (h, (Is_being, lt, free)) = record {
+filled_steps : (below : Reservations) (chip : Chip) (w : World) (s : State) (k : Filled) (o : Origin Call) (y : ℕ) (t : FrameHistory) (m : ℕ → Bool) → AssertedAt basis filled_bodies below chip w s k o t → Right basis filled_bodies below chip w s k o y t m
+filled_steps below chip w s (fills.Act r) o y t m (h, (Is_this_frame, lt, free)) = record {
   may = refl;
   stands = tt;
   state = filled s r.section r.value;
@@ -421,7 +412,7 @@ filled_right = record {
     turns : (k : Filled) → TurnsTo filled_bodies 16 k (filled_takes k 0)
     turns (fills.Act r) = omega arith
 
-    stays : (below : Holds) (w w1 : World) (a b : Chip) (s : State) (k : Filled) (o : Origin Call) (t : Past) → place_at (filled_bodies.spot k) below (basis.foot a) w s o t → place_at (filled_bodies.spot k) below (basis.foot b) w1 s o t
+    stays : (below : Reservations) (w w1 : World) (a b : Chip) (s : State) (k : Filled) (o : Origin Call) (t : FrameHistory) → place_at (filled_bodies.assertion k) below (basis.foot a) w s o t → place_at (filled_bodies.assertion k) below (basis.foot b) w1 s o t
     stays below w w1 a b s (fills.Act r) o t h = h
 
 pub fill_right : AreLong basis fill_bodies
@@ -445,14 +436,14 @@ bank_apart : (i k : ℕ) → k < 32812 → bank i ≢ k
 bank_apart i k below e = omega (arith, below, e)
 
 -- the words but the mark, after a store of it
-right_marked : (held : Holds) (chip : Chip) (v : ℕ) → AllRight chip held → AllRight (chip_after chip (Store MARK v) 0) held
+right_marked : (held : Reservations) (chip : Chip) (v : ℕ) → AllRight chip held → AllRight (chip_after chip (Store MARK v) 0) held
 right_marked held chip v r = right_by chip (chip_after chip (Store MARK v) 0) held (stored_other chip MARK v 0 PIN (omega arith)) (λ i p lt. stored_other chip MARK v 0 (bank i) (bank_apart i MARK (omega arith))) r
 
 kept_marked : (chip : Chip) (v : ℕ) (k : Option ℕ) → IsKept chip k → IsKept (chip_after chip (Store MARK v) 0) k
 kept_marked chip v k h = is_kept_by chip (chip_after chip (Store MARK v) 0) k (stored_other chip MARK v 0 NEWEST (omega arith)) (λ i lt. stored_other chip MARK v 0 (bank i) (bank_apart i MARK (omega arith))) h
 
 -- the act: the unit waits, and the frame has promised its start
-wanted : (below : Holds) (chip : Chip) (w : World) (s : State) (o : Origin Call) (t : Past) → Agrees below Settled chip w s → Agrees (record { by = o; what = Promise; acted = t.acted } ∷ below) Settled (chip_after chip (Store MARK 1) 0) w (record s { waiting = true })
+wanted : (below : Reservations) (chip : Chip) (w : World) (s : State) (o : Origin Call) (t : FrameHistory) → Agrees below Settled chip w s → Agrees (record { by = o; what = Promise; acted = t.acted } ∷ below) Settled (chip_after chip (Store MARK 1) 0) w (record s { waiting = true })
 wanted below chip w s o t h = record {
   right = (tt, right_marked below chip 1 h.right);
   all = all_moved chip (Store MARK 1) 0 h.all;
@@ -463,10 +454,10 @@ wanted below chip w s o t h = record {
 }
 
 -- the start: the unit waits no longer, and the mark is yet to say so
-started : (below : Holds) (chip : Chip) (w : World) (s : State) (o : Origin Call) (t : Past) → Agrees (record { by = o; what = Promise; acted = t.acted } ∷ below) Settled chip w s → Agrees below Marking (chip_after chip (Write (ConverterGo 0) 1) 0) w (record s { waiting = false })
+started : (below : Reservations) (chip : Chip) (w : World) (s : State) (o : Origin Call) (t : FrameHistory) → Agrees (record { by = o; what = Promise; acted = t.acted } ∷ below) Settled chip w s → Agrees below Marking (chip_after chip (Write (ConverterGo 0) 1) 0) w (record s { waiting = false })
 started below chip w s o t h = record { right = right_by chip (chip_after chip (Write (ConverterGo 0) 1) 0) below refl (λ i p lt. refl) h.right.1; all = all_moved chip (Write (ConverterGo 0) 1) 0 h.all; cells = h.cells; mark = tt; kept = is_kept_by chip (chip_after chip (Write (ConverterGo 0) 1) 0) s.kept refl (λ i lt. refl) h.kept; starts = λ e. absurd (cc) }
 
-unmarked : (below : Holds) (chip : Chip) (w : World) (s : State) → s.waiting ≡ false → Agrees below Marking chip w s → Agrees below Settled (chip_after chip (Store MARK 0) 0) w s
+unmarked : (below : Reservations) (chip : Chip) (w : World) (s : State) → s.waiting ≡ false → Agrees below Marking chip w s → Agrees below Settled (chip_after chip (Store MARK 0) 0) w s
 unmarked below chip w s none h = record {
   right = right_marked below chip 0 h.right;
   all = all_moved chip (Store MARK 0) 0 h.all;
@@ -477,7 +468,7 @@ unmarked below chip w s none h = record {
 }
 
 -- nothing waits: the promise is void
-void : (below : Holds) (chip : Chip) (w : World) (s : State) (o : Origin Call) (t : Past) → s.waiting ≡ false → Agrees (record { by = o; what = Promise; acted = t.acted } ∷ below) Settled chip w s → Agrees below Settled chip w s
+void : (below : Reservations) (chip : Chip) (w : World) (s : State) (o : Origin Call) (t : FrameHistory) → s.waiting ≡ false → Agrees (record { by = o; what = Promise; acted = t.acted } ∷ below) Settled chip w s → Agrees below Settled chip w s
 void below chip w s o t none h = record { right = h.right.1; all = h.all; cells = h.cells; mark = h.mark; kept = h.kept; starts = λ e. let f : false ≡ true = sym none ∙ e in absurd (cc) }
 
 mark_says : (b : Bool) (x : ℕ) (q : Bool) → x ≡ flag b → (x == 0) ≡ q → b ≡ not q
@@ -486,18 +477,18 @@ mark_says true x false e f = refl
 mark_says false x true e f = refl
 mark_says false x false e f = absurd (grind (arith, nat_tests))
 
-looks_on : (below : Holds) (chip : Chip) (w : World) (s : State) (before : Chip) (x y : ℕ) (m : ℕ → Bool) (q : Bool) → s.waiting ≡ not q → Agrees (record { by = Called Ask; what = Promise; acted = told_all.acted } ∷ below) Settled chip w s → Works basis ask_bodies below before chip w s (Called Ask) (Load MARK) false x y told_all m (look_takes q).0 (look_takes q).1.event (look_takes q).1.done
+looks_on : (below : Reservations) (chip : Chip) (w : World) (s : State) (before : Chip) (x y : ℕ) (m : ℕ → Bool) (q : Bool) → s.waiting ≡ not q → Agrees (record { by = Called Ask; what = Promise; acted = told_all.acted } ∷ below) Settled chip w s → Works basis ask_bodies below before chip w s (Called Ask) (Load MARK) false x y told_all m (look_takes q).0 (look_takes q).1.event (look_takes q).1.done
 looks_on below chip w s before x y m true e h = (void below chip w s (Called Ask) told_all e h, record { may = (refl, refl); served = false; owed = refl; shown = λ e. absurd (cc); report = refl })
-looks_on below chip w s before x y m false e h = (h, (Is_being, e))
+looks_on below chip w s before x y m false e h = (h, (Is_this_frame, e))
 
-ask_steps : (below : Holds) (chip : Chip) (w : World) (s : State) (k : Asking) (o : Origin Call) (y : ℕ) (t : Past) (m : ℕ → Bool) → Stand basis ask_bodies below chip w s k o t → Right basis ask_bodies below chip w s k o y t m
-ask_steps below chip w s Want o y t m (h, Is_being) = record { may = refl; stands = tt; state = record s { waiting = true }; told = tells_notice; begins = None; is = refl; sends = tt; acts = tt; reset = refl; next = (wanted below chip w s o (record nothing_yet { acted = Some no_answer }) h, Is_being) }
+ask_steps : (below : Reservations) (chip : Chip) (w : World) (s : State) (k : Asking) (o : Origin Call) (y : ℕ) (t : FrameHistory) (m : ℕ → Bool) → AssertedAt basis ask_bodies below chip w s k o t → Right basis ask_bodies below chip w s k o y t m
+ask_steps below chip w s Want o y t m (h, Is_this_frame) = record { may = refl; stands = tt; state = record s { waiting = true }; told = tells_notice; begins = None; is = refl; sends = tt; acts = tt; reset = refl; next = (wanted below chip w s o (record fresh_history { acted = Some no_answer }) h, Is_this_frame) }
 ask_steps below chip w s OpenOnce o y t m (h, f) = (unmasked _ Settled chip w s h, f)
-ask_steps below chip w s Tell o y t m (h, Is_being) = record { served = false; others = []; is = refl; shown = λ e. absurd (cc); next = (apart _ Settled chip w s (Note notice) 0 refl h, Is_being) }
+ask_steps below chip w s Tell o y t m (h, Is_this_frame) = record { served = false; others = []; is = refl; shown = λ e. absurd (cc); next = (apart _ Settled chip w s (Note notice) 0 refl h, Is_this_frame) }
 ask_steps below chip w s ShutAgain o y t m (h, f) = (masked _ Settled chip w s h, f)
-ask_steps below chip w s Look o y t m (h, Is_being) = looks_on below chip w s chip (word_of chip MARK) y (missed_after machine w s m) (word_of chip MARK == 0) (mark_says s.waiting (word_of chip MARK) (word_of chip MARK == 0) h.mark refl) h
-ask_steps below chip w s Go o y t m (h, (Is_being, waiting)) = record { may = refl; stands = (refl, refl); state = record s { waiting = false }; told = tells_nothing; begins = None; is = ap (λ x. starts_by s x) waiting; sends = tt; acts = tt; reset = refl; next = (started below chip w s o told_all h, (Is_being, refl)) }
-ask_steps below chip w s Unmark o y t m (h, (Is_being, none)) = (unmarked below chip w s none h, record { may = (refl, refl); served = false; owed = refl; shown = λ e. absurd (cc); report = refl })
+ask_steps below chip w s Look o y t m (h, Is_this_frame) = looks_on below chip w s chip (word_of chip MARK) y (missed_after machine w s m) (word_of chip MARK == 0) (mark_says s.waiting (word_of chip MARK) (word_of chip MARK == 0) h.mark refl) h
+ask_steps below chip w s Go o y t m (h, (Is_this_frame, waiting)) = record { may = refl; stands = (refl, refl); state = record s { waiting = false }; told = tells_nothing; begins = None; is = ap (λ x. starts_by s x) waiting; sends = tt; acts = tt; reset = refl; next = (started below chip w s o told_all h, (Is_this_frame, refl)) }
+ask_steps below chip w s Unmark o y t m (h, (Is_this_frame, none)) = (unmarked below chip w s none h, record { may = (refl, refl); served = false; owed = refl; shown = λ e. absurd (cc); report = refl })
 
 ask_own : (k : Asking) → is_shared (ask_work k) || owns (ask_work k) ≡ true
 ask_own Want = refl
@@ -534,7 +525,7 @@ ask_shortens Look x = by (x == 0)
 ask_shortens Go x = omega arith
 ask_shortens Unmark x = omega arith
 
-ask_stays : (below : Holds) (a b : Chip) (w w1 : World) (s : State) (k : Asking) (o : Origin Call) (t : Past) → place_at (ask_bodies.spot k) below (basis.foot a) w s o t → place_at (ask_bodies.spot k) below (basis.foot b) w1 s o t
+ask_stays : (below : Reservations) (a b : Chip) (w w1 : World) (s : State) (k : Asking) (o : Origin Call) (t : FrameHistory) → place_at (ask_bodies.assertion k) below (basis.foot a) w s o t → place_at (ask_bodies.assertion k) below (basis.foot b) w1 s o t
 ask_stays below a b w w1 s Want o t h = h
 ask_stays below a b w w1 s OpenOnce o t h = h
 ask_stays below a b w w1 s Tell o t h = h
@@ -569,12 +560,12 @@ other_bank : (x : ℕ) (q : Bool) → (x == 1) ≡ q → x ≢ 1 + (if q then 1 
 other_bank x true e f = absurd (grind (arith, nat_tests))
 other_bank x false e f = absurd (grind (arith, nat_tests))
 
-put_on : (below : Holds) (chip : Chip) (w : World) (s : State) (before : Chip) (x y v : ℕ) (m : ℕ → Bool) (q : Bool) → word_of chip PIN ≢ 1 + (if q then 1 else 0) → Agrees below Settled chip w s → let p : Putting × BodyTaken = if q then (puts.Keep 1 v, goes) else (puts.Keep 0 v, goes) in Works basis put_bodies below before chip w s (Called (Put v)) (Load PIN) false x y nothing_yet m p.0 p.1.event p.1.done
-put_on below chip w s before x y v m true ne h = (h, (Is_being, omega arith, ne))
-put_on below chip w s before x y v m false ne h = (h, (Is_being, omega arith, ne))
+put_on : (below : Reservations) (chip : Chip) (w : World) (s : State) (before : Chip) (x y v : ℕ) (m : ℕ → Bool) (q : Bool) → word_of chip PIN ≢ 1 + (if q then 1 else 0) → Agrees below Settled chip w s → let p : Putting × BodyTaken = if q then (puts.Keep 1 v, goes) else (puts.Keep 0 v, goes) in Works basis put_bodies below before chip w s (Called (Put v)) (Load PIN) false x y fresh_history m p.0 p.1.event p.1.done
+put_on below chip w s before x y v m true ne h = (h, (Is_this_frame, omega arith, ne))
+put_on below chip w s before x y v m false ne h = (h, (Is_this_frame, omega arith, ne))
 
 -- the act: the value stands in a bank that isn't pinned, and after the store that is owed that is the newest
-put_kept : (below : Holds) (chip : Chip) (w : World) (s : State) (b v : ℕ) → b < 2 → word_of chip PIN ≢ 1 + b → Agrees below Settled chip w s → Agrees below Settled (chip_after (chip_after chip (Store (bank b) v) 0) (Store NEWEST (1 + b)) 0) w (record s { kept = Some v })
+put_kept : (below : Reservations) (chip : Chip) (w : World) (s : State) (b v : ℕ) → b < 2 → word_of chip PIN ≢ 1 + b → Agrees below Settled chip w s → Agrees below Settled (chip_after (chip_after chip (Store (bank b) v) 0) (Store NEWEST (1 + b)) 0) w (record s { kept = Some v })
 put_kept below chip w s b v lt free h =
     let first = chip_after chip (Store (bank b) v) 0 in
     let after = chip_after first (Store NEWEST (1 + b)) 0 in
@@ -589,12 +580,12 @@ put_kept below chip w s b v lt free h =
       starts = h.starts;
     }
 
-put_steps : (below : Holds) (chip : Chip) (w : World) (s : State) (k : Putting) (o : Origin Call) (y : ℕ) (t : Past) (m : ℕ → Bool) → put_owes k ≡ None → Stand basis put_bodies below chip w s k o t → Right basis put_bodies below chip w s k o y t m
-put_steps below chip w s (puts.Look v) o y t m e (h, Is_being) = let x = word_of chip PIN in put_on below chip w s chip x y v (missed_after machine w s m) (x == 1) (other_bank x (x == 1) refl) h
-put_steps below chip w s (puts.Keep b v) o y t m e (h, (Is_being, lt, free)) = record { may = refl; stands = tt; state = record s { kept = Some v }; told = tells_nothing; begins = None; is = refl; sends = tt; acts = tt; reset = refl; next = ((1, (refl, tt, put_kept below chip w s b v lt free h)), (v, Is_being)) }
+put_steps : (below : Reservations) (chip : Chip) (w : World) (s : State) (k : Putting) (o : Origin Call) (y : ℕ) (t : FrameHistory) (m : ℕ → Bool) → put_owes k ≡ None → AssertedAt basis put_bodies below chip w s k o t → Right basis put_bodies below chip w s k o y t m
+put_steps below chip w s (puts.Look v) o y t m e (h, Is_this_frame) = let x = word_of chip PIN in put_on below chip w s chip x y v (missed_after machine w s m) (x == 1) (other_bank x (x == 1) refl) h
+put_steps below chip w s (puts.Keep b v) o y t m e (h, (Is_this_frame, lt, free)) = record { may = refl; stands = tt; state = record s { kept = Some v }; told = tells_nothing; begins = None; is = refl; sends = tt; acts = tt; reset = refl; next = ((1, (refl, tt, put_kept below chip w s b v lt free h)), (v, Is_this_frame)) }
 put_steps below chip w s (puts.Publish b) o y t m e h = absurd (cc)
 
-put_own : (below : Holds) (chip : Chip) (w : World) (s : State) (k : Putting) (o : Origin Call) (t : Past) → put_owes k ≡ None → Stand basis put_bodies below chip w s k o t → is_shared (put_work k) || owns (put_work k) ≡ true
+put_own : (below : Reservations) (chip : Chip) (w : World) (s : State) (k : Putting) (o : Origin Call) (t : FrameHistory) → put_owes k ≡ None → AssertedAt basis put_bodies below chip w s k o t → is_shared (put_work k) || owns (put_work k) ≡ true
 put_own below chip w s (puts.Look v) o t e h = refl
 put_own below chip w s (puts.Keep b v) o t e (h, (p, lt, free)) = own_bank b lt
 put_own below chip w s (puts.Publish b) o t e h = absurd (cc)
@@ -624,7 +615,7 @@ pin_happened chip order all = word_later chip order PIN all.words (omega arith)
 newest_happened : (chip : Chip) (order : Order) → HasAll chip → word_of (happened chip order) NEWEST ≡ word_of chip NEWEST
 newest_happened chip order all = word_later chip order NEWEST all.words (omega arith)
 
-put_later : (below : Holds) (chip : Chip) (w w1 : World) (s : State) (order : Order) (k : Putting) (o : Origin Call) (t : Past) → put_owes k ≡ None → Stand basis put_bodies below chip w s k o t → place_at (put_bodies.spot k) below (basis.foot (happened chip order)) w1 s o t
+put_later : (below : Reservations) (chip : Chip) (w w1 : World) (s : State) (order : Order) (k : Putting) (o : Origin Call) (t : FrameHistory) → put_owes k ≡ None → AssertedAt basis put_bodies below chip w s k o t → place_at (put_bodies.assertion k) below (basis.foot (happened chip order)) w1 s o t
 put_later below chip w w1 s order (puts.Look v) o t e (h, f) = f
 put_later below chip w w1 s order (puts.Keep b v) o t e (h, f) = (f.0, f.1, λ i. f.2 (sym (pin_happened chip order h.all) ∙ i))
 put_later below chip w w1 s order (puts.Publish b) o t e h = absurd (cc)
@@ -648,7 +639,7 @@ put_wins = record {
     makes : (k : Putting) (b : ℕ) → put_owes k ≡ Some b → put_work k ≡ Store NEWEST (1 + b)
     makes (puts.Look v) b e = absurd (cc)
     makes (puts.Keep c v) b e = absurd (cc)
-    makes (puts.Publish c) b e = ap (λ i. Store NEWEST (1 + i)) (given e)
+    makes (puts.Publish c) b e = ap (λ i. Store NEWEST (1 + i)) (some_same e)
 
     over : (k : Putting) (b x : ℕ) → put_owes k ≡ Some b → ((put_takes k x).1.event ≡ None) × GoesFree put_windows tt (put_takes k x).0 (put_takes k x).1.done
     over (puts.Look v) b x e = absurd (cc)
@@ -659,10 +650,10 @@ put_wins = record {
     may (Store k v) e = let is : k ≡ NEWEST = grind (arith, nat_tests) in ap is_own_word is
     may _ e = absurd (cc)
 
-    stands : (k : Putting) (b x : ℕ) (below : Holds) (chip : Chip) (w : World) (s : State) (o : Origin Call) (t : Past) (m : ℕ → Bool) → put_owes k ≡ Some b → put_windows.place tt below o t → Agrees below Settled chip w s → Continues basis put_bodies below chip w s o t m (put_takes k x).0 (put_takes k x).1.done
+    stands : (k : Putting) (b x : ℕ) (below : Reservations) (chip : Chip) (w : World) (s : State) (o : Origin Call) (t : FrameHistory) (m : ℕ → Bool) → put_owes k ≡ Some b → put_windows.place tt below o t → Agrees below Settled chip w s → Continues basis put_bodies below chip w s o t m (put_takes k x).0 (put_takes k x).1.done
     stands (puts.Look v) b x below chip w s o t m e p h = absurd (cc)
     stands (puts.Keep c v) b x below chip w s o t m e p h = absurd (cc)
-    stands (puts.Publish c) b x below chip w s o t m e (v, Is_being) h = (h, record { may = (refl, refl); served = false; owed = refl; shown = λ e. absurd (cc); report = refl })
+    stands (puts.Publish c) b x below chip w s o t m e (v, Is_this_frame) h = (h, record { may = (refl, refl); served = false; owed = refl; shown = λ e. absurd (cc); report = refl })
 
 put_free : AreFree basis put_bodies put_owes (λ k. None)
 put_free = record {
@@ -697,7 +688,7 @@ is_named x b lt e = by (x == 1) refl
     by true f = grind (arith, nat_tests)
     by false f = grind (arith, nat_tests)
 
-newest_on : (below : Holds) (chip : Chip) (w : World) (s : State) (y : ℕ) (m : ℕ → Bool) (kept : Option ℕ) → s.kept ≡ kept → IsKept chip kept → NonePinned below → Agrees below Settled chip w s → (q : Bool) → (word_of chip NEWEST == 0) ≡ q → let p : Taking × BodyTaken = if q then (Newest, none_kept) else (Pin (named (word_of chip NEWEST)), goes) in Works basis take_bodies below chip chip w s (Called Take) (Load NEWEST) true (word_of chip NEWEST) y nothing_yet m p.0 p.1.event p.1.done
+newest_on : (below : Reservations) (chip : Chip) (w : World) (s : State) (y : ℕ) (m : ℕ → Bool) (kept : Option ℕ) → s.kept ≡ kept → IsKept chip kept → NonePinned below → Agrees below Settled chip w s → (q : Bool) → (word_of chip NEWEST == 0) ≡ q → let p : Taking × BodyTaken = if q then (Newest, none_kept) else (Pin (named (word_of chip NEWEST)), goes) in Works basis take_bodies below chip chip w s (Called Take) (Load NEWEST) true (word_of chip NEWEST) y fresh_history m p.0 p.1.event p.1.done
 newest_on below chip w s y m None e k none h true i = record {
   may = refl;
   stands = tt;
@@ -714,10 +705,10 @@ newest_on below chip w s y m None e k none h false i = absurd (grind (arith, nat
 newest_on below chip w s y m (Some v) e (b, lt, is, has) none h true i = absurd (grind (arith, nat_tests))
 newest_on below chip w s y m (Some v) e (b, lt, is, has) none h false i =
     let n = is_named (word_of chip NEWEST) b lt is in
-    (h, (Is_being, none, subst (λ x. x < 2) (sym n) lt, is ∙ ap (λ x. 1 + x) (sym n)))
+    (h, (Is_this_frame, none, subst (λ x. x < 2) (sym n) lt, is ∙ ap (λ x. 1 + x) (sym n)))
 
 -- the act: the newest bank is pinned, and has what is answered
-pinned_now : (below : Holds) (chip : Chip) (w : World) (s : State) (b v : ℕ) → b < 2 → word_of chip (bank b) ≡ v → NonePinned below → Agrees below Settled chip w s → Agrees (record { by = Called Take; what = Pinned b; acted = Some (twice v) } ∷ below) Settled (chip_after chip (Store PIN (1 + b)) 0) w s
+pinned_now : (below : Reservations) (chip : Chip) (w : World) (s : State) (b v : ℕ) → b < 2 → word_of chip (bank b) ≡ v → NonePinned below → Agrees below Settled chip w s → Agrees (record { by = Called Take; what = Pinned b; acted = Some (twice v) } ∷ below) Settled (chip_after chip (Store PIN (1 + b)) 0) w s
 pinned_now below chip w s b v lt has none h =
     let after = chip_after chip (Store PIN (1 + b)) 0 in
     record {
@@ -729,7 +720,7 @@ pinned_now below chip w s b v lt has none h =
       starts = h.starts;
     }
 
-released : (below : Holds) (chip : Chip) (w : World) (s : State) (b : ℕ) (o : Origin Call) (t : Past) → NonePinned below → Agrees (record { by = o; what = Pinned b; acted = t.acted } ∷ below) Settled chip w s → Agrees below Settled (chip_after chip (Store PIN 0) 0) w s
+released : (below : Reservations) (chip : Chip) (w : World) (s : State) (b : ℕ) (o : Origin Call) (t : FrameHistory) → NonePinned below → Agrees (record { by = o; what = Pinned b; acted = t.acted } ∷ below) Settled chip w s → Agrees below Settled (chip_after chip (Store PIN 0) 0) w s
 released below chip w s b o t none h =
     let after = chip_after chip (Store PIN 0) 0 in
     record {
@@ -741,7 +732,7 @@ released below chip w s b o t none h =
       starts = h.starts;
     }
 
-pin_on : (below : Holds) (chip : Chip) (w : World) (s : State) (y b : ℕ) (m : ℕ → Bool) (kept : Option ℕ) → s.kept ≡ kept → IsKept chip kept → b < 2 → word_of chip NEWEST ≡ 1 + b → NonePinned below → Agrees below Settled chip w s → Works basis take_bodies below chip (chip_after chip (Store PIN (1 + b)) 0) w s (Called Take) (Store PIN (1 + b)) false 0 y nothing_yet m (Open b) acts.event acts.done
+pin_on : (below : Reservations) (chip : Chip) (w : World) (s : State) (y b : ℕ) (m : ℕ → Bool) (kept : Option ℕ) → s.kept ≡ kept → IsKept chip kept → b < 2 → word_of chip NEWEST ≡ 1 + b → NonePinned below → Agrees below Settled chip w s → Works basis take_bodies below chip (chip_after chip (Store PIN (1 + b)) 0) w s (Called Take) (Store PIN (1 + b)) false 0 y fresh_history m (Open b) acts.event acts.done
 pin_on below chip w s y b m None e k lt newest none h = absurd (let z : 0 ≡ 1 + b = sym k ∙ newest in omega (arith, z))
 pin_on below chip w s y b m (Some v) e (i, below2, is, has) lt newest none h = record {
   may = refl;
@@ -753,7 +744,7 @@ pin_on below chip w s y b m (Some v) e (i, below2, is, has) lt newest none h = r
   sends = tt;
   acts = tt;
   reset = refl;
-  next = (pinned_now below chip w s b v lt (let same : i ≡ b = let z : 1 + i ≡ 1 + b = sym is ∙ newest in omega (arith, z) in ap (λ x. word_of chip (bank x)) (sym same) ∙ has) none h, (v, (Is_being, none)));
+  next = (pinned_now below chip w s b v lt (let same : i ≡ b = let z : 1 + i ≡ 1 + b = sym is ∙ newest in omega (arith, z) in ap (λ x. word_of chip (bank x)) (sym same) ∙ has) none h, (v, (Is_this_frame, none)));
 }
 
 abbrev first_number : Option Answer → ℕ
@@ -771,18 +762,18 @@ newest_goes x = by (x == 0)
     by true = refl
     by false = refl
 
-take_steps : (below : Holds) (chip : Chip) (w : World) (s : State) (k : Taking) (o : Origin Call) (y : ℕ) (t : Past) (m : ℕ → Bool) → Stand basis take_bodies below chip w s k o t → RightOr basis take_bodies below chip w s k o y t m (ended_at take_bodies take_ends k (value_of chip (take_work k)))
-take_steps below chip w s Newest o y t m (h, (Is_being, none)) = goes_right basis take_bodies below chip w s Newest (Called Take) y nothing_yet m (ended_at take_bodies take_ends Newest (word_of chip NEWEST)) (newest_goes (word_of chip NEWEST)) (newest_on below chip w s y (missed_after machine w s m) s.kept refl h.kept none h (word_of chip NEWEST == 0) refl)
-take_steps below chip w s (Pin b) o y t m (h, (Is_being, none, lt, newest)) = pin_on below chip w s y b (missed_after machine w s m) s.kept refl h.kept lt newest none h
+take_steps : (below : Reservations) (chip : Chip) (w : World) (s : State) (k : Taking) (o : Origin Call) (y : ℕ) (t : FrameHistory) (m : ℕ → Bool) → AssertedAt basis take_bodies below chip w s k o t → RightOr basis take_bodies below chip w s k o y t m (ended_at take_bodies take_ends k (value_of chip (take_work k)))
+take_steps below chip w s Newest o y t m (h, (Is_this_frame, none)) = goes_right basis take_bodies below chip w s Newest (Called Take) y fresh_history m (ended_at take_bodies take_ends Newest (word_of chip NEWEST)) (newest_goes (word_of chip NEWEST)) (newest_on below chip w s y (missed_after machine w s m) s.kept refl h.kept none h (word_of chip NEWEST == 0) refl)
+take_steps below chip w s (Pin b) o y t m (h, (Is_this_frame, none, lt, newest)) = pin_on below chip w s y b (missed_after machine w s m) s.kept refl h.kept lt newest none h
 take_steps below chip w s (Open b) o y t m (h, (v, f)) = (unmasked _ Settled chip w s h, (h.right.0.1, v, f))
-take_steps below chip w s (Copy b) o y t m (h, (lt, v, (Is_being, none))) = (h, subst (λ x. place_at (take_bodies.spot (Again b x)) below (basis.foot chip) w s (Called Take) (answered (twice v))) (sym (same_twice v (word_of chip (bank b)) h.right.0.3)) (lt, (Is_being, none)))
-take_steps below chip w s (Again b x) o y t m (h, (lt, (Is_being, none))) = (h, subst (λ z. place_at (take_bodies.spot (Shut b x z)) below (basis.foot chip) w s (Called Take) (answered (twice x))) (sym (same_twice x (word_of chip (bank b)) h.right.0.3)) (Is_being, none))
+take_steps below chip w s (Copy b) o y t m (h, (lt, v, (Is_this_frame, none))) = (h, subst (λ x. place_at (take_bodies.assertion (Again b x)) below (basis.foot chip) w s (Called Take) (answered (twice v))) (sym (same_twice v (word_of chip (bank b)) h.right.0.3)) (lt, (Is_this_frame, none)))
+take_steps below chip w s (Again b x) o y t m (h, (lt, (Is_this_frame, none))) = (h, subst (λ z. place_at (take_bodies.assertion (Shut b x z)) below (basis.foot chip) w s (Called Take) (answered (twice x))) (sym (same_twice x (word_of chip (bank b)) h.right.0.3)) (Is_this_frame, none))
 take_steps below chip w s (Shut b x z) o y t m (h, f) = (masked _ Settled chip w s h, f)
-take_steps below chip w s (Release b x z) o y t m (h, (Is_being, none)) = (released below chip w s b o (answered (both_read x z)) none h, (Is_being, none))
-take_steps below chip w s (Leave x z) o y t m (h, (Is_being, none)) = (refl, unmasked _ Settled chip w s h, record { may = (refl, refl); served = false; owed = refl; shown = λ e. absurd (cc); report = refl })
+take_steps below chip w s (Release b x z) o y t m (h, (Is_this_frame, none)) = (released below chip w s b o (answered (both_read x z)) none h, (Is_this_frame, none))
+take_steps below chip w s (Leave x z) o y t m (h, (Is_this_frame, none)) = (refl, unmasked _ Settled chip w s h, record { may = (refl, refl); served = false; owed = refl; shown = λ e. absurd (cc); report = refl })
 take_steps below chip w s (Over x z) o y t m (h, f) = absurd f
 
-take_own : (below : Holds) (chip : Chip) (w : World) (s : State) (k : Taking) (o : Origin Call) (t : Past) → Stand basis take_bodies below chip w s k o t → is_shared (take_work k) || owns (take_work k) ≡ true
+take_own : (below : Reservations) (chip : Chip) (w : World) (s : State) (k : Taking) (o : Origin Call) (t : FrameHistory) → AssertedAt basis take_bodies below chip w s k o t → is_shared (take_work k) || owns (take_work k) ≡ true
 take_own below chip w s Newest o t h = refl
 take_own below chip w s (Pin b) o t h = refl
 take_own below chip w s (Open b) o t h = refl
@@ -793,7 +784,7 @@ take_own below chip w s (Release b x y) o t h = refl
 take_own below chip w s (Leave x y) o t h = refl
 take_own below chip w s (Over x y) o t h = refl
 
-take_turns : (below : Holds) (chip : Chip) (w : World) (s : State) (k : Taking) (o : Origin Call) (t : Past) (x : ℕ) → Stand basis take_bodies below chip w s k o t → TurnsTo take_bodies 16 k (take_takes k x)
+take_turns : (below : Reservations) (chip : Chip) (w : World) (s : State) (k : Taking) (o : Origin Call) (t : FrameHistory) (x : ℕ) → AssertedAt basis take_bodies below chip w s k o t → TurnsTo take_bodies 16 k (take_takes k x)
 take_turns below chip w s Newest o t x h = by (x == 0)
   where
     by : (q : Bool) → TurnsTo take_bodies 16 Newest (if q then (Newest, none_kept) else (Pin (named x), goes))
@@ -838,7 +829,7 @@ take_cleans (Release b y z) x = λ e. absurd (cc)
 take_cleans (Leave y z) x = λ e. absurd (cc)
 take_cleans (Over y z) x = tt
 
-take_later : (below : Holds) (chip : Chip) (w w1 : World) (s : State) (order : Order) (k : Taking) (o : Origin Call) (t : Past) → Stand basis take_bodies below chip w s k o t → place_at (take_bodies.spot k) below (basis.foot (happened chip order)) w1 s o t
+take_later : (below : Reservations) (chip : Chip) (w w1 : World) (s : State) (order : Order) (k : Taking) (o : Origin Call) (t : FrameHistory) → AssertedAt basis take_bodies below chip w s k o t → place_at (take_bodies.assertion k) below (basis.foot (happened chip order)) w1 s o t
 take_later below chip w w1 s order Newest o t (h, f) = f
 take_later below chip w w1 s order (Pin b) o t (h, f) = (f.0, f.1, f.2, newest_happened chip order h.all ∙ f.3)
 take_later below chip w w1 s order (Open b) o t (h, f) = f
@@ -873,9 +864,9 @@ take_right = record {
 
 -- ---- a line is polled
 
-poll_steps : (below : Holds) (chip : Chip) (w : World) (s : State) (k : Polling) (o : Origin Call) (y : ℕ) (t : Past) (m : ℕ → Bool) → Stand basis poll_bodies below chip w s k o t → Right basis poll_bodies below chip w s k o y t m
-poll_steps below chip w s polls.Act o y t m (h, Is_being) = record { may = refl; stands = tt; state = s; told = tells_nothing; begins = None; is = refl; sends = tt; acts = tt; reset = refl; next = (h, Is_being) }
-poll_steps below chip w s polls.Serve o y t m (h, Is_being) = record {
+poll_steps : (below : Reservations) (chip : Chip) (w : World) (s : State) (k : Polling) (o : Origin Call) (y : ℕ) (t : FrameHistory) (m : ℕ → Bool) → AssertedAt basis poll_bodies below chip w s k o t → Right basis poll_bodies below chip w s k o y t m
+poll_steps below chip w s polls.Act o y t m (h, Is_this_frame) = record { may = refl; stands = tt; state = s; told = tells_nothing; begins = None; is = refl; sends = tt; acts = tt; reset = refl; next = (h, Is_this_frame) }
+poll_steps below chip w s polls.Serve o y t m (h, Is_this_frame) = record {
   may = ((refl, refl), refl);
   stands = tt;
   state = s;
@@ -907,14 +898,14 @@ poll_right = record {
     shortens polls.Act x = omega arith
     shortens polls.Serve x = omega arith
 
-    stays : (below : Holds) (a b : Chip) (w w1 : World) (s : State) (k : Polling) (o : Origin Call) (t : Past) → place_at (poll_bodies.spot k) below (basis.foot a) w s o t → place_at (poll_bodies.spot k) below (basis.foot b) w1 s o t
+    stays : (below : Reservations) (a b : Chip) (w w1 : World) (s : State) (k : Polling) (o : Origin Call) (t : FrameHistory) → place_at (poll_bodies.assertion k) below (basis.foot a) w s o t → place_at (poll_bodies.assertion k) below (basis.foot b) w1 s o t
     stays below a b w w1 s polls.Act o t h = h
     stays below a b w w1 s polls.Serve o t h = h
 
 -- ---- the chip is reset
 
-reboot_steps : (below : Holds) (chip : Chip) (w : World) (s : State) (k : Rebooting) (o : Origin Call) (y : ℕ) (t : Past) (m : ℕ → Bool) → Stand basis reboot_bodies below chip w s k o t → Right basis reboot_bodies below chip w s k o y t m
-reboot_steps below chip w s Reset o y t m (h, Is_being) = record {
+reboot_steps : (below : Reservations) (chip : Chip) (w : World) (s : State) (k : Rebooting) (o : Origin Call) (y : ℕ) (t : FrameHistory) (m : ℕ → Bool) → AssertedAt basis reboot_bodies below chip w s k o t → Right basis reboot_bodies below chip w s k o y t m
+reboot_steps below chip w s Reset o y t m (h, Is_this_frame) = record {
   may = refl;
   stands = tt;
   state = s;
@@ -944,7 +935,7 @@ reboot_right = record {
     turns : (k : Rebooting) (x : ℕ) → TurnsTo reboot_bodies 16 k (reboot_takes k x)
     turns Reset x = omega arith
 
-    stays : (below : Holds) (a b : Chip) (w w1 : World) (s : State) (k : Rebooting) (o : Origin Call) (t : Past) → place_at (reboot_bodies.spot k) below (basis.foot a) w s o t → place_at (reboot_bodies.spot k) below (basis.foot b) w1 s o t
+    stays : (below : Reservations) (a b : Chip) (w w1 : World) (s : State) (k : Rebooting) (o : Origin Call) (t : FrameHistory) → place_at (reboot_bodies.assertion k) below (basis.foot a) w s o t → place_at (reboot_bodies.assertion k) below (basis.foot b) w1 s o t
     stays below a b w w1 s Reset o t h = h
 
     acts_there : (k : Rebooting) (x : ℕ) → (reboot_takes k x).1.event ≡ None → (resets_chip (reboot_work k) ≡ false) × (begins_word (reboot_work k) ≡ false)
@@ -956,29 +947,29 @@ reboot_right = record {
 -- ---- the driver
 
 -- what lets a call of the section begin holds nothing of it
-free_by : (n v : ℕ) (chip : Chip) (below : Holds) → AllRight chip below → AllLet setting (class_of (Fill n v)) below → Free n below
+free_by : (n v : ℕ) (chip : Chip) (below : Reservations) → AllRight chip below → AllLet setting (class_of (Fill n v)) below → Free n below
 free_by n v chip [] right let_all = tt
 free_by n v chip (h ∷ hs) right let_all = (one h.what h.by right.0 let_all.0, free_by n v chip hs right.1 let_all.1)
   where
-    one : (x : Hold) (o : Origin Call) → HeldRight chip (record h { by = o }) x → blocks (class_of (Fill n v)) (mark_of setting o) ≡ false → is_of n x ≡ false
+    one : (x : Reservation) (o : Origin Call) → HeldRight chip (record h { by = o }) x → blocks (class_of (Fill n v)) (mark_of setting o) ≡ false → is_of n x ≡ false
     one (Part m u i) o e l = subst (λ q. blocks (class_of (Fill n v)) (mark_of setting q) ≡ false) e l
     one Promise o e l = refl
     one (Pinned b) o e l = refl
 
 -- and what lets a taker begin has pinned nothing
-unpinned_by : (chip : Chip) (below : Holds) → AllRight chip below → AllLet setting (class_of Take) below → NonePinned below
+unpinned_by : (chip : Chip) (below : Reservations) → AllRight chip below → AllLet setting (class_of Take) below → NonePinned below
 unpinned_by chip [] right let_all = tt
 unpinned_by chip (h ∷ hs) right let_all = (one h.what h.by right.0 let_all.0, unpinned_by chip hs right.1 let_all.1)
   where
-    one : (x : Hold) (o : Origin Call) → HeldRight chip (record h { by = o }) x → blocks (class_of Take) (mark_of setting o) ≡ false → is_pin x ≡ false
+    one : (x : Reservation) (o : Origin Call) → HeldRight chip (record h { by = o }) x → blocks (class_of Take) (mark_of setting o) ≡ false → is_pin x ≡ false
     one (Part m u i) o e l = refl
     one Promise o e l = refl
     one (Pinned b) o e l = let k : blocks (class_of Take) (mark_of setting (Called Take)) ≡ false = subst (λ q. blocks (class_of Take) (mark_of setting q) ≡ false) e.0 l in absurd (cc)
 
-module _ (below : Holds) (chip : Chip) (w : World) (s : State) (h : Agrees below Settled chip w s) where
+module _ (below : Reservations) (chip : Chip) (w : World) (s : State) (h : Agrees below Settled chip w s) where
   fill_looks : (n v : ℕ) → AllLet setting (class_of (Fill n v)) below → (q : Bool) → nat_lt n 4 ≡ q → Decides toy below chip w s (Fill n v) (fill_looked n v q)
   fill_looks n v l true e = record {
-    at = (begun (record { by = Called (Fill n v); what = Promise; acted = None }) below chip w s (record { section = n; value = v }) refl h, (Is_being, grind (arith, nat_tests), free_by n v chip below h.right l));
+    at = (begun (record { by = Called (Fill n v); what = Promise; acted = None }) below chip w s (record { section = n; value = v }) refl h, (Is_this_frame, grind (arith, nat_tests), free_by n v chip below h.right l));
     closed = refl;
     fuel = omega arith;
     room = omega arith;
@@ -993,11 +984,11 @@ module _ (below : Holds) (chip : Chip) (w : World) (s : State) (h : Agrees below
 
   looks : (c : Call) → Beside setting (Called c) below → Decides toy below chip w s c (looked c (value_of chip (Load STATE)))
   looks (Fill n v) l = fill_looks n v l (nat_lt n 4) refl
-  looks Ask l = record { at = (h, Is_being); closed = refl; fuel = omega arith; room = omega arith }
-  looks (Put v) l = record { at = (h, Is_being); closed = refl; fuel = omega arith; room = omega arith }
-  looks Take l = record { at = (h, (Is_being, unpinned_by chip below h.right l)); closed = refl; fuel = omega arith; room = omega arith }
-  looks Poll l = record { at = (h, Is_being); closed = refl; fuel = omega arith; room = omega arith }
-  looks Reboot l = record { at = (h, Is_being); closed = refl; fuel = omega arith; room = omega arith }
+  looks Ask l = record { at = (h, Is_this_frame); closed = refl; fuel = omega arith; room = omega arith }
+  looks (Put v) l = record { at = (h, Is_this_frame); closed = refl; fuel = omega arith; room = omega arith }
+  looks Take l = record { at = (h, (Is_this_frame, unpinned_by chip below h.right l)); closed = refl; fuel = omega arith; room = omega arith }
+  looks Poll l = record { at = (h, Is_this_frame); closed = refl; fuel = omega arith; room = omega arith }
+  looks Reboot l = record { at = (h, Is_this_frame); closed = refl; fuel = omega arith; room = omega arith }
 
 bodies_right : AreEnding basis toy.bodies ends_with
 bodies_right =

@@ -2,7 +2,7 @@ ghost use Rattle.std.specs.Prelude.{◌≡◌};
 ghost use Rattle.held_example.specs.Toy as spec;
 
 use mcal_base::{Event, Move, Notice, NoticeKind, Reg, Unit};
-use service_outline::{Body, BodyTaken, Owed, acts, ends, goes, nothing};
+use service_outline::{Body, BodyTaken, Epilogue, acts, ends, goes, nothing};
 
 /// A request: the act, its notice, and the start that is possible.
 #[derive(Clone, Copy)]
@@ -65,7 +65,7 @@ impl Body for Asking {
             }
             Asking::Look => {
                 if value == 0 {
-                    ends(None, nothing(), Owed::Nothing)
+                    ends(None, nothing(), Epilogue::Nothing)
                 } else {
                     *self = Asking::Go;
                     goes()
@@ -75,7 +75,7 @@ impl Body for Asking {
                 *self = Asking::Unmark;
                 starts()
             }
-            Asking::Unmark => ends(None, nothing(), Owed::Nothing),
+            Asking::Unmark => ends(None, nothing(), Epilogue::Nothing),
         }
     }
 }

@@ -2,7 +2,7 @@ ghost use Rattle.std.specs.Prelude.{◌≡◌};
 ghost use Rattle.held_example.specs.Toy as spec;
 
 use mcal_base::Move;
-use service_outline::{Body, BodyTaken, Objects, Owed, acts_with, nothing};
+use service_outline::{Body, BodyTaken, Epilogue, Objects, acts_with, nothing};
 
 /// What is filled, and with what: eight words, with the mask open.
 #[derive(Clone, Copy)]
@@ -66,7 +66,7 @@ impl Body for Filled {
 
     fn took(&mut self, _value: u32) -> BodyTaken {
         match *self {
-            Filled::Act(_) => acts_with(nothing(), Owed::Nothing),
+            Filled::Act(_) => acts_with(nothing(), Epilogue::Nothing),
         }
     }
 }

@@ -2,7 +2,7 @@ ghost use Rattle.std.specs.Prelude.{◌≡◌, None};
 ghost use Rattle.held_example.specs.Toy as spec;
 
 use mcal_base::{Answer, ErrorName, Head, Move, Service, Words};
-use service_outline::{Body, BodyTaken, Owed, acts, acts_with, ends, error, goes, nothing};
+use service_outline::{Body, BodyTaken, Epilogue, acts, acts_with, ends, error, goes, nothing};
 
 /// A value is put into the bank that isn't pinned, which is the newest then.
 #[derive(Clone, Copy)]
@@ -35,7 +35,7 @@ impl Body for Putting {
             Putting::Look(kept) if value == 1 => (Putting::Keep(1, kept), goes()),
             Putting::Look(kept) => (Putting::Keep(0, kept), goes()),
             Putting::Keep(bank, _) => (Putting::Publish(bank), acts()),
-            Putting::Publish(_) => (*self, ends(None, nothing(), Owed::Nothing)),
+            Putting::Publish(_) => (*self, ends(None, nothing(), Epilogue::Nothing)),
         };
         *self = after;
         taken
@@ -96,7 +96,7 @@ impl Body for Taking {
             Taking::Shut(bank, first, second) => (Taking::Release(bank, first, second), goes()),
             Taking::Release(_, first, second) => (Taking::Leave(first, second), goes()),
             Taking::Leave(first, second) => (Taking::Over(first, second), goes()),
-            Taking::Over(..) => (*self, ends(None, nothing(), Owed::Nothing)),
+            Taking::Over(..) => (*self, ends(None, nothing(), Epilogue::Nothing)),
         };
         *self = after;
         taken

@@ -1,5 +1,5 @@
 use mcal_base::{Event, Move};
-use service_outline::{Body, BodyTaken, Owed, acts, ends, nothing};
+use service_outline::{Body, BodyTaken, Epilogue, acts, ends, nothing};
 
 /// A call that polls a line: it acts, and serves the line, which is ready.
 #[derive(Clone, Copy)]
@@ -27,7 +27,7 @@ impl Body for Polling {
                 *self = Polling::Serve;
                 acts()
             }
-            Polling::Serve => ends(Some(Event::Serve(0)), nothing(), Owed::Nothing),
+            Polling::Serve => ends(Some(Event::Serve(0)), nothing(), Epilogue::Nothing),
         }
     }
 }

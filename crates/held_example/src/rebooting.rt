@@ -1,5 +1,5 @@
 use mcal_base::{Move, Reg};
-use service_outline::{Body, BodyTaken, Owed, acts_with, nothing};
+use service_outline::{Body, BodyTaken, Epilogue, acts_with, nothing};
 
 /// The reset of the chip.
 #[derive(Clone, Copy)]
@@ -23,7 +23,7 @@ impl Body for Rebooting {
 
     fn took(&mut self, _value: u32) -> BodyTaken {
         match *self {
-            Rebooting::Reset => acts_with(nothing(), Owed::Nothing),
+            Rebooting::Reset => acts_with(nothing(), Epilogue::Nothing),
         }
     }
 }

@@ -1,8 +1,8 @@
 -- What calls do to their channel, and to all others.
-use Rattle.std.proofs.Common.{◌≡◌, ◌≢◌, ℕ, ◌<◌, ◌%◌, ◌==◌, nat_lt, Bool, true, false, not, [], List, Option, Some, None, refl, sym, ◌∙◌, ap, subst, arith}
+use Rattle.std.proofs.Common.{◌≡◌, ◌≢◌, ℕ, ◌<◌, ◌%◌, ◌==◌, nat_lt, Bool, true, false, not, [], List, Option, Some, None, refl, sym, ◌∙◌, ap, subst}
 use Rattle.std.specs.Prelude.{if◌then◌else◌}
 use Rattle.std.proofs.Math.Nat.{zero-mod}
-use Rattle.std.proofs.lemmas.Bool.Decides.{nat_tests}
+use Rattle.plain_facts.specs.Numbers.{eq_other, eq_self}
 use Rattle.mcal_base.specs.declared.config.icu.IcuSignalMeasurementProperty.{IcuSignalMeasurementProperty}
 use Rattle.mcal_base.specs.declared.error_name.ErrorName.{ErrorName}
 use Rattle.run_model.specs.Machine.{Outcome}
@@ -28,18 +28,12 @@ below d c k e = by (nat_lt c 8) refl
 
 -- ---- one channel
 
-pub same_number : (c : ℕ) → (c == c) ≡ true
-same_number c = grind (arith, nat_tests)
-
-pub other_number : (k c : ℕ) → k ≢ c → (k == c) ≡ false
-other_number k c ne = grind (arith, nat_tests, ne)
-
 -- a channel of the state with another one in its place
 with_own : (s : IcuState) (c : ℕ) (x : Capture) → c < 8 → capture_at (with_capture s c x) c ≡ x
-with_own s c x lt = by_channel_at (λ k. if k == c then x else capture_at s k) c lt ∙ ap (λ q. if q then x else capture_at s c) (same_number c)
+with_own s c x lt = by_channel_at (λ k. if k == c then x else capture_at s k) c lt ∙ ap (λ q. if q then x else capture_at s c) (eq_self c)
 
 with_other : (s : IcuState) (c k : ℕ) (x : Capture) → k < 8 → k ≢ c → capture_at (with_capture s c x) k ≡ capture_at s k
-with_other s c k x lt ne = by_channel_at (λ j. if j == c then x else capture_at s j) k lt ∙ ap (λ q. if q then x else capture_at s k) (other_number k c ne)
+with_other s c k x lt ne = by_channel_at (λ j. if j == c then x else capture_at s j) k lt ∙ ap (λ q. if q then x else capture_at s k) (eq_other k c ne)
 
 own_by : (d : IcuDriver) (s : IcuState) (c : ℕ) (k : configured.Channel) (call : ChannelCall) (o : Option ErrorName) → channel_of d c ≡ Some k
     → (acts_by d s (Channel c call) o).told.error ≡ None → capture_at (acts_by d s (Channel c call) o).state c ≡ channel_work call (capture_at s c)

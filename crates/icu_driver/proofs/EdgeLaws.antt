@@ -1,6 +1,7 @@
 -- To which channels an edge comes.
 use Rattle.std.proofs.Common.{◌≡◌, ◌≢◌, ℕ, Bool, true, false, ◌==◌, Some, refl, ◌∙◌, ap}
 use Rattle.std.specs.Prelude.{if◌then◌else◌}
+use Rattle.plain_facts.specs.Numbers.{eq_other, eq_self}
 use Rattle.mcal_base.specs.declared.directive.Order.TheVariants.{Level}
 use Rattle.run_model.specs.World.{World}
 use Rattle.icu_driver.specs.Edges.{is_same}
@@ -8,7 +9,7 @@ use Rattle.icu_driver.specs.Machine.{IcuState, capture_at, by_channel, edge_take
 use Rattle.icu_driver.specs.Table.{channel_of}
 use Rattle.icu_driver.specs.declared.driver.Channel as configured
 use Rattle.icu_driver.specs.declared.driver.IcuDriver.{IcuDriver}
-use Rattle.icu_driver.proofs.CallLaws.{below, same_number, other_number}
+use Rattle.icu_driver.proofs.CallLaws.{below}
 use Rattle.icu_driver.specs.laws.Tables.{by_channel_at}
 
 same_level : (a b : Bool) → a ≡ b → is_same a b ≡ true
@@ -37,12 +38,12 @@ channel_after d w s c k pin high same e at =
 pub edge_comes : (d : IcuDriver) (w : World) (s : IcuState) (c : ℕ) (k : configured.Channel) (high : Bool) → channel_of d c ≡ Some k → w.levels k.pin ≢ high
     → capture_at (moved d w s (Level k.pin high)) c ≡ edge_taken k w.now high (capture_at s c)
 edge_comes d w s c k high e ne =
-    ap (λ q. capture_at (if q then s else after_edge d w s k.pin high) c) (other_level (w.levels k.pin) high ne) ∙ channel_after d w s c k k.pin high true e (same_number k.pin)
+    ap (λ q. capture_at (if q then s else after_edge d w s k.pin high) c) (other_level (w.levels k.pin) high ne) ∙ channel_after d w s c k k.pin high true e (eq_self k.pin)
 
 other_pin : (d : IcuDriver) (w : World) (s : IcuState) (c : ℕ) (k : configured.Channel) (pin : ℕ) (high q : Bool) → channel_of d c ≡ Some k → k.pin ≢ pin
     → capture_at (if q then s else after_edge d w s pin high) c ≡ capture_at s c
 other_pin d w s c k pin high true e ne = refl
-other_pin d w s c k pin high false e ne = channel_after d w s c k pin high false e (other_number k.pin pin ne)
+other_pin d w s c k pin high false e ne = channel_after d w s c k pin high false e (eq_other k.pin pin ne)
 
 pub edge_passes : (d : IcuDriver) (w : World) (s : IcuState) (c : ℕ) (k : configured.Channel) (pin : ℕ) (high : Bool) → channel_of d c ≡ Some k → k.pin ≢ pin
     → capture_at (moved d w s (Level pin high)) c ≡ capture_at s c

@@ -1,7 +1,7 @@
 -- No call and no edge changes a stamp.
-use Rattle.std.proofs.Common.{◌≡◌, ℕ, ◌+◌, ◌%◌, ◌^◌, ◌<◌, ◌==◌, nat_lt, Bool, true, false, not, [], ◌∷◌, ◌++◌, length, Option, Some, None, refl, sym, ◌∙◌, ap, arith}
+use Rattle.std.proofs.Common.{◌≡◌, ℕ, ◌+◌, ◌%◌, ◌^◌, ◌<◌, ◌==◌, nat_lt, Bool, true, false, not, [], ◌∷◌, ◌++◌, length, Option, Some, None, refl, sym, ◌∙◌, ap}
 use Rattle.std.specs.Prelude.{if◌then◌else◌, slice_index_or}
-use Rattle.std.proofs.lemmas.Bool.Decides.{nat_tests}
+use Rattle.plain_facts.specs.Numbers.{eq_is}
 use Rattle.mcal_base.specs.declared.directive.Order.{Order}
 use Rattle.mcal_base.specs.declared.directive.Order.TheVariants.{Level}
 use Rattle.mcal_base.specs.declared.error_name.ErrorName.{ErrorName}
@@ -53,14 +53,11 @@ by_channel_same : (s t : IcuState) (f : ℕ → Capture) → t.channels ≡ by_c
 by_channel_same s t f e each c i lt =
     ap (λ xs. stamp_in (slice_index_or xs c untouched).stored i) e ∙ (ap (λ (x : Capture). stamp_in x.stored i) (by_channel_at f c lt) ∙ ap (λ xs. stamp_in xs i) (each c))
 
-equal_by : (k c : ℕ) → (k == c) ≡ true → k ≡ c
-equal_by k c e = grind (arith, nat_tests)
-
 with_same : (s : IcuState) (c : ℕ) (x : Capture) → SameStamps (capture_at s c) x → StampsStay s (with_capture s c x)
 with_same s c x same = by_channel_same s (with_capture s c x) (λ k. if k == c then x else capture_at s k) refl (λ k. by k (k == c) refl)
   where
     by : (k : ℕ) (q : Bool) → (k == c) ≡ q → SameStamps (capture_at s k) (if q then x else capture_at s k)
-    by k true e = same ∙ ap (λ j. (capture_at s j).stored) (sym (equal_by k c e))
+    by k true e = same ∙ ap (λ j. (capture_at s j).stored) (sym (eq_is k c e))
     by k false e = refl
 
 pub moved_same : (d : IcuDriver) (w : World) (s : IcuState) (order : Order) → StampsStay s (moved d w s order)

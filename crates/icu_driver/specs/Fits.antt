@@ -3,10 +3,10 @@ use Rattle.std.proofs.Common.{◌≡◌, ℕ, suc, ◌<◌, Bool, true, false, �
 use Rattle.std.specs.Prelude.{All, if◌then◌else◌, is_some}
 use Rattle.mcal_base.specs.declared.config.icu.IcuChannel.{IcuChannel}
 use Rattle.mcal_base.specs.declared.config.icu.IcuConfig.{IcuConfig}
-use Rattle.icu_driver.specs.Ground.{FitsIcu}
+use Rattle.icu_driver.specs.Refinement.{FitsIcu}
 use Rattle.icu_driver.specs.Table.{channel_in, driver_of, channel_of, taken, is_measurement}
 use Rattle.icu_driver.specs.declared.driver.Channel.{Channel}
-use Rattle.icu_driver.specs.laws.Ground.{within}
+use Rattle.icu_driver.specs.laws.RefinementRight.{within}
 use Rattle.icu_driver.specs.laws.Tables.{by_eight}
 
 -- the channel's pin is there, and a measurement has a property

@@ -11,7 +11,7 @@ pub mod Detecting
 pub mod Duty
 pub mod Fresh
 pub mod Gate
-pub mod Ground
+pub mod RefinementRight
 pub mod Handler
 pub mod Indices
 pub mod Init

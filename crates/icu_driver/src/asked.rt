@@ -19,7 +19,7 @@ use det_errors::{Facts, first_error};
 use mcal_base::{
     Answer, AnswerName, ErrorName, IcuMeasurementMode, IcuSignalMeasurementProperty, Service,
 };
-use service_outline::{Done, Looked, Owed, Reply, named, nothing, number, numbers};
+use service_outline::{Done, Epilogue, Looked, Reply, named, nothing, number, numbers};
 
 /// A call with the driver that it is made of.
 #[derive(Clone, Copy)]
@@ -159,7 +159,7 @@ fn let_be() -> Looked<IcuBody>
 {
     Looked::Refused(Done {
         answer: nothing(),
-        owed: Owed::Nothing,
+        owed: Epilogue::Nothing,
     })
 }
 

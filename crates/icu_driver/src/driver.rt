@@ -10,7 +10,7 @@ use mcal_base::{
     IcuTimestampMeasurementProperty, ModuleName, Service,
 };
 use run_model::Class;
-use service_outline::Owed;
+use service_outline::Epilogue;
 
 /// A configured channel.
 #[derive(Clone, Copy)]
@@ -69,7 +69,7 @@ impl IcuDriver {
     }
 
     /// What a call of a service owes for an error.
-    pub fn owed(&self, service: Service, error: ErrorName) -> Owed
+    pub fn owed(&self, service: Service, error: ErrorName) -> Epilogue
         ensures { result ≡ owed_error (reporting self.now) service error }
     {
         service_outline::error(self.detect, self.classification, service, error)

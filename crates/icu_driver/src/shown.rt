@@ -1,6 +1,6 @@
 ghost use Rattle.std.specs.Prelude.{◌≡◌, ◌<◌};
 ghost use Rattle.icu_driver.specs.Bounds.{size_of};
-ghost use Rattle.icu_driver.specs.Ground.{settled, IcuAgrees};
+ghost use Rattle.icu_driver.specs.Refinement.{settled, IcuRepresents};
 ghost use Rattle.icu_driver.specs.Machine.{IcuState};
 ghost use Rattle.icu_driver.specs.laws.Shown as spec;
 ghost use Rattle.run_model.specs.World.{World};
@@ -14,7 +14,7 @@ impl IcuDriver {
     /// How many places of a channel's stamps are shown: the size of its last start, none without one since the last
     /// reset. It is the machine's wherever no service is under way.
     pub fn stamps(&self, bus: &Bus, channel: u32) -> Option<u32>
-        ensures { (w : World) (s : IcuState) → channel < 8 → IcuAgrees self.now settled bus.now w s → result ≡ size_of s channel }
+        ensures { (w : World) (s : IcuState) → channel < 8 → IcuRepresents self.now settled bus.now w s → result ≡ size_of s channel }
     {
         if channel < 8 {
             shown(self.channel(channel), bus.word(SIZES + channel))

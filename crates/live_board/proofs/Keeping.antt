@@ -5,7 +5,7 @@ use Rattle.chip_model.specs.Devices.{CallsRight}
 use Rattle.serial_devices.specs.Lines.{Line}
 use Rattle.chip_model.proofs.DeviceLaws.{devices-happened, devices-move, devices_after}
 use Rattle.std.specs.Prelude.{◌==◌, cond}
-use Rattle.std.proofs.lemmas.Bool.Decides.{nat_tests}
+use Rattle.plain_facts.specs.Numbers.{isnt_zero}
 use Rattle.irq_control.specs.declared.held.Held.{Held}
 use Rattle.irq_control.specs.declared.held.Held.TheVariants.{Unknown}
 use Rattle.mcal_base.specs.declared.directive.Order.{Order}
@@ -16,7 +16,7 @@ use Rattle.mcal_base.specs.declared.moves.Move.{Move}
 use Rattle.mcal_base.specs.declared.routine.Taken.{Taken}
 use Rattle.run_model.specs.Frame.{Open}
 use Rattle.run_model.specs.Legal.{hardware_held}
-use Rattle.run_model.specs.Moment.{Setting, Moment, Deed, Begins, Enters, Steps, Resets, Happens, after, after_step, start_moment, after_all}
+use Rattle.run_model.specs.Moment.{Setting, Moment, Transition, Begins, Enters, Steps, Resets, Happens, after, after_step, start_moment, after_all}
 use Rattle.run_model.specs.World.{World}
 use Rattle.run_model.specs.declared.class.Tag.{Tag}
 use Rattle.run_model.specs.declared.item.Stepped.{Stepped}
@@ -47,11 +47,8 @@ enter_steps (Err cause) (Some f) tag k = refl
 ok_is : {T E : Type 0} (x y : T) → ◌≡◌ {A = Result T E} (Ok x) (Ok y) → x ≡ y
 ok_is x y e = cc
 
-not_zero : (n : ℕ) → 0 < n → (n == 0) ≡ false
-not_zero n some = grind (arith, nat_tests)
-
 one_there : (n : ℕ) → 0 < n → cond (n == 0) (Some Unknown) None ≡ None
-one_there n some = ap (λ b. cond b (Some Unknown) None) (not_zero n some)
+one_there n some = ap (λ b. cond b (Some Unknown) None) (isnt_zero n some)
 
 -- the ticks that are left behind a reset
 pub rest_some : {Call : Type 0} (n : ℕ) → 0 < n → rest_of {Call = Call} n ≡ Happens (Tick n) ∷ []
@@ -99,14 +96,14 @@ pub still_some : {Frame : Type 0} (move_of : Frame → Move) (us : List (Under F
 still_some move_of us chip made e none = still_at_once move_of us chip (wait_some move_of us chip made e ∙ none)
 
 module _ {State Call Frame : Type 0} (d : Driver State Call Frame) where
-  abbrev At : (first : Chip) (h : List (Deed Call)) → Moment State Call
+  abbrev At : (first : Chip) (h : List (Transition Call)) → Moment State Call
   At first h = after_all d.setting (start_moment d.setting first) h
 
-  more : (first : Chip) (h k : List (Deed Call)) → (At first (h ++ k)).steps ≡ (after_all d.setting (At first h) k).steps
+  more : (first : Chip) (h k : List (Transition Call)) → (At first (h ++ k)).steps ≡ (after_all d.setting (At first h) k).steps
   more first h k = ap (λ m. m.steps) (after_all-append d.setting (start_moment d.setting first) h k)
 
   -- a beginning counts none
-  begun_few : {A : Type 0} (m : Moment State Call) (r : Result A Held) (deed : Deed Call) → (after d.setting m deed).steps ≡ m.steps → (after_all d.setting m (done r deed)).steps ≡ m.steps
+  begun_few : {A : Type 0} (m : Moment State Call) (r : Result A Held) (deed : Transition Call) → (after d.setting m deed).steps ≡ m.steps → (after_all d.setting m (done r deed)).steps ≡ m.steps
   begun_few m (Ok a) deed e = e
   begun_few m (Err cause) deed e = refl
 
@@ -119,15 +116,15 @@ module _ {State Call Frame : Type 0} (d : Driver State Call Frame) where
       omega (arith, e, k)
 
   -- where a device is there nothing holds its drop
-  pub drop_free : (first chip : Chip) (us : List (Under Frame)) (h : List (Deed Call)) → Stands d first chip us h → 0 < chip.devices → hardware_held d.setting (At first h) Detach ≡ None
+  pub drop_free : (first chip : Chip) (us : List (Under Frame)) (h : List (Transition Call)) → Stands d first chip us h → 0 < chip.devices → hardware_held d.setting (At first h) Detach ≡ None
   drop_free first chip us h st some = let m = At first h in let same : m.world.devices ≡ chip.devices = sym (ap (λ x. x.devices) st.matches.chip_is ∙ st.matches.hung) in one_there m.world.devices (omega (arith, same, some))
 
   -- nothing holds an event of the others
-  pub event_free : (first : Chip) (h : List (Deed Call)) (order : Order) → may_be_held order ≡ false → hardware_held d.setting (At first h) order ≡ None
+  pub event_free : (first : Chip) (h : List (Transition Call)) (order : Order) → may_be_held order ≡ false → hardware_held d.setting (At first h) order ≡ None
   event_free first h order free = none_held d.setting (At first h) order free
 
   -- deeds, and then others
-  pub goes_then : {M : Type 0} (x y z : LiveRun M Frame) (a b : List (Deed Call)) → GoesOn d x y a → GoesOn d y z b → GoesOn d x z (a ++ b)
+  pub goes_then : {M : Type 0} (x y z : LiveRun M Frame) (a b : List (Transition Call)) → GoesOn d x y a → GoesOn d y z b → GoesOn d x z (a ++ b)
   goes_then x y z a b one two first h st = subst (λ hs. Stands d first z.chip z.kept.frames hs) (append_assoc h a b) (two first (h ++ a) (one first h st))
 
   -- no deeds
@@ -136,7 +133,7 @@ module _ {State Call Frame : Type 0} (d : Driver State Call Frame) where
 
   module _ (chip : Chip) (k : Kept Frame) (left room devices : ℕ) (l : IsLive d chip k left room devices) where
     -- deeds that count no more steps than the stack does
-    live_on : (chip1 : Chip) (k1 : Kept Frame) (left1 room1 devices1 : ℕ) (deeds : List (Deed Call)) → Stands d l.first chip1 k1.frames (l.deeds ++ deeds) → (after_all d.setting (At l.first l.deeds) deeds).steps + k.steps ≤ (At l.first l.deeds).steps + k1.steps → IsCounted chip1 left1 room1 → chip1.devices ≡ devices1 → IsLive d chip1 k1 left1 room1 devices1
+    live_on : (chip1 : Chip) (k1 : Kept Frame) (left1 room1 devices1 : ℕ) (deeds : List (Transition Call)) → Stands d l.first chip1 k1.frames (l.deeds ++ deeds) → (after_all d.setting (At l.first l.deeds) deeds).steps + k.steps ≤ (At l.first l.deeds).steps + k1.steps → IsCounted chip1 left1 room1 → chip1.devices ≡ devices1 → IsLive d chip1 k1 left1 room1 devices1
     live_on chip1 k1 left1 room1 devices1 deeds stands few counted hung = record {
       fits = l.fits;
       first = l.first;
@@ -155,7 +152,7 @@ module _ {State Call Frame : Type 0} (d : Driver State Call Frame) where
     live_entered k1 r f tag line e stands = live_on chip k1 left room devices (done r (Enters line)) stands (omega (arith, begun_few (At l.first l.deeds) r (Enters line) refl, ap (λ x. x.steps) e ∙ enter_steps r f tag k)) l.counted l.hung
 
     -- deeds that are no steps
-    pub live_later : (chip1 : Chip) (k1 : Kept Frame) (left1 room1 devices1 : ℕ) (deeds : List (Deed Call)) → k1.steps ≡ k.steps → (after_all d.setting (At l.first l.deeds) deeds).steps ≡ (At l.first l.deeds).steps → Stands d l.first chip1 k1.frames (l.deeds ++ deeds) → IsCounted chip1 left1 room1 → chip1.devices ≡ devices1 → IsLive d chip1 k1 left1 room1 devices1
+    pub live_later : (chip1 : Chip) (k1 : Kept Frame) (left1 room1 devices1 : ℕ) (deeds : List (Transition Call)) → k1.steps ≡ k.steps → (after_all d.setting (At l.first l.deeds) deeds).steps ≡ (At l.first l.deeds).steps → Stands d l.first chip1 k1.frames (l.deeds ++ deeds) → IsCounted chip1 left1 room1 → chip1.devices ≡ devices1 → IsLive d chip1 k1 left1 room1 devices1
     live_later chip1 k1 left1 room1 devices1 deeds same none stands counted hung = live_on chip1 k1 left1 room1 devices1 deeds stands (omega (arith, same, none)) counted hung
 
     -- a hardware event that takes no time

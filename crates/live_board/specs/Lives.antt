@@ -5,7 +5,7 @@ use Rattle.mcal_base.specs.declared.directive.Order.{Order}
 use Rattle.mcal_base.specs.declared.directive.Order.TheVariants.{Analog, Level, Miso, SpiFault, Tick, Trigger}
 use Rattle.mcal_base.specs.declared.directive.Reason.TheVariants.{Watchdog}
 use Rattle.mcal_base.specs.declared.moves.Move.{Move}
-use Rattle.run_model.specs.Moment.{Deed, Happens, Resets, start_moment, after_all}
+use Rattle.run_model.specs.Moment.{Transition, Happens, Resets, start_moment, after_all}
 use Rattle.script_runner.specs.Standing.{room_on}
 use Rattle.step_runner.specs.Driver.{Driver}
 use Rattle.step_runner.specs.Kept.{Kept}
@@ -22,20 +22,20 @@ pub record LiveRun (M Frame : Type 0) : Type 0 where
   pub devices : ℕ
 
 -- Of whatever legal run it stood at the end, it now stands at the end of that run with these deeds more, which is a legal run too.
-abbrev pub GoesOn : {M State Call Frame : Type 0} → Driver State Call Frame → (before after : LiveRun M Frame) → List (Deed Call) → Type 0
-GoesOn {Call = Call} d before after deeds = (first : Chip) (h : List (Deed Call)) → Stands d first before.chip before.kept.frames h → Stands d first after.chip after.kept.frames (h ++ deeds)
+abbrev pub GoesOn : {M State Call Frame : Type 0} → Driver State Call Frame → (before after : LiveRun M Frame) → List (Transition Call) → Type 0
+GoesOn {Call = Call} d before after deeds = (first : Chip) (h : List (Transition Call)) → Stands d first before.chip before.kept.frames h → Stands d first after.chip after.kept.frames (h ++ deeds)
 
 -- The same of a step: the run so far has fewer steps than are counted.
-abbrev pub StepsOn : {M State Call Frame : Type 0} → Driver State Call Frame → (before after : LiveRun M Frame) → List (Deed Call) → Type 0
-StepsOn {Call = Call} d before after deeds = (first : Chip) (h : List (Deed Call)) → (after_all d.setting (start_moment d.setting first) h).steps < 4294967295 → Stands d first before.chip before.kept.frames h → Stands d first after.chip after.kept.frames (h ++ deeds)
+abbrev pub StepsOn : {M State Call Frame : Type 0} → Driver State Call Frame → (before after : LiveRun M Frame) → List (Transition Call) → Type 0
+StepsOn {Call = Call} d before after deeds = (first : Chip) (h : List (Transition Call)) → (after_all d.setting (start_moment d.setting first) h).steps < 4294967295 → Stands d first before.chip before.kept.frames h → Stands d first after.chip after.kept.frames (h ++ deeds)
 
 -- the ticks that are left behind a reset
-abbrev pub rest_of : {Call : Type 0} → ℕ → List (Deed Call)
+abbrev pub rest_of : {Call : Type 0} → ℕ → List (Transition Call)
 rest_of zero = []
 rest_of (suc n) = Happens (Tick (suc n)) ∷ []
 
 -- so many ticks go by, through the end of the watchdog's time where it ends in them
-abbrev pub ticks_by : {Call : Type 0} → (ticks : ℕ) → (left : Option ℕ) → List (Deed Call)
+abbrev pub ticks_by : {Call : Type 0} → (ticks : ℕ) → (left : Option ℕ) → List (Transition Call)
 ticks_by ticks None = Happens (Tick ticks) ∷ []
 ticks_by ticks (Some left) = Happens (Tick left) ∷ Resets Watchdog ∷ rest_of (ticks - left)
 
@@ -45,7 +45,7 @@ wait_of move_of [] chip = 0
 wait_of move_of (u ∷ us) chip = stall_of chip (move_of u.frame)
 
 -- what goes by in a wait: the watchdog's time may end in it, and then no frame is left that waits
-abbrev pub wait_by : {Call : Type 0} → (ticks : ℕ) → (left : Option ℕ) → List (Deed Call)
+abbrev pub wait_by : {Call : Type 0} → (ticks : ℕ) → (left : Option ℕ) → List (Transition Call)
 wait_by zero left = []
 wait_by (suc n) None = Happens (Tick (suc n)) ∷ []
 wait_by (suc n) (Some left) = Happens (Tick left) ∷ Resets Watchdog ∷ []
@@ -73,7 +73,7 @@ pub record IsCounted (chip : Chip) (left room : ℕ) : Type 0 where
 pub record IsLive {State Call Frame : Type 0} (d : Driver State Call Frame) (chip : Chip) (kept : Kept Frame) (left room devices : ℕ) : Type 0 where
   pub fits : d.fits
   pub first : Chip
-  pub deeds : List (Deed Call)
+  pub deeds : List (Transition Call)
   pub stands : Stands d first chip kept.frames deeds
   pub steps : (after_all d.setting (start_moment d.setting first) deeds).steps ≤ kept.steps
   pub counted : IsCounted chip left room

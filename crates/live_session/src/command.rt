@@ -46,6 +46,7 @@ pub(crate) const HELP: &str = "\
 # enter LINE                 begins the handler of an interrupt line
 # step                       makes one step of the top frame, and prints it
 # next                       makes steps until a callback, an error, or the frame's end
+# next do .., next serve ..  begins, and makes steps as next does
 # run N, upto X, finish      as in a script; do and serve begin and finish
 # peek                       prints the next move
 # tick N, level PIN V, analog INPUT V, trigger INPUT, miso UNIT W .., spifault UNIT,

@@ -111,13 +111,14 @@ fn show<B: Sights>(
     page.text.push_str(text.as_str())
 }
 
-/// Obeys a directive of the script language.
+/// Obeys a directive of the script language. Steps of a frame that it begins go so far.
 pub(crate) fn obey<B: Sights>(
     alloc: Global,
     board: &mut Board<B>,
     rack: &mut Vec<Box<dyn SerialDevice>>,
     page: &mut Page,
     directive: &Directive,
+    far: Far,
 ) -> Result<(), AllocError> {
     match &directive.order {
         Order::Call(level, request) => {
@@ -126,7 +127,7 @@ pub(crate) fn obey<B: Sights>(
         }
         Order::Do(level, request) => {
             if call(board, page, directive, *level, request)? {
-                make_steps(board, rack, page, Far::Whole, false)?;
+                make_steps(board, rack, page, far, false)?;
             }
             Ok(())
         }
@@ -136,7 +137,7 @@ pub(crate) fn obey<B: Sights>(
         }
         Order::Serve(line) => {
             if enter(board, page, directive, *line)? {
-                make_steps(board, rack, page, Far::Whole, false)?;
+                make_steps(board, rack, page, far, false)?;
             }
             Ok(())
         }

@@ -1,11 +1,15 @@
+ghost use Rattle.std.specs.Prelude.{◌≤◌, length};
+
 use crate::board::Board;
 use crate::command::command_of;
 use crate::lines::MOST_BYTES;
 use crate::obey::{command, obey};
 use crate::page::Page;
 use crate::sights::Sights;
+use crate::steps::Far;
 use bench_script::{ScriptFault, read_script};
 use chip_model::Bus;
+use mcal_base::Order;
 use mcal_config::{ConfigFault, read_config};
 use serial_devices::SerialDevice;
 use std::alloc::{AllocError, Global};
@@ -45,6 +49,25 @@ fn write_state<B: Sights>(board: &Board<B>, page: &mut Page) -> Result<(), Alloc
     page.text.push_str("\n")
 }
 
+/// The directive of a line, and how far the steps of a frame go that it begins: to the frame's end, and behind the word `next`
+/// until one tells something.
+fn directive_of(line: &[u8]) -> (Far, &[u8])
+    ensures { length result.1.now ≤ length line.now }
+{
+    match line.trim_ascii() {
+        [b'n', b'e', b'x', b't', b' ' | b'\t', rest @ ..] => (Far::Told, rest),
+        _ => (Far::Whole, line),
+    }
+}
+
+/// Whether the steps that a directive makes may go so far.
+fn may_go(far: Far, order: &Order) -> bool {
+    match far {
+        Far::Told => matches!(order, Order::Do(..) | Order::Serve(_)),
+        _ => true,
+    }
+}
+
 /// Obeys a line of the script language.
 fn obey_line<B: Sights>(
     alloc: Global,
@@ -56,17 +79,19 @@ fn obey_line<B: Sights>(
     if line.len() > MOST_BYTES {
         return page.refuse("Long");
     }
-    match read_script(alloc, line) {
+    let (far, text) = directive_of(line);
+    match read_script(alloc, text) {
         Err(ScriptFault::NoMemory) => Err(AllocError),
         Err(fault) => page.refuse(fault.kind_text()),
-        Ok(mut script) => {
-            if let Some(mut directive) = script.pop() {
+        Ok(mut script) => match script.pop() {
+            None => Ok(()),
+            Some(directive) if !may_go(far, &directive.order) => page.refuse("Word"),
+            Some(mut directive) => {
                 directive.line = page.number;
-                obey(alloc, board, rack, page, &directive)?;
-                page.close()?;
+                obey(alloc, board, rack, page, &directive, far)?;
+                page.close()
             }
-            Ok(())
-        }
+        },
     }
 }
 

@@ -4,6 +4,7 @@ use Rattle.std.specs.Prelude.{if◌then◌else◌}
 use Rattle.std.proofs.lemmas.Bool.Decides.{nat_tests}
 use Rattle.std.proofs.lemmas.Nat.{div_below, le-div}
 use Rattle.std.proofs.Math.Nat.{zero-div, div-mul-le_self, mul-le-mul_right, div-zero}
+use Rattle.plain_facts.specs.Numbers.{lt_from, lt_since}
 use Rattle.mcal_base.specs.Expiry.{counts_since, count_of, expiries, runs_on}
 
 no_time : (s : ℕ) → s - s ≡ 0
@@ -11,12 +12,6 @@ no_time s = omega arith
 
 zero_test : (n : ℕ) → 0 < n → nat_lt 0 n ≡ true
 zero_test n h = grind (arith, nat_tests)
-
-below_true : (a b : ℕ) → a < b → nat_lt a b ≡ true
-below_true a b h = grind (arith, nat_tests)
-
-below_false : (a b : ℕ) → b ≤ a → nat_lt a b ≡ false
-below_false a b h = grind (arith, nat_tests)
 
 -- ---- at the start
 
@@ -68,8 +63,8 @@ below_or_not : (a b : ℕ) → (a < b) ⊎ (b ≤ a)
 below_or_not a b = grind arith
 
 runs_by_span : (span v p : ℕ) → 0 < p → (span < v * p) ⊎ (v * p ≤ span) → nat_lt (span / p) v ≡ nat_lt span (v * p)
-runs_by_span span v p some (inl h) = below_true (span / p) v (div_below span p v some h) ∙ sym (below_true span (v * p) h)
-runs_by_span span v p some (inr h) = below_false (span / p) v (le-div v span p some h) ∙ sym (below_false span (v * p) h)
+runs_by_span span v p some (inl h) = lt_from (span / p) v (div_below span p v some h) ∙ sym (lt_from span (v * p) h)
+runs_by_span span v p some (inr h) = lt_since (span / p) v (le-div v span p some h) ∙ sym (lt_since span (v * p) h)
 
 -- it runs until its target's worth of time has passed
 pub runs_on-time : (s v p now : ℕ) → 0 < p → runs_on true s v p now ≡ nat_lt (now - s) (v * p)
@@ -78,9 +73,9 @@ runs_on-time s v p now some = runs_by_span (now - s) v p some (below_or_not (now
 -- it expires where it stops
 expires_by_span : (span period : ℕ) → 0 < period → (span < period) ⊎ (period ≤ span) → min (span / period) 1 ≡ (if nat_lt span period then 0 else 1)
 expires_by_span span period some (inl h) =
-    let none : span / period < 1 = div_below span period 1 some (omega arith) in rw (below_true span period h) (omega arith)
+    let none : span / period < 1 = div_below span period 1 some (omega arith) in rw (lt_from span period h) (omega arith)
 expires_by_span span period some (inr h) =
-    let one : 1 ≤ span / period = le-div 1 span period some (omega arith) in rw (below_false span period h) (omega arith)
+    let one : 1 ≤ span / period = le-div 1 span period some (omega arith) in rw (lt_since span period h) (omega arith)
 
 pub expiries-one_shot : (s v p now : ℕ) → 0 < p → 0 < v * p → expiries true s v p now ≡ (if runs_on true s v p now then 0 else 1)
 expiries-one_shot s v p now some period =

@@ -8,8 +8,9 @@ use Rattle.std.proofs.lemmas.Grind.{common_steps}
 use Rattle.std.proofs.lemmas.List.Elements.{All-head, All-tail, All-map, All-append, All-nil}
 use Rattle.std.proofs.lemmas.List.Folds.{list_any-append}
 use Rattle.std.proofs.lemmas.List.Sums.{sum_by-le}
-use Rattle.std.proofs.Math.Bool.{or-true}
 use Rattle.std.proofs.Math.Nat.{mul-le-mul_right}
+use Rattle.std.proofs.lemmas.Bool.{or_left, or_right}
+use Rattle.plain_facts.specs.Numbers.{eq_is}
 use Rattle.mcal_base.specs.Layout.{WithinLimits, of_id, length_of, words_of, internal_words, start_of, place_of, user_of, is_within, own_start, own_count, is_own_word, arrays_of, is_users_word, is_word_of}
 use Rattle.mcal_base.specs.Names.{module_number}
 use Rattle.mcal_base.specs.declared.config.adc.AdcGroup.{AdcGroup}
@@ -22,7 +23,7 @@ use Rattle.mcal_base.specs.declared.layout.Array.{Array}
 use Rattle.mcal_base.specs.declared.layout.Array.TheVariants.{Round, Stamps, Source, Destination}
 use Rattle.mcal_base.specs.declared.module_name.ModuleName.{ModuleName}
 use Rattle.mcal_base.specs.declared.module_name.ModuleName.TheVariants.{Mcu, Port, Gpt, Pwm, Icu, Adc, Spi, Dio, Wdg}
-use Rattle.mcal_base.proofs.Places.{Placed, placed, alone, same_number}
+use Rattle.mcal_base.proofs.Places.{Placed, placed, alone}
 
 pub within_is : (first count k : ℕ) → is_within first count k ≡ true → (first ≤ k) × (k < first + count)
 within_is first count k h = (grind (arith, nat_tests, common_steps), grind (arith, nat_tests, common_steps))
@@ -55,7 +56,7 @@ own_few c Spi w =
     let few = sum_by-le (λ (x : SpiChannel). internal_words x.channel_type) 64 c.spi.channels each in
     let most : length c.spi.channels * 64 ≤ 16 * 64 = mul-le-mul_right 64 w.channels.0 in
     omega (arith, few, most, w.channels.0, w.jobs, w.sequences)
-own_few c Dio w = omega arith
+own_few c Dio w = omega (arith, w.pin_groups)
 own_few c Wdg w = omega arith
 
 pub own_range : (c : Config) (m : ModuleName) (k : ℕ) → WithinLimits c → is_own_word c m k ≡ true → (own_start m ≤ k) × (k < own_start m + 8192)
@@ -120,16 +121,10 @@ users_range c m k w h =
 
 -- ---- each place is a word of its module's arrays
 
-or_left : (a b : Bool) → a ≡ true → (a || b) ≡ true
-or_left a b h = rw h refl
-
-or_right : (a b : Bool) → b ≡ true → (a || b) ≡ true
-or_right a b h = rw h (or-true a)
-
 among_first : {T : Type 0} (id number : T → ℕ) (make : ℕ → Array) (test : Array → Bool) (x : T) (xs : List T) (n i : ℕ) (b : Bool) → (id x == n) ≡ b
     → test (make n) ≡ true → (i < of_id id number xs n → list_any test (map (λ y. make (id y)) xs) ≡ true)
     → i < option_map_or number (cond b (Some x) (find (λ y. id y == n) xs)) 0 → list_any test (map (λ y. make (id y)) (x ∷ xs)) ≡ true
-among_first id number make test x xs n i true e h rest lt = or_left (test (make (id x))) _ (rw (same_number (id x) n e) h)
+among_first id number make test x xs n i true e h rest lt = or_left (test (make (id x))) _ (rw (eq_is (id x) n e) h)
 among_first id number make test x xs n i false e h rest lt = or_right (test (make (id x))) _ (rest lt)
 
 among : {T : Type 0} (id number : T → ℕ) (make : ℕ → Array) (test : Array → Bool) (xs : List T) (n i : ℕ)

@@ -6,6 +6,7 @@ use Rattle.std.specs.Option.{option_map_or}
 use Rattle.std.proofs.lemmas.Bool.Decides.{nat_tests}
 use Rattle.std.proofs.lemmas.List.Elements.{All-head, All-tail}
 use Rattle.std.proofs.Math.Nat.{mul-le-mul}
+use Rattle.plain_facts.specs.Numbers.{eq_is}
 use Rattle.mcal_base.specs.Layout.{WithinLimits, of_id, length_of, words_of, Exists, room_of, place_of}
 use Rattle.mcal_base.specs.declared.config.adc.AdcGroup.{AdcGroup}
 use Rattle.mcal_base.specs.declared.config.icu.IcuChannel.{IcuChannel}
@@ -21,14 +22,11 @@ pub record Found {T : Type 0} (id number : T → ℕ) (P : T → Type 0) (n got 
   pub named : id element ≡ n
   pub counted : number element ≡ got
 
-pub same_number : (a b : ℕ) → (a == b) ≡ true → a ≡ b
-same_number a b h = grind (arith, nat_tests)
-
 found_first : {T : Type 0} (id number : T → ℕ) (P : T → Type 0) (x : T) (xs : List T) (n i : ℕ) (b : Bool) → (id x == n) ≡ b → P x
     → (i < of_id id number xs n → Found id number P n (of_id id number xs n))
     → i < option_map_or number (cond b (Some x) (find (λ y. id y == n) xs)) 0
     → Found id number P n (option_map_or number (cond b (Some x) (find (λ y. id y == n) xs)) 0)
-found_first id number P x xs n i true e p rest lt = record { element = x; holds = p; named = same_number (id x) n e; counted = refl }
+found_first id number P x xs n i true e p rest lt = record { element = x; holds = p; named = eq_is (id x) n e; counted = refl }
 found_first id number P x xs n i false e p rest lt = rest lt
 
 pub found : {T : Type 0} (id number : T → ℕ) (P : T → Type 0) (xs : List T) (n i : ℕ) → All P xs → i < of_id id number xs n → Found id number P n (of_id id number xs n)

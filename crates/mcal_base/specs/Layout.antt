@@ -40,6 +40,7 @@ pub record WithinLimits (c : Config) : Type 0 where
   pub channels : Within 16 (λ (x : SpiChannel). (x.id < 16) × (words_of x.channel_type ≤ 64)) c.spi.channels
   pub jobs : length c.spi.jobs ≤ 16
   pub sequences : length c.spi.sequences ≤ 8
+  pub pin_groups : length c.dio.groups ≤ 8
 
 -- ---- the users' arrays
 
@@ -100,7 +101,7 @@ objects_of c Pwm = length c.pwm.channels
 objects_of c Icu = length c.icu.channels
 objects_of c Adc = length c.adc.units + length c.adc.groups
 objects_of c Spi = length c.spi.channels + length c.spi.jobs + length c.spi.sequences
-objects_of c Dio = 0
+objects_of c Dio = length c.dio.groups
 objects_of c Wdg = 0
 
 -- the words of an internal channel, and none of another one

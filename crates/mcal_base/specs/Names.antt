@@ -89,6 +89,16 @@ service_text services.SpiGetSequenceResult = codes "Spi_GetSequenceResult"
 service_text services.SpiGetHwUnitStatus = codes "Spi_GetHWUnitStatus"
 service_text services.SpiSetAsyncMode = codes "Spi_SetAsyncMode"
 service_text services.SpiMainFunctionHandling = codes "Spi_MainFunction_Handling"
+service_text services.DioReadChannel = codes "Dio_ReadChannel"
+service_text services.DioFlipChannel = codes "Dio_FlipChannel"
+service_text services.DioWriteChannel = codes "Dio_WriteChannel"
+service_text services.DioReadPort = codes "Dio_ReadPort"
+service_text services.DioWritePort = codes "Dio_WritePort"
+service_text services.DioReadChannelGroup = codes "Dio_ReadChannelGroup"
+service_text services.DioWriteChannelGroup = codes "Dio_WriteChannelGroup"
+service_text services.WdgInit = codes "Wdg_Init"
+service_text services.WdgSetMode = codes "Wdg_SetMode"
+service_text services.WdgSetTriggerCondition = codes "Wdg_SetTriggerCondition"
 
 -- the module that offers a service
 abbrev pub module_of : Service → ModuleName
@@ -168,6 +178,16 @@ module_of services.SpiGetSequenceResult = modules.Spi
 module_of services.SpiGetHwUnitStatus = modules.Spi
 module_of services.SpiSetAsyncMode = modules.Spi
 module_of services.SpiMainFunctionHandling = modules.Spi
+module_of services.DioReadChannel = modules.Dio
+module_of services.DioFlipChannel = modules.Dio
+module_of services.DioWriteChannel = modules.Dio
+module_of services.DioReadPort = modules.Dio
+module_of services.DioWritePort = modules.Dio
+module_of services.DioReadChannelGroup = modules.Dio
+module_of services.DioWriteChannelGroup = modules.Dio
+module_of services.WdgInit = modules.Wdg
+module_of services.WdgSetMode = modules.Wdg
+module_of services.WdgSetTriggerCondition = modules.Wdg
 
 -- a module, as a configuration names it
 abbrev pub module_text : ModuleName → List ℕ
@@ -223,6 +243,8 @@ answer_text answers.SpiSeqOk = codes "SPI_SEQ_OK"
 answer_text answers.SpiSeqPending = codes "SPI_SEQ_PENDING"
 answer_text answers.SpiSeqFailed = codes "SPI_SEQ_FAILED"
 answer_text answers.SpiSeqCanceled = codes "SPI_SEQ_CANCELED"
+answer_text answers.StdHigh = codes "STD_HIGH"
+answer_text answers.StdLow = codes "STD_LOW"
 
 -- an argument, as a script spells it
 abbrev pub argument_text : ArgumentName → List ℕ
@@ -243,6 +265,11 @@ argument_text arguments.IcuFallingEdge = codes "ICU_FALLING_EDGE"
 argument_text arguments.IcuBothEdges = codes "ICU_BOTH_EDGES"
 argument_text arguments.SpiPollingMode = codes "SPI_POLLING_MODE"
 argument_text arguments.SpiInterruptMode = codes "SPI_INTERRUPT_MODE"
+argument_text arguments.StdHigh = codes "STD_HIGH"
+argument_text arguments.StdLow = codes "STD_LOW"
+argument_text arguments.WdgifOffMode = codes "WDGIF_OFF_MODE"
+argument_text arguments.WdgifSlowMode = codes "WDGIF_SLOW_MODE"
+argument_text arguments.WdgifFastMode = codes "WDGIF_FAST_MODE"
 argument_text arguments.Source = codes "src"
 argument_text arguments.Destination = codes "dst"
 argument_text arguments.Null = codes "null"

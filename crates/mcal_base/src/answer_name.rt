@@ -60,6 +60,10 @@ pub enum AnswerName {
     SpiSeqFailed,
     /// `SPI_SEQ_CANCELED`
     SpiSeqCanceled,
+    /// `STD_HIGH`
+    StdHigh,
+    /// `STD_LOW`
+    StdLow,
 }
 
 impl AnswerName {
@@ -96,6 +100,8 @@ impl AnswerName {
             AnswerName::SpiSeqPending => "SPI_SEQ_PENDING",
             AnswerName::SpiSeqFailed => "SPI_SEQ_FAILED",
             AnswerName::SpiSeqCanceled => "SPI_SEQ_CANCELED",
+            AnswerName::StdHigh => "STD_HIGH",
+            AnswerName::StdLow => "STD_LOW",
         }
     }
 }

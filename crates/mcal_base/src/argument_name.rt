@@ -38,6 +38,16 @@ pub enum ArgumentName {
     SpiPollingMode,
     /// `SPI_INTERRUPT_MODE`
     SpiInterruptMode,
+    /// `STD_HIGH`
+    StdHigh,
+    /// `STD_LOW`
+    StdLow,
+    /// `WDGIF_OFF_MODE`
+    WdgifOffMode,
+    /// `WDGIF_SLOW_MODE`
+    WdgifSlowMode,
+    /// `WDGIF_FAST_MODE`
+    WdgifFastMode,
     /// `src`
     Source,
     /// `dst`
@@ -72,6 +82,11 @@ impl ArgumentName {
             ArgumentName::IcuBothEdges => "ICU_BOTH_EDGES",
             ArgumentName::SpiPollingMode => "SPI_POLLING_MODE",
             ArgumentName::SpiInterruptMode => "SPI_INTERRUPT_MODE",
+            ArgumentName::StdHigh => "STD_HIGH",
+            ArgumentName::StdLow => "STD_LOW",
+            ArgumentName::WdgifOffMode => "WDGIF_OFF_MODE",
+            ArgumentName::WdgifSlowMode => "WDGIF_SLOW_MODE",
+            ArgumentName::WdgifFastMode => "WDGIF_FAST_MODE",
             ArgumentName::Source => "src",
             ArgumentName::Destination => "dst",
             ArgumentName::Null => "null",

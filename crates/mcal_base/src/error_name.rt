@@ -1,4 +1,4 @@
-/// The development errors of the seven modules. `det_errors` says when each comes, and spells it.
+/// The development errors of the nine modules. `det_errors` says when each comes, and spells it.
 #[derive(Clone, Copy)]
 pub enum ErrorName {
     /// `MCU_E_UNINIT`
@@ -91,4 +91,16 @@ pub enum ErrorName {
     SpiParamJob,
     /// `SPI_E_PARAM_UNIT`
     SpiParamUnit,
+    /// `DIO_E_PARAM_INVALID_CHANNEL_ID`
+    DioParamInvalidChannelId,
+    /// `DIO_E_PARAM_INVALID_PORT_ID`
+    DioParamInvalidPortId,
+    /// `DIO_E_PARAM_INVALID_GROUP`
+    DioParamInvalidGroup,
+    /// `WDG_E_DRIVER_STATE`
+    WdgDriverState,
+    /// `WDG_E_PARAM_MODE`
+    WdgParamMode,
+    /// `WDG_E_PARAM_TIMEOUT`
+    WdgParamTimeout,
 }

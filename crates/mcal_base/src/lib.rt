@@ -27,6 +27,7 @@ pub use config::adc::{
     AdcAccessMode, AdcConfig, AdcConversionMode, AdcGroup, AdcGroupReplacement, AdcHwUnit,
     AdcPriorityImplementation, AdcStreamBufferMode, AdcTriggerSource,
 };
+pub use config::dio::{DioChannelGroup, DioConfig};
 pub use config::gpt::{GptChannel, GptChannelMode, GptConfig};
 pub use config::icu::{
     IcuChannel, IcuConfig, IcuMeasurementMode, IcuSignalMeasurementProperty, IcuStartEdge,
@@ -36,6 +37,7 @@ pub use config::mcu::{McuClockSetting, McuConfig, McuModeSetting, McuRamSection}
 pub use config::port::{PortConfig, PortPin, PortPinDirection, PortPinMode};
 pub use config::pwm::{PwmChannel, PwmChannelClass, PwmConfig, PwmOutputState};
 pub use config::spi::{SpiChannel, SpiChannelType, SpiConfig, SpiJob, SpiSequence};
+pub use config::wdg::{WdgConfig, WdgMode};
 pub use config::whole::Config;
 pub use directive::{Argument, Directive, Order, Reason, Request, Shown, Stop};
 pub use ends::{Failed, NoMemory, Sink, Source};

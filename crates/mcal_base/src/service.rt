@@ -3,7 +3,7 @@ ghost use Rattle.mcal_base.specs.Names as spec;
 
 use crate::module_name::ModuleName;
 
-/// The services of the seven modules, in the order of the modules and of their tables.
+/// The services of the nine modules, in the order of the modules and of their tables.
 #[derive(Clone, Copy, Debug)]
 pub enum Service {
     /// `Mcu_Init`
@@ -158,6 +158,26 @@ pub enum Service {
     SpiSetAsyncMode,
     /// `Spi_MainFunction_Handling`
     SpiMainFunctionHandling,
+    /// `Dio_ReadChannel`
+    DioReadChannel,
+    /// `Dio_FlipChannel`
+    DioFlipChannel,
+    /// `Dio_WriteChannel`
+    DioWriteChannel,
+    /// `Dio_ReadPort`
+    DioReadPort,
+    /// `Dio_WritePort`
+    DioWritePort,
+    /// `Dio_ReadChannelGroup`
+    DioReadChannelGroup,
+    /// `Dio_WriteChannelGroup`
+    DioWriteChannelGroup,
+    /// `Wdg_Init`
+    WdgInit,
+    /// `Wdg_SetMode`
+    WdgSetMode,
+    /// `Wdg_SetTriggerCondition`
+    WdgSetTriggerCondition,
 }
 
 impl Service {
@@ -242,6 +262,16 @@ impl Service {
             Service::SpiGetHwUnitStatus => "Spi_GetHWUnitStatus",
             Service::SpiSetAsyncMode => "Spi_SetAsyncMode",
             Service::SpiMainFunctionHandling => "Spi_MainFunction_Handling",
+            Service::DioReadChannel => "Dio_ReadChannel",
+            Service::DioFlipChannel => "Dio_FlipChannel",
+            Service::DioWriteChannel => "Dio_WriteChannel",
+            Service::DioReadPort => "Dio_ReadPort",
+            Service::DioWritePort => "Dio_WritePort",
+            Service::DioReadChannelGroup => "Dio_ReadChannelGroup",
+            Service::DioWriteChannelGroup => "Dio_WriteChannelGroup",
+            Service::WdgInit => "Wdg_Init",
+            Service::WdgSetMode => "Wdg_SetMode",
+            Service::WdgSetTriggerCondition => "Wdg_SetTriggerCondition",
         }
     }
 }
@@ -328,6 +358,15 @@ impl Service {
             | Service::SpiGetHwUnitStatus
             | Service::SpiSetAsyncMode
             | Service::SpiMainFunctionHandling => ModuleName::Spi,
+            Service::DioReadChannel
+            | Service::DioFlipChannel
+            | Service::DioWriteChannel
+            | Service::DioReadPort
+            | Service::DioWritePort
+            | Service::DioReadChannelGroup
+            | Service::DioWriteChannelGroup => ModuleName::Dio,
+            Service::WdgInit | Service::WdgSetMode | Service::WdgSetTriggerCondition =>
+                ModuleName::Wdg,
         }
     }
 }

@@ -6,4 +6,6 @@ pub use Rattle.config_tables.specs.Icu
 pub use Rattle.config_tables.specs.Adc
 pub use Rattle.config_tables.specs.SpiRules
 pub use Rattle.config_tables.specs.Spi
+pub use Rattle.config_tables.specs.Dio
+pub use Rattle.config_tables.specs.Wdg
 pub mod Whole

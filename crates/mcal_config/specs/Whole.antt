@@ -5,7 +5,7 @@ use Rattle.toml.specs.Data.{Members, no_members, member}
 use Rattle.toml.specs.Parse.{parse_document}
 use Rattle.config_keys.specs.Checks.{Checks, passes, fails, ◌⨾◌, first}
 use Rattle.config_keys.specs.Kinds.{◌>>=◌}
-use Rattle.config_rows.specs.Modules.{module_checks, module_value}
+use Rattle.config_rows.specs.Modules.{module_checks, module_value, given}
 use Rattle.config_keys.specs.declared.fault.ConfigFault.{ConfigFault}
 use Rattle.config_keys.specs.declared.fault.ConfigFault.TheVariants.{NotToml}
 use Rattle.mcal_base.specs.declared.config.gpt.GptChannelMode.TheVariants.{OneShot}
@@ -14,6 +14,8 @@ use Rattle.mcal_base.specs.declared.config.mcu.McuConfig.{McuConfig}
 use Rattle.mcal_base.specs.declared.config.gpt.GptConfig.{GptConfig}
 use Rattle.mcal_base.specs.declared.config.adc.AdcConfig.{AdcConfig}
 use Rattle.mcal_base.specs.declared.config.spi.SpiConfig.{SpiConfig}
+use Rattle.mcal_base.specs.declared.config.wdg.WdgMode.TheVariants.{Off}
+use Rattle.mcal_base.specs.declared.config.wdg.WdgConfig.{WdgConfig}
 use Rattle.mcal_base.specs.declared.config.whole.Config.{Config}
 use Rattle.config_tables.specs.Mcu as mcu_table
 use Rattle.config_tables.specs.Port as port_table
@@ -22,6 +24,8 @@ use Rattle.config_tables.specs.Pwm as pwm_table
 use Rattle.config_tables.specs.Icu as icu_table
 use Rattle.config_tables.specs.Adc as adc_table
 use Rattle.config_tables.specs.Spi as spi_table
+use Rattle.config_tables.specs.Dio as dio_table
+use Rattle.config_tables.specs.Wdg as wdg_table
 
 -- the tree of a text, where it is TOML
 abbrev pub tree_of : List ℕ → Option Members
@@ -45,6 +49,9 @@ no_converter = record { dev_error_detect = true; classification = 1; priority_im
 abbrev pub no_serial : SpiConfig
 no_serial = record { dev_error_detect = true; classification = 1; levels = 1 ∷ 1 ∷ []; channels = []; jobs = []; sequences = [] }
 
+abbrev pub watchdog_off : WdgConfig
+watchdog_off = record { dev_error_detect = true; default_mode = Off; disable_allowed = true; initial_ticks = 1000; max_ticks = 65535 }
+
 unfoldable pub default_board : Config
 default_board = record {
   mcu = no_clock;
@@ -54,9 +61,11 @@ default_board = record {
   icu = record { dev_error_detect = true; classification = 1; channels = [] };
   adc = no_converter;
   spi = no_serial;
+  dio = record { dev_error_detect = true; groups = [] };
+  wdg = watchdog_off;
 }
 
--- the modules, in the order of the walk
+-- the modules, in the order of the walk; what Dio refers to is the pins' of Port
 unfoldable pub modules_checks : Members → Checks
 modules_checks ms =
     module_checks mcu_table.part ms
@@ -66,6 +75,9 @@ modules_checks ms =
     ⨾ module_checks icu_table.part ms
     ⨾ module_checks adc_table.part ms
     ⨾ module_checks spi_table.part ms
+    ⨾ module_checks dio_table.part ms
+    ⨾ given (module_value port_table.part ms) (λ port. given (module_value dio_table.part ms) (dio_table.across port))
+    ⨾ module_checks wdg_table.part ms
 
 unfoldable pub modules_value : Members → Option Config
 modules_value ms = do
@@ -76,7 +88,9 @@ modules_value ms = do
   icu ← module_value icu_table.part ms
   adc ← module_value adc_table.part ms
   spi ← module_value spi_table.part ms
-  Some (record { mcu = mcu; port = port; gpt = gpt; pwm = pwm; icu = icu; adc = adc; spi = spi })
+  dio ← module_value dio_table.part ms
+  wdg ← module_value wdg_table.part ms
+  Some (record { mcu = mcu; port = port; gpt = gpt; pwm = pwm; icu = icu; adc = adc; spi = spi; dio = dio; wdg = wdg })
 
 -- a tree: the default board where it is bare, and else the modules
 abbrev pub tree_checks : Members → Checks

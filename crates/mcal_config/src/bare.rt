@@ -4,8 +4,8 @@ ghost use Rattle.mcal_config.specs.Whole as spec;
 
 use config_tables::both_at_one;
 use mcal_base::{
-    AdcConfig, AdcPriorityImplementation, Config, GptChannel, GptChannelMode, GptConfig, IcuConfig,
-    McuConfig, PortConfig, PwmConfig, Short, SpiConfig,
+    AdcConfig, AdcPriorityImplementation, Config, DioConfig, GptChannel, GptChannelMode, GptConfig,
+    IcuConfig, McuConfig, PortConfig, PwmConfig, Short, SpiConfig, WdgConfig, WdgMode,
 };
 
 /// One timer channel, with the defaults.
@@ -69,6 +69,19 @@ fn no_serial() -> SpiConfig
     }
 }
 
+/// The watchdog with its defaults, off.
+fn watchdog_off() -> WdgConfig
+    ensures { result ≡ spec.watchdog_off }
+{
+    WdgConfig {
+        dev_error_detect: true,
+        default_mode: WdgMode::Off,
+        disable_allowed: true,
+        initial_ticks: 1000,
+        max_ticks: 65_535,
+    }
+}
+
 /// All modules of the board of a tree without keys.
 #[tactic(auto, unfolding(crate::specs::Whole::default_board))]
 fn all_modules() -> Config
@@ -92,6 +105,11 @@ fn all_modules() -> Config
         },
         adc: no_converter(),
         spi: no_serial(),
+        dio: DioConfig {
+            dev_error_detect: true,
+            groups: Short::new(),
+        },
+        wdg: watchdog_off(),
     }
 }
 

@@ -3,6 +3,7 @@
 
 mod adc;
 mod bare;
+mod dio;
 mod laws;
 mod mcu;
 mod whole;

@@ -6,10 +6,12 @@ ghost use Rattle.mcal_config.specs.Whole as spec;
 
 use crate::adc::Adc;
 use crate::bare::default_board;
+use crate::dio::across;
 use crate::mcu::Mcu;
 use config_keys::ConfigFault;
 use config_rows::read_module;
-use config_tables::{Gpt, Icu, Port, Pwm, Spi};
+use config_tables::dio::Dio;
+use config_tables::{Gpt, Icu, Port, Pwm, Spi, Wdg};
 use mcal_base::Config;
 use std::alloc::Global;
 use toml::Table;
@@ -34,6 +36,9 @@ fn modules(alloc: Global, table: &Table) -> Result<Config, ConfigFault>
     let icu = read_module::<Icu>(alloc, table)?;
     let adc = read_module::<Adc>(alloc, table)?;
     let spi = read_module::<Spi>(alloc, table)?;
+    let dio = read_module::<Dio>(alloc, table)?;
+    across(&port, &dio)?;
+    let wdg = read_module::<Wdg>(alloc, table)?;
     Ok(Config {
         mcu,
         port,
@@ -42,6 +47,8 @@ fn modules(alloc: Global, table: &Table) -> Result<Config, ConfigFault>
         icu,
         adc,
         spi,
+        dio,
+        wdg,
     })
 }
 

@@ -2,6 +2,7 @@
 use Rattle.std.proofs.Common.{◌≡◌, ℕ, Bool, true, false, cond, List, [], ◌++◌, Option, Some, None, refl, sym, ◌∙◌, ap, subst}
 use Rattle.std.proofs.lemmas.List.{append-nil}
 use Rattle.std.specs.Option.{IfSome}
+use Rattle.plain_facts.specs.Options.{some_is}
 use Rattle.mcal_base.specs.declared.moves.Event.{Event}
 use Rattle.mcal_base.specs.declared.moves.Event.TheVariants as events
 use Rattle.mcal_base.specs.declared.moves.Move.{Move}
@@ -10,7 +11,6 @@ use Rattle.run_model.specs.Machine.{Happening, Acts, Serves, Starts, Aborts, Mov
 use Rattle.run_model.specs.World.{World}
 use Rattle.step_runner.specs.Union.{first_call, second_call, lift_out, in_both, in_first, union_machine}
 use Rattle.step_runner.specs.declared.either.Either.TheVariants.{Left, Right}
-use Rattle.spi_machine.proofs.Runs.{some_same}
 use Rattle.spi_machine.specs.Promised.{shown_on}
 
 -- ---- machines that begin no word
@@ -20,17 +20,17 @@ IsWordless {S = S} {C = C} mac = (w : World) (s : S) (h : Happening C) (out : Ou
 
 lifted : {S U : Type 0} (put : S → U) (o : Option (Outcome S)) (out : Outcome U) → ((x : Outcome S) → o ≡ Some x → x.begins ≡ None) → lift_out put o ≡ Some out → out.begins ≡ None
 lifted put None out none e = absurd (cc e)
-lifted put (Some x) out none e = ap (λ y. y.begins) (sym (some_same (outcome_with (put x.state) x.told x.begins) out e)) ∙ none x refl
+lifted put (Some x) out none e = ap (λ y. y.begins) (sym (some_is (outcome_with (put x.state) x.told x.begins) out e)) ∙ none x refl
 
 firsts : {S T : Type 0} (s : S) (t : T) (x : Option (Outcome S)) (y : Option (Outcome T)) (out : Outcome (S × T)) → ((a : Outcome S) → x ≡ Some a → a.begins ≡ None)
     → ((b : Outcome T) → y ≡ Some b → b.begins ≡ None) → in_first s t x y ≡ Some out → out.begins ≡ None
 firsts s t None y out none_x none_y e = lifted (λ b. (s, b)) y out none_y e
-firsts s t (Some a) y out none_x none_y e = ap (λ z. z.begins) (sym (some_same (outcome_with (a.state, t) a.told a.begins) out e)) ∙ none_x a refl
+firsts s t (Some a) y out none_x none_y e = ap (λ z. z.begins) (sym (some_is (outcome_with (a.state, t) a.told a.begins) out e)) ∙ none_x a refl
 
 boths : {S T : Type 0} (x : Option (Outcome S)) (y : Option (Outcome T)) (out : Outcome (S × T)) → in_both x y ≡ Some out → out.begins ≡ None
 boths None y out e = absurd (cc e)
 boths (Some a) None out e = absurd (cc e)
-boths (Some a) (Some b) out e = ap (λ z. z.begins) (sym (some_same (outcome (a.state, b.state) tells_nothing) out e))
+boths (Some a) (Some b) out e = ap (λ z. z.begins) (sym (some_is (outcome (a.state, b.state) tells_nothing) out e))
 
 module _ {S T C D : Type 0} (ours : ℕ → Bool) (f : Machine S C) (g : Machine T D) where
   pub wordless_both : IsWordless f → IsWordless g → IsWordless (union_machine ours f g)
@@ -77,21 +77,21 @@ module _ {S T C D : Type 0} (ours : ℕ → Bool) (f : Machine S C) (g : Machine
 
   of_first : (P : Outcome (S × T) → Type 0) (s : S × T) (o : Option (Outcome S)) (out : Outcome (S × T)) → ((x : Outcome S) → o ≡ Some x → P (outcome_with (x.state, s.1) x.told x.begins)) → lift_out (λ a. (a, s.1)) o ≡ Some out → P out
   of_first P s None out makes e = absurd (cc e)
-  of_first P s (Some x) out makes e = subst P (some_same (outcome_with (x.state, s.1) x.told x.begins) out e) (makes x refl)
+  of_first P s (Some x) out makes e = subst P (some_is (outcome_with (x.state, s.1) x.told x.begins) out e) (makes x refl)
 
   of_second : (P : Outcome (S × T) → Type 0) (s : S × T) (o : Option (Outcome T)) (out : Outcome (S × T)) → ((y : Outcome T) → o ≡ Some y → P (outcome_with (s.0, y.state) y.told y.begins)) → lift_out (λ b. (s.0, b)) o ≡ Some out → P out
   of_second P s None out makes e = absurd (cc e)
-  of_second P s (Some y) out makes e = subst P (some_same (outcome_with (s.0, y.state) y.told y.begins) out e) (makes y refl)
+  of_second P s (Some y) out makes e = subst P (some_is (outcome_with (s.0, y.state) y.told y.begins) out e) (makes y refl)
 
   of_either : (P : Outcome (S × T) → Type 0) (s : S × T) (x : Option (Outcome S)) (y : Option (Outcome T)) (out : Outcome (S × T)) → ((a : Outcome S) → x ≡ Some a → P (outcome_with (a.state, s.1) a.told a.begins))
       → ((b : Outcome T) → y ≡ Some b → P (outcome_with (s.0, b.state) b.told b.begins)) → in_first s.0 s.1 x y ≡ Some out → P out
   of_either P s None y out makes makes_y e = of_second P s y out makes_y e
-  of_either P s (Some a) y out makes makes_y e = subst P (some_same (outcome_with (a.state, s.1) a.told a.begins) out e) (makes a refl)
+  of_either P s (Some a) y out makes makes_y e = subst P (some_is (outcome_with (a.state, s.1) a.told a.begins) out e) (makes a refl)
 
   of_both : (P : Outcome (S × T) → Type 0) (x : Option (Outcome S)) (y : Option (Outcome T)) (out : Outcome (S × T)) → ((a : Outcome S) (b : Outcome T) → y ≡ Some b → P (outcome (a.state, b.state) tells_nothing)) → in_both x y ≡ Some out → P out
   of_both P None y out makes e = absurd (cc e)
   of_both P (Some a) None out makes e = absurd (cc e)
-  of_both P (Some a) (Some b) out makes e = subst P (some_same (outcome (a.state, b.state) tells_nothing) out e) (makes a b refl)
+  of_both P (Some a) (Some b) out makes e = subst P (some_is (outcome (a.state, b.state) tells_nothing) out e) (makes a b refl)
 
   -- with a first machine that begins no word the wire is the second's
   pub wired_second : IsWordless f → IsWired wire u g → IsWired Wire u (union_machine ours f g)

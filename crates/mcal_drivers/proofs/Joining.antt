@@ -5,7 +5,7 @@ use Rattle.chip_model.specs.Chip.{Chip, power_on, hung}
 use Rattle.config_facts.specs.Valid.{IsValid}
 use Rattle.mcal_base.specs.declared.config.whole.Config.{Config}
 use Rattle.mcal_base.specs.declared.module_name.ModuleName.{ModuleName}
-use Rattle.mcal_base.specs.declared.module_name.ModuleName.TheVariants.{Mcu, Port, Gpt, Pwm, Icu, Adc, Spi}
+use Rattle.mcal_base.specs.declared.module_name.ModuleName.TheVariants.{Mcu, Port, Gpt, Pwm, Icu, Adc, Spi, Wdg}
 use Rattle.step_runner.specs.Driver.{Driver}
 use Rattle.run_model.specs.World.{World}
 use Rattle.step_runner.specs.Union.{has_handler, union_of}
@@ -15,6 +15,9 @@ use Rattle.step_runner.proofs.Whose.{keeps-both, disjoint-apart}
 use Rattle.mcu_driver.specs.Fits as clock_fits
 use Rattle.mcu_driver.specs.Table as clock_table
 use Rattle.mcu_driver.specs.laws.Keeps.{keeps_clock}
+use Rattle.wdg_driver.specs.Fits as watchdog_fits
+use Rattle.wdg_driver.specs.Table as watchdog_table
+use Rattle.wdg_driver.specs.laws.Keeps.{keeps_watchdog}
 use Rattle.port_driver.specs.Fits as pin_fits
 use Rattle.port_driver.specs.Table as pin_table
 use Rattle.port_driver.specs.laws.Keeps.{keeps_pins}
@@ -27,13 +30,13 @@ use Rattle.pwm_driver.specs.laws.Keeps.{keeps_pulses}
 use Rattle.icu_driver.specs.Fits as capture_fits
 use Rattle.icu_driver.specs.Table as capture_table
 use Rattle.icu_driver.specs.laws.Keeps.{keeps_captures}
-use Rattle.adc_driver.specs.laws.Fits as converter_fits
-use Rattle.adc_driver.specs.laws.Joined.{keeps_converters}
+use Rattle.adc_driver.specs.laws.words.ConfigurationFits as converter_fits
+use Rattle.adc_driver.specs.laws.bookkeeping.Joined.{keeps_converters}
 use Rattle.adc_machine.specs.Table as converter_table
-use Rattle.spi_driver.specs.laws.Fits as serial_fits
-use Rattle.spi_driver.specs.laws.Keeps.{keeps_serial}
+use Rattle.spi_driver.specs.laws.words.ConfigurationFits as serial_fits
+use Rattle.spi_driver.specs.laws.bookkeeping.KeepsToModule.{keeps_serial}
 use Rattle.spi_machine.specs.Table as serial_table
-use Rattle.mcal_drivers.specs.Drivers.{clock, pins, timers, pulses, captures, converters, serial, as_one, system}
+use Rattle.mcal_drivers.specs.Drivers.{clock, watchdog, pins, timers, pulses, captures, converters, serial, as_one, system}
 use Rattle.mcal_drivers.proofs.Sound.{sound_clock, sound_pins, sound_timers, sound_captures, wired_captures}
 use Rattle.mcal_drivers.proofs.SoundConverters.{sound_converters}
 use Rattle.mcal_drivers.proofs.SoundSerial.{sound_serial, wired_serial}
@@ -66,6 +69,9 @@ module _ (c : Config) (v : IsValid c) (devices : ℕ) where
   clock_ready : Ready (only Mcu) (clock c)
   clock_ready = record { fits = clock_fits.fits_of c.mcu (sound_clock c.mcu v.mcu); wired = λ room. tt; keeps = keeps_clock (clock_table.driver_of c.mcu) }
 
+  watchdog_ready : Ready (only Wdg) (watchdog c)
+  watchdog_ready = record { fits = watchdog_fits.fits_of c.wdg; wired = λ room. tt; keeps = keeps_watchdog (watchdog_table.driver_of c.wdg) }
+
   pins_ready : Ready (only Port) (pins c)
   pins_ready = record { fits = pin_fits.fits_of c.port (sound_pins c.port v.port); wired = λ room. tt; keeps = keeps_pins (pin_table.driver_of c.port) }
 
@@ -92,8 +98,15 @@ module _ (c : Config) (v : IsValid c) (devices : ℕ) where
   timed_ready : Ready (all_of (only Port) (only Gpt)) (union_of (pins c) (timers c))
   timed_ready = join (only Port) (only Gpt) power (pins c) (timers c) refl refl (λ w s call. refl) pins_ready timers_ready
 
-  firsts_ready : Ready (all_of (only Mcu) (all_of (only Port) (only Gpt))) (union_of (clock c) (union_of (pins c) (timers c)))
-  firsts_ready = join (only Mcu) (all_of (only Port) (only Gpt)) power (clock c) (union_of (pins c) (timers c)) refl refl (λ w s call. refl) clock_ready timed_ready
+  watched_ready : Ready (all_of (only Mcu) (only Wdg)) (union_of (clock c) (watchdog c))
+  watched_ready = join (only Mcu) (only Wdg) power (clock c) (watchdog c) refl refl (λ w s call. refl) clock_ready watchdog_ready
+
+  mute_watched : IsMute (union_of (clock c) (watchdog c))
+  mute_watched w s (Left call) = refl
+  mute_watched w s (Right call) = refl
+
+  firsts_ready : Ready (all_of (all_of (only Mcu) (only Wdg)) (all_of (only Port) (only Gpt))) (union_of (union_of (clock c) (watchdog c)) (union_of (pins c) (timers c)))
+  firsts_ready = join (all_of (only Mcu) (only Wdg)) (all_of (only Port) (only Gpt)) power (union_of (clock c) (watchdog c)) (union_of (pins c) (timers c)) refl refl mute_watched watched_ready timed_ready
 
   captured_ready : Ready (all_of (only Pwm) (only Icu)) (union_of (pulses c) (captures c))
   captured_ready = join (only Pwm) (only Icu) power (pulses c) (captures c) refl refl (λ w s call. refl) pulses_ready captures_ready
@@ -108,11 +121,12 @@ module _ (c : Config) (v : IsValid c) (devices : ℕ) where
   seconds_ready : Ready (all_of (all_of (only Pwm) (only Icu)) (all_of (only Adc) (only Spi))) (union_of (union_of (pulses c) (captures c)) (union_of (converters c) (serial c)))
   seconds_ready = join (all_of (only Pwm) (only Icu)) (all_of (only Adc) (only Spi)) power (union_of (pulses c) (captures c)) (union_of (converters c) (serial c)) refl refl mute_captured captured_ready lasts_ready
 
-  mute_firsts : IsMute (union_of (clock c) (union_of (pins c) (timers c)))
-  mute_firsts w s (Left call) = refl
+  mute_firsts : IsMute (union_of (union_of (clock c) (watchdog c)) (union_of (pins c) (timers c)))
+  mute_firsts w s (Left (Left call)) = refl
+  mute_firsts w s (Left (Right call)) = refl
   mute_firsts w s (Right (Left call)) = refl
   mute_firsts w s (Right (Right call)) = refl
 
-  pub all_ready : Ready (all_of (all_of (only Mcu) (all_of (only Port) (only Gpt))) (all_of (all_of (only Pwm) (only Icu)) (all_of (only Adc) (only Spi)))) (system c)
+  pub all_ready : Ready (all_of (all_of (all_of (only Mcu) (only Wdg)) (all_of (only Port) (only Gpt))) (all_of (all_of (only Pwm) (only Icu)) (all_of (only Adc) (only Spi)))) (system c)
   unfolding as_one
-  all_ready = join (all_of (only Mcu) (all_of (only Port) (only Gpt))) (all_of (all_of (only Pwm) (only Icu)) (all_of (only Adc) (only Spi))) power (union_of (clock c) (union_of (pins c) (timers c))) (union_of (union_of (pulses c) (captures c)) (union_of (converters c) (serial c))) refl refl mute_firsts firsts_ready seconds_ready
+  all_ready = join (all_of (all_of (only Mcu) (only Wdg)) (all_of (only Port) (only Gpt))) (all_of (all_of (only Pwm) (only Icu)) (all_of (only Adc) (only Spi))) power (union_of (union_of (clock c) (watchdog c)) (union_of (pins c) (timers c))) (union_of (union_of (pulses c) (captures c)) (union_of (converters c) (serial c))) refl refl mute_firsts firsts_ready seconds_ready

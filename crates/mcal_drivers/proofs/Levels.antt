@@ -53,7 +53,7 @@ module _ (c : Config) (devices room : ℕ) (chip : Chip) (m : Moment SystemState
 
   pub ram_word : (k : ℕ) → k < 512 → slice_index chip.ram k ≡ ram_at m.state k
   unfolding system_setting
-  ram_word k lt = ap (λ (x : Chip). slice_index x.ram k) rests.chip_is ∙ rests.quiet.rest.0.0 k lt
+  ram_word k lt = ap (λ (x : Chip). slice_index x.ram k) rests.chip_is ∙ rests.quiet.rest.0.0.0 k lt
 
   pub user_word : (a : Array) (k : ℕ) → IsAdc c.adc → IsIcu c.icu → IsSpi c.spi → k < length_of c a → word_of chip (place_of a k) ≡ user_at m.state a k
   unfolding system_setting

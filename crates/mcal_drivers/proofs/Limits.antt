@@ -37,4 +37,5 @@ within_limits c h = record {
   channels = (h.spi.tables.channels.few, λ k d lt. channel_within _ (h.spi.tables.channels.each k d lt));
   jobs = h.spi.tables.jobs.few;
   sequences = h.spi.tables.sequences.few;
+  pin_groups = h.dio.tables.groups.few;
 }

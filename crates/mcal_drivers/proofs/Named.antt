@@ -3,6 +3,7 @@ use Rattle.std.proofs.Common.{◌≡◌, ℕ, zero, suc, ◌+◌, ◌<◌, ◌�
 use Rattle.std.specs.Prelude.{All, AllPairs, if◌then◌else◌, cond, map, option_map, slice_index_or}
 use Rattle.std.specs.List.{find, range_with_len}
 use Rattle.std.proofs.lemmas.Bool.Decides.{nat_tests}
+use Rattle.plain_facts.specs.Numbers.{eq_self}
 use Rattle.chip_captures.specs.Captures as captures
 use Rattle.chip_model.specs.Chip.{channel_from}
 use Rattle.chip_model.specs.Wiring.{wiring_of, output_in}
@@ -95,9 +96,6 @@ record IsSeen (output : ℕ → Option ℕ) (p i : ℕ) : Type 0 where
   sole : (k : ℕ) → is_pin (output k) p ≡ true → k ≡ i
 
 module _ (y : PwmChannel) (xs : List PwmChannel) (p : ℕ) where
-  own : (n : ℕ) → (n == n) ≡ true
-  own n = grind (arith, nat_tests)
-
   turned : (m n : ℕ) → (m == n) ≡ false → (n == m) ≡ false
   turned m n e = grind (arith, nat_tests)
 
@@ -105,7 +103,7 @@ module _ (y : PwmChannel) (xs : List PwmChannel) (p : ℕ) where
   equal m n e = grind (arith, nat_tests)
 
   first : Each (Differ y) xs → is_pin y.pin p ≡ true → IsSeen (output_in (y ∷ xs)) p y.id
-  first apart i = record { at = ap (λ q. is_pin (if q then y.pin else output_in xs y.id) p) (own y.id) ∙ i; sole = λ k. only k (y.id == k) refl }
+  first apart i = record { at = ap (λ q. is_pin (if q then y.pin else output_in xs y.id) p) (eq_self y.id) ∙ i; sole = λ k. only k (y.id == k) refl }
     where
       only : (k : ℕ) (q : Bool) → (y.id == k) ≡ q → is_pin (if q then y.pin else output_in xs k) p ≡ true → k ≡ y.id
       only k true e h = equal y.id k e

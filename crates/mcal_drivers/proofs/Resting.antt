@@ -6,7 +6,7 @@ use Rattle.chip_model.proofs.HistoryLaws.{wiring-left}
 use Rattle.run_model.specs.declared.item.Stepped.{Stepped}
 use Rattle.run_model.specs.Frame.{Open}
 use Rattle.run_model.specs.Legal.{IsQuiet, QuietAtRest, IsServed}
-use Rattle.run_model.specs.Moment.{Setting, Moment, Deed, Begins, Enters, Steps, Happens, Resets, start_moment, after_step, after, after_all}
+use Rattle.run_model.specs.Moment.{Setting, Moment, Transition, Begins, Enters, Steps, Happens, Resets, start_moment, after_step, after, after_all}
 use Rattle.run_model.specs.Outside.{StandsIn}
 use Rattle.run_model.specs.World.{World}
 use Rattle.step_runner.specs.Driver.{Driver}
@@ -22,14 +22,14 @@ module _ {State Call : Type 0} (g : Setting State Call) where
   step-wiring m [] s = refl
   step-wiring m (o ∷ os) s = wiring-left m.chip (Made s.made s.received)
 
-  deed-wiring : (m : Moment State Call) (x : Deed Call) → (after g m x).chip.wiring ≡ m.chip.wiring
+  deed-wiring : (m : Moment State Call) (x : Transition Call) → (after g m x).chip.wiring ≡ m.chip.wiring
   deed-wiring m (Begins c level) = refl
   deed-wiring m (Enters l) = refl
   deed-wiring m (Steps s) = step-wiring m m.opens s
   deed-wiring m (Happens order) = wiring-left m.chip (Hardware order)
   deed-wiring m (Resets reason) = refl
 
-  all-wiring : (m : Moment State Call) (xs : List (Deed Call)) → (after_all g m xs).chip.wiring ≡ m.chip.wiring
+  all-wiring : (m : Moment State Call) (xs : List (Transition Call)) → (after_all g m xs).chip.wiring ≡ m.chip.wiring
   all-wiring m [] = refl
   all-wiring m (x ∷ xs) = all-wiring (after g m x) xs ∙ deed-wiring m x
 
@@ -49,7 +49,7 @@ no_pairs [] os e = refl
 no_pairs (u ∷ us) [] e = refl
 no_pairs (u ∷ us) (o ∷ os) e = cc
 
-module _ {State Call Frame : Type 0} (d : Driver State Call Frame) (first chip : Chip) (us : List (Under Frame)) (h : List (Deed Call)) (stands : Stands d first chip us h) where
+module _ {State Call Frame : Type 0} (d : Driver State Call Frame) (first chip : Chip) (us : List (Under Frame)) (h : List (Transition Call)) (stands : Stands d first chip us h) where
   abbrev there : Moment State Call
   there = after_all d.setting (start_moment d.setting first) h
 

@@ -1,11 +1,12 @@
 -- A configuration that was read is sound for each module's driver.
-use Rattle.std.proofs.Common.{◌≡◌, ℕ, ◌+◌, ◌<◌, ◌≤◌, nat_lt, Bool, true, false, not, ◌&&◌, ◌==◌, List, [], ◌∷◌, length, take, Some, None, refl, sym, ◌∙◌, ap, arith}
+use Rattle.std.proofs.Common.{◌≡◌, ℕ, ◌+◌, ◌<◌, ◌≤◌, nat_lt, Bool, true, false, ◌&&◌, ◌==◌, List, [], ◌∷◌, length, take, Some, None, refl, sym, ◌∙◌, ap, arith}
 use Rattle.std.specs.Prelude.{All, Option, IsSome, is_some, if◌then◌else◌, slice_get, slice_index_or}
 use Rattle.std.specs.List.{list_any}
 use Rattle.std.proofs.lemmas.Bool.Decides.{nat_tests}
 use Rattle.std.proofs.lemmas.List.{get_or-take, length-take-le}
 use Rattle.std.proofs.lemmas.List.Folds.{list_any_at}
 use Rattle.std.proofs.lemmas.Option.{slice_get_within, get_or_from_slice_get}
+use Rattle.std.proofs.lemmas.Bool.{not-false}
 use Rattle.config_facts.specs.Rules.{overlaps, same_mode}
 use Rattle.chip_captures.specs.Captures.{pin_in, pins_in, captures_fresh}
 use Rattle.config_facts.specs.Valid.{IsMcu, IsPort, IsGpt, IsInput, IsIcu}
@@ -24,7 +25,7 @@ use Rattle.port_driver.specs.Fits as pin_fits
 use Rattle.port_driver.specs.Table.{is_same, lists}
 use Rattle.gpt_driver.specs.Fits as timer_fits
 use Rattle.icu_driver.specs.Fits as capture_fits
-use Rattle.icu_driver.specs.Ground.{WiredAs, pin_by}
+use Rattle.icu_driver.specs.Refinement.{WiredAs, pin_by}
 use Rattle.icu_driver.specs.Table as capture_table
 use Rattle.icu_driver.specs.laws.Tables.{by_eight}
 
@@ -91,10 +92,6 @@ same Spi Spi = refl
 listed : (ms : List PortPinMode) (m : PortPinMode) → list_any (λ (x : PortPinMode). same_mode x m) ms ≡ lists ms m
 listed [] m = refl
 listed (x ∷ ms) m = rw (same x m, listed ms m) refl
-
-not-false : (b : Bool) → not b ≡ false → b ≡ true
-not-false true e = refl
-not-false false e = cc
 
 pub sound_pins : (g : PortConfig) → IsPort g → All pin_fits.IsSoundPin g.pins
 sound_pins g h = λ k d lt.

@@ -16,7 +16,7 @@ use Rattle.mcal_base.specs.declared.config.adc.AdcTriggerSource.{AdcTriggerSourc
 use Rattle.mcal_base.specs.declared.config.adc.AdcTriggerSource.TheVariants.{Software, Hardware}
 use Rattle.mcal_base.specs.declared.config.whole.Config.{Config}
 use Rattle.mcal_base.specs.declared.layout.Array.TheVariants.{Round}
-use Rattle.adc_driver.specs.laws.Fits as converter_fits
+use Rattle.adc_driver.specs.laws.words.ConfigurationFits as converter_fits
 use Rattle.adc_machine.specs.Groups.{inputs_of, samples_of}
 use Rattle.adc_machine.specs.Machine.{chosen_buffer, place_value}
 use Rattle.adc_machine.specs.Table.{AreSmall, IsSmall, IsSmallInput, configured_input, found_in, group_of, input_by, level_in, start_in, table_of, taken}
@@ -25,8 +25,8 @@ use Rattle.adc_machine.specs.Words.{HoldsResults, buffer_number, place_count}
 use Rattle.adc_machine.specs.declared.call.ResultBuffer.{ResultBuffer}
 use Rattle.adc_machine.specs.declared.call.ResultBuffer.TheVariants.{Zero, One}
 use Rattle.adc_machine.specs.declared.table.Group.{Group}
-use Rattle.spi_sequences.specs.laws.Filled.{any_in, not_both}
-use Rattle.spi_sequences.specs.laws.Said.{is_number, same_number}
+use Rattle.spi_sequences.specs.laws.hardware.SourceFilled.{any_in, not_both}
+use Rattle.spi_sequences.specs.laws.words.WordsToState.{is_number, same_number}
 use Rattle.mcal_drivers.specs.Setting.{SystemState}
 use Rattle.mcal_drivers.specs.Shows.{buffer_of, results_at}
 

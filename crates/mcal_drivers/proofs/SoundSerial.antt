@@ -6,6 +6,7 @@ use Rattle.std.specs.Option.{IfSome, option_map_or}
 use Rattle.std.proofs.lemmas.Bool.Decides.{nat_tests}
 use Rattle.std.proofs.lemmas.List.FromFn.{get_or-map-range_with_len}
 use Rattle.std.proofs.lemmas.List.{get_or-take, get_or_default, length-take-le}
+use Rattle.std.proofs.lemmas.Bool.{or_parts}
 use Rattle.chip_model.specs.Chip.{power_on, hung}
 use Rattle.chip_model.specs.Wiring.{source_in, wiring_of}
 use Rattle.config_facts.specs.Ids.{has_id}
@@ -18,15 +19,15 @@ use Rattle.mcal_base.specs.declared.config.spi.SpiChannelType.TheVariants.{Inter
 use Rattle.mcal_base.specs.declared.config.spi.SpiConfig.{SpiConfig}
 use Rattle.mcal_base.specs.declared.config.spi.SpiJob.{SpiJob}
 use Rattle.mcal_base.specs.declared.config.whole.Config.{Config}
-use Rattle.spi_driver.specs.laws.Fits as serial_fits
+use Rattle.spi_driver.specs.laws.words.ConfigurationFits as serial_fits
 use Rattle.spi_machine.specs.Fits.{AreDifferent}
 use Rattle.spi_machine.specs.Table.{channel_in, channel_of, channels_by, job_in, length_by, table_of, taken_channel, taken_job}
 use Rattle.spi_jobs.specs.declared.channel.Channel.{Channel}
 use Rattle.spi_machine.specs.declared.table.Job.{Job}
-use Rattle.spi_sequences.specs.Ground.{WiredAs}
-use Rattle.spi_sequences.specs.laws.Own.{in_list}
-use Rattle.spi_sequences.specs.laws.Filled.{any_in, not_both}
-use Rattle.spi_sequences.specs.laws.Said.{any_none, any_some, is_number, same_number}
+use Rattle.spi_sequences.specs.Refinement.{WiredAs}
+use Rattle.spi_sequences.specs.laws.words.WordsOfModule.{in_list}
+use Rattle.spi_sequences.specs.laws.hardware.SourceFilled.{any_in, not_both}
+use Rattle.spi_sequences.specs.laws.words.WordsToState.{any_none, any_some, is_number, same_number}
 
 -- ---- numbers that stand once
 
@@ -49,22 +50,18 @@ not_among n (x ∷ xs) (suc i) e f = by (x == n) e (not_among n xs i)
 none_among : (n : ℕ) (xs : List ℕ) (i : ℕ) → is_among n xs ≡ false → slice_get xs i ≢ Some n
 none_among n xs i e f = let same = same_number n in let none = not_among n xs i e f in absurd (let g = sym same ∙ none in cc)
 
-split_or : (a b : Bool) → a || b ≡ false → (a ≡ false) × (b ≡ false)
-split_or true b e = absurd (cc)
-split_or false b e = (refl, e)
-
 different : (xs : List ℕ) → repeats xs ≡ false → AreDifferent xs
 different [] e i j x f h = absurd (cc)
 different (y ∷ ys) e zero zero x f h = refl
-different (y ∷ ys) e zero (suc j) x f h = absurd (none_among x ys j (subst (λ z. is_among z ys ≡ false) (some_is f) (split_or (is_among y ys) (repeats ys) e).0) h)
+different (y ∷ ys) e zero (suc j) x f h = absurd (none_among x ys j (subst (λ z. is_among z ys ≡ false) (some_is f) (or_parts (is_among y ys) (repeats ys) e).0) h)
   where
     some_is : Some y ≡ Some x → y ≡ x
     some_is g = cc
-different (y ∷ ys) e (suc i) zero x f h = absurd (none_among x ys i (subst (λ z. is_among z ys ≡ false) (some_is h) (split_or (is_among y ys) (repeats ys) e).0) f)
+different (y ∷ ys) e (suc i) zero x f h = absurd (none_among x ys i (subst (λ z. is_among z ys ≡ false) (some_is h) (or_parts (is_among y ys) (repeats ys) e).0) f)
   where
     some_is : Some y ≡ Some x → y ≡ x
     some_is g = cc
-different (y ∷ ys) e (suc i) (suc j) x f h = ap suc (different ys (split_or (is_among y ys) (repeats ys) e).1 i j x f h)
+different (y ∷ ys) e (suc i) (suc j) x f h = ap suc (different ys (or_parts (is_among y ys) (repeats ys) e).1 i j x f h)
 
 -- ---- what a number names is there
 

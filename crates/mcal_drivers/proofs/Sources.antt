@@ -11,12 +11,13 @@ use Rattle.step_runner.specs.Driver.{AllOutside}
 use Rattle.step_runner.specs.Union.{has_handler, union_of}
 use Rattle.step_runner.specs.UnionLaws.{outside-split}
 use Rattle.mcu_driver.specs.laws.Lawful.{mcu}
+use Rattle.wdg_driver.specs.laws.Lawful.{wdg}
 use Rattle.port_driver.specs.laws.Lawful.{port}
 use Rattle.gpt_driver.specs.laws.Lawful.{gpt}
 use Rattle.pwm_driver.specs.laws.Lawful.{pwm}
 use Rattle.icu_driver.specs.laws.Lawful.{icu}
-use Rattle.adc_driver.specs.laws.Joined.{joined as converters_of}
-use Rattle.spi_driver.specs.laws.Joined.{joined}
+use Rattle.adc_driver.specs.laws.bookkeeping.Joined.{joined as converters_of}
+use Rattle.spi_driver.specs.laws.bookkeeping.Joined.{joined}
 use Rattle.spi_machine.specs.Bounds.{fills}
 use Rattle.spi_machine.specs.Fits.{FitsSpi}
 use Rattle.spi_machine.specs.Pending.{is_in_use}
@@ -42,7 +43,7 @@ has_arrays u c result e = e
 pub uses_arrays : (u : Drivers) (chip : Chip) (c : ℕ) (result : Option Bool) → is_some result ≡ fills u.serial.table c → Says u chip c result → (w : World) (ps : List (SystemFrame × Open SystemCall)) (s : SystemState) → (as_one u).fits → AllOutside ps → (as_one u).relates chip w ps s → IfSome result (λ used. used ≡ (as_one u).setting.in_use w s c)
 unfolding as_one
 uses_arrays u chip c result there says w ps s fits out h =
-    let firsts = union_of (services_driver (mcu u.clock)) (union_of (services_driver (port u.pins)) (short.driver_of (gpt u.timers))) in
+    let firsts = union_of (union_of (services_driver (mcu u.clock)) (short.driver_of (wdg u.watchdog))) (union_of (services_driver (port u.pins)) (short.driver_of (gpt u.timers))) in
     let captured = union_of (services_driver (pwm u.pulses)) (short.driver_of (icu u.captures)) in
     let outs = outside-split (has_handler firsts) ps h.firsts h.seconds h.splits out in
     let outside = outside-split (has_handler captured) h.seconds h.second.firsts h.second.seconds h.second.splits outs.1 in

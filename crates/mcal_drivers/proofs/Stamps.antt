@@ -13,7 +13,7 @@ use Rattle.mcal_base.specs.declared.config.whole.Config.{Config}
 use Rattle.mcal_base.specs.declared.layout.Array.TheVariants.{Stamps}
 use Rattle.run_model.specs.World.{World}
 use Rattle.icu_driver.specs.Bounds.{size_by, size_of}
-use Rattle.icu_driver.specs.Ground.{settled, stamps_edges, IsStart, IcuAgrees}
+use Rattle.icu_driver.specs.Refinement.{settled, stamps_edges, IsStart, IcuRepresents}
 use Rattle.icu_driver.specs.Machine.{IcuState, Start, capture_at}
 use Rattle.icu_driver.specs.Table.{taken, channel_in, driver_of, channel_of}
 use Rattle.icu_driver.specs.declared.driver.Channel.{Channel}
@@ -79,7 +79,7 @@ module _ (c : Config) (i k : ℕ) (lt : k < length_of c (Stamps i)) where
 
 -- ---- the places that are shown
 
-module _ (d : IcuDriver) (chip : Chip) (w : World) (s : IcuState) (h : IcuAgrees d settled chip w s) (i : ℕ) (lt : i < 8) where
+module _ (d : IcuDriver) (chip : Chip) (w : World) (s : IcuState) (h : IcuRepresents d settled chip w s) (i : ℕ) (lt : i < 8) where
   started : (o : Option Channel) → channel_of d i ≡ o → (a : Start) → (capture_at s i).start ≡ Some a → is_some (channel_of d i) ≡ true
   started None e a f = absurd (let none = (h.course i lt).0.unstarted (ap (λ o. stamps_edges o) e) in cc)
   started (Some k) e a f = ap (λ o. is_some o) e

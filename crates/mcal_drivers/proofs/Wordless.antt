@@ -2,6 +2,7 @@
 use Rattle.std.proofs.Common.{◌≡◌, ℕ, ◌-◌, Bool, true, false, List, [], ◌∷◌, ◌++◌, Option, Some, None, is_some, refl, sym, ◌∙◌, ap}
 use Rattle.std.specs.Prelude.{if◌then◌else◌}
 use Rattle.std.proofs.lemmas.List.{append-nil}
+use Rattle.plain_facts.specs.Options.{some_is}
 use Rattle.mcal_base.specs.declared.config.whole.Config.{Config}
 use Rattle.mcal_base.specs.declared.error_name.ErrorName.{ErrorName}
 use Rattle.run_model.specs.Machine.{Acts, Serves, Starts, Aborts, Moves, Restarts, Begun, Outcome, outcome, tells_nothing}
@@ -12,6 +13,12 @@ use Rattle.mcu_driver.specs.declared.call.Call as clock_calls
 use Rattle.mcu_driver.specs.declared.call.Call.TheVariants as clock_call
 use Rattle.mcu_driver.specs.declared.call.ClockCall.TheVariants.{InitClock, DistributePllClock}
 use Rattle.mcu_driver.specs.declared.driver.McuDriver.{McuDriver}
+use Rattle.wdg_driver.specs.Machine as watchdogs
+use Rattle.wdg_driver.specs.Table as watchdog_table
+use Rattle.wdg_driver.specs.declared.call.Call as watchdog_calls
+use Rattle.wdg_driver.specs.declared.call.Call.TheVariants as watchdog_call
+use Rattle.wdg_driver.specs.declared.driver.WdgDriver.{WdgDriver}
+use Rattle.mcal_base.specs.declared.config.wdg.WdgMode.{WdgMode}
 use Rattle.port_driver.specs.Machine as pins
 use Rattle.port_driver.specs.Table as pin_table
 use Rattle.port_driver.specs.declared.call.Call as pin_calls
@@ -49,18 +56,18 @@ use Rattle.adc_machine.specs.declared.call.GroupCall.{GroupCall}
 use Rattle.adc_machine.specs.declared.call.GroupCall.TheVariants as group_asks
 use Rattle.adc_machine.specs.declared.table.AdcTable.{AdcTable}
 use Rattle.spi_machine.proofs.Begins.{happens-begins, happens-wire}
-use Rattle.spi_machine.proofs.Runs.{serve_by, some_same}
+use Rattle.spi_machine.proofs.Runs.{serve_by}
 use Rattle.spi_machine.specs.Machine.{spi_machine}
 use Rattle.spi_machine.specs.Promised.{shown_on}
 use Rattle.spi_machine.specs.Table as serial_table
 use Rattle.spi_machine.specs.State.{SpiState, first_state, wire_at}
 use Rattle.spi_machine.specs.declared.table.SpiTable.{SpiTable}
-use Rattle.mcal_drivers.specs.Setting.{clock_setting, pin_setting, timer_setting, pulse_setting, capture_setting, converter_setting, serial_setting, joined, system_setting}
+use Rattle.mcal_drivers.specs.Setting.{clock_setting, watchdog_setting, pin_setting, timer_setting, pulse_setting, capture_setting, converter_setting, serial_setting, joined, system_setting}
 use Rattle.mcal_drivers.specs.Shows as shows
 use Rattle.mcal_drivers.proofs.Growing.{IsWordless, wordless_both, IsWired, wired_second}
 
 none_of : {S : Type 0} (x out : Outcome S) → x.begins ≡ None → Some x ≡ Some out → out.begins ≡ None
-none_of x out none e = ap (λ y. y.begins) (sym (some_same x out e)) ∙ none
+none_of x out none e = ap (λ y. y.begins) (sym (some_is x out e)) ∙ none
 
 none_if : {S : Type 0} (q : Bool) (x out : Outcome S) → x.begins ≡ None → (if q then Some x else None) ≡ Some out → out.begins ≡ None
 none_if q x out none e = ap (λ y. y.begins) (sym (serve_by q x out e)) ∙ none
@@ -88,6 +95,32 @@ clock_wordless d w s (Starts u made_by received) out e = absurd (cc e)
 clock_wordless d w s (Aborts u) out e = absurd (cc e)
 clock_wordless d w s (Moves order) out e = none_of (outcome s tells_nothing) out refl e
 clock_wordless d w s (Restarts reason) out e = none_of (outcome (clock.after_reset reason) tells_nothing) out refl e
+
+watchdog_set : (w : World) (s : watchdogs.WdgState) (m : WdgMode) (allowed : Bool) → (watchdogs.set_mode w s m allowed).begins ≡ None
+watchdog_set w s m true = refl
+watchdog_set w s m false = refl
+
+watchdog_timed : (w : World) (s : watchdogs.WdgState) (n : ℕ) (m : Option WdgMode) → (watchdogs.set_timeout w s n m).begins ≡ None
+watchdog_timed w s n None = refl
+watchdog_timed w s n (Some m) = refl
+
+watchdog_work : (d : WdgDriver) (w : World) (s : watchdogs.WdgState) (call : watchdog_calls.Call) → (watchdogs.work d w s call).begins ≡ None
+watchdog_work d w s watchdog_call.Init = refl
+watchdog_work d w s (watchdog_call.SetMode None) = refl
+watchdog_work d w s (watchdog_call.SetMode (Some m)) = watchdog_set w s m (watchdog_table.allows d m)
+watchdog_work d w s (watchdog_call.SetTriggerCondition n) = watchdog_timed w s n s.mode
+
+watchdog_acts : (d : WdgDriver) (w : World) (s : watchdogs.WdgState) (call : watchdog_calls.Call) (e : Option ErrorName) → (watchdogs.acts_by d w s call e).begins ≡ None
+watchdog_acts d w s call None = watchdog_work d w s call
+watchdog_acts d w s call (Some e) = refl
+
+watchdog_wordless : (d : WdgDriver) → IsWordless (watchdogs.wdg_machine d)
+watchdog_wordless d w s (Acts call times) out e = none_of (watchdogs.acts d w s call) out (watchdog_acts d w s call _) e
+watchdog_wordless d w s (Serves l received) out e = absurd (cc e)
+watchdog_wordless d w s (Starts u made_by received) out e = absurd (cc e)
+watchdog_wordless d w s (Aborts u) out e = absurd (cc e)
+watchdog_wordless d w s (Moves order) out e = none_of (outcome s tells_nothing) out refl e
+watchdog_wordless d w s (Restarts reason) out e = none_of (outcome watchdogs.first_state tells_nothing) out refl e
 
 pin_acts : (d : PortDriver) (s : pins.PortState) (call : pin_calls.Call) (e : Option ErrorName) → (pins.acts_by d s call e).begins ≡ None
 pin_acts d s call None = refl
@@ -267,7 +300,7 @@ serial_wired d u w s (Serves l received) out e = happens-wire d w s (Serves l re
 serial_wired d u w s (Starts k made_by received) out e = happens-wire d w s (Starts k made_by received) out u e refl
 serial_wired d u w s (Aborts k) out e = absurd (cc e)
 serial_wired d u w s (Moves order) out e = still s out.state u 0 out.begins (none_by out.begins (happens-begins d w s (Moves order) out e)) (happens-wire d w s (Moves order) out u e refl)
-serial_wired d u w s (Restarts reason) out e = ap (λ (y : Outcome SpiState). wire_at y.state u) (sym (some_same (outcome first_state tells_nothing) out e))
+serial_wired d u w s (Restarts reason) out e = ap (λ (y : Outcome SpiState). wire_at y.state u) (sym (some_is (outcome first_state tells_nothing) out e))
 
 -- ---- all modules
 
@@ -276,11 +309,13 @@ unfolding system_setting
 system_wired c u =
     let timed = joined (pin_setting c) (timer_setting c) in
     let captured = joined (pulse_setting c) (capture_setting c) in
-    let firsts = joined (clock_setting c) timed in
+    let watched = joined (clock_setting c) (watchdog_setting c) in
+    let firsts = joined watched timed in
     let lasts = joined (converter_setting c) (serial_setting c) in
     let seconds = joined captured lasts in
     let timed_wordless = wordless_both (pin_setting c).used (pin_setting c).machine (timer_setting c).machine (pins_wordless (pin_table.driver_of c.port)) (timers_wordless (timer_table.driver_of c.gpt)) in
-    let firsts_wordless = wordless_both (clock_setting c).used (clock_setting c).machine timed.machine (clock_wordless (clock_table.driver_of c.mcu)) timed_wordless in
+    let watched_wordless = wordless_both (clock_setting c).used (clock_setting c).machine (watchdog_setting c).machine (clock_wordless (clock_table.driver_of c.mcu)) (watchdog_wordless (watchdog_table.driver_of c.wdg)) in
+    let firsts_wordless = wordless_both watched.used watched.machine timed.machine watched_wordless timed_wordless in
     let captured_wordless = wordless_both (pulse_setting c).used (pulse_setting c).machine (capture_setting c).machine (pulses_wordless (pulse_table.driver_of c.pwm)) (captures_wordless (capture_table.driver_of c.icu)) in
     let lasts_wired = wired_second (converter_setting c).used (converter_setting c).machine (serial_setting c).machine (λ s. wire_at s u) u (converters_wordless (converter_table.table_of c.adc)) (serial_wired (serial_table.table_of c.spi) u) in
     let seconds_wired = wired_second captured.used captured.machine lasts.machine (λ s. wire_at s.1 u) u captured_wordless lasts_wired in

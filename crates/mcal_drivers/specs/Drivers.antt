@@ -8,6 +8,10 @@ use Rattle.mcu_driver.specs.Machine.{McuState}
 use Rattle.mcu_driver.specs.Table as clock_table
 use Rattle.mcu_driver.specs.declared.call.Call as clock_calls
 use Rattle.mcu_driver.specs.laws.Lawful.{mcu}
+use Rattle.wdg_driver.specs.Machine.{WdgState}
+use Rattle.wdg_driver.specs.Table as watchdog_table
+use Rattle.wdg_driver.specs.declared.call.Call as watchdog_calls
+use Rattle.wdg_driver.specs.laws.Lawful.{wdg}
 use Rattle.port_driver.specs.Machine.{PortState}
 use Rattle.port_driver.specs.Table as pin_table
 use Rattle.port_driver.specs.declared.call.Call as pin_calls
@@ -24,25 +28,28 @@ use Rattle.icu_driver.specs.Machine.{IcuState}
 use Rattle.icu_driver.specs.Table as capture_table
 use Rattle.icu_driver.specs.declared.call.Call as capture_calls
 use Rattle.icu_driver.specs.laws.Lawful.{icu}
-use Rattle.adc_driver.specs.laws.Joined.{joined as converters_of}
+use Rattle.adc_driver.specs.laws.bookkeeping.Joined.{joined as converters_of}
 use Rattle.adc_machine.specs.Table as converter_table
 use Rattle.adc_machine.specs.Turns.{AdcState}
 use Rattle.adc_machine.specs.declared.call.Call as converter_calls
-use Rattle.spi_driver.specs.laws.Joined.{joined}
+use Rattle.spi_driver.specs.laws.bookkeeping.Joined.{joined}
 use Rattle.spi_machine.specs.State.{SpiState}
 use Rattle.spi_machine.specs.Table as serial_table
 use Rattle.spi_machine.specs.declared.call.Call as serial_calls
-use Rattle.mcal_drivers.specs.Frames.{ClockFrame, PinFrame, TimerFrame, PulseFrame, CaptureFrame, ConverterFrame, SerialFrame, SystemFrame}
+use Rattle.mcal_drivers.specs.Frames.{ClockFrame, WatchdogFrame, PinFrame, TimerFrame, PulseFrame, CaptureFrame, ConverterFrame, SerialFrame, SystemFrame}
 use Rattle.mcal_drivers.specs.Setting.{SystemState, SystemCall}
 use Rattle.mcal_drivers.specs.declared.drivers.Drivers.{Drivers}
 
 -- what the code keeps of a configuration
 abbrev pub drivers_of : Config → Drivers
-drivers_of c = record { clock = clock_table.driver_of c.mcu; pins = pin_table.driver_of c.port; timers = timer_table.driver_of c.gpt; pulses = pulse_table.driver_of c.pwm; captures = capture_table.driver_of c.icu; converters = record { table = converter_table.table_of c.adc }; serial = record { table = serial_table.table_of c.spi } }
+drivers_of c = record { clock = clock_table.driver_of c.mcu; watchdog = watchdog_table.driver_of c.wdg; pins = pin_table.driver_of c.port; timers = timer_table.driver_of c.gpt; pulses = pulse_table.driver_of c.pwm; captures = capture_table.driver_of c.icu; converters = record { table = converter_table.table_of c.adc }; serial = record { table = serial_table.table_of c.spi } }
 
 -- each module's driver
 abbrev pub clock : Config → Driver McuState clock_calls.Call ClockFrame
 clock c = services_driver (mcu (clock_table.driver_of c.mcu))
+
+abbrev pub watchdog : Config → Driver WdgState watchdog_calls.Call WatchdogFrame
+watchdog c = short.driver_of (wdg (watchdog_table.driver_of c.wdg))
 
 abbrev pub pins : Config → Driver PortState pin_calls.Call PinFrame
 pins c = services_driver (port (pin_table.driver_of c.port))
@@ -62,9 +69,9 @@ converters c = services_driver (converters_of (converter_table.table_of c.adc))
 abbrev pub serial : Config → Driver SpiState serial_calls.Call SerialFrame
 serial c = services_driver (joined (serial_table.table_of c.spi))
 
--- all as one, in the order of the configuration; what is in it stays closed where no proof asks for it
+-- all as one, in the order of the configuration, with the watchdog beside the clock; what is in it stays closed where no proof asks for it
 unfoldable pub as_one : Drivers → Driver SystemState SystemCall SystemFrame
-as_one u = union_of (union_of (services_driver (mcu u.clock)) (union_of (services_driver (port u.pins)) (short.driver_of (gpt u.timers)))) (union_of (union_of (services_driver (pwm u.pulses)) (short.driver_of (icu u.captures))) (union_of (services_driver (converters_of u.converters.table)) (services_driver (joined u.serial.table))))
+as_one u = union_of (union_of (union_of (services_driver (mcu u.clock)) (short.driver_of (wdg u.watchdog))) (union_of (services_driver (port u.pins)) (short.driver_of (gpt u.timers)))) (union_of (union_of (services_driver (pwm u.pulses)) (short.driver_of (icu u.captures))) (union_of (services_driver (converters_of u.converters.table)) (services_driver (joined u.serial.table))))
 
 abbrev pub system : Config → Driver SystemState SystemCall SystemFrame
 system c = as_one (drivers_of c)

@@ -4,6 +4,8 @@ use Rattle.step_runner.specs.declared.either.Either.{Either}
 use Rattle.step_runner.specs.declared.either.Either.TheVariants.{Left, Right}
 use Rattle.mcu_driver.specs.declared.asked.Asked as clock_asked
 use Rattle.mcu_driver.specs.laws.Bodies.{McuBody}
+use Rattle.wdg_driver.specs.declared.asked.Asked as watchdog_asked
+use Rattle.wdg_driver.specs.declared.service.WdgBody.{WdgBody}
 use Rattle.port_driver.specs.declared.asked.Asked as pin_asked
 use Rattle.port_driver.specs.laws.Bodies.{PortBody}
 use Rattle.gpt_driver.specs.declared.asked.Asked as timer_asked
@@ -13,15 +15,18 @@ use Rattle.pwm_driver.specs.laws.Bodies.{PwmBody}
 use Rattle.icu_driver.specs.declared.asked.Asked as capture_asked
 use Rattle.icu_driver.specs.laws.Bodies.{IcuBody}
 use Rattle.adc_groups.specs.declared.asked.Asked as converter_asked
-use Rattle.adc_groups.specs.laws.Look.{AnyBody}
+use Rattle.adc_groups.specs.laws.services.LookSteps.{AnyBody}
 use Rattle.spi_sequences.specs.declared.asked.Asked as serial_asked
-use Rattle.spi_sequences.specs.laws.Bodies.{SpiBody}
+use Rattle.spi_sequences.specs.laws.services.Bodies.{SpiBody}
 use Rattle.mcal_drivers.specs.declared.frame.ModuleFrame.{ModuleFrame}
-use Rattle.mcal_drivers.specs.declared.frame.ModuleFrame.TheVariants.{Clock, Pins, Timers, Pulses, Captures, Converters, Serial}
+use Rattle.mcal_drivers.specs.declared.frame.ModuleFrame.TheVariants.{Clock, Watchdog, Pins, Timers, Pulses, Captures, Converters, Serial}
 
 -- those of each
 abbrev pub ClockFrame : Type 0
 ClockFrame = Short clock_asked.Asked McuBody
+
+abbrev pub WatchdogFrame : Type 0
+WatchdogFrame = Short watchdog_asked.Asked WdgBody
 
 abbrev pub PinFrame : Type 0
 PinFrame = Short pin_asked.Asked PortBody
@@ -43,11 +48,12 @@ SerialFrame = Short serial_asked.Asked SpiBody
 
 -- the frames of all
 abbrev pub SystemFrame : Type 0
-SystemFrame = Either (Either ClockFrame (Either PinFrame TimerFrame)) (Either (Either PulseFrame CaptureFrame) (Either ConverterFrame SerialFrame))
+SystemFrame = Either (Either (Either ClockFrame WatchdogFrame) (Either PinFrame TimerFrame)) (Either (Either PulseFrame CaptureFrame) (Either ConverterFrame SerialFrame))
 
 -- a module's frame among those of all
 abbrev pub in_union : ModuleFrame → SystemFrame
-in_union (Clock f) = Left (Left f)
+in_union (Clock f) = Left (Left (Left f))
+in_union (Watchdog f) = Left (Left (Right f))
 in_union (Pins f) = Left (Right (Left f))
 in_union (Timers f) = Left (Right (Right f))
 in_union (Pulses f) = Right (Left (Left f))

@@ -12,12 +12,17 @@ use Rattle.mcu_driver.specs.Machine.{McuState}
 use Rattle.mcu_driver.specs.Requests as clock_requests
 use Rattle.mcu_driver.specs.Table as clock_table
 use Rattle.mcu_driver.specs.declared.call.Call as clock_calls
+use Rattle.wdg_driver.specs.Bounds.{wdg_setting}
+use Rattle.wdg_driver.specs.Machine.{WdgState}
+use Rattle.wdg_driver.specs.Requests as watchdog_requests
+use Rattle.wdg_driver.specs.Table as watchdog_table
+use Rattle.wdg_driver.specs.declared.call.Call as watchdog_calls
 use Rattle.port_driver.specs.Bounds.{port_setting}
 use Rattle.port_driver.specs.Machine.{PortState}
 use Rattle.port_driver.specs.Requests as pin_requests
 use Rattle.port_driver.specs.Table as pin_table
 use Rattle.port_driver.specs.declared.call.Call as pin_calls
-use Rattle.gpt_driver.specs.Ground.{gpt_setting}
+use Rattle.gpt_driver.specs.Refinement.{gpt_setting}
 use Rattle.gpt_driver.specs.Machine.{GptState}
 use Rattle.gpt_driver.specs.Requests as timer_requests
 use Rattle.gpt_driver.specs.Table as timer_table
@@ -45,18 +50,21 @@ use Rattle.spi_machine.specs.State.{SpiState}
 use Rattle.spi_machine.specs.Table as serial_table
 use Rattle.spi_machine.specs.declared.call.Call as serial_calls
 
--- the modules' states and calls, in the order of the configuration
+-- the modules' states and calls, in the order of the configuration, with the watchdog's beside the clock's
 abbrev pub SystemState : Type 0
-SystemState = (McuState × (PortState × GptState)) × ((PwmState × IcuState) × (AdcState × SpiState))
+SystemState = ((McuState × WdgState) × (PortState × GptState)) × ((PwmState × IcuState) × (AdcState × SpiState))
 
 abbrev pub SystemCall : Type 0
-SystemCall = Either (Either clock_calls.Call (Either pin_calls.Call timer_calls.Call)) (Either (Either pulse_calls.Call capture_calls.Call) (Either converter_calls.Call serial_calls.Call))
+SystemCall = Either (Either (Either clock_calls.Call watchdog_calls.Call) (Either pin_calls.Call timer_calls.Call)) (Either (Either pulse_calls.Call capture_calls.Call) (Either converter_calls.Call serial_calls.Call))
 
 -- ---- the setting
 
 -- each module's under a configuration
 abbrev pub clock_setting : Config → Setting McuState clock_calls.Call
 clock_setting c = mcu_setting (clock_table.driver_of c.mcu)
+
+abbrev pub watchdog_setting : Config → Setting WdgState watchdog_calls.Call
+watchdog_setting c = wdg_setting (watchdog_table.driver_of c.wdg)
 
 abbrev pub pin_setting : Config → Setting PortState pin_calls.Call
 pin_setting c = port_setting (pin_table.driver_of c.port)
@@ -82,14 +90,14 @@ joined g h = union_setting g.used g h
 
 -- all modules as one
 unfoldable pub system_setting : Config → Setting SystemState SystemCall
-system_setting c = joined (joined (clock_setting c) (joined (pin_setting c) (timer_setting c))) (joined (joined (pulse_setting c) (capture_setting c)) (joined (converter_setting c) (serial_setting c)))
+system_setting c = joined (joined (joined (clock_setting c) (watchdog_setting c)) (joined (pin_setting c) (timer_setting c))) (joined (joined (pulse_setting c) (capture_setting c)) (joined (converter_setting c) (serial_setting c)))
 
 -- ---- requests
 
 -- the service is one of a module that is there
 unfoldable pub has_service : Service → Bool
-has_service s = clock_requests.has_service s || (pin_requests.has_service s || (timer_requests.has_service s || (pulse_requests.has_service s || (capture_requests.has_service s || (has_converter s || has_serial s)))))
+has_service s = clock_requests.has_service s || (watchdog_requests.has_service s || (pin_requests.has_service s || (timer_requests.has_service s || (pulse_requests.has_service s || (capture_requests.has_service s || (has_converter s || has_serial s))))))
 
 -- the call that a request asks for, of the module that has its service
 unfoldable pub call_of : Request → SystemCall
-call_of r = cond (clock_requests.has_service r.service) (Left (Left (clock_requests.asked_for r))) (cond (pin_requests.has_service r.service) (Left (Right (Left (pin_requests.asked_for r)))) (cond (timer_requests.has_service r.service) (Left (Right (Right (timer_requests.call_of r)))) (cond (pulse_requests.has_service r.service) (Right (Left (Left (pulse_requests.asked_call r)))) (cond (capture_requests.has_service r.service) (Right (Left (Right (capture_requests.asked_for r)))) (cond (has_converter r.service) (Right (Right (Left (converter_requests.asked_call r)))) (Right (Right (Right (serial_requests.asked_call r)))))))))
+call_of r = cond (clock_requests.has_service r.service) (Left (Left (Left (clock_requests.asked_for r)))) (cond (watchdog_requests.has_service r.service) (Left (Left (Right (watchdog_requests.call_of r)))) (cond (pin_requests.has_service r.service) (Left (Right (Left (pin_requests.asked_for r)))) (cond (timer_requests.has_service r.service) (Left (Right (Right (timer_requests.call_of r)))) (cond (pulse_requests.has_service r.service) (Right (Left (Left (pulse_requests.asked_call r)))) (cond (capture_requests.has_service r.service) (Right (Left (Right (capture_requests.asked_for r)))) (cond (has_converter r.service) (Right (Right (Left (converter_requests.asked_call r)))) (Right (Right (Right (serial_requests.asked_call r))))))))))

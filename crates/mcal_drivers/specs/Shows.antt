@@ -41,7 +41,7 @@ level_at c w s p = pins.level_at w s.0.1.0 p (pulse_at c w s p)
 
 -- a RAM word
 abbrev pub ram_at : SystemState → (number : ℕ) → ℕ
-ram_at s k = clock.ram_at s.0.0 k
+ram_at s k = clock.ram_at s.0.0.0 k
 
 -- how many places of a capture channel's stamps are shown, and the time at a place
 abbrev pub size_at : SystemState → (channel : ℕ) → Option ℕ

@@ -16,11 +16,13 @@ use run_model::Class;
 use script_runner::Caller;
 use spi_driver::SpiDriver;
 use step_runner::{Either, Module};
+use wdg_driver::WdgDriver;
 
 /// The drivers of all modules as one. The clock's comes first, since the first alone may set the rate.
 #[derive(Drop)]
 pub struct Drivers {
     clock: McuDriver,
+    watchdog: WdgDriver,
     pins: PortDriver,
     timers: GptDriver,
     pulses: PwmDriver,
@@ -39,6 +41,7 @@ impl Drivers {
     {
         Drivers {
             clock: McuDriver::new(config),
+            watchdog: WdgDriver::new(config),
             pins: PortDriver::new(config),
             timers: GptDriver::new(config),
             pulses: PwmDriver::new(config),
@@ -78,7 +81,10 @@ type StateOf<M> = <M as Module>::State;
 
 /// A call of one of the modules, in their order.
 type Call = Either<
-    Either<CallOf<McuDriver>, Either<CallOf<PortDriver>, CallOf<GptDriver>>>,
+    Either<
+        Either<CallOf<McuDriver>, CallOf<WdgDriver>>,
+        Either<CallOf<PortDriver>, CallOf<GptDriver>>,
+    >,
     Either<
         Either<CallOf<PwmDriver>, CallOf<IcuDriver>>,
         Either<CallOf<AdcDriver>, CallOf<SpiDriver>>,
@@ -88,7 +94,7 @@ type Call = Either<
 /// The states of their machines.
 type States = (
     (
-        StateOf<McuDriver>,
+        (StateOf<McuDriver>, StateOf<WdgDriver>),
         (StateOf<PortDriver>, StateOf<GptDriver>),
     ),
     (
@@ -122,7 +128,12 @@ impl Module for Drivers {
     #[tactic(auto, unfolding(crate::specs::Drivers::as_one))]
     fn frame(&self, call: &Call) -> Frame {
         let frame = match call {
-            Either::Left(Either::Left(call)) => ModuleFrame::Clock(self.clock.frame(call)),
+            Either::Left(Either::Left(Either::Left(call))) => {
+                ModuleFrame::Clock(self.clock.frame(call))
+            }
+            Either::Left(Either::Left(Either::Right(call))) => {
+                ModuleFrame::Watchdog(self.watchdog.frame(call))
+            }
             Either::Left(Either::Right(Either::Left(call))) => {
                 ModuleFrame::Pins(self.pins.frame(call))
             }
@@ -149,8 +160,11 @@ impl Module for Drivers {
     #[tactic(auto, unfolding(crate::specs::Drivers::as_one))]
     fn frame_into(&self, call: &Call, place: &mut Frame) {
         match (call, &mut place.frame) {
-            (Either::Left(Either::Left(call)), ModuleFrame::Clock(frame)) => {
+            (Either::Left(Either::Left(Either::Left(call))), ModuleFrame::Clock(frame)) => {
                 self.clock.frame_into(call, frame)
+            }
+            (Either::Left(Either::Left(Either::Right(call))), ModuleFrame::Watchdog(frame)) => {
+                self.watchdog.frame_into(call, frame)
             }
             (Either::Left(Either::Right(Either::Left(call))), ModuleFrame::Pins(frame)) => {
                 self.pins.frame_into(call, frame)
@@ -173,7 +187,7 @@ impl Module for Drivers {
         }
     }
 
-    /// Clock and pins have no lines.
+    /// Clock, watchdog and pins have no lines.
     #[tactic(auto, unfolding(crate::specs::Drivers::as_one))]
     fn handler(&self, line: u32) -> Option<Frame> {
         let frame = match self.timers.handler(line) {
@@ -198,7 +212,8 @@ impl Module for Drivers {
     #[tactic(auto, unfolding(crate::specs::Drivers::as_one))]
     fn class(&self, call: &Call) -> Class {
         match call {
-            Either::Left(Either::Left(call)) => self.clock.class(call),
+            Either::Left(Either::Left(Either::Left(call))) => self.clock.class(call),
+            Either::Left(Either::Left(Either::Right(call))) => self.watchdog.class(call),
             Either::Left(Either::Right(Either::Left(call))) => self.pins.class(call),
             Either::Left(Either::Right(Either::Right(call))) => self.timers.class(call),
             Either::Right(Either::Left(Either::Left(call))) => self.pulses.class(call),
@@ -270,13 +285,17 @@ impl Caller for Drivers {
                 | ModuleName::Icu
                 | ModuleName::Adc
                 | ModuleName::Spi
+                | ModuleName::Wdg
         )
     }
 
     #[tactic(auto, unfolding(crate::specs::Drivers::as_one, crate::specs::Setting::has_service, crate::specs::Setting::call_of))]
     fn call(&self, request: &Request) -> Call {
         match request.service.module() {
-            ModuleName::Mcu => Either::Left(Either::Left(self.clock.call(request))),
+            ModuleName::Mcu => Either::Left(Either::Left(Either::Left(self.clock.call(request)))),
+            ModuleName::Wdg => {
+                Either::Left(Either::Left(Either::Right(self.watchdog.call(request))))
+            }
             ModuleName::Port => Either::Left(Either::Right(Either::Left(self.pins.call(request)))),
             ModuleName::Gpt => {
                 Either::Left(Either::Right(Either::Right(self.timers.call(request))))
@@ -297,7 +316,8 @@ impl Caller for Drivers {
     #[tactic(auto, unfolding(crate::specs::Drivers::as_one))]
     fn call_steps(&self, call: &Call) -> u32 {
         match call {
-            Either::Left(Either::Left(call)) => self.clock.call_steps(call),
+            Either::Left(Either::Left(Either::Left(call))) => self.clock.call_steps(call),
+            Either::Left(Either::Left(Either::Right(call))) => self.watchdog.call_steps(call),
             Either::Left(Either::Right(Either::Left(call))) => self.pins.call_steps(call),
             Either::Left(Either::Right(Either::Right(call))) => self.timers.call_steps(call),
             Either::Right(Either::Left(Either::Left(call))) => self.pulses.call_steps(call),

@@ -7,6 +7,7 @@ use port_driver::PortFrame;
 use pwm_driver::PwmFrame;
 use spi_driver::SpiFrame;
 use std::marker::Model;
+use wdg_driver::WdgFrame;
 
 /// A call or a handler of one of the modules, under way. Contracts see the union of their frames.
 #[derive(Drop)]
@@ -19,6 +20,8 @@ pub struct Frame {
 pub(crate) enum ModuleFrame {
     /// Of the clock's driver.
     Clock(McuFrame),
+    /// Of the watchdog's driver.
+    Watchdog(WdgFrame),
     /// Of the pins' driver.
     Pins(PortFrame),
     /// Of the timers' driver.
@@ -44,15 +47,16 @@ impl Model for Frame {
 impl Routine for Frame {
     ghost use Rattle.step_runner.specs.Union.{either, either_left, either_gave};
 
-    ghost move_of = { either (either ⟦<McuFrame as Routine>⟧.move_of (either ⟦<PortFrame as Routine>⟧.move_of ⟦<GptFrame as Routine>⟧.move_of)) (either (either ⟦<PwmFrame as Routine>⟧.move_of ⟦<IcuFrame as Routine>⟧.move_of) (either ⟦<AdcFrame as Routine>⟧.move_of ⟦<SpiFrame as Routine>⟧.move_of)) };
+    ghost move_of = { either (either (either ⟦<McuFrame as Routine>⟧.move_of ⟦<WdgFrame as Routine>⟧.move_of) (either ⟦<PortFrame as Routine>⟧.move_of ⟦<GptFrame as Routine>⟧.move_of)) (either (either ⟦<PwmFrame as Routine>⟧.move_of ⟦<IcuFrame as Routine>⟧.move_of) (either ⟦<AdcFrame as Routine>⟧.move_of ⟦<SpiFrame as Routine>⟧.move_of)) };
 
-    ghost left = { either_left (either_left ⟦<McuFrame as Routine>⟧.left (either_left ⟦<PortFrame as Routine>⟧.left ⟦<GptFrame as Routine>⟧.left)) (either_left (either_left ⟦<PwmFrame as Routine>⟧.left ⟦<IcuFrame as Routine>⟧.left) (either_left ⟦<AdcFrame as Routine>⟧.left ⟦<SpiFrame as Routine>⟧.left)) };
+    ghost left = { either_left (either_left (either_left ⟦<McuFrame as Routine>⟧.left ⟦<WdgFrame as Routine>⟧.left) (either_left ⟦<PortFrame as Routine>⟧.left ⟦<GptFrame as Routine>⟧.left)) (either_left (either_left ⟦<PwmFrame as Routine>⟧.left ⟦<IcuFrame as Routine>⟧.left) (either_left ⟦<AdcFrame as Routine>⟧.left ⟦<SpiFrame as Routine>⟧.left)) };
 
-    ghost gave = { either_gave (either_gave ⟦<McuFrame as Routine>⟧.gave (either_gave ⟦<PortFrame as Routine>⟧.gave ⟦<GptFrame as Routine>⟧.gave)) (either_gave (either_gave ⟦<PwmFrame as Routine>⟧.gave ⟦<IcuFrame as Routine>⟧.gave) (either_gave ⟦<AdcFrame as Routine>⟧.gave ⟦<SpiFrame as Routine>⟧.gave)) };
+    ghost gave = { either_gave (either_gave (either_gave ⟦<McuFrame as Routine>⟧.gave ⟦<WdgFrame as Routine>⟧.gave) (either_gave ⟦<PortFrame as Routine>⟧.gave ⟦<GptFrame as Routine>⟧.gave)) (either_gave (either_gave ⟦<PwmFrame as Routine>⟧.gave ⟦<IcuFrame as Routine>⟧.gave) (either_gave ⟦<AdcFrame as Routine>⟧.gave ⟦<SpiFrame as Routine>⟧.gave)) };
 
     fn next(&self) -> Move {
         match &self.frame {
             ModuleFrame::Clock(frame) => frame.next(),
+            ModuleFrame::Watchdog(frame) => frame.next(),
             ModuleFrame::Pins(frame) => frame.next(),
             ModuleFrame::Timers(frame) => frame.next(),
             ModuleFrame::Pulses(frame) => frame.next(),
@@ -65,6 +69,7 @@ impl Routine for Frame {
     fn took(&mut self, value: u32) -> Taken {
         match &mut self.frame {
             ModuleFrame::Clock(frame) => frame.took(value),
+            ModuleFrame::Watchdog(frame) => frame.took(value),
             ModuleFrame::Pins(frame) => frame.took(value),
             ModuleFrame::Timers(frame) => frame.took(value),
             ModuleFrame::Pulses(frame) => frame.took(value),
@@ -77,6 +82,7 @@ impl Routine for Frame {
     fn took_into(&mut self, value: u32, ended: &mut Option<Answer>) -> Option<Event> {
         match &mut self.frame {
             ModuleFrame::Clock(frame) => frame.took_into(value, ended),
+            ModuleFrame::Watchdog(frame) => frame.took_into(value, ended),
             ModuleFrame::Pins(frame) => frame.took_into(value, ended),
             ModuleFrame::Timers(frame) => frame.took_into(value, ended),
             ModuleFrame::Pulses(frame) => frame.took_into(value, ended),

@@ -11,7 +11,7 @@ use Rattle.run_model.specs.Devices.{AllCalls}
 use Rattle.run_model.specs.Entry.{Entry, Written}
 use Rattle.run_model.specs.Follows.{Gives, Follows}
 use Rattle.run_model.specs.Legal.{IsLegal}
-use Rattle.run_model.specs.Moment.{Setting, Moment, Deed, start_moment, after_all}
+use Rattle.run_model.specs.Moment.{Setting, Moment, Transition, start_moment, after_all}
 use Rattle.run_model.specs.Script.{deeds_of}
 use Rattle.run_model.specs.Stops.{FollowsToStop}
 use Rattle.run_model.proofs.ToldLaws.{are_told}
@@ -38,11 +38,11 @@ use Rattle.adc_groups.specs.declared.asked.Asked as converter_asked
 use Rattle.adc_machine.specs.Bounds.{is_used as uses_line}
 use Rattle.adc_machine.specs.Table as converter_table
 use Rattle.adc_machine.specs.declared.table.AdcTable.{AdcTable}
-use Rattle.mcal_drivers.specs.Drivers.{clock, pins, timers, pulses, captures, converters, serial, drivers_of, as_one}
+use Rattle.mcal_drivers.specs.Drivers.{clock, watchdog, pins, timers, pulses, captures, converters, serial, drivers_of, as_one}
 use Rattle.mcal_drivers.specs.Frames.{SystemFrame}
 use Rattle.mcal_system.specs.laws.Resting.{IsResting}
 use Rattle.mcal_system.specs.Runs.{SystemRun, most_steps, bound_of, run_start, moment_of, AddsItems, CallsDevices}
-use Rattle.mcal_drivers.specs.Setting.{SystemState, SystemCall, clock_setting, pin_setting, timer_setting, pulse_setting, capture_setting, converter_setting, serial_setting, joined, system_setting, call_of}
+use Rattle.mcal_drivers.specs.Setting.{SystemState, SystemCall, clock_setting, watchdog_setting, pin_setting, timer_setting, pulse_setting, capture_setting, converter_setting, serial_setting, joined, system_setting, call_of}
 use Rattle.mcal_drivers.specs.declared.drivers.Drivers.{Drivers}
 use Rattle.mcal_drivers.proofs.Resting.{Rests, rests, related, opens-some}
 
@@ -101,18 +101,21 @@ same_setting : (c : Config) → (as_one (drivers_of c)).setting ≡ system_setti
 unfolding as_one system_setting
 same_setting c =
     let timed = joined (pin_setting c) (timer_setting c) in
-    let firsts = joined (clock_setting c) timed in
+    let watched = joined (clock_setting c) (watchdog_setting c) in
+    let firsts = joined watched timed in
     let timed_lines = lines_of (pins c) (timers c) (pin_setting c) (timer_setting c) refl (timer_lines c) in
-    let first_lines = lines_of (clock c) (union_of (pins c) (timers c)) (clock_setting c) timed refl timed_lines in
+    let watched_lines = lines_of (clock c) (watchdog c) (clock_setting c) (watchdog_setting c) refl refl in
+    let first_lines = lines_of (union_of (clock c) (watchdog c)) (union_of (pins c) (timers c)) watched timed watched_lines timed_lines in
     let timed_on = joined_of (pins c) (timers c) (pin_setting c) (timer_setting c) refl refl refl in
-    let firsts_on = joined_of (clock c) (union_of (pins c) (timers c)) (clock_setting c) timed refl refl timed_on in
+    let watched_on = joined_of (clock c) (watchdog c) (clock_setting c) (watchdog_setting c) refl refl refl in
+    let firsts_on = joined_of (union_of (clock c) (watchdog c)) (union_of (pins c) (timers c)) watched timed watched_lines watched_on timed_on in
     let captured = joined (pulse_setting c) (capture_setting c) in
     let captured_lines = lines_of (pulses c) (captures c) (pulse_setting c) (capture_setting c) (pulse_lines c) (capture_lines c) in
     let captured_on = joined_of (pulses c) (captures c) (pulse_setting c) (capture_setting c) (pulse_lines c) refl refl in
     let lasts = joined (converter_setting c) (serial_setting c) in
     let lasts_on = joined_of (converters c) (serial c) (converter_setting c) (serial_setting c) (converter_lines c) refl refl in
     let seconds_on = joined_of (union_of (pulses c) (captures c)) (union_of (converters c) (serial c)) captured lasts captured_lines captured_on lasts_on in
-    joined_of (union_of (clock c) (union_of (pins c) (timers c))) (union_of (union_of (pulses c) (captures c)) (union_of (converters c) (serial c))) firsts (joined captured lasts) first_lines firsts_on seconds_on
+    joined_of (union_of (union_of (clock c) (watchdog c)) (union_of (pins c) (timers c))) (union_of (union_of (pulses c) (captures c)) (union_of (converters c) (serial c))) firsts (joined captured lasts) first_lines firsts_on seconds_on
 
 pub carry : (P : Setting SystemState SystemCall → Type 0) (c : Config) (u : Drivers) → u ≡ drivers_of c → P (as_one u).setting → P (system_setting c)
 carry P c u e h = subst P (same_setting c) (subst (λ x. P (as_one x).setting) e h)
@@ -178,7 +181,7 @@ module _ (e : Inner) (made : e.driver ≡ drivers_of e.config) (r : SystemRun) (
       })
 
   module _ (stands : engine.StandsThere (as_one e.driver) call_of e) where
-    abbrev Deeds : List (Deed SystemCall)
+    abbrev Deeds : List (Transition SystemCall)
     Deeds = deeds_of call_of e.script e.journal.entries
 
     -- the chip has as many devices as the world

@@ -17,30 +17,31 @@ use Rattle.service_outline.specs.ShortServices as short
 use Rattle.step_runner.specs.Union.{union_of}
 use Rattle.gpt_driver.specs.laws.Lawful.{gpt}
 use Rattle.mcu_driver.specs.laws.Lawful.{mcu}
+use Rattle.wdg_driver.specs.laws.Lawful.{wdg}
 use Rattle.port_driver.specs.laws.Lawful.{port}
 use Rattle.pwm_driver.specs.laws.Lawful.{pwm}
 use Rattle.icu_driver.specs.Bounds.{size_of}
-use Rattle.icu_driver.specs.Ground.{settled, IcuAgrees}
+use Rattle.icu_driver.specs.Refinement.{settled, IcuRepresents}
 use Rattle.icu_driver.specs.Machine.{IcuState}
 use Rattle.icu_driver.specs.declared.driver.IcuDriver.{IcuDriver}
 use Rattle.icu_driver.specs.laws.Lawful.{icu}
 use Rattle.adc_driver.specs.declared.driver.AdcDriver.{AdcDriver}
-use Rattle.adc_driver.specs.laws.Fits as converter_fits
-use Rattle.adc_driver.specs.laws.Joined.{joined as converters_of}
-use Rattle.adc_groups.specs.Ground.{AdcAgrees, FitsAdc}
+use Rattle.adc_driver.specs.laws.words.ConfigurationFits as converter_fits
+use Rattle.adc_driver.specs.laws.bookkeeping.Joined.{joined as converters_of}
+use Rattle.adc_groups.specs.Refinement.{AdcRepresents, FitsAdc}
 use Rattle.adc_machine.specs.Machine.{chosen_buffer}
 use Rattle.adc_machine.specs.Table as converter_table
 use Rattle.adc_machine.specs.Turns.{AdcState}
 use Rattle.adc_machine.specs.Words.{buffer_number, place_count}
 use Rattle.adc_machine.specs.declared.call.ResultBuffer.{ResultBuffer}
 use Rattle.spi_driver.specs.declared.driver.SpiDriver.{SpiDriver}
-use Rattle.spi_driver.specs.laws.Fits as serial_fits
-use Rattle.spi_driver.specs.laws.Joined.{joined as serial_of}
+use Rattle.spi_driver.specs.laws.words.ConfigurationFits as serial_fits
+use Rattle.spi_driver.specs.laws.bookkeeping.Joined.{joined as serial_of}
 use Rattle.spi_jobs.specs.declared.channel.Channel.{Channel}
 use Rattle.spi_machine.specs.Fits.{FitsSpi}
 use Rattle.spi_machine.specs.State.{SpiState, internal_word}
 use Rattle.spi_machine.specs.Table.{channel_of, is_internal_channel, length_by}
-use Rattle.spi_sequences.specs.Ground.{SpiAgrees}
+use Rattle.spi_sequences.specs.Refinement.{SpiRepresents}
 use Rattle.mcal_drivers.specs.Drivers.{as_one, drivers_of}
 use Rattle.mcal_drivers.specs.Setting.{SystemState, SystemCall}
 use Rattle.mcal_drivers.specs.Shows.{internal_at, level_at, ram_at, results_at, serial_channel, size_at, user_at, wire_at}
@@ -57,32 +58,32 @@ use Rattle.mcal_system.specs.laws.Resting.{IsResting}
 use Rattle.mcal_system.proofs.WireTold.{words_told}
 
 -- where no frame is under way the capture driver agrees with its machine
-captures_related : (u : Drivers) (chip : Chip) (w : World) (s : SystemState) → (as_one u).relates chip w [] s → IcuAgrees u.captures settled chip w s.1.0.1
+captures_related : (u : Drivers) (chip : Chip) (w : World) (s : SystemState) → (as_one u).relates chip w [] s → IcuRepresents u.captures settled chip w s.1.0.1
 unfolding as_one
-captures_related u chip w s h = middle_of (union_of (services_driver (mcu u.clock)) (union_of (services_driver (port u.pins)) (short.driver_of (gpt u.timers)))) (services_driver (pwm u.pulses)) (short.driver_of (icu u.captures)) (union_of (services_driver (converters_of u.converters.table)) (services_driver (serial_of u.serial.table))) chip w s h
+captures_related u chip w s h = middle_of (union_of (union_of (services_driver (mcu u.clock)) (short.driver_of (wdg u.watchdog))) (union_of (services_driver (port u.pins)) (short.driver_of (gpt u.timers)))) (services_driver (pwm u.pulses)) (short.driver_of (icu u.captures)) (union_of (services_driver (converters_of u.converters.table)) (services_driver (serial_of u.serial.table))) chip w s h
 
 -- and so do the converter driver and the serial driver
 lasts_related : (u : Drivers) (chip : Chip) (w : World) (s : SystemState) → (as_one u).relates chip w [] s → (union_of (services_driver (converters_of u.converters.table)) (services_driver (serial_of u.serial.table))).relates chip w [] s.1.1
 unfolding as_one
-lasts_related u chip w s h = last_of (union_of (services_driver (mcu u.clock)) (union_of (services_driver (port u.pins)) (short.driver_of (gpt u.timers)))) (union_of (services_driver (pwm u.pulses)) (short.driver_of (icu u.captures))) (union_of (services_driver (converters_of u.converters.table)) (services_driver (serial_of u.serial.table))) chip w s h
+lasts_related u chip w s h = last_of (union_of (union_of (services_driver (mcu u.clock)) (short.driver_of (wdg u.watchdog))) (union_of (services_driver (port u.pins)) (short.driver_of (gpt u.timers)))) (union_of (services_driver (pwm u.pulses)) (short.driver_of (icu u.captures))) (union_of (services_driver (converters_of u.converters.table)) (services_driver (serial_of u.serial.table))) chip w s h
 
-converters_related : (u : Drivers) (chip : Chip) (w : World) (s : SystemState) → (as_one u).relates chip w [] s → AdcAgrees u.converters.table [] None chip w s.1.1.0
+converters_related : (u : Drivers) (chip : Chip) (w : World) (s : SystemState) → (as_one u).relates chip w [] s → AdcRepresents u.converters.table [] None chip w s.1.1.0
 converters_related u chip w s h = first_of (services_driver (converters_of u.converters.table)) (services_driver (serial_of u.serial.table)) chip w s.1.1 (lasts_related u chip w s h)
 
-serial_related : (u : Drivers) (chip : Chip) (w : World) (s : SystemState) → (as_one u).relates chip w [] s → SpiAgrees u.serial.table [] chip w s.1.1.1
+serial_related : (u : Drivers) (chip : Chip) (w : World) (s : SystemState) → (as_one u).relates chip w [] s → SpiRepresents u.serial.table [] chip w s.1.1.1
 serial_related u chip w s h = second_of (services_driver (converters_of u.converters.table)) (services_driver (serial_of u.serial.table)) chip w s.1.1 (lasts_related u chip w s h)
 
 -- what the capture driver says of the places of a channel's stamps
 abbrev pub ToldSize : IcuDriver → Chip → (channel : ℕ) → Option ℕ → Type 0
-ToldSize d chip n result = (w : World) (s : IcuState) → n < 8 → IcuAgrees d settled chip w s → result ≡ size_of s n
+ToldSize d chip n result = (w : World) (s : IcuState) → n < 8 → IcuRepresents d settled chip w s → result ≡ size_of s n
 
 -- what the converter driver says of the buffer that was chosen for a group
 abbrev pub ToldChosen : AdcDriver → Chip → (group : ℕ) → Option ResultBuffer → Type 0
-ToldChosen d chip g result = (w : World) (s : AdcState) → FitsAdc d.table → AdcAgrees d.table [] None chip w s → result ≡ chosen_buffer s g
+ToldChosen d chip g result = (w : World) (s : AdcState) → FitsAdc d.table → AdcRepresents d.table [] None chip w s → result ≡ chosen_buffer s g
 
 -- what the serial driver says of a word of an internal channel
 abbrev pub ToldInternal : SpiDriver → Chip → (channel : ℕ) → (received : Bool) → (index result : ℕ) → Type 0
-ToldInternal d chip c received i result = (w : World) (s : SpiState) (k : Channel) → FitsSpi d.table → channel_of d.table c ≡ Some k → k.internal ≡ true → i < k.length → SpiAgrees d.table [] chip w s → result ≡ internal_word s c received i
+ToldInternal d chip c received i result = (w : World) (s : SpiState) (k : Channel) → FitsSpi d.table → channel_of d.table c ≡ Some k → k.internal ≡ true → i < k.length → SpiRepresents d.table [] chip w s → result ≡ internal_word s c received i
 
 -- the place before the next is there
 below : (i n : ℕ) → i + 1 ≤ n → i < n
@@ -113,7 +114,7 @@ module _ {c : Config} {script : List Directive} {devices : ℕ} {es : List Entry
   pub user_there : (a : Array) (i : ℕ) → i + 1 ≤ length_of r.config a → word_of chip (place_of a i) ≡ user_at (moment_at r).state a i
   user_there a i more = so (λ x. word_of chip (place_of a i) ≡ user_at (moment_at x).state a i) (user_word c devices (words_given script) chip there rests.rests a i rests.valid.adc rests.valid.icu rests.valid.spi (has_place a i more))
 
-  captures_agree : IcuAgrees (drivers_of c).captures settled chip there.world there.state.1.0.1
+  captures_agree : IcuRepresents (drivers_of c).captures settled chip there.world there.state.1.0.1
   captures_agree = captures_related (drivers_of c) chip there.world there.state rests.relates
 
   pub size_there : (d : IcuDriver) → d ≡ (drivers_of c).captures → (n : ℕ) → n < 8 → (result : Option ℕ) → ToldSize d chip n result → result ≡ size_at (moment_at r).state n

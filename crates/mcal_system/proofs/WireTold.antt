@@ -3,6 +3,7 @@ use Rattle.std.proofs.Common.{◌≡◌, ℕ, ◌-◌, ◌<◌, ◌≤◌, ◌�
 use Rattle.std.specs.Prelude.{if◌then◌else◌}
 use Rattle.std.proofs.lemmas.Bool.Decides.{nat_tests}
 use Rattle.std.proofs.lemmas.List.{map-append, take_rest}
+use Rattle.plain_facts.specs.Numbers.{same_or_other}
 use Rattle.chip_units.proofs.SerialLaws.{has_unit-after, unit_at-with_unit_same, unit_at-with_unit_other}
 use Rattle.chip_units.specs.SerialAccesses.{Access, Writes, Words, Faults, Passes, HasUnit, after as after_access}
 use Rattle.chip_units.specs.Serials as serials
@@ -25,11 +26,10 @@ use Rattle.run_model.specs.Entry as said
 use Rattle.run_model.specs.Frame.{Open, outcome_at, state_by, begun_by}
 use Rattle.run_model.specs.Legal.{IsBegun, SendsRight, LegalStep, IsLegalDeed, IsLegal}
 use Rattle.run_model.specs.Machine.{Begun, Outcome, Moves, Restarts}
-use Rattle.run_model.specs.Moment.{Setting, Moment, Deed, Begins, Enters, Steps, Happens, Resets, start_moment, after_step, after, after_all}
+use Rattle.run_model.specs.Moment.{Setting, Moment, Transition, Begins, Enters, Steps, Happens, Resets, start_moment, after_step, after, after_all}
 use Rattle.run_model.specs.Script.{beginnings_of, moved_by, deed_of, deeds_of}
 use Rattle.run_model.specs.Script as scripts
 use Rattle.script_runner.specs.Scripts.{chip_for}
-use Rattle.spi_machine.proofs.Numbers.{same_or_other}
 use Rattle.spi_machine.specs.Promised.{shown_on}
 use Rattle.spi_machine.specs.Transfers.{shown}
 use Rattle.mcal_system.specs.Runs.{moment_after}
@@ -190,18 +190,18 @@ stepped u made received t = ap (λ ws. record { width = t.width; words = ws }) (
 -- ---- the deeds of a journal
 
 -- with one more deed, and with all
-abbrev with_deed : (unit : ℕ) → Deed SystemCall → Wire → Wire
+abbrev with_deed : (unit : ℕ) → Transition SystemCall → Wire → Wire
 with_deed u (Begins c level) t = t
 with_deed u (Enters l) t = t
 with_deed u (Steps s) t = with_step u s.made s.received t
 with_deed u (Happens order) t = t
 with_deed u (Resets reason) t = untold
 
-abbrev with_deeds : (unit : ℕ) → List (Deed SystemCall) → Wire → Wire
+abbrev with_deeds : (unit : ℕ) → List (Transition SystemCall) → Wire → Wire
 with_deeds u [] t = t
 with_deeds u (d ∷ ds) t = with_deeds u ds (with_deed u d t)
 
-deeds_append : (u : ℕ) (xs ys : List (Deed SystemCall)) (t : Wire) → with_deeds u (xs ++ ys) t ≡ with_deeds u ys (with_deeds u xs t)
+deeds_append : (u : ℕ) (xs ys : List (Transition SystemCall)) (t : Wire) → with_deeds u (xs ++ ys) t ≡ with_deeds u ys (with_deeds u xs t)
 deeds_append u [] ys t = refl
 deeds_append u (x ∷ xs) ys t = deeds_append u xs ys (with_deed u x t)
 
@@ -268,7 +268,7 @@ module _ (c : Config) (u : ℕ) (lt : u < 2) where
       by None e = refl
       by (Some out) e = (system_wired c u m.world m.state (Moves order) out e).1
 
-  deed_holds : (t : Wire) (m : Moment SystemState SystemCall) (x : Deed SystemCall) → IsLegalDeed g m x → Holds u t m → Holds u (with_deed u x t) (after g m x)
+  deed_holds : (t : Wire) (m : Moment SystemState SystemCall) (x : Transition SystemCall) → IsLegalDeed g m x → Holds u t m → Holds u (with_deed u x t) (after g m x)
   deed_holds t m (Begins call level) legal h = record { width = h.width; words = h.words }
   deed_holds t m (Enters l) legal h = record { width = h.width; words = h.words }
   deed_holds t m (Steps s) legal h = after_steps t m m.opens s legal h
@@ -279,7 +279,7 @@ module _ (c : Config) (u : ℕ) (lt : u < 2) where
       by None e some = absurd (cc some)
       by (Some out) e some = sym (system_wired c u m.world m.state (Restarts reason) out e)
 
-  deeds_hold : (t : Wire) (m : Moment SystemState SystemCall) (xs : List (Deed SystemCall)) → IsLegal g m xs → Holds u t m → Holds u (with_deeds u xs t) (after_all g m xs)
+  deeds_hold : (t : Wire) (m : Moment SystemState SystemCall) (xs : List (Transition SystemCall)) → IsLegal g m xs → Holds u t m → Holds u (with_deeds u xs t) (after_all g m xs)
   deeds_hold t m [] legal h = h
   deeds_hold t m (x ∷ xs) legal h = deeds_hold (with_deed u x t) (after g m x) xs legal.3 (deed_holds t m x legal.2 h)
 

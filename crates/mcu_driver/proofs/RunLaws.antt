@@ -2,6 +2,7 @@
 use Rattle.std.proofs.Common.{◌≡◌, ℕ, ◌+◌, ◌<◌, ◌≤◌, Bool, true, false, ◌&&◌, not, nat_le, List, [], ◌∷◌, refl, ◌∙◌, ap, arith, Option, Some, None}
 use Rattle.std.specs.List.{list_all}
 use Rattle.std.proofs.lemmas.Bool.Decides.{nat_tests}
+use Rattle.std.proofs.lemmas.Bool.{and_parts}
 use Rattle.mcal_base.specs.declared.answer_name.AnswerName.TheVariants.{McuPllLocked, McuPllUnlocked}
 use Rattle.mcal_base.specs.declared.error_name.ErrorName.{ErrorName}
 use Rattle.run_model.specs.World.{World}
@@ -47,14 +48,10 @@ after-keeps d m (Aborts u) left = unchanged m.state
 after-keeps d m (Moves order) left = unchanged m.state
 after-keeps d m (Restarts reason) left = absurd (cc left)
 
-pub both : (a b : Bool) → (a && b) ≡ true → (a ≡ true) × (b ≡ true)
-both true b h = (refl, h)
-both false b h = absurd (cc h)
-
 after_all-keeps : (d : McuDriver) (m : Moment) (hs : List (Happening Call)) → list_all leaves_pll hs ≡ true → Keeps m.state (after_all d m hs).state
 after_all-keeps d m [] left = unchanged m.state
 after_all-keeps d m (h ∷ hs) left =
-    let parts = both (leaves_pll h) (list_all leaves_pll hs) left in
+    let parts = and_parts (leaves_pll h) (list_all leaves_pll hs) left in
     let one : Keeps m.state (after d m h).state = after-keeps d m h parts.0 in
     let all : Keeps (after d m h).state (after_all d (after d m h) hs).state = after_all-keeps d (after d m h) hs parts.1 in
     record { pll = all.pll ∙ one.pll; initialised = λ e. all.initialised (one.initialised e) }

@@ -1,6 +1,7 @@
 -- What stays in a run: the reason of the last reset, RAM words, and the limits of the rate.
 use Rattle.std.proofs.Common.{◌≡◌, ◌≢◌, ℕ, ◌<◌, ◌≤◌, true, false, List, [], ◌∷◌, refl, ◌∙◌, ap, subst, arith, Option, Some, None}
 use Rattle.std.specs.List.{list_all}
+use Rattle.std.proofs.lemmas.Bool.{and_parts}
 use Rattle.mcal_base.specs.declared.directive.Reason.{Reason}
 use Rattle.mcal_base.specs.declared.error_name.ErrorName.{ErrorName}
 use Rattle.run_model.specs.World.{World}
@@ -14,7 +15,6 @@ use Rattle.mcu_driver.specs.declared.call.Call.TheVariants.{Init, InitRamSection
 use Rattle.mcu_driver.specs.declared.call.ClockCall.TheVariants.{InitClock, DistributePllClock}
 use Rattle.mcu_driver.specs.declared.driver.McuDriver.{McuDriver}
 use Rattle.mcu_driver.specs.declared.driver.Section.{Section}
-use Rattle.mcu_driver.proofs.RunLaws.{both}
 
 -- ---- the reason
 
@@ -48,7 +48,7 @@ after-reason d m (Restarts reason) left = absurd (cc left)
 after_all-reason : (d : McuDriver) (m : Moment) (hs : List (Happening Call)) → list_all is_no_reset hs ≡ true → (after_all d m hs).state.reason ≡ m.state.reason
 after_all-reason d m [] left = refl
 after_all-reason d m (h ∷ hs) left =
-    let parts = both (is_no_reset h) (list_all is_no_reset hs) left in
+    let parts = and_parts (is_no_reset h) (list_all is_no_reset hs) left in
     after_all-reason d (after d m h) hs parts.1 ∙ after-reason d m h parts.0
 
 told : (d : McuDriver) (m : Moment) → m.state.initialised ≡ true → answer_of d m GetResetReason ≡ Some (named (reason_name m.state.reason))

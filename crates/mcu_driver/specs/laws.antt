@@ -2,7 +2,7 @@ pub mod Base
 pub mod Bodies
 pub mod Clock
 pub mod Fill
-pub mod Ground
+pub mod RefinementRight
 pub mod Keeps
 pub mod Lawful
 pub mod Look

@@ -13,7 +13,7 @@ use crate::service::{self, McuBody};
 use crate::words::STATE;
 use det_errors::{Facts, first_error};
 use mcal_base::{Answer, AnswerName, ErrorName, Service};
-use service_outline::{Done, Looked, Owed, Reply, named, nothing};
+use service_outline::{Done, Epilogue, Looked, Reply, named, nothing};
 
 /// A call with the driver that it is made of.
 #[derive(Clone, Copy)]
@@ -134,7 +134,7 @@ fn let_be() -> Looked<McuBody>
 {
     Looked::Refused(Done {
         answer: nothing(),
-        owed: Owed::Nothing,
+        owed: Epilogue::Nothing,
     })
 }
 

@@ -7,7 +7,7 @@ ghost use Rattle.service_outline.specs.Done.{owed_error};
 use mcal_base::{
     Config, ErrorName, McuClockSetting, McuModeSetting, McuRamSection, ModuleName, Service,
 };
-use service_outline::Owed;
+use service_outline::Epilogue;
 
 /// How many clock settings, modes and RAM sections there may be.
 const MOST: u32 = 8;
@@ -109,7 +109,7 @@ impl McuDriver {
     }
 
     /// What a call of a service owes for an error.
-    pub fn owed(&self, service: Service, error: ErrorName) -> Owed
+    pub fn owed(&self, service: Service, error: ErrorName) -> Epilogue
         ensures { result ≡ owed_error (reporting self.now) service error }
     {
         service_outline::error(self.detect, 1, service, error)

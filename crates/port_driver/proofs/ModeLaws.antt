@@ -1,6 +1,7 @@
 -- The modes that a pin may have, and what its level is in another mode than that of the pulse outputs.
 use Rattle.std.proofs.Common.{◌≡◌, ◌≢◌, zero, suc, Bool, true, false, ◌||◌, List, [], ◌∷◌, Some, refl, sym, ◌∙◌, ap, arith}
 use Rattle.std.specs.List.{Contains}
+use Rattle.plain_facts.specs.Truths.{or_true}
 use Rattle.mcal_base.specs.declared.config.port.PortPinDirection.TheVariants.{Out}
 use Rattle.mcal_base.specs.declared.config.port.PortPinMode.{PortPinMode}
 use Rattle.mcal_base.specs.declared.config.port.PortPinMode.TheVariants.{Adc, Dio, Icu, Pwm, Spi}
@@ -53,10 +54,6 @@ found_by x m xs false at e more = shifted x m xs (more e)
 found : (xs : List PortPinMode) (m : PortPinMode) → lists xs m ≡ true → Contains xs m
 found [] m e = absurd (cc e)
 found (x ∷ xs) m e = found_by x m xs (is_same x m) refl e (found xs m)
-
-or_true : (q : Bool) → (q || true) ≡ true
-or_true true = refl
-or_true false = refl
 
 listed : (xs : List PortPinMode) (m : PortPinMode) → Contains xs m → lists xs m ≡ true
 listed [] m (k, lt, e) = absurd (omega (arith, lt))

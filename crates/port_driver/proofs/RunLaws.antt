@@ -1,7 +1,7 @@
 -- What configured pins are in every run.
-use Rattle.std.proofs.Common.{◌≡◌, ℕ, ◌==◌, Bool, true, false, not, cond, List, [], ◌∷◌, refl, sym, ◌∙◌, subst, arith, Option, Some, None}
+use Rattle.std.proofs.Common.{◌≡◌, ℕ, ◌==◌, Bool, true, false, not, cond, List, [], ◌∷◌, refl, sym, ◌∙◌, subst, Option, Some, None}
 use Rattle.std.specs.Prelude.{if◌then◌else◌}
-use Rattle.std.proofs.lemmas.Bool.Decides.{nat_tests}
+use Rattle.plain_facts.specs.Numbers.{eq_is}
 use Rattle.mcal_base.specs.declared.error_name.ErrorName.{ErrorName}
 use Rattle.mcal_base.specs.declared.service.Service.TheVariants as services
 use Rattle.det_errors.specs.Rows.{first_error}
@@ -56,15 +56,12 @@ changed-stands k x q u (SetPinMode (Some m)) none stands =
     let may = may_take u (is_among k.modes m) k.mode_changeable none in
     record { direction = stands.direction; mode = λ e. absurd (cc (sym may.1 ∙ e)); among = may.0 }
 
-same_number : (p q : ℕ) → (p == q) ≡ true → p ≡ q
-same_number p q e = grind (arith, nat_tests)
-
 pin_call-stands : (d : PortDriver) (s : PortState) (q : ℕ) (call : PinCall) → error_by d (calls.Pin q call) (not s.initialised) ≡ None → Stands d s → Stands d (acts_by d s (calls.Pin q call) None).state
 pin_call-stands d s q call none stands on p k there = by (p == q) refl where
   by : (b : Bool) → (p == q) ≡ b → PinStands k (cond b (changed call (pin_at s q)) (pin_at s p))
   by false e = stands on p k there
   by true e =
-      let at : p ≡ q = same_number p q e in
+      let at : p ≡ q = eq_is p q e in
       let there' : pin_of d q ≡ Some k = subst (λ i. pin_of d i ≡ Some k) at there in
       let none' : first_error (service_of (calls.Pin q call)) (pin_facts (not s.initialised) (Some k) call) ≡ None = subst (λ o. first_error (service_of (calls.Pin q call)) (pin_facts (not s.initialised) o call) ≡ None) there' none in
       changed-stands k (pin_at s q) q (not s.initialised) call none' (stands on q k there')

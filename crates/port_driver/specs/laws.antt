@@ -1,5 +1,5 @@
 pub mod Bodies
-pub mod Ground
+pub mod RefinementRight
 pub mod Halves
 pub mod Init
 pub mod Keeps

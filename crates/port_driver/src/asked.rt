@@ -11,7 +11,7 @@ use crate::service::{self, PortBody};
 use crate::words::STATE;
 use det_errors::{Facts, first_error};
 use mcal_base::{Answer, ErrorName, PortPinMode};
-use service_outline::{Done, Looked, Owed, error, nothing};
+use service_outline::{Done, Epilogue, Looked, error, nothing};
 
 /// A call with the driver that it is made of.
 #[derive(Clone, Copy)]
@@ -111,7 +111,7 @@ fn let_be() -> Looked<PortBody>
 {
     Looked::Refused(Done {
         answer: nothing(),
-        owed: Owed::Nothing,
+        owed: Epilogue::Nothing,
     })
 }
 

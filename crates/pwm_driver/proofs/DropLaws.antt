@@ -2,6 +2,7 @@
 use Rattle.std.proofs.Common.{◌≡◌, ℕ, ◌+◌, ◌-◌, nat_lt, Bool, true, false, not, ◌&&◌, ◌||◌, Option, Some, None, refl, sym, ◌∙◌, ap, subst, arith}
 use Rattle.std.specs.Prelude.{if◌then◌else◌}
 use Rattle.std.proofs.lemmas.Bool.Decides.{nat_tests}
+use Rattle.std.proofs.lemmas.Bool.{and_right}
 use Rattle.mcal_base.specs.declared.error_name.ErrorName.{ErrorName}
 use Rattle.run_model.specs.World.{World}
 use Rattle.run_model.specs.Machine.{Outcome}
@@ -31,16 +32,12 @@ unmarked_by None polarity now p e f = refl
 unmarked_by (Some edge) polarity now p e f =
     ap (λ q. q || turns_between edge (level_of polarity p.output) p.since now) f ∙ (ap (λ t. turns_between edge (level_of polarity p.output) t now) e ∙ none_since edge (level_of polarity p.output) now)
 
-pub and_false : (q r : Bool) → r ≡ false → (q && r) ≡ false
-and_false true r e = e
-and_false false r e = refl
-
 -- a channel whose past is forgotten isn't ready
 module _ (d : PwmDriver) (w : World) (s : PwmState) (c : ℕ) (p : Pulse) (since : p.since ≡ w.now) (turned : p.turned ≡ false) where
   dropped_by : (k : Option Channel) → channel_of d c ≡ k → ready_by k w (with_pulse s c p) c ≡ false
   dropped_by None e = refl
   dropped_by (Some k) e =
-      and_false s.initialised (is_marked (Some k) w.now (pulse_at (with_pulse s c p) c))
+      and_right s.initialised (is_marked (Some k) w.now (pulse_at (with_pulse s c p) c))
       (ap (λ (x : Pulse). is_marked (Some k) w.now x) (channel_same s c p (known_within d c k e)) ∙ unmarked_by p.notified (polarity_of (Some k)) w.now p since turned)
 
   pub dropped : ready_by (channel_of d c) w (with_pulse s c p) c ≡ false

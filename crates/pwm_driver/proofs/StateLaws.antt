@@ -3,6 +3,8 @@ use Rattle.std.proofs.Common.{◌≡◌, ◌≢◌, ℕ, ◌+◌, ◌<◌, ◌==
 use Rattle.std.specs.List.{list_all}
 use Rattle.std.specs.Prelude.{if◌then◌else◌}
 use Rattle.std.proofs.lemmas.Bool.Decides.{nat_tests}
+use Rattle.std.proofs.lemmas.Bool.{and_parts, and_right}
+use Rattle.plain_facts.specs.Numbers.{eq_other, eq_self}
 use Rattle.mcal_base.specs.declared.error_name.ErrorName.{ErrorName}
 use Rattle.run_model.specs.World.{World}
 use Rattle.run_model.specs.Machine.{Happening, Acts, Serves, Starts, Aborts, Moves, Restarts}
@@ -20,7 +22,6 @@ use Rattle.pwm_driver.specs.declared.call.ChannelCall.TheVariants.{SetDutyCycle,
 use Rattle.pwm_driver.specs.declared.driver.Channel.{Channel}
 use Rattle.pwm_driver.specs.declared.driver.PwmDriver.{PwmDriver}
 use Rattle.pwm_driver.specs.laws.Parts.{table_at, channel_same, known_within}
-use Rattle.pwm_driver.proofs.DropLaws.{and_false}
 use Rattle.pwm_driver.proofs.StayLaws.{ready_is}
 
 -- ---- calls about all channels
@@ -65,12 +66,6 @@ deinit_level d w later s c k committed on there = level_by d later (acts d w s D
 
 -- ---- other channels
 
-another : (i c : ℕ) → i ≢ c → (i == c) ≡ false
-another i c ne = by (i == c) refl where
-  by : (q : Bool) → (i == c) ≡ q → q ≡ false
-  by false e = refl
-  by true e = absurd (ne (grind (arith, nat_tests)))
-
 -- a channel of a state in which one was put
 put_at : (s : PwmState) (n i : ℕ) (p : Pulse) → i < 8 → pulse_at (with_pulse s n p) i ≡ (if i == n then p else pulse_at s i)
 put_at s n i p lt = table_at (λ k. if k == n then p else pulse_at s k) i lt
@@ -79,7 +74,7 @@ others_by : (d : PwmDriver) (w : World) (s : PwmState) (c i : ℕ) (call : Chann
 others_by d w s c i call committed (Some e) lt ne = refl
 others_by d w s c i call committed None lt ne =
     let p : Pulse = channel_work (channel_of d c) w.now call (pulse_at s c) in
-    put_at s c i p lt ∙ ap (λ q. if q then p else pulse_at s i) (another i c ne)
+    put_at s c i p lt ∙ ap (λ q. if q then p else pulse_at s i) (eq_other i c ne)
 
 pub others_stay : (d : PwmDriver) (w : World) (s : PwmState) (c i : ℕ) (call : ChannelCall) (committed : ℕ → ℕ) → i < 8 → i ≢ c → pulse_at (acts d w s (calls.Channel c call) committed).state i ≡ pulse_at s i
 others_stay d w s c i call committed lt ne = others_by d w s c i call committed (error_by d (calls.Channel c call) (not s.initialised)) lt ne
@@ -107,16 +102,13 @@ ended_off : (o : Option Channel) (now : ℕ) (p : Pulse) → p.notified ≡ None
 ended_off None now p e = e
 ended_off (Some k) now p e = refl
 
-is_same : (c : ℕ) → (c == c) ≡ true
-is_same c = grind (arith, nat_tests)
-
 work_off : (o : Option Channel) (now c n : ℕ) (call : ChannelCall) (times : ℕ → ℕ) (p : Pulse) → c ≡ n → leaves_off c (Acts (calls.Channel n call) times) ≡ true → p.notified ≡ None → (channel_work o now call p).notified ≡ None
 work_off None now c n call times p at left e = e
 work_off (Some k) now c n (SetDutyCycle duty) times p at left e = e
 work_off (Some k) now c n (SetPeriodAndDuty period duty) times p at left e = e
 work_off (Some k) now c n SetOutputToIdle times p at left e = e
 work_off (Some k) now c n (EnableNotification edge) times p at left e =
-    let no : not (c == n) ≡ false = ap (λ i. not (c == i)) (sym at) ∙ ap not (is_same c) in
+    let no : not (c == n) ≡ false = ap (λ i. not (c == i)) (sym at) ∙ ap not (eq_self c) in
     absurd (cc (sym no ∙ left))
 work_off (Some k) now c n DisableNotification times p at left e = refl
 
@@ -143,14 +135,10 @@ after_off d w s (Aborts u) c lt left off = off
 after_off d w s (Moves order) c lt left off = off
 after_off d w s (Restarts reason) c lt left off = refl
 
-both : (a b : Bool) → (a && b) ≡ true → (a ≡ true) × (b ≡ true)
-both true b h = (refl, h)
-both false b h = absurd (cc h)
-
 all_off : (d : PwmDriver) (s : PwmState) (xs : List Occurrence) (c : ℕ) → c < 8 → list_all (λ (x : Occurrence). leaves_off c x.what) xs ≡ true → IsOff s c → IsOff (after_all d s xs) c
 all_off d s [] c lt left off = off
 all_off d s (x ∷ xs) c lt left off =
-    let parts = both (leaves_off c x.what) (list_all (λ (y : Occurrence). leaves_off c y.what) xs) left in
+    let parts = and_parts (leaves_off c x.what) (list_all (λ (y : Occurrence). leaves_off c y.what) xs) left in
     all_off d (state_after d x.world s x.what) xs c lt parts.1 (after_off d x.world s x.what c lt parts.0 off)
 
 off_by : (d : PwmDriver) (later : World) (s : PwmState) (xs : List Occurrence) (c : ℕ) (k : Option Channel) → channel_of d c ≡ k → ((x : Channel) → channel_of d c ≡ Some x → IsOff s c)
@@ -158,7 +146,7 @@ off_by : (d : PwmDriver) (later : World) (s : PwmState) (xs : List Occurrence) (
 off_by d later s xs c None there f left = refl
 off_by d later s xs c (Some k) there f left =
     let end : PwmState = after_all d s xs in
-    and_false end.initialised (is_marked_by (pulse_at end c).notified k.polarity_high later.now (pulse_at end c))
+    and_right end.initialised (is_marked_by (pulse_at end c).notified k.polarity_high later.now (pulse_at end c))
     (ap (λ n. is_marked_by n k.polarity_high later.now (pulse_at end c)) (all_off d s xs c (known_within d c k there) left (f k there)))
 
 -- no mark comes in a run from a state where it is off

@@ -1,5 +1,6 @@
 -- A mark stays, and a call that changes the level in a notified way leaves one.
 use Rattle.std.proofs.Common.{◌≡◌, ℕ, ◌+◌, ◌≤◌, Bool, true, false, not, ◌&&◌, ◌||◌, [], ◌∷◌, Option, Some, None, refl, sym, ◌∙◌, ap, subst, arith}
+use Rattle.std.proofs.lemmas.Bool.{and_from, and_parts, not-false, or_left, or_right}
 use Rattle.mcal_base.specs.declared.error_name.ErrorName.{ErrorName}
 use Rattle.det_errors.specs.Rows.{first_error}
 use Rattle.run_model.specs.World.{World}
@@ -29,13 +30,6 @@ between_later edge level after now later le e =
 or_more : (t q r : Bool) → (q ≡ true → r ≡ true) → (t || q) ≡ true → (t || r) ≡ true
 or_more true q r f e = refl
 or_more false q r f e = f e
-
-or_left : (q r : Bool) → q ≡ true → (q || r) ≡ true
-or_left q r e = ap (λ x. x || r) e
-
-or_right : (q r : Bool) → r ≡ true → (q || r) ≡ true
-or_right true r e = refl
-or_right false r e = e
 
 pub marked_later : (edge : Option PwmEdge) (polarity : Bool) (p : Pulse) (now later : ℕ) → now ≤ later → is_marked_by edge polarity now p ≡ true → is_marked_by edge polarity later p ≡ true
 marked_later None polarity p now later le e = e
@@ -92,24 +86,17 @@ work_left k now DisableNotification edge p set is e = absurd (cc set)
 pub ready_is : (d : PwmDriver) (w : World) (s : PwmState) (c : ℕ) → ready d w s (c + 8) ≡ ready_by (channel_of d c) w s c
 ready_is d w s c = ap (λ n. ready_by (channel_of_line d (c + 8)) w s n) (number_of c) ∙ ap (λ k. ready_by k w s c) (line_of d c)
 
-both : (a b : Bool) → (a && b) ≡ true → (a ≡ true) × (b ≡ true)
-both true b h = (refl, h)
-both false b h = absurd (cc h)
-
-and_true : (a b : Bool) → a ≡ true → b ≡ true → (a && b) ≡ true
-and_true a b e f = ap (λ x. x && b) e ∙ f
-
 -- the channel that was put there is marked
 put_ready : (d : PwmDriver) (w : World) (s : PwmState) (c : ℕ) (k : Channel) (p : Pulse) → channel_of d c ≡ Some k → s.initialised ≡ true → is_marked (Some k) w.now p ≡ true → ready_by (Some k) w (with_pulse s c p) c ≡ true
 put_ready d w s c k p there on e =
-    and_true s.initialised (is_marked (Some k) w.now (pulse_at (with_pulse s c p) c)) on
+    and_from s.initialised (is_marked (Some k) w.now (pulse_at (with_pulse s c p) c)) on
     (ap (λ (x : Pulse). is_marked (Some k) w.now x) (channel_same s c p (known_within d c k there)) ∙ e)
 
 stays_by : (d : PwmDriver) (w : World) (s : PwmState) (c : ℕ) (call : ChannelCall) (k : Option Channel) → channel_of d c ≡ k → sets_output call ≡ true → ready_by k w s c ≡ true
     → ready_by k w (with_pulse s c (channel_work k w.now call (pulse_at s c))) c ≡ true
 stays_by d w s c call None there set e = e
 stays_by d w s c call (Some k) there set e =
-    let parts = both s.initialised (is_marked (Some k) w.now (pulse_at s c)) e in
+    let parts = and_parts s.initialised (is_marked (Some k) w.now (pulse_at s c)) e in
     put_ready d w s c k (channel_work (Some k) w.now call (pulse_at s c)) there parts.0 (work_marked k w.now call (pulse_at s c) set parts.1)
 
 acts_stay : (d : PwmDriver) (w : World) (s : PwmState) (c : ℕ) (call : ChannelCall) (committed : ℕ → ℕ) (e : Option ErrorName) → sets_output call ≡ true → ready_by (channel_of d c) w s c ≡ true
@@ -149,15 +136,11 @@ there_by SetOutputToIdle None e = absurd (cc e)
 there_by (EnableNotification x) None e = absurd (cc e)
 there_by DisableNotification None e = absurd (cc e)
 
-not_false : (q : Bool) → not q ≡ false → q ≡ true
-not_false true e = refl
-not_false false e = absurd (cc e)
-
 -- its module is initialised, and its channel configured
 pub clean : (d : PwmDriver) (s : PwmState) (c : ℕ) (call : ChannelCall) → error_by d (calls.Channel c call) (not s.initialised) ≡ None → (s.initialised ≡ true) × ((k : Channel) × (channel_of d c ≡ Some k))
 clean d s c call e =
     let parts = clean_by call (not s.initialised) (allows call (channel_of d c)) (may_set call (channel_of d c)) e in
-    (not_false s.initialised parts.0, there_by call (channel_of d c) parts.1)
+    (not-false s.initialised parts.0, there_by call (channel_of d c) parts.1)
 
 -- ---- a change that is notified
 

@@ -1,20 +1,11 @@
 -- A new period and duty take over at the end of the period that runs.
-use Rattle.std.proofs.Common.{◌≡◌, ℕ, ◌+◌, ◌-◌, ◌*◌, ◌/◌, ◌%◌, ◌<◌, ◌≤◌, ◌==◌, nat_lt, Bool, true, false, refl, sym, ◌∙◌, ap, subst, arith}
+use Rattle.std.proofs.Common.{◌≡◌, ℕ, ◌+◌, ◌-◌, ◌*◌, ◌/◌, ◌%◌, ◌<◌, ◌≤◌, ◌==◌, Bool, refl, sym, ◌∙◌, ap, subst, arith}
 use Rattle.std.specs.Prelude.{if◌then◌else◌}
-use Rattle.std.proofs.lemmas.Bool.Decides.{nat_tests}
 use Rattle.std.proofs.lemmas.Nat.{div-add-mod'}
 use Rattle.std.proofs.Math.Nat.{mod-lt}
+use Rattle.plain_facts.specs.Numbers.{isnt_zero, lt_from, lt_since}
 use Rattle.pwm_driver.specs.Runs.{StartsAtEnd}
 use Rattle.pwm_driver.specs.Output.{Output, Runs, GivesWay, Regime, regime_level, period_end, succeeded, with_new}
-
-is_below : (a b : ℕ) → a < b → nat_lt a b ≡ true
-is_below a b h = grind (arith, nat_tests)
-
-isnt_below : (a b : ℕ) → b ≤ a → nat_lt a b ≡ false
-isnt_below a b h = grind (arith, nat_tests)
-
-isnt_zero : (a : ℕ) → 0 < a → (a == 0) ≡ false
-isnt_zero a h = grind (arith, nat_tests)
 
 end_sum : (s now p q m : ℕ) → s ≤ now → q * p + m ≡ now - s → m < p → now + (p - m) ≡ s + (q + 1) * p
 end_sum s now p q m le whole less = omega (arith, le, whole, less)
@@ -33,8 +24,8 @@ waiting_at polarity r now period duty pos le end at whole =
       periods = (now - r.start) / r.period + 1;
       later = rw (← whole) (omega (arith, is, rest));
       soon = rw (← whole) (omega (arith, is, rest));
-      before = λ time lt. ap (λ q. regime_level polarity (if q then r else record { start = end; period = period; duty = duty }) time) (is_below time end (rw whole lt));
-      after = λ time ge. ap (λ q. regime_level polarity (if q then r else record { start = end; period = period; duty = duty }) time) (isnt_below time end (rw whole ge)) ∙ ap (λ x. regime_level polarity (record { start = x; period = period; duty = duty }) time) whole;
+      before = λ time lt. ap (λ q. regime_level polarity (if q then r else record { start = end; period = period; duty = duty }) time) (lt_from time end (rw whole lt));
+      after = λ time ge. ap (λ q. regime_level polarity (if q then r else record { start = end; period = period; duty = duty }) time) (lt_since time end (rw whole ge)) ∙ ap (λ x. regime_level polarity (record { start = x; period = period; duty = duty }) time) whole;
     }
 
 pub starts_at_end : (polarity : Bool) (r : Regime) (now period duty : ℕ) → 0 < r.period → r.start ≤ now → StartsAtEnd polarity r now period duty (succeeded r now period duty)
@@ -44,7 +35,7 @@ starts_at_end polarity r now period duty pos le =
 
 -- the regime that took over is the one that runs
 took_over : (r next : Regime) (now period duty : ℕ) → next.start ≤ now → with_new now period duty (GivesWay r next) ≡ succeeded next now period duty
-took_over r next now period duty le = ap (λ q. succeeded (if q then r else next) now period duty) (isnt_below now next.start le)
+took_over r next now period duty le = ap (λ q. succeeded (if q then r else next) now period duty) (lt_since now next.start le)
 
 pub starts_at_its_end : (polarity : Bool) (r next : Regime) (now period duty : ℕ) → 0 < next.period → next.start ≤ now → StartsAtEnd polarity next now period duty (with_new now period duty (GivesWay r next))
 starts_at_its_end polarity r next now period duty pos le =

@@ -3,7 +3,7 @@ pub mod Bodies
 pub mod Changes
 pub mod DeInit
 pub mod Flags
-pub mod Ground
+pub mod RefinementRight
 pub mod Init
 pub mod InitRight
 pub mod InitWrites

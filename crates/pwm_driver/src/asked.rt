@@ -13,7 +13,7 @@ use crate::service::{self, PwmBody};
 use crate::words::STATE;
 use det_errors::{Facts, first_error};
 use mcal_base::{Answer, AnswerName, ErrorName};
-use service_outline::{Done, Looked, Owed, Reply, named, nothing};
+use service_outline::{Done, Epilogue, Looked, Reply, named, nothing};
 
 /// A call with the driver that it is made of.
 #[derive(Clone, Copy)]
@@ -135,7 +135,7 @@ fn let_be() -> Looked<PwmBody>
 {
     Looked::Refused(Done {
         answer: nothing(),
-        owed: Owed::Nothing,
+        owed: Epilogue::Nothing,
     })
 }
 

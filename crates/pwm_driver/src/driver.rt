@@ -4,7 +4,7 @@ ghost use Rattle.pwm_driver.specs.Checks.{reporting};
 ghost use Rattle.pwm_driver.specs.Table as spec;
 
 use mcal_base::{Config, ErrorName, PwmChannel, PwmChannelClass, PwmOutputState, Service};
-use service_outline::Owed;
+use service_outline::Epilogue;
 
 /// A configured channel.
 #[derive(Clone, Copy)]
@@ -80,7 +80,7 @@ impl PwmDriver {
     }
 
     /// What a call of a service owes for an error.
-    pub fn owed(&self, service: Service, error: ErrorName) -> Owed
+    pub fn owed(&self, service: Service, error: ErrorName) -> Epilogue
         ensures { result ≡ owed_error (reporting self.now) service error }
     {
         service_outline::error(self.detect, 1, service, error)

@@ -1,13 +1,14 @@
 -- A pending sequence is marked as cancelled exactly where a cancel came since its request.
 use Rattle.std.proofs.Common.{◌≡◌, ℕ, ◌+◌, ◌==◌, Bool, true, false, not, cond, ◌||◌, List, [], ◌∷◌, ◌++◌, Option, Some, None, refl, sym, ◌∙◌, ap}
 use Rattle.std.specs.Prelude.{find, IsSome}
+use Rattle.plain_facts.specs.Options.{some_is}
+use Rattle.plain_facts.specs.Numbers.{eq_is, eq_self}
 use Rattle.mcal_base.specs.declared.answer_name.AnswerName.{AnswerName}
 use Rattle.mcal_base.specs.declared.error_name.ErrorName.{ErrorName}
 use Rattle.run_model.specs.Frame.{state_by}
 use Rattle.run_model.specs.Machine.{Happening, Acts, Serves, Starts, Aborts, Moves, Restarts, Outcome}
 use Rattle.run_model.specs.World.{World}
 use Rattle.spi_machine.proofs.Acts.{act-leaves}
-use Rattle.spi_machine.proofs.Runs.{some_same}
 use Rattle.spi_machine.proofs.Turns.{found}
 use Rattle.spi_machine.proofs.WordLaws.{cancel-ends}
 use Rattle.spi_machine.specs.Machine.{spi_machine, acts_by, finds_held}
@@ -21,7 +22,6 @@ use Rattle.spi_machine.specs.declared.call.Call.TheVariants.{Init, DeInit, SetAs
 use Rattle.spi_machine.specs.declared.call.SequenceCall.TheVariants.{AsyncTransmit, Cancel}
 use Rattle.spi_machine.specs.declared.table.SpiTable.{SpiTable}
 use Rattle.serial_laws.specs.Ends.{Sequel, IsLeft, Starting, GoingOn, BeingCancelled, EndsAtOnce, EndsCancelled, EndsFailed, EndsOk}
-use Rattle.serial_laws.proofs.Entries.{eq_self, eq_is}
 use Rattle.serial_laws.proofs.Sequels.{happens_comes, cancel_waits}
 use Rattle.whole_runs.specs.Runs.{Event, AreAllowed, told_by}
 use Rattle.whole_runs.specs.SequenceRuns.{Seen, seen_between, seen_of, begins_by, accepts}
@@ -71,7 +71,7 @@ no_entry o p e f = absurd (cc (sym e ∙ f))
 
 new_by : (q : ℕ) (e : Seen) (x p : Pending) (b : Bool) → (x.sequence == q) ≡ b → accepts q e ≡ (x.sequence == q) → x.cancelled ≡ false → cond b (Some x) None ≡ Some p → IsNew q e p
 new_by q e x p false is a c f = absurd (cc f)
-new_by q e x p true is a c f = record { accepted = a ∙ is; fresh = ap (λ (y : Pending). y.cancelled) (sym (some_same x p f)) ∙ c }
+new_by q e x p true is a c f = record { accepted = a ∙ is; fresh = ap (λ (y : Pending). y.cancelled) (sym (some_is x p f)) ∙ c }
 
 new_entry : (d : SpiTable) (e : Seen) (s t : SpiState) (q : ℕ) (p : Pending) → Goes d e s t → find (is_of q) s.pending ≡ None → find (is_of q) t.pending ≡ Some p → IsNew q e p
 new_entry d e s t q p (steps.Leaves calm reset same results requests told) none is = no_entry _ p (ap (λ ps. find (is_of q) ps) same ∙ none) is
@@ -121,15 +121,15 @@ cancels_is q (Restarts reason) o e = absurd (cc e)
 
 module _ (d : SpiTable) (w : World) (s : SpiState) (q : ℕ) (p : Pending) (there : find (is_of q) s.pending ≡ Some p) where
   marked : (times : ℕ → ℕ) (out : Outcome SpiState) (x : Pending) (b : Bool) → (spi_machine d).happens w s (Acts (Sequence q Cancel) times) ≡ Some out → out.told.error ≡ None → is_running s q ≡ b → find (is_of q) out.state.pending ≡ Some x → x.cancelled ≡ true
-  marked times out x true made quiet on is = ap (λ (y : Pending). y.cancelled) (sym (some_same (marks p) x (sym (cancel_waits d w s q times out p made quiet there on).0 ∙ is)))
+  marked times out x true made quiet on is = ap (λ (y : Pending). y.cancelled) (sym (some_is (marks p) x (sym (cancel_waits d w s q times out p made quiet there on).0 ∙ is)))
   marked times out x false made quiet on is =
       let over = (cancel-ends d w s q times out p made quiet there on).over in absurd (cc (sym over ∙ (found q x out.state.pending is).1))
 
   -- not cancelled here: as it was
   other_by : (h : Happening Call) (o : Option Pending) (r : AnswerName) (x : Pending) (error : Option ErrorName) → Sequel d s q p h o r → o ≡ Some x → is_cancel q h error ≡ false → ((times : ℕ → ℕ) → h ≡ Acts (Sequence q Cancel) times → IsSome error → x ≡ p) → x.cancelled ≡ p.cancelled
-  other_by h o r x error IsLeft is none same = ap (λ (y : Pending). y.cancelled) (sym (some_same p x is))
-  other_by h o r x error (Starting unit made_by received u next a b c) is none same = ap (λ (y : Pending). y.cancelled) (sym (some_same _ x is))
-  other_by h o r x error (GoingOn line received y own a b c) is none same = ap (λ (z : Pending). z.cancelled) (sym (some_same _ x is))
+  other_by h o r x error IsLeft is none same = ap (λ (y : Pending). y.cancelled) (sym (some_is p x is))
+  other_by h o r x error (Starting unit made_by received u next a b c) is none same = ap (λ (y : Pending). y.cancelled) (sym (some_is _ x is))
+  other_by h o r x error (GoingOn line received y own a b c) is none same = ap (λ (z : Pending). z.cancelled) (sym (some_is _ x is))
   other_by h o r x None (BeingCancelled times a) is none same = absurd (cc (sym none ∙ eq_self q))
   other_by h o r x (Some e) (BeingCancelled times a) is none same = ap (λ (y : Pending). y.cancelled) (same times refl refl)
   other_by h o r x error (EndsAtOnce times a) is none same = absurd (cc is)
@@ -141,7 +141,7 @@ module _ (d : SpiTable) (w : World) (s : SpiState) (q : ℕ) (p : Pending) (ther
   left_by : (h : Happening Call) (out : Outcome SpiState) (x : Pending) → (spi_machine d).happens w s h ≡ Some out → find (is_of q) out.state.pending ≡ Some x → (times : ℕ → ℕ) (call : Call) → h ≡ Acts call times → IsSome out.told.error → x ≡ p
   left_by h out x made is times call at error =
       let same = (act-leaves d w s call times out (ap (λ y. (spi_machine d).happens w s y) (sym at) ∙ made) error).0 in
-      some_same x p (sym is ∙ (ap (λ (y : SpiState). find (is_of q) y.pending) same ∙ there))
+      some_is x p (sym is ∙ (ap (λ (y : SpiState). find (is_of q) y.pending) same ∙ there))
 
 -- ---- an event
 
@@ -159,14 +159,14 @@ was_before : (a b c : Bool) → a ≡ false → b ≡ false → cond a false (b 
 was_before a b c e f = ap (λ x. cond x false (b || c)) e ∙ ap (λ x. x || c) f
 
 init_same : (d : SpiTable) (s : SpiState) (q : ℕ) (p x : Pending) (e : Option ErrorName) → find (is_of q) s.pending ≡ Some p → find (is_of q) (acts_by d s Init e).state.pending ≡ Some x → x ≡ p
-init_same d s q p x (Some e) there is = some_same x p (sym is ∙ there)
+init_same d s q p x (Some e) there is = some_is x p (sym is ∙ there)
 init_same d s q p x None there is = absurd (cc is)
 
 -- what an initialisation or a reset leaves of a sequence that stays pending
 dropped_same : (d : SpiTable) (w : World) (s : SpiState) (h : Happening Call) (out : Outcome SpiState) (q : ℕ) (p x : Pending) → (spi_machine d).happens w s h ≡ Some out → drops h ≡ true → find (is_of q) s.pending ≡ Some p → find (is_of q) out.state.pending ≡ Some x
     → (x ≡ p) × ((error : Option ErrorName) → is_cancel q h error ≡ false)
 dropped_same d w s (Acts Init times) out q p x made drop there is =
-    (init_same d s q p x (error_by d Init (is_off s.mode) (finds_held d s Init)) there (ap (λ (y : Outcome SpiState). find (is_of q) y.state.pending) (some_same _ out made) ∙ is), λ error. refl)
+    (init_same d s q p x (error_by d Init (is_off s.mode) (finds_held d s Init)) there (ap (λ (y : Outcome SpiState). find (is_of q) y.state.pending) (some_is _ out made) ∙ is), λ error. refl)
 dropped_same d w s (Acts DeInit times) out q p x made drop there is = absurd (cc drop)
 dropped_same d w s (Acts (SetAsyncMode m) times) out q p x made drop there is = absurd (cc drop)
 dropped_same d w s (Acts MainFunctionHandling times) out q p x made drop there is = absurd (cc drop)
@@ -177,7 +177,7 @@ dropped_same d w s (Serves l received) out q p x made drop there is = absurd (cc
 dropped_same d w s (Starts u made_by received) out q p x made drop there is = absurd (cc drop)
 dropped_same d w s (Aborts u) out q p x made drop there is = absurd (cc drop)
 dropped_same d w s (Moves order) out q p x made drop there is = absurd (cc drop)
-dropped_same d w s (Restarts reason) out q p x made drop there is = no_entry _ x refl (ap (λ (y : Outcome SpiState). find (is_of q) y.state.pending) (some_same _ out made) ∙ is)
+dropped_same d w s (Restarts reason) out q p x made drop there is = no_entry _ x refl (ap (λ (y : Outcome SpiState). find (is_of q) y.state.pending) (some_is _ out made) ∙ is)
 
 module _ (d : SpiTable) (e : Event Call) (past : List (Event Call)) (out : Outcome SpiState) (made : (spi_machine d).happens e.world (state_of d past) e.what ≡ Some out) (before : Marked d past (state_of d past)) where
   abbrev here : SpiState

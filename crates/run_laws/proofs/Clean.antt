@@ -2,6 +2,9 @@
 use Rattle.std.proofs.Common.{◌≡◌, ◌≢◌, ℕ, zero, suc, ◌+◌, ◌==◌, Bool, true, false, not, cond, ◌||◌, List, [], ◌∷◌, ◌++◌, map, drop, Option, Some, None, refl, sym, ◌∙◌, ap, subst, ◌⊎◌, inl, inr}
 use Rattle.std.specs.Prelude.{find, IsSome}
 use Rattle.std.specs.List.{list_any}
+use Rattle.std.proofs.lemmas.Bool.{or_parts}
+use Rattle.plain_facts.specs.Options.{some_is}
+use Rattle.plain_facts.specs.Numbers.{same_or_other}
 use Rattle.mcal_base.specs.declared.answer_name.AnswerName.{AnswerName}
 use Rattle.mcal_base.specs.declared.answer_name.AnswerName.TheVariants.{SpiJobOk, SpiJobFailed, SpiJobQueued, SpiJobPending}
 use Rattle.mcal_base.specs.declared.directive.Order.{Order}
@@ -10,8 +13,8 @@ use Rattle.mcal_base.specs.declared.error_name.ErrorName.{ErrorName}
 use Rattle.run_model.specs.Frame.{state_by}
 use Rattle.run_model.specs.Machine.{Happening, Acts, Serves, Starts, Aborts, Moves, Restarts, Outcome}
 use Rattle.run_model.specs.World.{World}
-use Rattle.spi_machine.proofs.Numbers.{same_or_other, item-same, item-other}
-use Rattle.spi_machine.proofs.Runs.{stored-seen, after_last-seen, some_same, serve_by}
+use Rattle.spi_machine.proofs.Numbers.{item-same, item-other}
+use Rattle.spi_machine.proofs.Runs.{stored-seen, after_last-seen, serve_by}
 use Rattle.spi_machine.specs.Checks.{error_by}
 use Rattle.spi_machine.specs.Machine.{spi_machine, acts_by, unless_busy, cancelled, cancelled_by, finds_held, after_last, sequence_after, job_over, pending_of, served_by, served, unit_of, run_of, ready, start_by, next_at, number_of, moved}
 use Rattle.spi_machine.specs.Numbered.{with_item}
@@ -100,7 +103,7 @@ unfolding AllHad
 had_found q [] p all e = absurd (cc e)
 had_found q (x ∷ ps) p all e = by (x.sequence == q) e all.0 (λ f. had_found q ps p all.1 f) where
   by : (b : Bool) → cond b (Some x) (find (is_of q) ps) ≡ Some p → Goods x.had → (find (is_of q) ps ≡ Some p → Goods p.had) → Goods p.had
-  by true e one more = subst (λ (y : Pending). Goods y.had) (some_same x p e) one
+  by true e one more = subst (λ (y : Pending). Goods y.had) (some_is x p e) one
   by false e one more = more e
 
 -- ---- the state
@@ -193,7 +196,7 @@ start_clean : (d : SpiTable) (w : World) (s : SpiState) (k : Option ℕ) (receiv
 start_clean d w s None received o out e h = absurd (cc e)
 start_clean d w s (Some u) received None out e h = absurd (cc e)
 start_clean d w s (Some u) received (Some p) out e h =
-    subst (λ (x : Outcome SpiState). IsClean x.state) (some_same _ out e)
+    subst (λ (x : Outcome SpiState). IsClean x.state) (some_is _ out e)
     (record { results = good_item s.job_results _ SpiJobPending h.results isnt_pending; had = had_changed p.sequence starts (λ x. refl) s.pending h.had })
 
 moved_clean : (d : SpiTable) (w : World) (s : SpiState) (order : Order) → IsClean s → IsClean (moved d w s order)
@@ -202,19 +205,15 @@ moved_clean d w s (SpiFault u) h = record { results = h.results; had = h.had }
 moved_clean d w s order h = h
 
 step_clean : (d : SpiTable) (w : World) (s : SpiState) (x : Happening Call) (out : Outcome SpiState) → (spi_machine d).happens w s x ≡ Some out → ((u : ℕ) (r : Run) → run_at s u ≡ Some r → r.transfer.failed ≡ false) → IsClean s → IsClean out.state
-step_clean d w s (Acts call times) out e good h = subst (λ (x : Outcome SpiState). IsClean x.state) (some_same _ out e) (acts_clean d s call (error_by d call (is_off s.mode) (finds_held d s call)) h)
+step_clean d w s (Acts call times) out e good h = subst (λ (x : Outcome SpiState). IsClean x.state) (some_is _ out e) (acts_clean d s call (error_by d call (is_off s.mode) (finds_held d s call)) h)
 step_clean d w s (Serves line received) out e good h =
     subst (λ (x : Outcome SpiState). IsClean x.state) (serve_by (ready w s line) (served d w s (unit_of line) received (run_of s (unit_of line))) out e) (line_clean d w s (unit_of line) received (run_of s (unit_of line)) refl good h)
 step_clean d w s (Starts unit made_by received) out e good h = start_clean d w s (number_of unit) received (next_at d s (number_of unit)) out e h
 step_clean d w s (Aborts unit) out e good h = absurd (cc e)
-step_clean d w s (Moves order) out e good h = subst (λ (x : Outcome SpiState). IsClean x.state) (some_same _ out e) (moved_clean d w s order h)
-step_clean d w s (Restarts reason) out e good h = subst (λ (x : Outcome SpiState). IsClean x.state) (some_same _ out e) first_clean
+step_clean d w s (Moves order) out e good h = subst (λ (x : Outcome SpiState). IsClean x.state) (some_is _ out e) (moved_clean d w s order h)
+step_clean d w s (Restarts reason) out e good h = subst (λ (x : Outcome SpiState). IsClean x.state) (some_is _ out e) first_clean
 
 -- ---- words that don't fail
-
-neither : (a b : Bool) → (a || b) ≡ false → (a ≡ false) × (b ≡ false)
-neither true b e = absurd (cc e)
-neither false b e = (refl, e)
 
 no_hit : (u began now : ℕ) (h : Happening Call) → is_fault h ≡ false → hits u began now h ≡ false
 no_hit u began now (Moves (SpiFault k)) e = absurd (cc e)
@@ -223,14 +222,14 @@ no_hit u began now h e = refl
 none_met : (u began : ℕ) (since : List (Event Call)) → NoneOf can_fail since → met u began since ≡ false
 none_met u began [] none = refl
 none_met u began (e ∷ since) none =
-    let parts = neither (can_fail e) (list_any can_fail since) none in
-    let calm = neither (received_at e.what == refused) (is_fault e.what) parts.0 in
+    let parts = or_parts (can_fail e) (list_any can_fail since) none in
+    let calm = or_parts (received_at e.what == refused) (is_fault e.what) parts.0 in
     ap (λ b. b || met u began since) (no_hit u began e.world.now e.what calm.1) ∙ none_met u began since parts.1
 
 split : (xs : List (Event Call)) (y : Event Call) (ys : List (Event Call)) → NoneOf can_fail (xs ++ y ∷ ys) → NoneOf can_fail xs × (can_fail y ≡ false)
-split [] y ys none = (refl, (neither (can_fail y) (list_any can_fail ys) none).0)
+split [] y ys none = (refl, (or_parts (can_fail y) (list_any can_fail ys) none).0)
 split (x ∷ xs) y ys none =
-    let parts = neither (can_fail x) (list_any can_fail (xs ++ y ∷ ys)) none in
+    let parts = or_parts (can_fail x) (list_any can_fail (xs ++ y ∷ ys)) none in
     let rest = split xs y ys parts.1 in (ap (λ b. b || list_any can_fail xs) parts.0 ∙ rest.0, rest.1)
 
 good_words : (d : SpiTable) (past : List (Event Call)) → AreAllowed (spi_machine d) first_state past → NoneOf can_fail past → (u : ℕ) (r : Run) → run_at (state_of d past) u ≡ Some r → r.transfer.failed ≡ false
@@ -238,7 +237,7 @@ good_words d past allowed none u r is =
     let x = story d u past allowed r is in
     let w = x.word in
     let parts = split w.since w.start w.before (subst (λ (l : List (Event Call)). NoneOf can_fail l) w.is none) in
-    let calm = neither (received_at w.start.what == refused) (is_fault w.start.what) parts.1 in
+    let calm = or_parts (received_at w.start.what == refused) (is_fault w.start.what) parts.1 in
     x.failed ∙ (ap (λ b. b || met u w.start.world.now w.since) calm.0 ∙ none_met u w.start.world.now w.since parts.0)
 
 some_out : (o : Option (Outcome SpiState)) → IsSome o → (out : Outcome SpiState) × (o ≡ Some out)
@@ -248,7 +247,7 @@ some_out (Some out) e = (out, refl)
 clean : (d : SpiTable) (past : List (Event Call)) → AreAllowed (spi_machine d) first_state past → NoneOf can_fail past → IsClean (state_of d past)
 clean d [] allowed none = first_clean
 clean d (e ∷ past) allowed none =
-    let parts = neither (can_fail e) (list_any can_fail past) none in
+    let parts = or_parts (can_fail e) (list_any can_fail past) none in
     let out = some_out ((spi_machine d).happens e.world (state_of d past) e.what) allowed.0 in
     subst IsClean (sym (ap (λ o. state_by (state_of d past) o) out.1))
     (step_clean d e.world (state_of d past) e.what out.0 out.1 (good_words d past allowed.1 parts.1) (clean d past allowed.1 parts.1))

@@ -2,6 +2,9 @@
 use Rattle.std.proofs.Common.{◌≡◌, ℕ, suc, ◌+◌, ◌≤◌, ◌==◌, nat_lt, Bool, true, false, not, cond, ◌&&◌, ◌||◌, List, [], ◌∷◌, ◌++◌, length, Option, Some, None, refl, sym, ◌∙◌, ap, subst, arith}
 use Rattle.std.specs.Prelude.{find, is_some, IsSome, Contains}
 use Rattle.std.proofs.lemmas.Bool.Decides.{nat_tests}
+use Rattle.std.proofs.lemmas.Bool.{and_parts, not-true}
+use Rattle.plain_facts.specs.Options.{some_is}
+use Rattle.plain_facts.specs.Numbers.{eq_self}
 use Rattle.mcal_base.specs.declared.answer_name.AnswerName.{AnswerName}
 use Rattle.mcal_base.specs.declared.error_name.ErrorName.{ErrorName}
 use Rattle.mcal_base.specs.declared.service.Service.TheVariants as services
@@ -12,7 +15,6 @@ use Rattle.run_model.specs.World.{World}
 use Rattle.spi_machine.proofs.Acts.{act-leaves}
 use Rattle.spi_machine.proofs.Begins.{happens-begins}
 use Rattle.spi_machine.proofs.Idle.{idle-run}
-use Rattle.spi_machine.proofs.Runs.{some_same}
 use Rattle.spi_machine.proofs.Turns.{found}
 use Rattle.spi_machine.specs.Checks.{error_by}
 use Rattle.spi_machine.specs.Machine.{spi_machine, acts_by, finds_held, unit_of, run_of}
@@ -30,7 +32,6 @@ use Rattle.spi_machine.specs.declared.call.SequenceCall.TheVariants.{Cancel}
 use Rattle.spi_machine.specs.declared.table.SpiTable.{SpiTable}
 use Rattle.serial_laws.specs.Ends.{Sequel, IsLeft, Starting, GoingOn, BeingCancelled, EndsAtOnce, EndsCancelled, EndsFailed, EndsOk, EndsWith}
 use Rattle.serial_laws.specs.Faults.{is_unit}
-use Rattle.serial_laws.proofs.Entries.{eq_self}
 use Rattle.serial_laws.proofs.Sequels.{happens_comes}
 use Rattle.whole_runs.specs.Runs.{Event, AreAllowed, is_restart, is_of as is_named}
 use Rattle.whole_runs.specs.SequenceRuns.{Seen, seen_of, sequence_of_run, is_pending, is_end, is_reset, ends_job, jobs_ended}
@@ -40,14 +41,6 @@ use Rattle.whole_runs.proofs.SequenceSteps.{seen, happens_goes}
 use Rattle.run_laws.specs.Results.{EndsAs, AtCancel, AfterCancel, ByFailure, AfterAll, state_of, seen_at, cancels, is_cancel, was_cancelled, serves}
 use Rattle.run_laws.proofs.Cancels.{all_marked, seen_is}
 use Rattle.run_laws.proofs.WordStories.{story, has_failed, failed_if}
-
-both : (a b : Bool) → (a && b) ≡ true → (a ≡ true) × (b ≡ true)
-both true b h = (refl, h)
-both false b h = absurd (cc h)
-
-not_true : (b : Bool) → not b ≡ true → b ≡ false
-not_true true e = absurd (cc e)
-not_true false e = refl
 
 some_out : (o : Option (Outcome SpiState)) → IsSome o → (out : Outcome SpiState) × (o ≡ Some out)
 some_out None e = absurd (cc e)
@@ -73,7 +66,7 @@ among : (q : ℕ) (ps : List Pending) (p : Pending) → find (is_of q) ps ≡ So
 among q [] p e = absurd (cc e)
 among q (x ∷ ps) p e = by (x.sequence == q) e (λ f. among q ps p f) where
   by : (b : Bool) → cond b (Some x) (find (is_of q) ps) ≡ Some p → (find (is_of q) ps ≡ Some p → Contains ps p) → Contains (x ∷ ps) p
-  by true e more = (0, omega arith, some_same x p e)
+  by true e more = (0, omega arith, some_is x p e)
   by false e more = let c = more e in (suc c.0, omega (arith, c.1), c.2)
 
 -- ---- an uninitialised module has none
@@ -133,7 +126,7 @@ init_ends_none d s q p None is off there gone = none_some (find (is_of q) s.pend
 no_drop : (d : SpiTable) (w : World) (s : SpiState) (h : Happening Call) (out : Outcome SpiState) (q : ℕ) (p : Pending) → (spi_machine d).happens w s h ≡ Some out → (is_off s.mode ≡ true → s.pending ≡ []) → is_restart h ≡ false
     → find (is_of q) s.pending ≡ Some p → find (is_of q) out.state.pending ≡ None → drops h ≡ false
 no_drop d w s (Acts Init times) out q p made off reset there gone =
-    absurd (init_ends_none d s q p (error_by d Init (is_off s.mode) (finds_held d s Init)) refl off there (ap (λ (y : Outcome SpiState). find (is_of q) y.state.pending) (some_same _ out made) ∙ gone))
+    absurd (init_ends_none d s q p (error_by d Init (is_off s.mode) (finds_held d s Init)) refl off there (ap (λ (y : Outcome SpiState). find (is_of q) y.state.pending) (some_is _ out made) ∙ gone))
 no_drop d w s (Acts DeInit times) out q p made off reset there gone = refl
 no_drop d w s (Acts (SetAsyncMode m) times) out q p made off reset there gone = refl
 no_drop d w s (Acts MainFunctionHandling times) out q p made off reset there gone = refl
@@ -224,10 +217,10 @@ pub ends : (d : SpiTable) (e : Event Call) (past : List (Event Call)) (q : ℕ) 
 ends d e past q allowed end =
     let out = some_out ((spi_machine d).happens e.world (state_of d past) e.what) allowed.0 in
     let after : state_of d (e ∷ past) ≡ out.0.state = ap (λ o. state_by (state_of d past) o) out.1 in
-    let parts = both (not (is_reset (seen_at d e past))) (is_pending ((seen_at d e past).had q) && not (is_pending ((seen_at d e past).has q))) end in
-    let turns = both (is_pending ((seen_at d e past).had q)) (not (is_pending ((seen_at d e past).has q))) parts.1 in
+    let parts = and_parts (not (is_reset (seen_at d e past))) (is_pending ((seen_at d e past).had q) && not (is_pending ((seen_at d e past).has q))) end in
+    let turns = and_parts (is_pending ((seen_at d e past).had q)) (not (is_pending ((seen_at d e past).has q))) parts.1 in
     let p = entry q (state_of d past).pending (sym (run_agrees d past allowed.1 q) ∙ turns.0) in
     let gone : find (is_of q) out.0.state.pending ≡ None =
-    ap (λ (s : SpiState). find (is_of q) s.pending) (sym after) ∙ no_entry q (state_of d (e ∷ past)).pending (sym (run_agrees d (e ∷ past) allowed q) ∙ not_true (is_pending ((seen_at d e past).has q)) turns.1) in
-    let kept = no_drop d e.world (state_of d past) e.what out.0 q p.0 out.1 (idle d past) (not_true (is_restart e.what) parts.0) p.1 gone in
+    ap (λ (s : SpiState). find (is_of q) s.pending) (sym after) ∙ no_entry q (state_of d (e ∷ past)).pending (sym (run_agrees d (e ∷ past) allowed q) ∙ not-true (is_pending ((seen_at d e past).has q)) turns.1) in
+    let kept = no_drop d e.world (state_of d past) e.what out.0 q p.0 out.1 (idle d past) (not-true (is_restart e.what) parts.0) p.1 gone in
     subst (λ (s : SpiState). EndsAs d q e past (sequence_result s.sequence_results q)) (sym after) (ends_as d e past q out.0 p.0 allowed.1 out.1 p.1 gone kept)

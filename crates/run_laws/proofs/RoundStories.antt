@@ -3,6 +3,9 @@ use Rattle.std.proofs.Common.{◌≡◌, ℕ, ◌+◌, ◌-◌, ◌<◌, ◌≤�
 use Rattle.std.specs.Prelude.{is_some, IsSome}
 use Rattle.std.specs.List.{list_any}
 use Rattle.std.proofs.lemmas.Bool.Decides.{nat_tests}
+use Rattle.std.proofs.lemmas.Bool.{and_parts, or_from}
+use Rattle.plain_facts.specs.Options.{some_is}
+use Rattle.plain_facts.specs.Numbers.{eq_is, eq_self}
 use Rattle.mcal_base.specs.declared.error_name.ErrorName.{ErrorName}
 use Rattle.run_model.specs.Frame.{state_by}
 use Rattle.run_model.specs.Machine.{Happening, Acts, Serves, Starts, Aborts, Moves, Restarts, Outcome, outcome, tells_nothing}
@@ -27,21 +30,8 @@ use Rattle.whole_runs.proofs.RoundStates.{Tells, IsRunning, tells_after}
 use Rattle.whole_runs.proofs.TurnSteps.{Single}
 use Rattle.run_laws.specs.Rounds.{state_of, seen_at, HasNewRequest, WasFinished}
 
-both : (a b : Bool) → (a && b) ≡ true → (a ≡ true) × (b ≡ true)
-both true b h = (refl, h)
-both false b h = absurd (cc h)
-
-eq_is : (n k : ℕ) → (n == k) ≡ true → n ≡ k
-eq_is n k e = grind (arith, nat_tests)
-
-eq_self : (n : ℕ) → (n == n) ≡ true
-eq_self n = grind (arith, nat_tests)
-
-some_same : {A : Type 0} (x y : A) → Some x ≡ Some y → x ≡ y
-some_same x y e = cc e
-
 serve_by : {A : Type 0} (b : Bool) (x out : A) → cond b (Some x) None ≡ Some out → (b ≡ true) × (x ≡ out)
-serve_by true x out e = (refl, some_same x out e)
+serve_by true x out e = (refl, some_is x out e)
 serve_by false x out e = absurd (cc e)
 
 -- ---- a serving of a round
@@ -65,7 +55,7 @@ line_served : (d : AdcTable) (s : AdcState) (u g line received : ℕ) (b : Bool)
     → (is_of u (cond b (Some (line - 24)) None) && is_of g (cond b (round_group (round_at s (line - 24))) (requesting_group s (listener d s (line - 28))))) ≡ true → Served s u g (Serves line received)
 line_served d s u g line received false on e = absurd (cc e)
 line_served d s u g line received true on e =
-    let parts = both (line - 24 == u) (is_of g (round_group (round_at s (line - 24)))) e in
+    let parts = and_parts (line - 24 == u) (is_of g (round_group (round_at s (line - 24)))) e in
     let at : line - 24 ≡ u = eq_is (line - 24) u parts.0 in
     let r = group_named g (round_at s (line - 24)) parts.1 in
     record { line = line; received = received; is = refl; unit_line = on; unit = at; round = r.0; there = ap (λ i. round_at s i) (sym at) ∙ r.1; own = r.2 }
@@ -113,11 +103,8 @@ serving_waits d w s h out u g made serve lt once =
 
 -- ---- a request that no round was served for
 
-or_false : (a b : Bool) → a ≡ false → b ≡ false → (a || b) ≡ false
-or_false a b e f = ap (λ x. x || b) e ∙ f
-
 none_more : (p : Seen → Bool) (e : Seen) (es : List Seen) → p e ≡ false → NoneOf p es → NoneOf p (e ∷ es)
-none_more p e es h none = or_false (p e) (list_any p es) h none
+none_more p e es h none = or_from (p e) (list_any p es) h none
 
 later : (g : ℕ) (e : Seen) (past : List Seen) → stops g e ≡ false → serves g e ≡ false → HasNewRequest g past → HasNewRequest g (e ∷ past)
 later g e past calm quiet h = record {
@@ -181,7 +168,7 @@ elsewhere_quiet d w s h out u g r true single away there own e =
     let mine : is_on_unit u (group_of d g) ≡ true = ap (λ i. is_on_unit u (group_of d i)) (sym own) ∙ single.placed u r there in
     let its : is_on_unit v.0 (group_of d g) ≡ true = ap (λ i. is_on_unit v.0 (group_of d i)) (sym x.own) ∙ single.placed v.0 x.round x.there in
     let same : v.0 ≡ u = same_unit v.0 u (group_of d g) its mine in
-    let on : is_of u (unit_served h) ≡ true = ap (λ i. is_of i (unit_served h)) (sym same) ∙ (both (is_of v.0 (unit_served h)) (is_of g (seen d w h s out).group) v.1).0 in
+    let on : is_of u (unit_served h) ≡ true = ap (λ i. is_of i (unit_served h)) (sym same) ∙ (and_parts (is_of v.0 (unit_served h)) (is_of g (seen d w h s out).group) v.1).0 in
     absurd (is_on_by (is_of u (unit_started h)) (is_of u (unit_aborted h)) (is_of u (unit_served h)) on away)
 
 -- ---- what the state says
@@ -220,7 +207,7 @@ module _ (d : AdcTable) (w : World) (s : AdcState) (h : Happening Call) (out : O
       let was : round_at s u ≡ Some r = sym same ∙ at in
       later g view past (ap (λ i. stops i view) (sym own) ∙ calm r was) (elsewhere_quiet d w s h out u g r (serves g view) single away was own refl) (before.runs g lt once u r was own)
   runs_after g lt once u r (steps.Begun k x start few there is) at own =
-      let same : k ≡ g = ap (λ (y : Round). y.group) (some_same _ r (sym is ∙ at)) ∙ own in
+      let same : k ≡ g = ap (λ (y : Round). y.group) (some_is _ r (sym is ∙ at)) ∙ own in
       let start_so : starts_on u g view ≡ true = ap (λ i. starts_on u i view) (sym same) ∙ start in
       let calm = start_calm view u g start_so in
       later g view past calm.0 calm.1 (before.waits g lt once x (ap (λ i. (group_at s i).waiting) (sym same) ∙ there))
@@ -274,7 +261,7 @@ module _ (d : AdcTable) (e : Event Call) (past : List (Event Call)) (u g : ℕ) 
 
   unit_done : (b c : Bool) (line : ℕ) → (b && cond (is_unit_line line) (is_done d e.world (round_at here (line - 24))) c) ≡ true → is_unit_line line ≡ true → is_done d e.world (round_at here (line - 24)) ≡ true
   unit_done b c line f on =
-      sym (ap (λ q. cond q (is_done d e.world (round_at here (line - 24))) c) on) ∙ (both b (cond (is_unit_line line) (is_done d e.world (round_at here (line - 24))) c) f).1
+      sym (ap (λ q. cond q (is_done d e.world (round_at here (line - 24))) c) on) ∙ (and_parts b (cond (is_unit_line line) (is_done d e.world (round_at here (line - 24))) c) f).1
 
   done : is_finished e.world (group_of d round_there.round.group) round_there.round ≡ true
   done =

@@ -3,6 +3,10 @@ use Rattle.std.proofs.Common.{◌≡◌, ℕ, zero, suc, ◌+◌, ◌<◌, ◌==
 use Rattle.std.specs.Prelude.{IsSome}
 use Rattle.std.specs.List.{list_any}
 use Rattle.std.proofs.lemmas.Bool.Decides.{nat_tests}
+use Rattle.std.proofs.lemmas.Bool.{and_parts, or_from}
+use Rattle.plain_facts.specs.Truths.{or_true}
+use Rattle.plain_facts.specs.Options.{some_is}
+use Rattle.plain_facts.specs.Numbers.{eq_is, eq_self}
 use Rattle.mcal_base.specs.declared.answer_name.AnswerName.{AnswerName}
 use Rattle.mcal_base.specs.declared.directive.Order.TheVariants.{SpiFault}
 use Rattle.mcal_base.specs.declared.error_name.ErrorName.{ErrorName}
@@ -10,7 +14,7 @@ use Rattle.run_model.specs.Frame.{state_by, begun_by}
 use Rattle.run_model.specs.Machine.{Happening, Acts, Serves, Starts, Aborts, Moves, Restarts, Outcome}
 use Rattle.run_model.specs.World.{World}
 use Rattle.spi_machine.proofs.Numbers.{item-same}
-use Rattle.spi_machine.proofs.Runs.{some_same, serve_by}
+use Rattle.spi_machine.proofs.Runs.{serve_by}
 use Rattle.spi_machine.specs.Checks.{error_by}
 use Rattle.spi_machine.specs.Machine.{spi_machine, acts_by, finds_held, after_last, sequence_after, job_over, pending_of, served_by, served, unit_of, run_of, ready, start_by, next_at, number_of}
 use Rattle.spi_machine.specs.Pending.{Pending, end_by, has_further}
@@ -21,7 +25,6 @@ use Rattle.spi_machine.specs.declared.call.Call.{Call}
 use Rattle.spi_machine.specs.declared.call.Call.TheVariants.{Init}
 use Rattle.spi_machine.specs.declared.table.SpiTable.{SpiTable}
 use Rattle.serial_laws.specs.Faults.{begins_on, is_unit, leaves_word}
-use Rattle.serial_laws.proofs.Entries.{eq_self, eq_is}
 use Rattle.serial_laws.proofs.Words.{word_seen, begins_seen, hits, After, step_word}
 use Rattle.whole_runs.specs.Runs.{Event, AreAllowed}
 use Rattle.run_laws.specs.Results.{state_of, touches, WordSince, IsMet, HasFailed}
@@ -58,7 +61,7 @@ line_touched d w s received u (Some v) e = serves_touched d w s received u v (ru
 start_touched : (d : SpiTable) (w : World) (s : SpiState) (received u : ℕ) (k : Option ℕ) (o : Option Pending) (out : Outcome SpiState) → is_unit u k ≡ true → start_by d w s k received o ≡ Some out → begins_on u out.begins ≡ true
 start_touched d w s received u None o out on e = absurd (cc on)
 start_touched d w s received u (Some v) None out on e = absurd (cc e)
-start_touched d w s received u (Some v) (Some p) out on e = ap (λ (x : Outcome SpiState). begins_on u x.begins) (sym (some_same _ out e)) ∙ on
+start_touched d w s received u (Some v) (Some p) out on e = ap (λ (x : Outcome SpiState). begins_on u x.begins) (sym (some_is _ out e)) ∙ on
 
 touched : (d : SpiTable) (w : World) (s : SpiState) (h : Happening Call) (out : Outcome SpiState) (u : ℕ) → (spi_machine d).happens w s h ≡ Some out → touches u h ≡ true → Touched u out
 touched d w s (Acts call times) out u made on = absurd (cc on)
@@ -67,7 +70,7 @@ touched d w s (Serves line received) out u made on =
 touched d w s (Starts unit made_by received) out u made on = inl (start_touched d w s received u (number_of unit) (next_at d s (number_of unit)) out on made)
 touched d w s (Aborts unit) out u made on = absurd (cc on)
 touched d w s (Moves order) out u made on = absurd (cc on)
-touched d w s (Restarts reason) out u made on = inr (ap (λ (x : Outcome SpiState). run_at x.state u) (sym (some_same _ out made)))
+touched d w s (Restarts reason) out u made on = inr (ap (λ (x : Outcome SpiState). run_at x.state u) (sym (some_is _ out made)))
 
 -- ---- an event that doesn't
 
@@ -97,7 +100,7 @@ not_false b e = ap not e
 
 act_kept : (d : SpiTable) (w : World) (s : SpiState) (call : Call) (times : ℕ → ℕ) (out : Outcome SpiState) (u : ℕ) (q : Bool) → (spi_machine d).happens w s (Acts call times) ≡ Some out → is_init call ≡ q → Kept u w s (Acts call times) out
 act_kept d w s call times out u true made e =
-    subst (λ (x : Outcome SpiState). Kept u w s (Acts call times) x) (some_same _ out made) (init_kept d w s u call times (error_by d call (is_off s.mode) (finds_held d s call)) e)
+    subst (λ (x : Outcome SpiState). Kept u w s (Acts call times) x) (some_is _ out made) (init_kept d w s u call times (error_by d call (is_off s.mode) (finds_held d s call)) e)
 act_kept d w s call times out u false made e = step_kept d w s (Acts call times) out u made (not_false (is_init call) e)
 
 kept : (d : SpiTable) (w : World) (s : SpiState) (h : Happening Call) (out : Outcome SpiState) (u : ℕ) → (spi_machine d).happens w s h ≡ Some out → touches u h ≡ false → Kept u w s h out
@@ -124,7 +127,7 @@ Story d u past = (r : Run) → run_at (state_of d past) u ≡ Some r → WordOf 
 
 seen_parts : (o : Option Run) (r : Run) (began : ℕ) (failed : Bool) → word_seen o ≡ Some (began, failed) → o ≡ Some r → (r.transfer.began ≡ began) × (r.transfer.failed ≡ failed)
 seen_parts o r began failed e is =
-    let same = some_same _ _ (sym (ap word_seen is) ∙ e) in (ap (λ (p : ℕ × Bool). p.0) same, ap (λ (p : ℕ × Bool). p.1) same)
+    let same = some_is _ _ (sym (ap word_seen is) ∙ e) in (ap (λ (p : ℕ × Bool). p.0) same, ap (λ (p : ℕ × Bool). p.1) same)
 
 fresh : (d : SpiTable) (e : Event Call) (past : List (Event Call)) (out : Outcome SpiState) (u : ℕ) (r : Run) → (spi_machine d).happens e.world (state_of d past) e.what ≡ Some out → begins_on u out.begins ≡ true → run_at out.state u ≡ Some r
     → WordOf d u (e ∷ past) r
@@ -143,16 +146,13 @@ or_turned false true false = refl
 or_turned false false true = refl
 or_turned false false false = refl
 
-or_false : (a b : Bool) → a ≡ false → b ≡ false → (a || b) ≡ false
-or_false a b e f = ap (λ x. x || b) e ∙ f
-
 on : (d : SpiTable) (e : Event Call) (past : List (Event Call)) (out : Outcome SpiState) (u : ℕ) (r old : Run) → (spi_machine d).happens e.world (state_of d past) e.what ≡ Some out → touches u e.what ≡ false
     → word_seen (run_at out.state u) ≡ After u e.world (Some (old.transfer.began, old.transfer.failed)) e.what → run_at out.state u ≡ Some r → WordOf d u past old → WordOf d u (e ∷ past) r
 on d e past out u r old made off seen is x =
     let parts = seen_parts (run_at out.state u) r old.transfer.began (old.transfer.failed || hits u old.transfer.began e.world.now e.what) seen is in
     let w = x.word in
     record {
-      word = record { since = e ∷ w.since; start = w.start; before = w.before; is = ap (λ (l : List (Event Call)). e ∷ l) w.is; begins = w.begins; alone = or_false (touches u e.what) _ off w.alone };
+      word = record { since = e ∷ w.since; start = w.start; before = w.before; is = ap (λ (l : List (Event Call)). e ∷ l) w.is; begins = w.begins; alone = or_from (touches u e.what) _ off w.alone };
       began = parts.0 ∙ x.began;
       failed =
           parts.1
@@ -195,10 +195,6 @@ story d u (e ∷ past) allowed r is =
 
 -- ---- why it failed
 
-both : (a b : Bool) → (a && b) ≡ true → (a ≡ true) × (b ≡ true)
-both true b h = (refl, h)
-both false b h = absurd (cc h)
-
 late : (a b : ℕ) → not (nat_le a b) ≡ true → b < a
 late a b e = grind (arith, nat_tests)
 
@@ -207,7 +203,7 @@ is_late a b h = grind (arith, nat_tests)
 
 hit_is : (u began now : ℕ) (h : Happening Call) → hits u began now h ≡ true → (h ≡ Moves (SpiFault u)) × (now < began + 8)
 hit_is u began now (Moves (SpiFault k)) e =
-    let parts = both (k == u) (not (nat_le (began + 8) now)) e in (ap (λ i. Moves (SpiFault i)) (eq_is k u parts.0), late (began + 8) now parts.1)
+    let parts = and_parts (k == u) (not (nat_le (began + 8) now)) e in (ap (λ i. Moves (SpiFault i)) (eq_is k u parts.0), late (began + 8) now parts.1)
 hit_is u began now h e = absurd (cc e)
 
 is_hit : (u began now : ℕ) (h : Happening Call) → h ≡ Moves (SpiFault u) → now < began + 8 → hits u began now h ≡ true
@@ -217,10 +213,6 @@ is_hit u began now h e soon =
 either : (a b : Bool) → (a || b) ≡ true → (a ≡ true) ⊎ (b ≡ true)
 either true b e = inl refl
 either false b e = inr e
-
-or_true : (b : Bool) → (b || true) ≡ true
-or_true true = refl
-or_true false = refl
 
 met_by : (u began : ℕ) (since : List (Event Call)) → met u began since ≡ true → IsMet u began since
 met_by u began [] e = absurd (cc e)

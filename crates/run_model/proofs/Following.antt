@@ -7,14 +7,14 @@ use Rattle.mcal_base.specs.declared.directive.Order.TheVariants as orders
 use Rattle.mcal_base.specs.declared.directive.Reason.TheVariants.{Watchdog, Software}
 use Rattle.mcal_base.specs.declared.directive.Request.{Request}
 use Rattle.run_model.specs.declared.item.Stepped.{Stepped}
-use Rattle.run_model.specs.declared.reach.Reach.{Reach}
+use Rattle.run_model.specs.declared.stop_condition.StopCondition.{StopCondition}
 use Rattle.run_model.specs.Entry as entry
-use Rattle.run_model.specs.Moment.{Setting, Moment, Deed, Steps, Happens, Resets, after, after_all}
+use Rattle.run_model.specs.Moment.{Setting, Moment, Transition, Steps, Happens, Resets, after, after_all}
 use Rattle.run_model.specs.Script.{order_at, deed_of, deeds_of}
 use Rattle.run_model.specs.Follows.{awaits, MayWait, ends_within, is_reached, GoesOn, Gives, deeds_in, Follows}
 use Rattle.run_model.specs.Frame.{resets_chip}
 
-pub after_all-append : {State Call : Type 0} (g : Setting State Call) (m : Moment State Call) (hs ks : List (Deed Call)) → after_all g m (hs ++ ks) ≡ after_all g (after_all g m hs) ks
+pub after_all-append : {State Call : Type 0} (g : Setting State Call) (m : Moment State Call) (hs ks : List (Transition Call)) → after_all g m (hs ++ ks) ≡ after_all g (after_all g m hs) ks
 after_all-append g m [] ks = refl
 after_all-append g m (h ∷ hs) ks = after_all-append g (after g m h) hs ks
 
@@ -52,11 +52,11 @@ pub data Readies {State Call : Type 0} (g : Setting State Call) (line : ℕ) (m 
   After_wait : (u : ℕ) → 0 < wait_on m.chip u → MayWait g m.opens u → ends_within (wait_on m.chip u) (g.machine.expires m.world m.state) ≡ false → awaits u s.made ≡ true → Readies g line m s ((record { line = line; depth = length m.opens; said = entry.Happens (orders.Tick (wait_on m.chip u)) }) ∷ []) (after g m (Happens (orders.Tick (wait_on m.chip u))))
 
 -- the items are steps of the top frame at none of which the directive stops, and lead from a moment to a moment, after so many steps
-pub data Went {State Call : Type 0} (g : Setting State Call) (line : ℕ) (reach : Reach) : ℕ → Moment State Call → List entry.Entry → ℕ → Moment State Call → Type 0 where
+pub data Went {State Call : Type 0} (g : Setting State Call) (line : ℕ) (reach : StopCondition) : ℕ → Moment State Call → List entry.Entry → ℕ → Moment State Call → Type 0 where
   Not_yet : (made : ℕ) (m : Moment State Call) → Went g line reach made m [] made m
   Step_on : (made : ℕ) (m : Moment State Call) (s : Stepped) (ws : List entry.Entry) (m1 : Moment State Call) (es : List entry.Entry) (made1 : ℕ) (last : Moment State Call) → Readies g line m s ws m1 → resets_chip s.made ≡ false → is_some s.ended || is_reached reach (made + 1) s ≡ false → Went g line reach (made + 1) (after g m1 (Steps s)) es made1 last → Went g line reach made m (ws ++ (record { line = line; depth = length m1.opens; said = entry.Steps s }) ∷ es) made1 last
 
-module _ {State Call : Type 0} (g : Setting State Call) (line : ℕ) (reach : Reach) where
+module _ {State Call : Type 0} (g : Setting State Call) (line : ℕ) (reach : StopCondition) where
   -- the item of a step in this moment
   abbrev step_at : Moment State Call → Stepped → entry.Entry
   step_at m s = record { line = line; depth = length m.opens; said = entry.Steps s }

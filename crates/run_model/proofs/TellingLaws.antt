@@ -3,6 +3,7 @@ use Rattle.std.proofs.Common.{◌≡◌, ◌≢◌, ℕ, zero, suc, ◌+◌, ◌
 use Rattle.std.proofs.lemmas.Bool.Decides.{eqb_tells, nat_tests}
 use Rattle.std.proofs.lemmas.List.Sums.{sum_by-append}
 use Rattle.std.specs.Prelude.{if◌then◌else◌, slice_get}
+use Rattle.plain_facts.specs.Numbers.{same_or_other}
 use Rattle.chip_units.proofs.SerialLaws.{has_unit-after, unit_at-with_unit_same, unit_at-with_unit_other}
 use Rattle.chip_units.specs.SerialAccesses.{Access, Writes, Words, Faults, Passes, HasUnit, after as after_access}
 use Rattle.chip_units.specs.Serials as serials
@@ -27,7 +28,7 @@ use Rattle.run_model.specs.Entry as entry
 use Rattle.run_model.specs.Exchanges.{Ports, AreToldBy, ports_fresh, ports_made, ports_after, is_under_port, sent_port, pairs_said, refusals_said, pairs_told, refusals_told, dropped_by, dropped_in}
 use Rattle.run_model.specs.Frame.{Open}
 use Rattle.run_model.specs.Legal.{LegalStep, IsLegalDeed, IsLegal}
-use Rattle.run_model.specs.Moment.{Setting, Moment, Deed, Begins, Enters, Steps, Happens, Resets, after_step, after}
+use Rattle.run_model.specs.Moment.{Setting, Moment, Transition, Begins, Enters, Steps, Happens, Resets, after_step, after}
 use Rattle.run_model.specs.Script.{order_at, deed_of, deeds_of}
 use Rattle.run_model.specs.World.{with_at}
 
@@ -53,9 +54,6 @@ left see b u k s h e (inr ne) = ap see (unit_at-with_unit_other b k u s ne)
 set : (see : Serial → ℕ) (b : Serials) (u k : ℕ) (s : Serial) → HasUnit b u → ((u == k) ≡ true) × (u ≡ k) ⊎ ((u == k) ≡ false) × (u ≢ k) → see (unit_at (with_unit b k s) u) ≡ cond (u == k) (see s) (see (unit_at b u))
 set see b u k s h (inl at) = rw at.0 (rw (← at.1) (ap see (unit_at-with_unit_same b u s h)))
 set see b u k s h (inr ne) = rw ne.0 (ap see (unit_at-with_unit_other b k u s ne.1))
-
-same_or_other : (u k : ℕ) → (u ≡ k) ⊎ (u ≢ k)
-same_or_other u k = elim (eqb_tells u k) [ inl at ↦ inl at.1 | inr ne ↦ inr ne.1 ]
 
 acknowledged_same : (s : Serial) (now : ℕ) (q : Bool) → let t = (if q then record s { received = serials.received s now; word = None } else s) in (t.select ≡ s.select) × (t.width ≡ s.width)
 acknowledged_same s now true = (refl, refl)
@@ -162,7 +160,7 @@ ports_devices (Write r v) p = by r
 ports_devices made p = refl
 
 -- what a deed is to a journal
-abbrev said_of : {Call : Type 0} → Deed Call → entry.Said
+abbrev said_of : {Call : Type 0} → Transition Call → entry.Said
 said_of (Begins c level) = entry.Begins
 said_of (Enters l) = entry.Begins
 said_of (Steps s) = entry.Steps s
@@ -175,7 +173,7 @@ hardware_devices c p orders.Detach e = ap (λ n. n - 1) e
 hardware_devices c p _ e = e
 
 -- the move of a step can be applied
-abbrev CanMake : {Call : Type 0} → Deed Call → Type 0
+abbrev CanMake : {Call : Type 0} → Transition Call → Type 0
 CanMake (Begins c level) = Unit {0}
 CanMake (Enters l) = Unit {0}
 CanMake (Steps s) = CanApply s.made
@@ -187,7 +185,7 @@ module _ {State Call : Type 0} (g : Setting State Call) where
   legal_step m [] s legal = absurd legal
   legal_step m (o ∷ os) s legal = legal.there
 
-  legal_deed : (m : Moment State Call) (x : Deed Call) → IsLegalDeed g m x → CanMake x
+  legal_deed : (m : Moment State Call) (x : Transition Call) → IsLegalDeed g m x → CanMake x
   legal_deed m (Begins c level) legal = tt
   legal_deed m (Enters l) legal = tt
   legal_deed m (Steps s) legal = legal_step m m.opens s legal
@@ -201,7 +199,7 @@ module _ {State Call : Type 0} (g : Setting State Call) where
     devices = devices-move m.chip s.made s.received ∙ h.devices ∙ sym (ports_devices s.made p);
   }
 
-  after_deed : (m : Moment State Call) (x : Deed Call) (p : Ports) → IsLegalDeed g m x → Holds m.chip p → Holds (after g m x).chip (ports_after (said_of x) p)
+  after_deed : (m : Moment State Call) (x : Transition Call) (p : Ports) → IsLegalDeed g m x → Holds m.chip p → Holds (after g m x).chip (ports_after (said_of x) p)
   after_deed m (Begins c level) p legal h = h
   after_deed m (Enters l) p legal h = h
   after_deed m (Steps s) p legal h = after_steps m m.opens s p legal h
@@ -219,14 +217,14 @@ under place c p (Write (SerialData u) v) can h =
 under place c p made can h = (refl, refl)
 
 -- and a deed
-deed_pairs : {Call : Type 0} (place : ℕ) (c : Chip) (p : Ports) (x : Deed Call) → CanMake x → Holds c p → pairs_by c place x ≡ pairs_said place p (said_of x)
+deed_pairs : {Call : Type 0} (place : ℕ) (c : Chip) (p : Ports) (x : Transition Call) → CanMake x → Holds c p → pairs_by c place x ≡ pairs_said place p (said_of x)
 deed_pairs place c p (Begins call level) can h = refl
 deed_pairs place c p (Enters l) can h = refl
 deed_pairs place c p (Steps s) can h = let e = under place c p s.made can h in rw (e.0, e.1) refl
 deed_pairs place c p (Happens order) can h = refl
 deed_pairs place c p (Resets reason) can h = refl
 
-deed_refusals : {Call : Type 0} (place : ℕ) (c : Chip) (p : Ports) (x : Deed Call) → CanMake x → Holds c p → refusals_by c place x ≡ refusals_said place p (said_of x)
+deed_refusals : {Call : Type 0} (place : ℕ) (c : Chip) (p : Ports) (x : Transition Call) → CanMake x → Holds c p → refusals_by c place x ≡ refusals_said place p (said_of x)
 deed_refusals place c p (Begins call level) can h = refl
 deed_refusals place c p (Enters l) can h = refl
 deed_refusals place c p (Steps s) can h = let e = under place c p s.made can h in rw e.0 refl
@@ -235,23 +233,23 @@ deed_refusals place c p (Resets reason) can h = refl
 
 -- ---- what deeds tell by the ports alone
 
-abbrev pairs_deeds : {Call : Type 0} → (place : ℕ) → Ports → List (Deed Call) → List (ℕ × ℕ)
+abbrev pairs_deeds : {Call : Type 0} → (place : ℕ) → Ports → List (Transition Call) → List (ℕ × ℕ)
 pairs_deeds place p [] = []
 pairs_deeds place p (x ∷ xs) = pairs_said place p (said_of x) ++ pairs_deeds place (ports_after (said_of x) p) xs
 
-abbrev refusals_deeds : {Call : Type 0} → (place : ℕ) → Ports → List (Deed Call) → ℕ
+abbrev refusals_deeds : {Call : Type 0} → (place : ℕ) → Ports → List (Transition Call) → ℕ
 refusals_deeds place p [] = 0
 refusals_deeds place p (x ∷ xs) = refusals_said place p (said_of x) + refusals_deeds place (ports_after (said_of x) p) xs
 
 module _ {State Call : Type 0} (g : Setting State Call) (place : ℕ) where
-  pairs_hold : (m : Moment State Call) (p : Ports) (xs : List (Deed Call)) → IsLegal g m xs → Holds m.chip p → pairs_from g m place xs ≡ pairs_deeds place p xs
+  pairs_hold : (m : Moment State Call) (p : Ports) (xs : List (Transition Call)) → IsLegal g m xs → Holds m.chip p → pairs_from g m place xs ≡ pairs_deeds place p xs
   pairs_hold m p [] legal h = refl
   pairs_hold m p (x ∷ xs) legal h =
       let first = deed_pairs place m.chip p x (legal_deed g m x legal.2) h in
       let rest = pairs_hold (after g m x) (ports_after (said_of x) p) xs legal.3 (after_deed g m x p legal.2 h) in
       ap (λ ps. ps ++ pairs_from g (after g m x) place xs) first ∙ ap (λ ps. pairs_said place p (said_of x) ++ ps) rest
 
-  refusals_hold : (m : Moment State Call) (p : Ports) (xs : List (Deed Call)) → IsLegal g m xs → Holds m.chip p → refusals_from g m place xs ≡ refusals_deeds place p xs
+  refusals_hold : (m : Moment State Call) (p : Ports) (xs : List (Transition Call)) → IsLegal g m xs → Holds m.chip p → refusals_from g m place xs ≡ refusals_deeds place p xs
   refusals_hold m p [] legal h = refl
   refusals_hold m p (x ∷ xs) legal h =
       let first = deed_refusals place m.chip p x (legal_deed g m x legal.2) h in
@@ -261,7 +259,7 @@ module _ {State Call : Type 0} (g : Setting State Call) (place : ℕ) where
 -- ---- the deeds of a journal
 
 module _ {Call : Type 0} (call_of : Request → Call) where
-  item_pairs : (place : ℕ) (p : Ports) (order : Option Order) (said : entry.Said) (rest : List (Deed Call)) → pairs_deeds place p (deed_of call_of order said ++ rest) ≡ pairs_said place p said ++ pairs_deeds place (ports_after said p) rest
+  item_pairs : (place : ℕ) (p : Ports) (order : Option Order) (said : entry.Said) (rest : List (Transition Call)) → pairs_deeds place p (deed_of call_of order said ++ rest) ≡ pairs_said place p said ++ pairs_deeds place (ports_after said p) rest
   item_pairs place p order (entry.Happens (orders.Show s)) rest = refl
   item_pairs place p order (entry.Happens o) rest = refl
   item_pairs place p (Some (orders.Call level r)) entry.Begins rest = refl
@@ -273,7 +271,7 @@ module _ {Call : Type 0} (call_of : Request → Call) where
   item_pairs place p order (entry.Steps s) rest = refl
   item_pairs place p order (entry.Resets r k) rest = refl
 
-  item_refusals : (place : ℕ) (p : Ports) (order : Option Order) (said : entry.Said) (rest : List (Deed Call)) → refusals_deeds place p (deed_of call_of order said ++ rest) ≡ refusals_said place p said + refusals_deeds place (ports_after said p) rest
+  item_refusals : (place : ℕ) (p : Ports) (order : Option Order) (said : entry.Said) (rest : List (Transition Call)) → refusals_deeds place p (deed_of call_of order said ++ rest) ≡ refusals_said place p said + refusals_deeds place (ports_after said p) rest
   item_refusals place p order (entry.Happens (orders.Show s)) rest = omega arith
   item_refusals place p order (entry.Happens o) rest = refl
   item_refusals place p (Some (orders.Call level r)) entry.Begins rest = refl

@@ -14,7 +14,7 @@ use Rattle.mcal_base.specs.declared.register.Reg.{Reg}
 use Rattle.mcal_base.specs.declared.register.Reg.TheVariants.{SerialData}
 use Rattle.serial_devices.specs.Lines.{Line, CallsOne, answered, extended, pairs_of_answer}
 use Rattle.run_model.specs.Devices.{LeavesAll, DeedCalls, AllCalls, AreTold, HasRisen, is_under, sent_by, pair_of, pairs_at, pairs_by, pairs_from, refusals_by, refusals_from}
-use Rattle.run_model.specs.Moment.{Setting, Moment, Deed, Begins, Enters, Steps, Happens, Resets, after}
+use Rattle.run_model.specs.Moment.{Setting, Moment, Transition, Begins, Enters, Steps, Happens, Resets, after}
 use Rattle.run_model.proofs.CallsLaws.{calls-count}
 
 -- ---- pairs
@@ -141,14 +141,14 @@ told_hardware orders.Detach k old new h =
     rw h (λ there. ap (option_and_then (λ (l : Line). l.pairs)) (get_fewer (length old - 1) old k there) ∙ extended_none (pairs_at old k), risen_fewer (length old - 1) old k)
 told_hardware order k old new h = told_still k old new h
 
-told_deed : {Call : Type 0} (chip : Chip) (x : Deed Call) (k : ℕ) (old new : List Line) → DeedCalls chip x old new → ToldWith (pairs_by chip k x) (refusals_by chip k x) k old new
+told_deed : {Call : Type 0} (chip : Chip) (x : Transition Call) (k : ℕ) (old new : List Line) → DeedCalls chip x old new → ToldWith (pairs_by chip k x) (refusals_by chip k x) k old new
 told_deed chip (Steps s) k old new h = let told = told_move chip s.made s.received k old new h in (λ there. told.0, told.1)
 told_deed chip (Begins c level) k old new h = told_still k old new h
 told_deed chip (Enters l) k old new h = told_still k old new h
 told_deed chip (Happens order) k old new h = told_hardware order k old new h
 told_deed chip (Resets reason) k old new h = told_still k old new h
 
-told_all : {State Call : Type 0} (g : Setting State Call) (m : Moment State Call) (xs : List (Deed Call)) (k : ℕ) (old new : List Line) → AllCalls g m xs old new → ToldWith (pairs_from g m k xs) (refusals_from g m k xs) k old new
+told_all : {State Call : Type 0} (g : Setting State Call) (m : Moment State Call) (xs : List (Transition Call)) (k : ℕ) (old new : List Line) → AllCalls g m xs old new → ToldWith (pairs_from g m k xs) (refusals_from g m k xs) k old new
 told_all g m [] k old new h = told_still k old new h
 told_all g m (x ∷ xs) k old new h =
     let first = told_deed m.chip x k old h.0 h.1 in
@@ -159,5 +159,5 @@ told_all g m (x ∷ xs) k old new h =
     )
 
 -- the devices after deeds that called them
-pub are_told : {State Call : Type 0} (g : Setting State Call) (m : Moment State Call) (xs : List (Deed Call)) (old new : List Line) → AllCalls g m xs old new → AreTold g m xs old new
+pub are_told : {State Call : Type 0} (g : Setting State Call) (m : Moment State Call) (xs : List (Transition Call)) (old new : List Line) → AllCalls g m xs old new → AreTold g m xs old new
 are_told g m xs old new h = record { count = calls-count g m xs old new h; pairs = λ k. (told_all g m xs k old new h).0; faults = λ k. (told_all g m xs k old new h).1 }

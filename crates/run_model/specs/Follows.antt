@@ -14,13 +14,13 @@ use Rattle.mcal_base.specs.declared.moves.Move.{Move}
 use Rattle.mcal_base.specs.declared.moves.Move.TheVariants.{Read, Mask, Unmask, Note}
 use Rattle.mcal_base.specs.declared.register.Reg.TheVariants.{SerialWait}
 use Rattle.run_model.specs.declared.item.Stepped.{Stepped}
-use Rattle.run_model.specs.declared.reach.Reach.{Reach}
-use Rattle.run_model.specs.declared.reach.Reach.TheVariants.{Count, Until, Whole}
+use Rattle.run_model.specs.declared.stop_condition.StopCondition.{StopCondition}
+use Rattle.run_model.specs.declared.stop_condition.StopCondition.TheVariants.{Count, Until, Whole}
 use Rattle.run_model.specs.Causes.{call_cause, line_cause, tags_of, top_noted}
 use Rattle.run_model.specs.Entry as entry
 use Rattle.run_model.specs.Frame.{Open, is_act, resets_chip}
 use Rattle.run_model.specs.Legal.{hardware_held}
-use Rattle.run_model.specs.Moment.{Setting, Moment, Deed, Begins, Enters, Steps, Happens, after, after_all}
+use Rattle.run_model.specs.Moment.{Setting, Moment, Transition, Begins, Enters, Steps, Happens, after, after_all}
 use Rattle.run_model.specs.Script.{deed_of}
 
 -- the items are this one alone, with the directive's line and the number of frames before it
@@ -107,20 +107,20 @@ stops_at stops.Unmask s = is_unmask s.made
 stops_at stops.Note s = is_notice s.made
 
 -- the directive stops after this step, having made so many
-abbrev pub is_reached : Reach → ℕ → Stepped → Bool
+abbrev pub is_reached : StopCondition → ℕ → Stepped → Bool
 is_reached (Count n) made s = made == n
 is_reached (Until stop) made s = stops_at stop s
 is_reached Whole made s = false
 
 -- what comes after a step: the reset that it makes, or nothing where the frame ended or the directive stops, or more steps
-abbrev pub ThenComes : {State Call : Type 0} → Setting State Call → (line : ℕ) → Reach → (made : ℕ) → Moment State Call → Stepped → (items : List entry.Entry) → (More : Type 0) → Type 0
+abbrev pub ThenComes : {State Call : Type 0} → Setting State Call → (line : ℕ) → StopCondition → (made : ℕ) → Moment State Call → Stepped → (items : List entry.Entry) → (More : Type 0) → Type 0
 ThenComes g line reach made m s items More =
     MatchBool (resets_chip s.made)
     (IsOne (after g m (Steps s)) line (entry.Resets Software (length (after g m (Steps s)).opens)) items)
     (MatchBool (is_some s.ended || is_reached reach (made + 1) s) (items ≡ []) More)
 
 -- the item is a step, with which so many were made, and more comes after its deed; or a wait before one
-abbrev pub IsStep : {State Call : Type 0} → Setting State Call → (line : ℕ) → Reach → (made : ℕ) → Moment State Call → entry.Entry → (items : List entry.Entry) → entry.Said → ((made : ℕ) → Deed Call → Type 0) → Type 0
+abbrev pub IsStep : {State Call : Type 0} → Setting State Call → (line : ℕ) → StopCondition → (made : ℕ) → Moment State Call → entry.Entry → (items : List entry.Entry) → entry.Said → ((made : ℕ) → Transition Call → Type 0) → Type 0
 IsStep g line reach made m e items (entry.Steps s) More = (e.line ≡ line) × (e.depth ≡ length m.opens) × ThenComes g line reach made m s items (More (made + 1) (Steps s))
 IsStep g line reach made m e items (entry.Happens (orders.Tick n)) More = (e.line ≡ line) × (e.depth ≡ length m.opens) × Waits g line m n items (More made (Happens (orders.Tick n)))
 IsStep g line reach made m e items (entry.Happens o) More = ⊥
@@ -129,12 +129,12 @@ IsStep g line reach made m e items (entry.Stays c) More = ⊥
 IsStep g line reach made m e items (entry.Resets r k) More = ⊥
 
 -- the items are steps of the top frame, each after its wait, as far as the directive reaches, or to the frame's end, or to a reset; so many were made before
-abbrev pub GoesOn : {State Call : Type 0} → Setting State Call → (line : ℕ) → Reach → (made : ℕ) → Moment State Call → List entry.Entry → Type 0
+abbrev pub GoesOn : {State Call : Type 0} → Setting State Call → (line : ℕ) → StopCondition → (made : ℕ) → Moment State Call → List entry.Entry → Type 0
 GoesOn g line reach made m [] = ⊥
 GoesOn g line reach made m (e ∷ es) = IsStep g line reach made m e es e.said (λ n deed. GoesOn g line reach n (after g m deed) es)
 
 -- the items of `run`, `upto` and `finish`: held without a frame, and `run 0` makes no step
-abbrev pub Goes : {State Call : Type 0} → Setting State Call → (line : ℕ) → Reach → Moment State Call → List (Open Call) → List entry.Entry → Type 0
+abbrev pub Goes : {State Call : Type 0} → Setting State Call → (line : ℕ) → StopCondition → Moment State Call → List (Open Call) → List entry.Entry → Type 0
 Goes g line reach m [] items = IsOne m line (entry.Stays Empty) items
 Goes g line (Count zero) m (o ∷ os) items = items ≡ []
 Goes g line (Count (suc n)) m (o ∷ os) items = GoesOn g line (Count (suc n)) 0 m items
@@ -156,12 +156,12 @@ BeginsOnly m line (Some c) items = IsOne m line (entry.Stays c) items
 BeginsOnly m line None items = IsOne m line entry.Begins items
 
 -- the same, and then the frame's steps to its end
-pub record BeginsAndGoes {State Call : Type 0} (g : Setting State Call) (line : ℕ) (m : Moment State Call) (deed : Deed Call) (items : List entry.Entry) : Type 0 where
+pub record BeginsAndGoes {State Call : Type 0} (g : Setting State Call) (line : ℕ) (m : Moment State Call) (deed : Transition Call) (items : List entry.Entry) : Type 0 where
   pub steps : List entry.Entry
   pub is : items ≡ (record { line = line; depth = length m.opens; said = entry.Begins }) ∷ steps
   pub goes : GoesOn g line Whole 0 (after g m deed) steps
 
-abbrev pub BeginsWhole : {State Call : Type 0} → Setting State Call → Moment State Call → (line : ℕ) → Deed Call → Option Held → List entry.Entry → Type 0
+abbrev pub BeginsWhole : {State Call : Type 0} → Setting State Call → Moment State Call → (line : ℕ) → Transition Call → Option Held → List entry.Entry → Type 0
 BeginsWhole g m line deed (Some c) items = IsOne m line (entry.Stays c) items
 BeginsWhole g m line deed None items = BeginsAndGoes g line m deed items
 
@@ -200,7 +200,7 @@ Gives g call_of m line (orders.Reset reason) items = IsOne m line (entry.Resets 
 Gives g call_of m line (orders.Show s) items = Shows m line (orders.Show s) m.opens items
 
 -- the deeds of a directive's items
-abbrev pub deeds_in : {Call : Type 0} → (Request → Call) → Order → List entry.Entry → List (Deed Call)
+abbrev pub deeds_in : {Call : Type 0} → (Request → Call) → Order → List entry.Entry → List (Transition Call)
 deeds_in call_of order [] = []
 deeds_in call_of order (e ∷ es) = deed_of call_of (Some order) e.said ++ deeds_in call_of order es
 

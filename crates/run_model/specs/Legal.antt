@@ -29,7 +29,7 @@ use Rattle.run_model.specs.World.{World}
 use Rattle.run_model.specs.Machine.{Moves, Restarts, Begun, Machine, no_answer, select_of}
 use Rattle.run_model.specs.Frame.{Origin, Called, Entered, Owing, ActedAt, Open, outcome_at, begun_by, report_by, is_act, state_after, open_after, is_shared, resets_chip, asks_reset}
 use Rattle.run_model.specs.Causes.{call_cause, line_cause, fill_cause, tags_of, origins_of, top_noted}
-use Rattle.run_model.specs.Moment.{Halves, Setting, is_busy, Moment, Deed, Begins, Enters, Steps, Happens, Resets, after}
+use Rattle.run_model.specs.Moment.{Halves, Setting, is_busy, Moment, Transition, Begins, Enters, Steps, Happens, Resets, after}
 
 -- ---- the events of a step
 
@@ -321,14 +321,14 @@ abbrev pub hardware_held : {State Call : Type 0} → Setting State Call → Mome
 hardware_held g m order = order_held g (is_masked m.chip) m.world m.state (origins_of m.opens) order
 
 -- while the watchdog's time runs no tick passes its end, and there nothing comes but its reset
-abbrev pub InTime : {Call : Type 0} → (left : Option ℕ) → Deed Call → Type 0
+abbrev pub InTime : {Call : Type 0} → (left : Option ℕ) → Transition Call → Type 0
 InTime None d = Unit {0}
 InTime (Some left) (Happens (orders.Tick n)) = (0 < left) × (n ≤ left)
 InTime (Some left) (Resets Watchdog) = Unit {0}
 InTime (Some left) _ = 0 < left
 
 -- a deed is legal in the moment before it
-abbrev pub IsLegalDeed : {State Call : Type 0} → Setting State Call → Moment State Call → Deed Call → Type 0
+abbrev pub IsLegalDeed : {State Call : Type 0} → Setting State Call → Moment State Call → Transition Call → Type 0
 IsLegalDeed g m (Begins c level) = call_cause (is_masked m.chip) (tags_of m.opens) (top_noted m.opens) (g.class_of c) level ≡ None
 IsLegalDeed g m (Enters l) = line_cause (is_masked m.chip) (tags_of m.opens) (g.level_of l) (is_pending m.chip l) ≡ None
 IsLegalDeed g m (Steps s) = LegalStep g m m.opens s
@@ -379,6 +379,6 @@ pub record IsServed {State Call : Type 0} (g : Setting State Call) (m : Moment S
   pub going : AreGoing g m.opens
 
 -- each deed is legal in the moment before it, and comes in time, and each moment is served
-abbrev pub IsLegal : {State Call : Type 0} → Setting State Call → Moment State Call → List (Deed Call) → Type 0
+abbrev pub IsLegal : {State Call : Type 0} → Setting State Call → Moment State Call → List (Transition Call) → Type 0
 IsLegal g m [] = IsServed g m
 IsLegal g m (d ∷ ds) = IsServed g m × InTime (g.machine.expires m.world m.state) d × IsLegalDeed g m d × IsLegal g (after g m d) ds

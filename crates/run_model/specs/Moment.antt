@@ -60,12 +60,12 @@ abbrev pub is_busy : {State Call : Type 0} → Setting State Call → World → 
 is_busy g w s origins c = g.in_use w s c || list_any (reads_from g c) origins
 
 -- what is done in a run: a call begins at a level, a handler begins, the top frame makes a step, the hardware moves, the chip is reset
-pub data Deed (Call : Type 0) : Type 0 where
-  Begins : Call → (level : ℕ) → Deed Call
-  Enters : (line : ℕ) → Deed Call
-  Steps : Stepped → Deed Call
-  Happens : Order → Deed Call
-  Resets : Reason → Deed Call
+pub data Transition (Call : Type 0) : Type 0 where
+  Begins : Call → (level : ℕ) → Transition Call
+  Enters : (line : ℕ) → Transition Call
+  Steps : Stepped → Transition Call
+  Happens : Order → Transition Call
+  Resets : Reason → Transition Call
 
 -- A moment.
 pub record Moment (State Call : Type 0) : Type 0 where
@@ -119,7 +119,7 @@ after_reset g m reason = record {
   steps = m.steps;
 }
 
-abbrev pub after : {State Call : Type 0} → Setting State Call → Moment State Call → Deed Call → Moment State Call
+abbrev pub after : {State Call : Type 0} → Setting State Call → Moment State Call → Transition Call → Moment State Call
 after g m (Begins c level) = record m { opens = opened (Called c) (call_tag g c level) ∷ m.opens }
 after g m (Enters l) = record m { opens = opened (Entered l) (line_tag g l) ∷ m.opens }
 after g m (Steps s) = after_step g m m.opens s
@@ -127,6 +127,6 @@ after g m (Happens order) = after_hardware g m order
 after g m (Resets reason) = after_reset g m reason
 
 -- the moment after a list of deeds
-abbrev pub after_all : {State Call : Type 0} → Setting State Call → Moment State Call → List (Deed Call) → Moment State Call
+abbrev pub after_all : {State Call : Type 0} → Setting State Call → Moment State Call → List (Transition Call) → Moment State Call
 after_all g m [] = m
 after_all g m (d ∷ ds) = after_all g (after g m d) ds

@@ -6,12 +6,12 @@ use Rattle.mcal_base.specs.declared.directive.Directive.{Directive}
 use Rattle.mcal_base.specs.declared.directive.Order.{Order}
 use Rattle.mcal_base.specs.declared.directive.Order.TheVariants as orders
 use Rattle.mcal_base.specs.declared.directive.Request.{Request}
-use Rattle.run_model.specs.declared.reach.Reach.{Reach}
-use Rattle.run_model.specs.declared.reach.Reach.TheVariants.{Count, Until, Whole}
+use Rattle.run_model.specs.declared.stop_condition.StopCondition.{StopCondition}
+use Rattle.run_model.specs.declared.stop_condition.StopCondition.TheVariants.{Count, Until, Whole}
 use Rattle.run_model.specs.Entry as entry
 use Rattle.run_model.specs.Follows.{call_held, line_held, is_awaiting, MayWait, ends_within, is_reached, FirstThen}
 use Rattle.run_model.specs.Frame.{resets_chip, Open}
-use Rattle.run_model.specs.Moment.{Setting, Moment, Deed, Begins, Enters, Steps, Happens, after}
+use Rattle.run_model.specs.Moment.{Setting, Moment, Transition, Begins, Enters, Steps, Happens, after}
 
 -- the step that waited for the word of this unit comes next, or is the one that is asked for
 abbrev pub MayComeAwaited : (u : ℕ) → List entry.Entry → Type 0
@@ -28,7 +28,7 @@ pub record WaitsBefore {State Call : Type 0} (g : Setting State Call) (m : Momen
   pub step : MayComeAwaited unit items
 
 -- the item is a step after which the directive goes on: it neither resets the chip, nor ends the frame, nor is the last that is asked for; or a wait before one
-abbrev pub IsStepBefore : {State Call : Type 0} → Setting State Call → (line : ℕ) → Reach → (made : ℕ) → Moment State Call → entry.Entry → (items : List entry.Entry) → entry.Said → ((made : ℕ) → Deed Call → Type 0) → Type 0
+abbrev pub IsStepBefore : {State Call : Type 0} → Setting State Call → (line : ℕ) → StopCondition → (made : ℕ) → Moment State Call → entry.Entry → (items : List entry.Entry) → entry.Said → ((made : ℕ) → Transition Call → Type 0) → Type 0
 IsStepBefore g line reach made m e items (entry.Steps s) More = (e.line ≡ line) × (e.depth ≡ length m.opens) × (resets_chip s.made || (is_some s.ended || is_reached reach (made + 1) s) ≡ false) × More (made + 1) (Steps s)
 IsStepBefore g line reach made m e items (entry.Happens (orders.Tick n)) More = (e.line ≡ line) × (e.depth ≡ length m.opens) × WaitsBefore g m n items × More made (Happens (orders.Tick n))
 IsStepBefore g line reach made m e items (entry.Happens o) More = ⊥
@@ -37,18 +37,18 @@ IsStepBefore g line reach made m e items (entry.Stays c) More = ⊥
 IsStepBefore g line reach made m e items (entry.Resets r k) More = ⊥
 
 -- the items are steps of the top frame, and the directive asks for one more; so many were made before
-abbrev pub GoesToStop : {State Call : Type 0} → Setting State Call → (line : ℕ) → Reach → (made : ℕ) → Moment State Call → List entry.Entry → Type 0
+abbrev pub GoesToStop : {State Call : Type 0} → Setting State Call → (line : ℕ) → StopCondition → (made : ℕ) → Moment State Call → List entry.Entry → Type 0
 GoesToStop g line reach made m [] = Unit {0}
 GoesToStop g line reach made m (e ∷ es) = IsStepBefore g line reach made m e es e.said (λ n deed. GoesToStop g line reach n (after g m deed) es)
 
 -- the items of `run`, `upto` and `finish` up to the stop; without a frame they ask for no step, and neither does `run 0`
-abbrev pub StopsWithin : {State Call : Type 0} → Setting State Call → (line : ℕ) → Reach → Moment State Call → List (Open Call) → List entry.Entry → Type 0
+abbrev pub StopsWithin : {State Call : Type 0} → Setting State Call → (line : ℕ) → StopCondition → Moment State Call → List (Open Call) → List entry.Entry → Type 0
 StopsWithin g line reach m [] items = ⊥
 StopsWithin g line (Count zero) m (o ∷ os) items = ⊥
 StopsWithin g line reach m (o ∷ os) items = GoesToStop g line reach 0 m items
 
 -- the items of `do` and `serve` up to the stop: the frame began
-pub record BeginsToStop {State Call : Type 0} (g : Setting State Call) (line : ℕ) (m : Moment State Call) (deed : Deed Call) (held : Option Held) (items : List entry.Entry) : Type 0 where
+pub record BeginsToStop {State Call : Type 0} (g : Setting State Call) (line : ℕ) (m : Moment State Call) (deed : Transition Call) (held : Option Held) (items : List entry.Entry) : Type 0 where
   pub free : held ≡ None
   pub steps : List entry.Entry
   pub is : items ≡ (record { line = line; depth = length m.opens; said = entry.Begins }) ∷ steps

@@ -5,10 +5,10 @@ mod causes;
 mod class;
 mod item;
 mod journal;
-mod reach;
+mod stop_condition;
 
 pub use causes::{MOST_FRAMES, call_cause, is_blocked, line_cause};
 pub use class::{Class, Key, KeyKind, Kind, Tag};
 pub use item::{Hardware, Item, Logged, LoggedAnswer, Span, Stepped, What};
 pub use journal::{Items, Journal, Pool};
-pub use reach::Reach;
+pub use stop_condition::StopCondition;

@@ -5,11 +5,11 @@ use Rattle.irq_control.specs.declared.held.Held.{Held}
 use Rattle.mcal_base.specs.declared.directive.Directive.{Directive}
 use Rattle.mcal_base.specs.declared.directive.Order.{Order}
 use Rattle.mcal_base.specs.declared.directive.Request.{Request}
-use Rattle.run_model.specs.declared.reach.Reach.TheVariants.{Whole}
+use Rattle.run_model.specs.declared.stop_condition.StopCondition.TheVariants.{Whole}
 use Rattle.run_model.specs.Entry.{Entry, Begins, Stays, Written}
 use Rattle.run_model.specs.Frame as frame
 use Rattle.run_model.specs.Follows.{GoesOn, deeds_in, IsOne, BeginsOnly, BeginsWhole}
-use Rattle.run_model.specs.Moment.{Moment, Deed, after, after_all, start_moment}
+use Rattle.run_model.specs.Moment.{Moment, Transition, after, after_all, start_moment}
 use Rattle.run_model.specs.Script.{deeds_of, deed_of, beginnings_of, order_at}
 use Rattle.run_model.specs.Stops.{GoesToStop, BeginsToStop}
 use Rattle.run_model.proofs.Following.{after_all-append, deeds_of-append}
@@ -33,15 +33,15 @@ module _ {State Call Frame : Type 0} (d : Driver State Call Frame) (first : Chip
   depth_is chip us es h = as_many d us (moment_of d first call_of script es).opens h.matches.frames
 
   -- the deeds with one item more
-  pub deeds_more : (es : List Entry) (e : Entry) (deeds : List (Deed Call)) → deed_of call_of (order_at script e.line) e.said ≡ deeds → deeds_of call_of script (es ++ e ∷ []) ≡ deeds_of call_of script es ++ deeds
+  pub deeds_more : (es : List Entry) (e : Entry) (deeds : List (Transition Call)) → deed_of call_of (order_at script e.line) e.said ≡ deeds → deeds_of call_of script (es ++ e ∷ []) ≡ deeds_of call_of script es ++ deeds
   deeds_more es e deeds h = deeds_of-append call_of script es (e ∷ []) ∙ ap (λ ds. deeds_of call_of script es ++ ds) (append-nil (deed_of call_of (order_at script e.line) e.said) ∙ h)
 
   -- the moment with one item more
-  pub moment_more : (es : List Entry) (e : Entry) (deeds : List (Deed Call)) → deed_of call_of (order_at script e.line) e.said ≡ deeds → moment_of d first call_of script (es ++ e ∷ []) ≡ after_all d.setting (moment_of d first call_of script es) deeds
+  pub moment_more : (es : List Entry) (e : Entry) (deeds : List (Transition Call)) → deed_of call_of (order_at script e.line) e.said ≡ deeds → moment_of d first call_of script (es ++ e ∷ []) ≡ after_all d.setting (moment_of d first call_of script es) deeds
   moment_more es e deeds h = ap (λ ds. after_all d.setting (start_moment d.setting first) ds) (deeds_more es e deeds h) ∙ after_all-append d.setting (start_moment d.setting first) (deeds_of call_of script es) deeds
 
   -- a call or a handler that began, and does no more
-  pub begins_only : (line : ℕ) (order : Order) (deed : Deed Call) (held : Option Held) (chip : Chip) (k : Kept Frame) (before : Written) (k1 : Kept Frame) (after : Written) → beginnings_of call_of (Some order) ≡ deed ∷ [] → IsStanding d first call_of script chip k.frames before.entries → Began d first call_of script line deed held chip k before k1 after → Adds d first call_of script order before after chip k1.frames (λ m items. BeginsOnly m line held items)
+  pub begins_only : (line : ℕ) (order : Order) (deed : Transition Call) (held : Option Held) (chip : Chip) (k : Kept Frame) (before : Written) (k1 : Kept Frame) (after : Written) → beginnings_of call_of (Some order) ≡ deed ∷ [] → IsStanding d first call_of script chip k.frames before.entries → Began d first call_of script line deed held chip k before k1 after → Adds d first call_of script order before after chip k1.frames (λ m items. BeginsOnly m line held items)
   begins_only line order deed held chip k before k1 after at stands h =
       let n = depth_is chip k.frames before.entries stands in
       record {
@@ -66,7 +66,7 @@ module _ {State Call Frame : Type 0} (d : Driver State Call Frame) (first : Chip
       }
 
   -- the item of a beginning, and those behind it
-  begun_items : (line : ℕ) (deed : Deed Call) (held : Option Held) (chip : Chip) (k : Kept Frame) (before : Written) (k1 : Kept Frame) (between after : Written) (items : List Entry) → Began d first call_of script line deed held chip k before k1 between → after.entries ≡ between.entries ++ items → after.entries ≡ before.entries ++ (record { line = line; depth = length k.frames; said = Begins }) ∷ items
+  begun_items : (line : ℕ) (deed : Transition Call) (held : Option Held) (chip : Chip) (k : Kept Frame) (before : Written) (k1 : Kept Frame) (between after : Written) (items : List Entry) → Began d first call_of script line deed held chip k before k1 between → after.entries ≡ between.entries ++ items → after.entries ≡ before.entries ++ (record { line = line; depth = length k.frames; said = Begins }) ∷ items
   begun_items line deed held chip k before k1 between after items h is =
       is ∙ ap (λ w. w.entries ++ items) h.written ∙ append_assoc before.entries ((record { line = line; depth = length k.frames; said = Begins }) ∷ []) items
 
@@ -75,7 +75,7 @@ module _ {State Call Frame : Type 0} (d : Driver State Call Frame) (first : Chip
   first_is line chip k before items stands = ap (λ x. (record { line = line; depth = x; said = Begins }) ∷ items) (depth_is chip k.frames before.entries stands)
 
   -- a call or a handler that began, and was run to its end
-  pub begins_whole : (line : ℕ) (order : Order) (deed : Deed Call) (held : Option Held) (chip : Chip) (k : Kept Frame) (before : Written) (k1 : Kept Frame) (between : Written) (chip2 : Chip) (us2 : List (Under Frame)) (after : Written) → beginnings_of call_of (Some order) ≡ deed ∷ [] → IsStanding d first call_of script chip k.frames before.entries → Began d first call_of script line deed held chip k before k1 between → Adds d first call_of script order between after chip2 us2 (λ m items. GoesOn d.setting line Whole 0 m items) → Adds d first call_of script order before after chip2 us2 (λ m items. BeginsWhole d.setting m line deed held items)
+  pub begins_whole : (line : ℕ) (order : Order) (deed : Transition Call) (held : Option Held) (chip : Chip) (k : Kept Frame) (before : Written) (k1 : Kept Frame) (between : Written) (chip2 : Chip) (us2 : List (Under Frame)) (after : Written) → beginnings_of call_of (Some order) ≡ deed ∷ [] → IsStanding d first call_of script chip k.frames before.entries → Began d first call_of script line deed held chip k before k1 between → Adds d first call_of script order between after chip2 us2 (λ m items. GoesOn d.setting line Whole 0 m items) → Adds d first call_of script order before after chip2 us2 (λ m items. BeginsWhole d.setting m line deed held items)
   begins_whole line order deed held chip k before k1 between chip2 us2 after at stands h steps =
       let m = moment_of d first call_of script before.entries in
       let first : Entry = record { line = line; depth = length k.frames; said = Begins } in
@@ -91,7 +91,7 @@ module _ {State Call Frame : Type 0} (d : Driver State Call Frame) (first : Chip
       }
 
   -- one that began, and was run up to a stop
-  pub begins_to_stop : (most line : ℕ) (deed : Deed Call) (held : Moment State Call → Option Held) (chip : Chip) (k : Kept Frame) (before : Written) (k1 : Kept Frame) (between : Written) (chip2 : Chip) (k2 : Kept Frame) (after : Written) → IsStanding d first call_of script chip k.frames before.entries → Began d first call_of script line deed (held (moment_of d first call_of script before.entries)) chip k before k1 between → IsStuck d first call_of script most 0 k1 between chip2 k2 after (λ m items. GoesToStop d.setting line Whole 0 m items) → IsStuck d first call_of script most (bounds_of d.setting (deed ∷ [])) k before chip2 k2 after (λ m items. BeginsToStop d.setting line m deed (held m) items)
+  pub begins_to_stop : (most line : ℕ) (deed : Transition Call) (held : Moment State Call → Option Held) (chip : Chip) (k : Kept Frame) (before : Written) (k1 : Kept Frame) (between : Written) (chip2 : Chip) (k2 : Kept Frame) (after : Written) → IsStanding d first call_of script chip k.frames before.entries → Began d first call_of script line deed (held (moment_of d first call_of script before.entries)) chip k before k1 between → IsStuck d first call_of script most 0 k1 between chip2 k2 after (λ m items. GoesToStop d.setting line Whole 0 m items) → IsStuck d first call_of script most (bounds_of d.setting (deed ∷ [])) k before chip2 k2 after (λ m items. BeginsToStop d.setting line m deed (held m) items)
   begins_to_stop most line deed held chip k before k1 between chip2 k2 after stands h stuck =
       let begun = no_step_counted line (length k.frames) Begins [] k.steps k1.steps before between refl h.steps h.written in
       record {

@@ -1,9 +1,10 @@
 -- How many devices there are after a directive, and a directive that drops one.
-use Rattle.std.proofs.Common.{◌≡◌, ℕ, ◌-◌, ◌<◌, true, false, List, [], ◌∷◌, length, map, take, cond, Some, None, refl, sym, ◌∙◌, ap, subst, arith}
+use Rattle.std.proofs.Common.{◌≡◌, ℕ, ◌-◌, ◌<◌, false, List, [], ◌∷◌, length, map, take, cond, Some, None, refl, sym, ◌∙◌, ap, subst, arith}
 use Rattle.std.specs.Prelude.{◌==◌}
 use Rattle.std.proofs.lemmas.Bool.Decides.{nat_tests}
 use Rattle.std.proofs.lemmas.List.{length-map}
 use Rattle.std.proofs.lemmas.List.Sums.{sum_by-cons}
+use Rattle.plain_facts.specs.Numbers.{isnt_zero, zero_from}
 use Rattle.chip_model.specs.Chip.{Chip}
 use Rattle.chip_model.proofs.DeviceLaws.{devices-move, devices-happened, devices_after}
 use Rattle.irq_control.specs.declared.held.Held.TheVariants.{Unknown}
@@ -18,7 +19,7 @@ use Rattle.run_model.specs.Follows.{HappensOnly, IsOne}
 use Rattle.run_model.specs.Frame.{Open}
 use Rattle.run_model.specs.Legal.{hardware_held}
 use Rattle.run_model.specs.Moment as moment
-use Rattle.run_model.specs.Moment.{Setting, Moment, Deed, after, after_step, after_all}
+use Rattle.run_model.specs.Moment.{Setting, Moment, Transition, after, after_step, after_all}
 use Rattle.run_model.specs.Script.{deeds_of}
 use Rattle.run_model.proofs.CallsLaws.{calls-count}
 use Rattle.serial_devices.specs.Lines.{Line}
@@ -38,7 +39,7 @@ after_drop : (Call : Type 0) (order : Order) (n : ℕ) → devices_after order n
 after_drop Call orders.Detach n = refl
 after_drop Call order n = omega arith
 
-devices_deed : {State Call : Type 0} (g : Setting State Call) (m : Moment State Call) (x : Deed Call) → (after g m x).chip.devices ≡ m.chip.devices - drops_by x
+devices_deed : {State Call : Type 0} (g : Setting State Call) (m : Moment State Call) (x : Transition Call) → (after g m x).chip.devices ≡ m.chip.devices - drops_by x
 devices_deed g m (moment.Begins c level) = omega arith
 devices_deed g m (moment.Enters l) = omega arith
 devices_deed g m (moment.Steps s) = let e = devices_step g m m.opens s in omega (arith, e)
@@ -46,7 +47,7 @@ devices_deed {Call = Call} g m (moment.Happens order) = devices-happened m.chip 
 devices_deed g m (moment.Resets reason) = omega arith
 
 -- as many as were not dropped
-devices_all : {State Call : Type 0} (g : Setting State Call) (m : Moment State Call) (xs : List (Deed Call)) → (after_all g m xs).chip.devices ≡ m.chip.devices - drops_in xs
+devices_all : {State Call : Type 0} (g : Setting State Call) (m : Moment State Call) (xs : List (Transition Call)) → (after_all g m xs).chip.devices ≡ m.chip.devices - drops_in xs
 devices_all g m [] = omega arith
 devices_all g m (x ∷ xs) =
     let first = devices_deed g m x in
@@ -56,22 +57,16 @@ devices_all g m (x ∷ xs) =
 
 -- ---- a directive
 
-is_zero : (n : ℕ) → n ≡ 0 → (n == 0) ≡ true
-is_zero n e = grind (arith, nat_tests)
-
-not_zero : (n : ℕ) → 0 < n → (n == 0) ≡ false
-not_zero n lt = grind (arith, nat_tests)
-
 -- a rack that isn't empty has a device
 pub some_left : (n m : ℕ) → n ≡ m → (n == 0) ≡ false → 0 < m
 some_left n m e h = grind (arith, nat_tests)
 
 -- without a device it is held, and with one it isn't
 none_there : (n : ℕ) → n ≡ 0 → cond (n == 0) (Some Unknown) None ≡ Some Unknown
-none_there n e = ap (λ b. cond b (Some Unknown) None) (is_zero n e)
+none_there n e = ap (λ b. cond b (Some Unknown) None) (zero_from n e)
 
 one_there : (n : ℕ) → 0 < n → cond (n == 0) (Some Unknown) None ≡ None
-one_there n lt = ap (λ b. cond b (Some Unknown) None) (not_zero n lt)
+one_there n lt = ap (λ b. cond b (Some Unknown) None) (isnt_zero n lt)
 
 module _ {State Call Frame : Type 0} (d : Driver State Call Frame) (first : Chip) (call_of : Request → Call) (script : List Directive) where
   -- the chip has as many as the world

@@ -18,7 +18,7 @@ use Rattle.run_model.specs.Frame as frame
 use Rattle.run_model.specs.Follows.{Gives, Ticks, IsOne, HappensOnly, Shows}
 use Rattle.run_model.specs.Legal.{hardware_held}
 use Rattle.run_model.specs.Moment as moment
-use Rattle.run_model.specs.Moment.{Setting, Moment, Deed}
+use Rattle.run_model.specs.Moment.{Setting, Moment, Transition}
 use Rattle.run_model.specs.Script.{deeds_of, moved_by}
 use Rattle.run_model.specs.World.{World}
 use Rattle.step_runner.specs.Driver.{Driver, EndsBefore}

@@ -8,15 +8,15 @@ use Rattle.mcal_base.specs.declared.directive.Directive.{Directive}
 use Rattle.mcal_base.specs.declared.directive.Order.{Order}
 use Rattle.mcal_base.specs.declared.directive.Request.{Request}
 use Rattle.run_model.specs.declared.class.Tag.{Tag}
-use Rattle.run_model.specs.declared.reach.Reach.{Reach}
-use Rattle.run_model.specs.declared.reach.Reach.TheVariants.{Count, Until, Whole}
+use Rattle.run_model.specs.declared.stop_condition.StopCondition.{StopCondition}
+use Rattle.run_model.specs.declared.stop_condition.StopCondition.TheVariants.{Count, Until, Whole}
 use Rattle.run_model.specs.Causes.{call_cause, line_cause, first_cause, line_level_allows, is_full, tags_of, top_noted}
 use Rattle.run_model.specs.Entry as entry
 use Rattle.run_model.specs.Entry.{Entry, Begins, Stays, Written, written}
 use Rattle.run_model.specs.Frame as frame
 use Rattle.run_model.specs.Follows.{GoesOn, Goes, BeginsOnly, BeginsWhole, call_held, line_held}
 use Rattle.run_model.specs.Moment as moment
-use Rattle.run_model.specs.Moment.{Moment, Deed, line_tag}
+use Rattle.run_model.specs.Moment.{Moment, Transition, line_tag}
 use Rattle.run_model.specs.Script.{deeds_of, beginnings_of, order_at}
 use Rattle.run_model.specs.Stops.{GoesToStop, StopsWithin, is_step}
 use Rattle.step_runner.specs.Driver.{Driver}
@@ -73,7 +73,7 @@ module _ {State Call Frame : Type 0} (d : Driver State Call Frame) (first : Chip
 
   -- ---- beginnings
 
-  pub began : (line n : ℕ) (deed : Deed Call) (held : Option Held) (chip : Chip) (k : Kept Frame) (before : Written) (u : Under Frame) (k1 : Kept Frame) (after : Written) → beginnings_of call_of (order_at script line) ≡ deed ∷ [] → None ≡ held → n ≡ length k.frames → k1 ≡ record { frames = u ∷ k.frames; steps = k.steps } → after ≡ written before line n Begins [] → Stands d first chip k1.frames (deeds_of call_of script before.entries ++ deed ∷ []) → d.fuel u.frame ≤ bound_of d.setting deed → Began d first call_of script line deed held chip k before k1 after
+  pub began : (line n : ℕ) (deed : Transition Call) (held : Option Held) (chip : Chip) (k : Kept Frame) (before : Written) (u : Under Frame) (k1 : Kept Frame) (after : Written) → beginnings_of call_of (order_at script line) ≡ deed ∷ [] → None ≡ held → n ≡ length k.frames → k1 ≡ record { frames = u ∷ k.frames; steps = k.steps } → after ≡ written before line n Begins [] → Stands d first chip k1.frames (deeds_of call_of script before.entries ++ deed ∷ []) → d.fuel u.frame ≤ bound_of d.setting deed → Began d first call_of script line deed held chip k before k1 after
   began line n deed held chip k before u k1 after at free n_is k1_is is stands fuel =
       let e : Entry = record { line = line; depth = n; said = Begins } in
       record {
@@ -157,7 +157,7 @@ module _ {State Call Frame : Type 0} (d : Driver State Call Frame) (first : Chip
   pub obeyed_same : (most : ℕ) (order : Order) (chip0 chip : Chip) (k : Kept Frame) (before : Written) (chip1 : Chip) (k1 : Kept Frame) (after : Written) (Right : Moment State Call → List Entry → Type 0) → chip ≡ chip0 → ObeyedBy d first call_of script most order chip k before chip1 k1 after Right → ObeyedBy d first call_of script most order chip0 k before chip1 k1 after Right
   obeyed_same most order chip0 chip k before chip1 k1 after Right same h = subst (λ x. ObeyedBy d first call_of script most order x k before chip1 k1 after Right) same h
 
-  pub alone : (most line : ℕ) (order : Order) (deed : Deed Call) (chip : Chip) (k : Kept Frame) (before : Written) (k1 : Kept Frame) (after : Written) (held : Moment State Call → Option Held) (b : Bool) → k.steps ≤ most → beginnings_of call_of (Some order) ≡ deed ∷ [] → IsStanding d first call_of script chip k.frames before.entries → OnTrue b (Began d first call_of script line deed (held (moment_of d first call_of script before.entries)) chip k before k1 after) → OnFalse b (StayedOff d first call_of script line (held (moment_of d first call_of script before.entries)) chip k before k1 after) → ObeyedBy d first call_of script most order chip k before chip k1 after (λ m items. BeginsOnly m line (held m) items)
+  pub alone : (most line : ℕ) (order : Order) (deed : Transition Call) (chip : Chip) (k : Kept Frame) (before : Written) (k1 : Kept Frame) (after : Written) (held : Moment State Call → Option Held) (b : Bool) → k.steps ≤ most → beginnings_of call_of (Some order) ≡ deed ∷ [] → IsStanding d first call_of script chip k.frames before.entries → OnTrue b (Began d first call_of script line deed (held (moment_of d first call_of script before.entries)) chip k before k1 after) → OnFalse b (StayedOff d first call_of script line (held (moment_of d first call_of script before.entries)) chip k before k1 after) → ObeyedBy d first call_of script most order chip k before chip k1 after (λ m items. BeginsOnly m line (held m) items)
   alone most line order deed chip k before k1 after held true few at stands on off =
       let a = begins_only d first call_of script line order deed (held (moment_of d first call_of script before.entries)) chip k before k1 after at stands on in
       record {
@@ -181,7 +181,7 @@ module _ {State Call Frame : Type 0} (d : Driver State Call Frame) (first : Chip
         spent = omega (arith, off.spent);
       }
 
-  pub whole : (most line : ℕ) (order : Order) (deed : Deed Call) (chip : Chip) (k : Kept Frame) (before : Written) (k1 : Kept Frame) (between : Written) (chip2 : Chip) (k2 : Kept Frame) (after : Written) (held : Moment State Call → Option Held) → k.steps ≤ most → beginnings_of call_of (Some order) ≡ deed ∷ [] → IsStanding d first call_of script chip k.frames before.entries → Began d first call_of script line deed (held (moment_of d first call_of script before.entries)) chip k before k1 between → WentFar d first call_of script most line Whole chip k1 between chip2 k2 after → ObeyedBy d first call_of script most order chip k before chip2 k2 after (λ m items. BeginsWhole d.setting m line deed (held m) items)
+  pub whole : (most line : ℕ) (order : Order) (deed : Transition Call) (chip : Chip) (k : Kept Frame) (before : Written) (k1 : Kept Frame) (between : Written) (chip2 : Chip) (k2 : Kept Frame) (after : Written) (held : Moment State Call → Option Held) → k.steps ≤ most → beginnings_of call_of (Some order) ≡ deed ∷ [] → IsStanding d first call_of script chip k.frames before.entries → Began d first call_of script line deed (held (moment_of d first call_of script before.entries)) chip k before k1 between → WentFar d first call_of script most line Whole chip k1 between chip2 k2 after → ObeyedBy d first call_of script most order chip k before chip2 k2 after (λ m items. BeginsWhole d.setting m line deed (held m) items)
   whole most line order deed chip k before k1 between chip2 k2 after held few at stands b w =
       let a = begins_whole d first call_of script line order deed (held (moment_of d first call_of script before.entries)) chip k before k1 between chip2 k2.frames after at stands b (w.adds order) in
       let e : Entry = record { line = line; depth = length k.frames; said = Begins } in
@@ -204,7 +204,7 @@ module _ {State Call Frame : Type 0} (d : Driver State Call Frame) (first : Chip
         spent = subst (λ hs. work_of d k2 ≤ work_of d k + bounds_of d.setting hs) (sym at) (omega (arith, b.spent, w.spent));
       }
 
-  pub whole_off : (most line : ℕ) (order : Order) (deed : Deed Call) (chip : Chip) (k : Kept Frame) (before : Written) (k1 : Kept Frame) (after : Written) (held : Moment State Call → Option Held) → k.steps ≤ most → IsStanding d first call_of script chip k.frames before.entries → StayedOff d first call_of script line (held (moment_of d first call_of script before.entries)) chip k before k1 after → ObeyedBy d first call_of script most order chip k before chip k1 after (λ m items. BeginsWhole d.setting m line deed (held m) items)
+  pub whole_off : (most line : ℕ) (order : Order) (deed : Transition Call) (chip : Chip) (k : Kept Frame) (before : Written) (k1 : Kept Frame) (after : Written) (held : Moment State Call → Option Held) → k.steps ≤ most → IsStanding d first call_of script chip k.frames before.entries → StayedOff d first call_of script line (held (moment_of d first call_of script before.entries)) chip k before k1 after → ObeyedBy d first call_of script most order chip k before chip k1 after (λ m items. BeginsWhole d.setting m line deed (held m) items)
   whole_off most line order deed chip k before k1 after held few stands off =
       let a = stays_off d first call_of script line order (held (moment_of d first call_of script before.entries)) chip k before k1 after (λ h m items. BeginsWhole d.setting m line deed h items) (λ c m items x. x) stands off in
       record {
@@ -223,7 +223,7 @@ module _ {State Call Frame : Type 0} (d : Driver State Call Frame) (first : Chip
   no_opens [] e = refl
   no_opens (x ∷ xs) e = absurd (omega arith)
 
-  pub goes_nowhere : (most line n : ℕ) (reach : Reach) (order : Order) (chip : Chip) (k : Kept Frame) (before after : Written) → k.steps ≤ most → length k.frames ≡ 0 → n ≡ 0 → after ≡ written before line n (Stays Empty) [] → IsStanding d first call_of script chip k.frames before.entries → ObeyedBy d first call_of script most order chip k before chip k after (λ m items. Goes d.setting line reach m m.opens items)
+  pub goes_nowhere : (most line n : ℕ) (reach : StopCondition) (order : Order) (chip : Chip) (k : Kept Frame) (before after : Written) → k.steps ≤ most → length k.frames ≡ 0 → n ≡ 0 → after ≡ written before line n (Stays Empty) [] → IsStanding d first call_of script chip k.frames before.entries → ObeyedBy d first call_of script most order chip k before chip k after (λ m items. Goes d.setting line reach m m.opens items)
   goes_nowhere most line n reach order chip k before after few none n_is is stands =
       let m = moment_of d first call_of script before.entries in
       let e : Entry = record { line = line; depth = n; said = Stays Empty } in
@@ -268,13 +268,13 @@ module _ {State Call Frame : Type 0} (d : Driver State Call Frame) (first : Chip
         spent = omega arith;
       }
 
-  goes_by : (line : ℕ) (reach : Reach) (m : Moment State Call) (items : List Entry) (o : frame.Open Call) (os : List (frame.Open Call)) → (reach ≡ Count 0 → ⊥) → GoesOn d.setting line reach 0 m items → Goes d.setting line reach m (o ∷ os) items
+  goes_by : (line : ℕ) (reach : StopCondition) (m : Moment State Call) (items : List Entry) (o : frame.Open Call) (os : List (frame.Open Call)) → (reach ≡ Count 0 → ⊥) → GoesOn d.setting line reach 0 m items → Goes d.setting line reach m (o ∷ os) items
   goes_by line (Count zero) m items o os not h = absurd (not refl)
   goes_by line (Count (suc n)) m items o os not h = h
   goes_by line (Until stop) m items o os not h = h
   goes_by line Whole m items o os not h = h
 
-  pub goes_far : (most line : ℕ) (reach : Reach) (order : Order) (chip : Chip) (k : Kept Frame) (before : Written) (chip1 : Chip) (k1 : Kept Frame) (after : Written) → 0 < length k.frames → (reach ≡ Count 0 → ⊥) → IsStanding d first call_of script chip k.frames before.entries → WentFar d first call_of script most line reach chip k before chip1 k1 after → ObeyedBy d first call_of script most order chip k before chip1 k1 after (λ m items. Goes d.setting line reach m m.opens items)
+  pub goes_far : (most line : ℕ) (reach : StopCondition) (order : Order) (chip : Chip) (k : Kept Frame) (before : Written) (chip1 : Chip) (k1 : Kept Frame) (after : Written) → 0 < length k.frames → (reach ≡ Count 0 → ⊥) → IsStanding d first call_of script chip k.frames before.entries → WentFar d first call_of script most line reach chip k before chip1 k1 after → ObeyedBy d first call_of script most order chip k before chip1 k1 after (λ m items. Goes d.setting line reach m m.opens items)
   goes_far most line reach order chip k before chip1 k1 after some not stands w =
       let m = moment_of d first call_of script before.entries in
       let o = some_opens k.frames m.opens (depth_is d first call_of script chip k.frames before.entries stands) some in
@@ -290,7 +290,7 @@ module _ {State Call Frame : Type 0} (d : Driver State Call Frame) (first : Chip
       }
 
   -- the same steps, up to a stop
-  pub stops_far : (most line : ℕ) (reach : Reach) (chip : Chip) (k : Kept Frame) (before : Written) (chip1 : Chip) (k1 : Kept Frame) (after : Written) → 0 < length k.frames → (reach ≡ Count 0 → ⊥) → IsStanding d first call_of script chip k.frames before.entries → IsStuck d first call_of script most 0 k before chip1 k1 after (λ m items. GoesToStop d.setting line reach 0 m items) → IsStuck d first call_of script most 0 k before chip1 k1 after (λ m items. StopsWithin d.setting line reach m m.opens items)
+  pub stops_far : (most line : ℕ) (reach : StopCondition) (chip : Chip) (k : Kept Frame) (before : Written) (chip1 : Chip) (k1 : Kept Frame) (after : Written) → 0 < length k.frames → (reach ≡ Count 0 → ⊥) → IsStanding d first call_of script chip k.frames before.entries → IsStuck d first call_of script most 0 k before chip1 k1 after (λ m items. GoesToStop d.setting line reach 0 m items) → IsStuck d first call_of script most 0 k before chip1 k1 after (λ m items. StopsWithin d.setting line reach m m.opens items)
   stops_far most line reach chip k before chip1 k1 after some not stands h =
       let m = moment_of d first call_of script before.entries in
       let o = some_opens k.frames m.opens (depth_is d first call_of script chip k.frames before.entries stands) some in
@@ -305,10 +305,10 @@ module _ {State Call Frame : Type 0} (d : Driver State Call Frame) (first : Chip
         wants = h.wants;
       }
 
-  pub makes_a_step : (reach : Reach) → makes_no_step reach ≡ false → reach ≡ Count 0 → ⊥
+  pub makes_a_step : (reach : StopCondition) → makes_no_step reach ≡ false → reach ≡ Count 0 → ⊥
   makes_a_step reach h e = let k : makes_no_step (Count 0) ≡ false = subst (λ x. makes_no_step x ≡ false) e h in cc
 
-  pub is_no_step : (reach : Reach) → makes_no_step reach ≡ true → reach ≡ Count 0
+  pub is_no_step : (reach : StopCondition) → makes_no_step reach ≡ true → reach ≡ Count 0
   is_no_step (Count zero) h = refl
   is_no_step (Count (suc n)) h = cc
   is_no_step (Until stop) h = cc

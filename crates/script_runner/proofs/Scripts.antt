@@ -3,6 +3,7 @@ use Rattle.std.proofs.Common.{◌≡◌, ℕ, zero, suc, ◌+◌, ◌*◌, ◌<�
 use Rattle.std.specs.Prelude.{slice_get, slice_index_or, ◌==◌, ◌/◌}
 use Rattle.std.proofs.lemmas.Bool.Decides.{nat_tests}
 use Rattle.std.proofs.lemmas.List.Sums.{sum_by-append}
+use Rattle.plain_facts.specs.Numbers.{eq_from}
 use Rattle.chip_model.specs.Chip.{Chip, now_of}
 use Rattle.mcal_base.specs.declared.directive.Directive.{Directive}
 use Rattle.mcal_base.specs.declared.directive.Request.{Request}
@@ -31,15 +32,12 @@ line_above low (x ∷ xs) (suc k) d h e = let i = line_above x.line xs k d h.1 e
 other_line : (a b : ℕ) → a < b → (a == b) ≡ false
 other_line a b h = grind (arith, nat_tests)
 
-same_line : (a b : ℕ) → a ≡ b → (a == b) ≡ true
-same_line a b h = grind (arith, nat_tests)
-
 -- what stands at a directive's line
 pub at_line : (low : ℕ) (script : List Directive) (k : ℕ) (d : Directive) → LinesRise low script → slice_get script k ≡ Some d → order_at script d.line ≡ Some d.order
 at_line low [] k d h e = cc
 at_line low (x ∷ xs) zero d h e =
     let i : x ≡ d = cc in
-    ap (λ b. cond b (Some x.order) (order_at xs d.line)) (same_line x.line d.line (ap (λ y. y.line) i)) ∙ ap (λ y. Some y.order) i
+    ap (λ b. cond b (Some x.order) (order_at xs d.line)) (eq_from x.line d.line (ap (λ y. y.line) i)) ∙ ap (λ y. Some y.order) i
 at_line low (x ∷ xs) (suc k) d h e =
     ap (λ b. cond b (Some x.order) (order_at xs d.line)) (other_line x.line d.line (line_above x.line xs k d h.1 e)) ∙ at_line x.line xs k d h.1 e
 

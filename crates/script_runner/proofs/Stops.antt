@@ -5,8 +5,8 @@ use Rattle.mcal_base.specs.declared.directive.Directive.{Directive}
 use Rattle.mcal_base.specs.declared.directive.Order.{Order}
 use Rattle.mcal_base.specs.declared.directive.Request.{Request}
 use Rattle.run_model.specs.declared.item.Stepped.{Stepped}
-use Rattle.run_model.specs.declared.reach.Reach.{Reach}
-use Rattle.run_model.specs.declared.reach.Reach.TheVariants.{Count, Until, Whole}
+use Rattle.run_model.specs.declared.stop_condition.StopCondition.{StopCondition}
+use Rattle.run_model.specs.declared.stop_condition.StopCondition.TheVariants.{Count, Until, Whole}
 use Rattle.run_model.specs.Entry.{Entry, Said, Written, written}
 use Rattle.run_model.specs.Frame.{Open}
 use Rattle.run_model.specs.Follows.{deeds_in}
@@ -16,14 +16,14 @@ use Rattle.run_model.proofs.Following.{FollowsTo, Nothing_followed, Then_followe
 use Rattle.script_runner.specs.Standing.{IsCounted}
 
 -- steps at none of which the directive stops, and then others
-pub stops_through : {State Call : Type 0} (g : Setting State Call) (line : ℕ) (reach : Reach) {made made1 : ℕ} {m last : Moment State Call} {es : List Entry} (fs : List Entry) → Went g line reach made m es made1 last → GoesToStop g line reach made1 last fs → GoesToStop g line reach made m (es ++ fs)
+pub stops_through : {State Call : Type 0} (g : Setting State Call) (line : ℕ) (reach : StopCondition) {made made1 : ℕ} {m last : Moment State Call} {es : List Entry} (fs : List Entry) → Went g line reach made m es made1 last → GoesToStop g line reach made1 last fs → GoesToStop g line reach made m (es ++ fs)
 stops_through g line reach fs (Not_yet made m) h = h
 stops_through g line reach fs (Step_on made m t ws m1 es made1 last At_once q k rest) h = (refl, refl, rw (q, k) refl, stops_through g line reach fs rest h)
 stops_through g line reach fs (Step_on made m t ws m1 es made1 last (After_wait u busy may early awaited) q k rest) h =
     (refl, refl, record { unit = u; busy = busy; ticks = refl; may = may; in_time = early; step = awaited }, (refl, refl, rw (q, k) refl, stops_through g line reach fs rest h))
 
 -- the wait of the step that would come next
-pub waits_to_stop : {State Call : Type 0} (g : Setting State Call) (line : ℕ) (reach : Reach) (made : ℕ) {m m1 : Moment State Call} {s : Stepped} {ws : List Entry} → Readies g line m s ws m1 → GoesToStop g line reach made m ws
+pub waits_to_stop : {State Call : Type 0} (g : Setting State Call) (line : ℕ) (reach : StopCondition) (made : ℕ) {m m1 : Moment State Call} {s : Stepped} {ws : List Entry} → Readies g line m s ws m1 → GoesToStop g line reach made m ws
 waits_to_stop g line reach made At_once = tt
 waits_to_stop g line reach made (After_wait u busy may early awaited) = (refl, refl, record { unit = u; busy = busy; ticks = refl; may = may; in_time = early; step = tt }, tt)
 
@@ -33,7 +33,7 @@ ready_deeds g call_of order line At_once = refl
 ready_deeds g call_of order line (After_wait u busy may early awaited) = refl
 
 -- the same as items of a directive that wants a step of a frame that is there
-pub stops_within : {State Call : Type 0} (g : Setting State Call) (line : ℕ) (reach : Reach) (m : Moment State Call) (items : List Entry) (o : Open Call) (os : List (Open Call)) → (reach ≡ Count 0 → ⊥) → GoesToStop g line reach 0 m items → StopsWithin g line reach m (o ∷ os) items
+pub stops_within : {State Call : Type 0} (g : Setting State Call) (line : ℕ) (reach : StopCondition) (m : Moment State Call) (items : List Entry) (o : Open Call) (os : List (Open Call)) → (reach ≡ Count 0 → ⊥) → GoesToStop g line reach 0 m items → StopsWithin g line reach m (o ∷ os) items
 stops_within g line (Count zero) m items o os not h = absurd (not refl)
 stops_within g line (Count (suc n)) m items o os not h = h
 stops_within g line (Until stop) m items o os not h = h

@@ -12,7 +12,7 @@ use Rattle.run_model.specs.declared.item.Stepped.{Stepped}
 use Rattle.run_model.specs.Entry.{Entry, Steps, Written, written, words_of_answer}
 use Rattle.run_model.specs.Frame.{top_after}
 use Rattle.run_model.specs.Moment as moment
-use Rattle.run_model.specs.Moment.{Deed, start_moment, after_all}
+use Rattle.run_model.specs.Moment.{Transition, start_moment, after_all}
 use Rattle.step_runner.proofs.ChipFacts.{some-comes}
 use Rattle.step_runner.proofs.Runs.{goes-on}
 use Rattle.run_model.specs.Script.{deeds_of}
@@ -83,6 +83,6 @@ module _ {State Call Frame : Type 0} (d : Driver State Call Frame) (first : Chip
   few_steps es taken most is few limit = let k = steps_counted d.setting call_of script (start_moment d.setting first) es in omega (arith, k, is, few, limit)
 
   -- a frame that is there, and waits for nothing, has a step left
-  pub has_fuel : IsLawful d move_of left gave → (chip : Chip) (us : List (Under Frame)) (h : List (Deed Call)) → (after_all d.setting (start_moment d.setting first) h).steps < most_steps → IsStill move_of us chip → Stands d first chip us h → 0 < length us → 0 < total_fuel d.fuel us
+  pub has_fuel : IsLawful d move_of left gave → (chip : Chip) (us : List (Under Frame)) (h : List (Transition Call)) → (after_all d.setting (start_moment d.setting first) h).steps < most_steps → IsStill move_of us chip → Stands d first chip us h → 0 < length us → 0 < total_fuel d.fuel us
   has_fuel law chip [] h few still st some = absurd (omega arith)
   has_fuel law chip (u ∷ us) h few still st some = let come = some-comes chip (move_of u.frame) in let k = goes-on d move_of left gave law chip u us (after_all d.setting (start_moment d.setting first) h) come.0 still come.1 few st.matches in omega (arith, k.fuel)

@@ -1,11 +1,11 @@
 -- The waits of frames, and ticks, through the end of the watchdog's time.
 use Rattle.std.proofs.Common.{◌≡◌, ℕ, zero, suc, ◌+◌, ◌-◌, ◌*◌, ◌<◌, ◌≤◌, ◌^◌, Bool, true, false, cond, ◌||◌, List, [], ◌∷◌, ◌++◌, length, Option, Some, None, refl, sym, ◌∙◌, ap, subst, arith, append_assoc, append-nil, length-append}
-use Rattle.std.specs.Prelude.{nat_le, nat_lt, MatchBool, ◌==◌}
+use Rattle.std.specs.Prelude.{nat_le, nat_lt, ◌==◌}
 use Rattle.std.proofs.lemmas.Bool.Decides.{nat_tests}
+use Rattle.plain_facts.specs.Numbers.{eq_self}
 use Rattle.chip_model.specs.Chip.{Chip, CanHappen, chip_after, expiry_of, happened, now_of, reset_chip, stall_of, ticked, wait_on}
 use Rattle.mcal_base.specs.Reach.{CanApply}
 use Rattle.mcal_base.specs.declared.directive.Directive.{Directive}
-use Rattle.mcal_base.specs.declared.directive.Order.{Order}
 use Rattle.mcal_base.specs.declared.directive.Order.TheVariants as orders
 use Rattle.mcal_base.specs.declared.directive.Reason.TheVariants.{Watchdog}
 use Rattle.mcal_base.specs.declared.directive.Request.{Request}
@@ -14,9 +14,8 @@ use Rattle.mcal_base.specs.declared.moves.Move.TheVariants.{Read, Write, Load, S
 use Rattle.mcal_base.specs.declared.register.Reg.{Reg}
 use Rattle.mcal_base.specs.declared.register.Reg.TheVariants.{SerialWait}
 use Rattle.mcal_base.specs.declared.routine.Taken.{Taken}
-use Rattle.run_model.specs.declared.item.Stepped.{Stepped}
 use Rattle.run_model.specs.Entry.{Entry, Happens, Resets, Written, written}
-use Rattle.run_model.specs.Follows.{IsOne, MayWait, Ticks, awaits, ends_within, ticks_left, ticks_through, deeds_in}
+use Rattle.run_model.specs.Follows.{IsOne, MayWait, Ticks, awaits, ends_within, ticks_left, ticks_through}
 use Rattle.run_model.specs.Frame.{Open, is_shared}
 use Rattle.run_model.specs.Moment as moment
 use Rattle.run_model.specs.Moment.{Moment, after_all}
@@ -29,7 +28,7 @@ use Rattle.step_runner.specs.Stands.{AreFramesOf, Stands, paired}
 use Rattle.step_runner.specs.declared.stack.Under.{Under}
 use Rattle.step_runner.proofs.Runs.{left-is}
 use Rattle.script_runner.specs.Busy.{busies}
-use Rattle.script_runner.specs.Standing.{moment_of, IsStanding, IsFilled, HasRoom, HasTime, NearTime, Obeyed, Ticked, RanDown, RanOut, Waited, left_within, room_on, work_of}
+use Rattle.script_runner.specs.Standing.{moment_of, IsStanding, HasTime, NearTime, Obeyed, Ticked, RanDown, RanOut, Waited, left_within, room_on, work_of}
 use Rattle.script_runner.proofs.Arms.{depth_is, deeds_more, moment_more}
 use Rattle.script_runner.proofs.Busy.{busies-event, busies-move, busies-read, busies-wait}
 use Rattle.script_runner.proofs.Events.{product}
@@ -57,9 +56,6 @@ stalls c (Report fault) some = absurd (omega (arith, some))
 pub looked-up : {Frame : Type 0} (move_of : Frame → Move) (us : List (Under Frame)) (made : Move) → 0 < length us → IsLooked move_of us made → upcoming_of move_of us ≡ Some made
 looked-up move_of [] made some h = absurd (omega (arith, some))
 looked-up move_of (u ∷ us) made some h = ap (λ m. Some m) (sym h)
-
-same-number : (u : ℕ) → (u == u) ≡ true
-same-number u = grind (arith, nat_tests)
 
 -- ---- the time that is left
 
@@ -241,7 +237,7 @@ module _ {State Call Frame : Type 0} (d : Driver State Call Frame) (first : Chip
           is = ap (λ x. x.entries) t.written;
           ready = λ s next.
               let s_is : s.made ≡ Read (SerialWait u) = given-move us s.made (Read (SerialWait u)) next up1 in
-              let awaited : awaits u s.made ≡ true = ap (awaits u) s_is ∙ same-number u in
+              let awaited : awaits u s.made ≡ true = ap (awaits u) s_is ∙ eq_self u in
               subst (λ x. Readies d.setting line m s (e ∷ []) x) (sym t.leads)
               (subst (λ y. Readies d.setting line m s ((record { line = line; depth = y; said = Happens (orders.Tick n) }) ∷ []) (moment.after d.setting m (moment.Happens (orders.Tick n)))) (sym depth)
               (subst (λ x. Readies d.setting line m s ((record { line = line; depth = length m.opens; said = Happens (orders.Tick x) }) ∷ []) (moment.after d.setting m (moment.Happens (orders.Tick x)))) at_is

@@ -10,7 +10,7 @@ use Rattle.mcal_base.specs.declared.directive.Request.{Request}
 use Rattle.mcal_base.specs.declared.moves.Move.{Move}
 use Rattle.mcal_base.specs.declared.routine.Taken.{Taken}
 use Rattle.run_model.specs.declared.item.Stepped.{Stepped}
-use Rattle.run_model.specs.declared.reach.Reach.{Reach}
+use Rattle.run_model.specs.declared.stop_condition.StopCondition.{StopCondition}
 use Rattle.mcal_base.specs.declared.directive.Reason.TheVariants.{Watchdog, Software}
 use Rattle.run_model.specs.Entry.{Entry, Steps, Happens, Resets, Written, written, words_of_answer}
 use Rattle.run_model.specs.Follows.{GoesOn, deeds_in, is_reached}
@@ -31,7 +31,7 @@ use Rattle.script_runner.proofs.Arms.{depth_is, deeds_more, moment_more}
 use Rattle.script_runner.proofs.Stops.{stops_through, waits_to_stop, ready_deeds, no_step_counted, two_counted}
 
 -- Steps were made, at none of which the directive stops.
-pub record Walked {State Call Frame : Type 0} (d : Driver State Call Frame) (first : Chip) (call_of : Request → Call) (script : List Directive) (most line : ℕ) (reach : Reach) (chip : Chip) (k : Kept Frame) (before : Written) (made : ℕ) (chip1 : Chip) (k1 : Kept Frame) (after : Written) : Type 0 where
+pub record Walked {State Call Frame : Type 0} (d : Driver State Call Frame) (first : Chip) (call_of : Request → Call) (script : List Directive) (most line : ℕ) (reach : StopCondition) (chip : Chip) (k : Kept Frame) (before : Written) (made : ℕ) (chip1 : Chip) (k1 : Kept Frame) (after : Written) : Type 0 where
   pub items : List Entry
   pub is : after.entries ≡ before.entries ++ items
   pub went : Went d.setting line reach 0 (moment_of d first call_of script before.entries) items made (moment_of d first call_of script after.entries)
@@ -72,7 +72,7 @@ same-near x y osc now room = record { osc = omega (arith, osc); now = omega (ari
 near-later : (a n : ℕ) (x y : Chip) → a ≤ n → NearTime a x y → NearTime n x y
 near-later a n x y le h = let h1 = h.osc in let h2 = h.now in record { osc = omega (arith, le, h1); now = omega (arith, le, h2); room = h.room }
 
-module _ {State Call Frame : Type 0} (d : Driver State Call Frame) (first : Chip) (call_of : Request → Call) (script : List Directive) (most line : ℕ) (reach : Reach) where
+module _ {State Call Frame : Type 0} (d : Driver State Call Frame) (first : Chip) (call_of : Request → Call) (script : List Directive) (most line : ℕ) (reach : StopCondition) where
   -- before the first step
   pub walk_start : (chip : Chip) (k : Kept Frame) (before : Written) → IsStanding d first call_of script chip k.frames before.entries → k.steps ≤ most → 0 < length k.frames → Walked d first call_of script most line reach chip k before 0 chip k before
   walk_start chip k before stands few frame = record {

@@ -9,15 +9,15 @@ use Rattle.mcal_base.specs.declared.directive.Request.{Request}
 use Rattle.mcal_base.specs.declared.moves.Move.{Move}
 use Rattle.irq_control.specs.declared.held.Held.{Held}
 use Rattle.run_model.specs.declared.item.Stepped.{Stepped}
-use Rattle.run_model.specs.declared.reach.Reach.{Reach}
-use Rattle.run_model.specs.declared.reach.Reach.TheVariants.{Count, Until, Whole}
+use Rattle.run_model.specs.declared.stop_condition.StopCondition.{StopCondition}
+use Rattle.run_model.specs.declared.stop_condition.StopCondition.TheVariants.{Count, Until, Whole}
 use Rattle.run_model.specs.Entry.{Entry, Begins, Stays, Steps, Happens, Resets, Written, written, words_of_answer}
 use Rattle.run_model.specs.Follows.{GoesOn, Gives, MayWait, deeds_in, ends_within}
 use Rattle.run_model.proofs.Following.{Readies}
 use Rattle.run_model.specs.Stops.{GivesToStop, steps_in}
 use Rattle.run_model.specs.Devices.{AllCalls}
 use Rattle.run_model.specs.Moment as moment
-use Rattle.run_model.specs.Moment.{Setting, Moment, Deed, start_moment, after_all}
+use Rattle.run_model.specs.Moment.{Setting, Moment, Transition, start_moment, after_all}
 use Rattle.run_model.specs.Frame as frame
 use Rattle.run_model.specs.Script.{deeds_of, beginnings_of}
 use Rattle.serial_devices.specs.Lines.{Line}
@@ -173,7 +173,7 @@ pub record TookStep {State Call Frame : Type 0} (d : Driver State Call Frame) (f
   pub spent : work_of d k1 ≤ work_of d k
 
 -- What the steps of a directive add.
-pub record WentFar {State Call Frame : Type 0} (d : Driver State Call Frame) (first : Chip) (call_of : Request → Call) (script : List Directive) (most : ℕ) (line : ℕ) (reach : Reach) (chip : Chip) (k : Kept Frame) (before : Written) (chip1 : Chip) (k1 : Kept Frame) (after : Written) : Type 0 where
+pub record WentFar {State Call Frame : Type 0} (d : Driver State Call Frame) (first : Chip) (call_of : Request → Call) (script : List Directive) (most : ℕ) (line : ℕ) (reach : StopCondition) (chip : Chip) (k : Kept Frame) (before : Written) (chip1 : Chip) (k1 : Kept Frame) (after : Written) : Type 0 where
   pub adds : (order : Order) → Adds d first call_of script order before after chip1 k1.frames (λ m items. GoesOn d.setting line reach 0 m items)
   pub filled : IsFilled most k.steps chip before 2 k1.steps chip1 after
   pub more : k.steps ≤ k1.steps
@@ -181,19 +181,19 @@ pub record WentFar {State Call Frame : Type 0} (d : Driver State Call Frame) (fi
   pub spent : work_of d k1 ≤ work_of d k
 
 -- the most steps of a frame that begins by a deed
-abbrev pub bound_of : {State Call : Type 0} → Setting State Call → Deed Call → ℕ
+abbrev pub bound_of : {State Call : Type 0} → Setting State Call → Transition Call → ℕ
 bound_of g (moment.Begins c level) = g.steps_of (frame.Called c)
 bound_of g (moment.Enters l) = g.steps_of (frame.Entered l)
 bound_of g (moment.Steps s) = 0
 bound_of g (moment.Happens o) = 0
 bound_of g (moment.Resets r) = 0
 
-abbrev pub bounds_of : {State Call : Type 0} → Setting State Call → List (Deed Call) → ℕ
+abbrev pub bounds_of : {State Call : Type 0} → Setting State Call → List (Transition Call) → ℕ
 bounds_of g [] = 0
 bounds_of g (h ∷ hs) = bound_of g h + bounds_of g hs
 
 -- A call, or the handler of a line, began: one item, and the frame is there.
-pub record Began {State Call Frame : Type 0} (d : Driver State Call Frame) (first : Chip) (call_of : Request → Call) (script : List Directive) (line : ℕ) (deed : Deed Call) (held : Option Held) (chip : Chip) (k : Kept Frame) (before : Written) (k1 : Kept Frame) (after : Written) : Type 0 where
+pub record Began {State Call Frame : Type 0} (d : Driver State Call Frame) (first : Chip) (call_of : Request → Call) (script : List Directive) (line : ℕ) (deed : Transition Call) (held : Option Held) (chip : Chip) (k : Kept Frame) (before : Written) (k1 : Kept Frame) (after : Written) : Type 0 where
   pub written : after ≡ written before line (length k.frames) Begins []
   pub free : held ≡ None
   pub leads : moment_of d first call_of script after.entries ≡ moment.after d.setting (moment_of d first call_of script before.entries) deed
@@ -226,7 +226,7 @@ abbrev pub Obeyed : {State Call Frame : Type 0} → Driver State Call Frame → 
 Obeyed d first call_of script most line order chip k before chip1 k1 after = ObeyedBy d first call_of script most order chip k before chip1 k1 after (λ m items. Gives d.setting call_of m line order items)
 
 -- to run no steps at all
-abbrev pub makes_no_step : Reach → Bool
+abbrev pub makes_no_step : StopCondition → Bool
 makes_no_step (Count zero) = true
 makes_no_step (Count (suc n)) = false
 makes_no_step (Until stop) = false

@@ -11,20 +11,20 @@ ghost use Rattle.script_runner.specs.Scripts.{chip_for};
 ghost use Rattle.script_runner.specs.Standing.{moment_of, Called, IsStanding, HasRoom, HasTime, Began, StayedOff, ObeyedBy, IsStuck, bounds_of};
 
 use crate::caller::Caller;
-use crate::parts::{Course, Parts};
+use crate::parts::{RunSetup, RunState};
 use crate::steps::{TooLong, run_steps};
 use mcal_base::Request;
-use run_model::Reach;
+use run_model::StopCondition;
 use serial_devices::SerialDevice;
 use step_runner::{begin, enter};
 
 /// Begins a call, or notes why it is held; tells whether it began.
 fn obey_call<M: Caller>(
-    course: &Course<M>,
+    course: &RunSetup<M>,
     line: u32,
     level: u32,
     request: &Request,
-    parts: &mut Parts<M>,
+    parts: &mut RunState<M>,
 ) -> bool
     requires fits { (M.spec course.now.driver).fits }
     requires has { M.has_service course.now.driver request.now.service ≡ true }
@@ -64,7 +64,7 @@ fn obey_call<M: Caller>(
 }
 
 /// Begins the handler of a line, or notes why it is held; tells whether it began.
-fn obey_enter<M: Caller>(course: &Course<M>, line: u32, irq: u32, parts: &mut Parts<M>) -> bool
+fn obey_enter<M: Caller>(course: &RunSetup<M>, line: u32, irq: u32, parts: &mut RunState<M>) -> bool
     requires fits { (M.spec course.now.driver).fits }
     requires at { beginnings_of (M.call_of course.now.driver) (order_at course.now.script.now line) ≡ Enters irq ∷ [] }
     requires room { length parts.old.journal.entries < parts.old.journal.room }
@@ -98,11 +98,11 @@ fn obey_enter<M: Caller>(course: &Course<M>, line: u32, irq: u32, parts: &mut Pa
 
 /// A directive that begins a call, and no more.
 pub(crate) fn obey_call_alone<M: Caller>(
-    course: &Course<M>,
+    course: &RunSetup<M>,
     line: u32,
     level: u32,
     request: &Request,
-    parts: &mut Parts<M>,
+    parts: &mut RunState<M>,
 )
     requires fits { (M.spec course.now.driver).fits }
     requires has { M.has_service course.now.driver request.now.service ≡ true }
@@ -124,11 +124,11 @@ pub(crate) fn obey_call_alone<M: Caller>(
 
 /// A directive that begins a call and runs it to its end.
 pub(crate) fn obey_call_whole<M: Caller>(
-    course: &Course<M>,
+    course: &RunSetup<M>,
     script_line: u32,
     level: u32,
     request: &Request,
-    parts: &mut Parts<M>,
+    parts: &mut RunState<M>,
     rack: &mut Vec<Box<dyn SerialDevice>>,
 ) -> Result<(), TooLong>
     requires fits { (M.spec course.now.driver).fits }
@@ -162,7 +162,7 @@ pub(crate) fn obey_call_whole<M: Caller>(
         (map (λ d. line d) rack.old.items) (map (λ d. line d) rack.new.items) }
 {
     if obey_call(course, script_line, level, request, parts) {
-        run_steps(course, script_line, Reach::Whole, parts, rack)
+        run_steps(course, script_line, StopCondition::Whole, parts, rack)
     } else {
         Ok(())
     }
@@ -170,10 +170,10 @@ pub(crate) fn obey_call_whole<M: Caller>(
 
 /// A directive that begins the handler of a line, and no more.
 pub(crate) fn obey_enter_alone<M: Caller>(
-    course: &Course<M>,
+    course: &RunSetup<M>,
     line: u32,
     irq: u32,
-    parts: &mut Parts<M>,
+    parts: &mut RunState<M>,
 )
     requires fits { (M.spec course.now.driver).fits }
     requires at { beginnings_of (M.call_of course.now.driver) (order_at course.now.script.now line) ≡ Enters irq ∷ [] }
@@ -193,10 +193,10 @@ pub(crate) fn obey_enter_alone<M: Caller>(
 
 /// A directive that begins the handler of a line and runs it to its end.
 pub(crate) fn obey_enter_whole<M: Caller>(
-    course: &Course<M>,
+    course: &RunSetup<M>,
     script_line: u32,
     irq: u32,
-    parts: &mut Parts<M>,
+    parts: &mut RunState<M>,
     rack: &mut Vec<Box<dyn SerialDevice>>,
 ) -> Result<(), TooLong>
     requires fits { (M.spec course.now.driver).fits }
@@ -227,7 +227,7 @@ pub(crate) fn obey_enter_whole<M: Caller>(
         (map (λ d. line d) rack.old.items) (map (λ d. line d) rack.new.items) }
 {
     if obey_enter(course, script_line, irq, parts) {
-        run_steps(course, script_line, Reach::Whole, parts, rack)
+        run_steps(course, script_line, StopCondition::Whole, parts, rack)
     } else {
         Ok(())
     }

@@ -11,7 +11,7 @@ ghost use Rattle.script_runner.specs.Scripts.{IsScript, IsRun, IsStopped, AllOff
 
 use crate::caller::Caller;
 use crate::obeying::obey_one;
-use crate::parts::{Course, Parts};
+use crate::parts::{RunSetup, RunState};
 use crate::sizes::{journal_for, steps_of, words_given};
 use crate::steps::TooLong;
 use chip_model::Bus;
@@ -26,11 +26,11 @@ use step_runner::Stack;
 /// memory is taken before the first.
 #[derive(Drop)]
 pub struct Engine<'s, M: Caller> {
-    course: Course<'s, M>,
+    course: RunSetup<'s, M>,
     limit: u32,
     obeyed: usize,
     too_long: bool,
-    parts: Parts<M>,
+    parts: RunState<M>,
 }
 
 impl<'s, M: Caller> Model for Engine<'s, M> {
@@ -71,7 +71,7 @@ impl<'s, M: Caller> Engine<'s, M> {
         let mut bus = Bus::new(alloc, &config, words_given(script))?;
         bus.hang(devices);
         Ok(Engine {
-            course: Course {
+            course: RunSetup {
                 driver,
                 config,
                 script,
@@ -81,7 +81,7 @@ impl<'s, M: Caller> Engine<'s, M> {
             limit,
             obeyed: 0,
             too_long: false,
-            parts: Parts {
+            parts: RunState {
                 stack,
                 bus,
                 journal,
@@ -156,7 +156,7 @@ impl<'s, M: Caller> Engine<'s, M> {
             OnTrue run.too_long (run.limit < script_bound setting (M.call_of run.driver) run.script) }
     {
         let Engine { parts, .. } = self;
-        let Parts { journal, .. } = parts;
+        let RunState { journal, .. } = parts;
         journal
     }
 

@@ -9,7 +9,7 @@ ghost use Rattle.script_runner.specs.Scripts.{chip_for};
 ghost use Rattle.script_runner.specs.Standing.{moment_of, Called, IsStanding, HasRoom, Obeyed, is_built, is_hardware, may_be_held, filled_by, GivenFits};
 
 use crate::caller::Caller;
-use crate::parts::{Course, Parts};
+use crate::parts::{RunSetup, RunState};
 use crate::sizes::words_by;
 use irq_control::Held;
 use mcal_base::{Directive, Reason, Shown};
@@ -17,7 +17,7 @@ use serial_devices::{SerialDevice, drop_last};
 use step_runner::{fill_held, hardware, reset};
 
 /// Moves the hardware, where nothing holds it. It takes no time.
-fn move_hardware<M: Caller>(course: &Course<M>, directive: &Directive, parts: &mut Parts<M>)
+fn move_hardware<M: Caller>(course: &RunSetup<M>, directive: &Directive, parts: &mut RunState<M>)
     requires fits { (M.spec course.now.driver).fits }
     requires hardware { is_hardware directive.now.order ≡ true }
     requires built { is_built directive.now.order ≡ true }
@@ -45,9 +45,9 @@ fn move_hardware<M: Caller>(course: &Course<M>, directive: &Directive, parts: &m
 
 /// Moves the hardware by a directive that nothing holds.
 pub(crate) fn obey_hardware<M: Caller>(
-    course: &Course<M>,
+    course: &RunSetup<M>,
     directive: &Directive,
-    parts: &mut Parts<M>,
+    parts: &mut RunState<M>,
 )
     requires fits { (M.spec course.now.driver).fits }
     requires hardware { is_hardware directive.now.order ≡ true }
@@ -68,10 +68,10 @@ pub(crate) fn obey_hardware<M: Caller>(
 
 /// Fills a serial channel's source array, unless a cause holds it.
 pub(crate) fn obey_fill<M: Caller>(
-    course: &Course<M>,
+    course: &RunSetup<M>,
     directive: &Directive,
     channel: u32,
-    parts: &mut Parts<M>,
+    parts: &mut RunState<M>,
 )
     requires fits { (M.spec course.now.driver).fits }
     requires fill { filled_by directive.now.order ≡ Some channel }
@@ -95,9 +95,9 @@ pub(crate) fn obey_fill<M: Caller>(
 
 /// Drops the last device of the rack, or notes that there is none.
 pub(crate) fn obey_detach<M: Caller>(
-    course: &Course<M>,
+    course: &RunSetup<M>,
     directive: &Directive,
-    parts: &mut Parts<M>,
+    parts: &mut RunState<M>,
     rack: &mut Vec<Box<dyn SerialDevice>>,
 )
     requires fits { (M.spec course.now.driver).fits }
@@ -128,10 +128,10 @@ pub(crate) fn obey_detach<M: Caller>(
 
 /// Notes that something is shown, which needs that no frame is under way.
 pub(crate) fn obey_show<M: Caller>(
-    course: &Course<M>,
+    course: &RunSetup<M>,
     directive: &Directive,
     shown: Shown,
-    parts: &mut Parts<M>,
+    parts: &mut RunState<M>,
 )
     requires fits { (M.spec course.now.driver).fits }
     requires show { directive.now.order ≡ Order.Show shown }
@@ -157,10 +157,10 @@ pub(crate) fn obey_show<M: Caller>(
 
 /// Resets the chip, and drops every frame.
 pub(crate) fn obey_reset<M: Caller>(
-    course: &Course<M>,
+    course: &RunSetup<M>,
     directive: &Directive,
     reason: Reason,
-    parts: &mut Parts<M>,
+    parts: &mut RunState<M>,
 )
     requires fits { (M.spec course.now.driver).fits }
     requires reset { directive.now.order ≡ Order.Reset reason }

@@ -11,7 +11,7 @@ ghost use Rattle.script_runner.specs.Standing.{Called, IsStanding, HasRoom, HasT
 use crate::beginnings::{obey_call_alone, obey_call_whole, obey_enter_alone, obey_enter_whole};
 use crate::caller::Caller;
 use crate::hardware::{obey_detach, obey_fill, obey_hardware, obey_reset, obey_show};
-use crate::parts::{Course, Parts};
+use crate::parts::{RunSetup, RunState};
 use crate::steps::{TooLong, run_steps};
 use crate::ticks::obey_tick;
 use irq_control::Held;
@@ -20,22 +20,22 @@ use mcal_base::Order::{
     Analog, Call, Detach, Do, Enter, Fill, Finish, Level, Miso, Reset, Run, Serve, Show, SpiFault,
     Tick, Trigger, Upto,
 };
-use run_model::Reach;
+use run_model::StopCondition;
 use serial_devices::SerialDevice;
 
 /// Whether a directive runs no steps at all.
-fn is_no_step(reach: Reach) -> bool
+fn is_no_step(reach: StopCondition) -> bool
     ensures { result ≡ makes_no_step reach }
 {
-    matches!(reach, Reach::Count(0))
+    matches!(reach, StopCondition::Count(0))
 }
 
 /// Steps the top frame as far as a directive reaches, or notes that there is none.
 fn obey_steps<M: Caller>(
-    course: &Course<M>,
+    course: &RunSetup<M>,
     script_line: u32,
-    reach: Reach,
-    parts: &mut Parts<M>,
+    reach: StopCondition,
+    parts: &mut RunState<M>,
     rack: &mut Vec<Box<dyn SerialDevice>>,
 ) -> Result<(), TooLong>
     requires fits { (M.spec course.now.driver).fits }
@@ -75,9 +75,9 @@ fn obey_steps<M: Caller>(
 
 /// Obeys a directive.
 pub(crate) fn obey_one<M: Caller>(
-    course: &Course<M>,
+    course: &RunSetup<M>,
     directive: &Directive,
-    parts: &mut Parts<M>,
+    parts: &mut RunState<M>,
     rack: &mut Vec<Box<dyn SerialDevice>>,
 ) -> Result<(), TooLong>
     requires fits { (M.spec course.now.driver).fits }
@@ -119,9 +119,9 @@ pub(crate) fn obey_one<M: Caller>(
             Ok(())
         }
         Serve(irq) => obey_enter_whole(course, line, *irq, parts, rack),
-        Run(count) => { obey_steps(course, line, Reach::Count(*count), parts, rack) }
-        Upto(stop) => { obey_steps(course, line, Reach::Until(*stop), parts, rack) }
-        Finish => obey_steps(course, line, Reach::Whole, parts, rack),
+        Run(count) => { obey_steps(course, line, StopCondition::Count(*count), parts, rack) }
+        Upto(stop) => { obey_steps(course, line, StopCondition::Until(*stop), parts, rack) }
+        Finish => obey_steps(course, line, StopCondition::Whole, parts, rack),
         Tick(ticks) => {
             obey_tick(course, directive, *ticks, parts);
             Ok(())

@@ -6,7 +6,7 @@ use step_runner::Stack;
 
 /// What stays the same through a run.
 #[derive(Drop)]
-pub(crate) struct Course<'s, M: Caller> {
+pub(crate) struct RunSetup<'s, M: Caller> {
     /// The driver.
     pub(crate) driver: M,
     /// The configuration.
@@ -21,7 +21,7 @@ pub(crate) struct Course<'s, M: Caller> {
 
 /// What a directive works on.
 #[derive(Drop)]
-pub(crate) struct Parts<M: Caller> {
+pub(crate) struct RunState<M: Caller> {
     /// The frames under way.
     pub(crate) stack: Stack<M>,
     /// The chip.

@@ -10,10 +10,10 @@ ghost use Rattle.run_model.specs.Stops.{GoesToStop};
 ghost use Rattle.script_runner.specs.Standing.{Called, IsStanding, HasRoom, HasTime, TookStep, RanOut, Waited, WentFar, IsStuck};
 
 use crate::caller::Caller;
-use crate::parts::{Course, Parts};
+use crate::parts::{RunSetup, RunState};
 use crate::ticks::wait;
 use mcal_base::{Event, Move, Reason, Reg, Stop};
-use run_model::{Reach, Stepped};
+use run_model::{Stepped, StopCondition};
 use serial_devices::SerialDevice;
 use step_runner::{reset, step_into};
 
@@ -34,18 +34,18 @@ fn stops_at(stop: Stop, stepped: &Stepped) -> bool
 }
 
 /// Whether a directive stops after this step, the last of so many.
-fn has_reached(reach: Reach, made: u32, stepped: &Stepped) -> bool
+fn has_reached(reach: StopCondition, made: u32, stepped: &Stepped) -> bool
     ensures { result ≡ is_reached reach made stepped.now }
 {
     match reach {
-        Reach::Count(most) => made == most,
-        Reach::Until(stop) => stops_at(stop, stepped),
-        Reach::Whole => false,
+        StopCondition::Count(most) => made == most,
+        StopCondition::Until(stop) => stops_at(stop, stepped),
+        StopCondition::Whole => false,
     }
 }
 
 /// Whether the steps end after this one, the last of so many: the frame ended, or the directive stops.
-fn stops_after(reach: Reach, made: u32, stepped: &Stepped) -> bool
+fn stops_after(reach: StopCondition, made: u32, stepped: &Stepped) -> bool
     ensures { result ≡ is_some stepped.now.ended || is_reached reach made stepped.now }
 {
     stepped.ended.is_some() || has_reached(reach, made, stepped)
@@ -72,9 +72,9 @@ fn answer_is_short(stepped: &Stepped) -> usize
 /// that holds no answer. Tells whether it was taken: it isn't where the watchdog's time ends in the wait.
 #[inline(always)]
 pub(crate) fn take_step<M: Caller>(
-    course: &Course<M>,
+    course: &RunSetup<M>,
     script_line: u32,
-    parts: &mut Parts<M>,
+    parts: &mut RunState<M>,
     rack: &mut Vec<Box<dyn SerialDevice>>,
     stepped: &mut Stepped,
 ) -> Result<bool, TooLong>
@@ -128,10 +128,10 @@ pub(crate) fn take_step<M: Caller>(
 
 /// Steps the top frame as far as a directive reaches, which is at least one step.
 pub(crate) fn run_steps<M: Caller>(
-    course: &Course<M>,
+    course: &RunSetup<M>,
     script_line: u32,
-    reach: Reach,
-    parts: &mut Parts<M>,
+    reach: StopCondition,
+    parts: &mut RunState<M>,
     rack: &mut Vec<Box<dyn SerialDevice>>,
 ) -> Result<(), TooLong>
     requires fits { (M.spec course.now.driver).fits }

@@ -10,7 +10,7 @@ ghost use Rattle.step_runner.specs.Driver.{EndsBefore};
 ghost use Rattle.step_runner.specs.Kept.{IsLooked};
 
 use crate::caller::Caller;
-use crate::parts::{Course, Parts};
+use crate::parts::{RunSetup, RunState};
 use chip_model::Bus;
 use mcal_base::{Directive, Move, Order, Reason, Reg};
 use step_runner::{hardware, run_out};
@@ -26,7 +26,7 @@ fn left_of(bus: &Bus, ticks: u32) -> Option<u32>
 }
 
 /// Ticks in which the watchdog's time doesn't end.
-fn tick_on<M: Caller>(course: &Course<M>, line: u32, ticks: u32, parts: &mut Parts<M>)
+fn tick_on<M: Caller>(course: &RunSetup<M>, line: u32, ticks: u32, parts: &mut RunState<M>)
     requires fits { (M.spec course.now.driver).fits }
     requires can { CanHappen parts.old.bus (Tick ticks) }
     requires early { EndsBefore (Tick ticks) (expiry_of parts.old.bus) }
@@ -51,7 +51,7 @@ fn tick_on<M: Caller>(course: &Course<M>, line: u32, ticks: u32, parts: &mut Par
 }
 
 /// Ticks to the end of the watchdog's time, which resets the chip and drops every frame.
-fn run_down<M: Caller>(course: &Course<M>, line: u32, left: u32, parts: &mut Parts<M>)
+fn run_down<M: Caller>(course: &RunSetup<M>, line: u32, left: u32, parts: &mut RunState<M>)
     requires fits { (M.spec course.now.driver).fits }
     requires can { CanHappen parts.old.bus (Tick left) }
     requires ends { expiry_of parts.old.bus ≡ Some left }
@@ -81,9 +81,9 @@ fn may_wait(made: &Move) -> bool
 /// Ticks until the top frame's next step, of this move, waits for no word. Tells whether the watchdog's time ended in them:
 /// then the chip is reset, and every frame is dropped.
 pub(crate) fn wait<M: Caller>(
-    course: &Course<M>,
+    course: &RunSetup<M>,
     line: u32,
-    parts: &mut Parts<M>,
+    parts: &mut RunState<M>,
     made: &Move,
 ) -> bool
     requires fits { (M.spec course.now.driver).fits }
@@ -111,9 +111,9 @@ pub(crate) fn wait<M: Caller>(
 #[cold]
 #[inline(never)]
 fn wait_for_word<M: Caller>(
-    course: &Course<M>,
+    course: &RunSetup<M>,
     line: u32,
-    parts: &mut Parts<M>,
+    parts: &mut RunState<M>,
     made: &Move,
 ) -> bool
     requires fits { (M.spec course.now.driver).fits }
@@ -152,10 +152,10 @@ fn wait_for_word<M: Caller>(
 
 /// So many ticks, through the end of the watchdog's time where it ends in them.
 pub(crate) fn obey_tick<M: Caller>(
-    course: &Course<M>,
+    course: &RunSetup<M>,
     directive: &Directive,
     ticks: u32,
-    parts: &mut Parts<M>,
+    parts: &mut RunState<M>,
 )
     requires fits { (M.spec course.now.driver).fits }
     requires tick { directive.now.order ≡ Tick ticks }

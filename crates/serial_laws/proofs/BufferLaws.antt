@@ -3,12 +3,13 @@ use Rattle.std.proofs.Common.{◌≡◌, ◌≢◌, ℕ, zero, suc, ◌+◌, ◌
 use Rattle.std.specs.List.{list_all, enumerate_from}
 use Rattle.std.specs.Prelude.{slice_get, if◌then◌else◌}
 use Rattle.std.proofs.lemmas.List.{get_or-replicate, length-replicate}
+use Rattle.plain_facts.specs.Options.{some_is}
+use Rattle.plain_facts.specs.Numbers.{same_or_other}
 use Rattle.mcal_base.specs.declared.error_name.ErrorName.{ErrorName}
 use Rattle.run_model.specs.Machine.{Happening, Acts, Outcome}
 use Rattle.run_model.specs.World.{World}
 use Rattle.spi_jobs.specs.declared.channel.Channel as configured
-use Rattle.spi_machine.proofs.Numbers.{same_or_other, item-same, item-other, channel-seen}
-use Rattle.spi_machine.proofs.Runs.{some_same}
+use Rattle.spi_machine.proofs.Numbers.{item-same, item-other, channel-seen}
 use Rattle.spi_machine.specs.Channels.{ChannelState, SetUp, untouched, set_up_or, words_from, initialised, written_from}
 use Rattle.spi_machine.specs.Checks.{error_by}
 use Rattle.spi_machine.specs.Machine.{spi_machine, acts_by, channel_work, finds_held}
@@ -111,7 +112,7 @@ set_up_by d s c n p q (Some e) told = absurd (cc told)
 set_up_by d s c n p q None told = ap (λ (x : ChannelState). x.set_up) (item-same untouched s.channels c _)
 
 acted : (d : SpiTable) (w : World) (s : SpiState) (call : Call) (times : ℕ → ℕ) (out : Outcome SpiState) → (spi_machine d).happens w s (Acts call times) ≡ Some out → acts_by d s call (error_by d call (is_off s.mode) (finds_held d s call)) ≡ out
-acted d w s call times out made = some_same _ out made
+acted d w s call times out made = some_is _ out made
 
 pub written_since : (d : SpiTable) (w : World) (s : SpiState) (c : ℕ) (k : configured.Channel) (p : Pointer) (times : ℕ → ℕ) (out : Outcome SpiState) (xs : List Occurrence)
     → (spi_machine d).happens w s (Acts (Channel c (WriteIb p)) times) ≡ Some out → out.told.error ≡ None → channel_of d c ≡ Some k → list_all (λ (x : Occurrence). leaves_written c x.what) xs ≡ true

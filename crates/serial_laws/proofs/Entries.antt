@@ -1,17 +1,8 @@
 -- The entry of a sequence in the pending list.
-use Rattle.std.proofs.Common.{◌≡◌, ◌≢◌, ℕ, Bool, true, false, not, cond, ◌==◌, List, [], ◌∷◌, ◌++◌, Option, Some, None, refl, sym, ◌∙◌, ap, arith}
+use Rattle.std.proofs.Common.{◌≡◌, ◌≢◌, ℕ, Bool, true, false, not, cond, ◌==◌, List, [], ◌∷◌, ◌++◌, Option, Some, None, refl, sym, ◌∙◌, ap}
 use Rattle.std.specs.Prelude.{find}
-use Rattle.std.proofs.lemmas.Bool.Decides.{nat_tests}
+use Rattle.plain_facts.specs.Numbers.{eq_is, eq_other, eq_self}
 use Rattle.spi_machine.specs.Pending.{Pending, is_of, changed, without}
-
-pub eq_self : (n : ℕ) → (n == n) ≡ true
-eq_self n = grind (arith, nat_tests)
-
-pub eq_other : (n k : ℕ) → n ≢ k → (n == k) ≡ false
-eq_other n k ne = grind (arith, nat_tests)
-
-pub eq_is : (n k : ℕ) → (n == k) ≡ true → n ≡ k
-eq_is n k h = grind (arith, nat_tests)
 
 -- ---- a change
 

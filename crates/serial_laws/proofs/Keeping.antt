@@ -2,6 +2,8 @@
 use Rattle.std.proofs.Common.{◌≡◌, ℕ, ◌==◌, Bool, true, false, not, ◌&&◌, List, [], ◌∷◌, Option, Some, None, refl, sym, ◌∙◌, ap}
 use Rattle.std.specs.List.{list_all}
 use Rattle.std.specs.Prelude.{find, if◌then◌else◌}
+use Rattle.std.proofs.lemmas.Bool.{and_parts}
+use Rattle.plain_facts.specs.Numbers.{eq_self}
 use Rattle.mcal_base.specs.declared.answer_name.AnswerName.{AnswerName}
 use Rattle.mcal_base.specs.declared.directive.Order.{Order}
 use Rattle.mcal_base.specs.declared.directive.Order.TheVariants.{Fill, SpiFault}
@@ -27,7 +29,6 @@ use Rattle.spi_machine.specs.declared.call.ChannelCall.TheVariants.{WriteIb, Rea
 use Rattle.spi_machine.specs.declared.call.SequenceCall.TheVariants.{AsyncTransmit, Cancel}
 use Rattle.spi_machine.specs.declared.table.SpiTable.{SpiTable}
 use Rattle.serial_laws.specs.Buffers.{leaves_channels, leaves_mode}
-use Rattle.serial_laws.proofs.Entries.{eq_self}
 
 -- ---- a channel
 
@@ -188,15 +189,11 @@ step_mode d w s (Restarts reason) left = absurd (cc left)
 
 -- ---- histories
 
-pub both : (a b : Bool) → (a && b) ≡ true → (a ≡ true) × (b ≡ true)
-both true b h = (refl, h)
-both false b h = absurd (cc h)
-
 pub all_same : {A : Type 0} (see : SpiState → A) (d : SpiTable) (leaves : Happening Call → Bool) → ((w : World) (s : SpiState) (h : Happening Call) → leaves h ≡ true → see (state_after d w s h) ≡ see s)
     → (s : SpiState) (xs : List Occurrence) → list_all (λ (x : Occurrence). leaves x.what) xs ≡ true → see (after_all d s xs) ≡ see s
 all_same see d leaves one s [] left = refl
 all_same see d leaves one s (x ∷ xs) left =
-    let parts = both (leaves x.what) (list_all (λ (y : Occurrence). leaves y.what) xs) left in
+    let parts = and_parts (leaves x.what) (list_all (λ (y : Occurrence). leaves y.what) xs) left in
     all_same see d leaves one (state_after d x.world s x.what) xs parts.1 ∙ one x.world s x.what parts.0
 
 pub mode_all : (d : SpiTable) (s : SpiState) (xs : List Occurrence) → list_all (λ (x : Occurrence). leaves_mode x.what) xs ≡ true → (after_all d s xs).mode ≡ s.mode

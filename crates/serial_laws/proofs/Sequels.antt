@@ -1,6 +1,8 @@
 -- What becomes of a pending sequence, happening by happening.
 use Rattle.std.proofs.Common.{◌≡◌, ◌≢◌, ℕ, ◌+◌, ◌==◌, Bool, true, false, not, ◌||◌, List, [], ◌∷◌, Option, Some, None, refl, sym, ◌∙◌, ap, subst, ◌⊎◌, inl, inr}
 use Rattle.std.specs.Prelude.{find, is_some}
+use Rattle.plain_facts.specs.Options.{some_is}
+use Rattle.plain_facts.specs.Numbers.{same_or_other}
 use Rattle.mcal_base.specs.declared.answer_name.AnswerName.{AnswerName}
 use Rattle.mcal_base.specs.declared.answer_name.AnswerName.TheVariants.{SpiJobOk, SpiSeqOk, SpiSeqPending, SpiSeqFailed, SpiSeqCanceled}
 use Rattle.mcal_base.specs.declared.directive.Order.{Order}
@@ -11,8 +13,8 @@ use Rattle.mcal_base.specs.declared.service.Service.TheVariants as services
 use Rattle.det_errors.specs.Rows.{first_error}
 use Rattle.run_model.specs.Machine.{Happening, Acts, Serves, Starts, Aborts, Moves, Restarts, Outcome, tells_nothing, outcome}
 use Rattle.run_model.specs.World.{World}
-use Rattle.spi_machine.proofs.Numbers.{same_or_other, item-same, item-other}
-use Rattle.spi_machine.proofs.Runs.{stored-seen, after_last-seen, some_same, serve_by}
+use Rattle.spi_machine.proofs.Numbers.{item-same, item-other}
+use Rattle.spi_machine.proofs.Runs.{stored-seen, after_last-seen, serve_by}
 use Rattle.spi_machine.proofs.Turns.{found}
 use Rattle.spi_machine.specs.Checks.{error_by}
 use Rattle.spi_machine.specs.Machine.{spi_machine, acts_by, work, unless_busy, cancelled, cancelled_by, finds_held, accepted, ended, after_last, sequence_after, job_over, result_by, pending_of, served_by, served, unit_of, run_of, ready, started, start_by, next_at, number_of, moved}
@@ -118,7 +120,7 @@ module _ (d : SpiTable) (s : SpiState) (q : ℕ) (p : Pending) (there : find (is
 
     by_number : (r.sequence ≡ q) ⊎ (r.sequence ≢ q) → Comes d s q p (Serves line received) (job_over d t u r.transfer.failed (Some x)).state
     by_number (inl at) =
-        let it : x ≡ p = some_same x p (sym e ∙ (ap (λ k. find (is_of k) s.pending) at ∙ there)) in
+        let it : x ≡ p = some_is x p (sym e ∙ (ap (λ k. find (is_of k) s.pending) at ∙ there)) in
         subst (λ (y : Pending). Comes d s q p (Serves line received) (job_over d t u r.transfer.failed (Some y)).state) (sym it)
         (job_ends line received r (record { unit = u; on = on; runs = runs; its = at; over = last }) _ same results p.cancelled r.transfer.failed (has_further d p) refl refl refl)
     by_number (inr ne) = other_over (Serves line received) _ x (end_by x.cancelled r.transfer.failed (has_further d x)) (λ at. ne (sym is ∙ sym at)) same results
@@ -161,7 +163,7 @@ module _ (d : SpiTable) (s : SpiState) (q : ℕ) (p : Pending) (there : find (is
     by_number : (k ≡ q) ⊎ (k ≢ q) → Comes d s q p (Acts (Sequence k Cancel) times) (cancelled_by d s x b).state
     by_number (inr ne) = other b (λ at. ne (sym is ∙ sym at))
     by_number (inl at) =
-        let it : x ≡ p = some_same x p (sym e ∙ (ap (λ i. find (is_of i) s.pending) at ∙ there)) in
+        let it : x ≡ p = some_is x p (sym e ∙ (ap (λ i. find (is_of i) s.pending) at ∙ there)) in
         subst (λ i. Comes d s q p (Acts (Sequence i Cancel) times) (cancelled_by d s x b).state) (sym at)
         (subst (λ (y : Pending). Comes d s q p (Acts (Sequence q Cancel) times) (cancelled_by d s y b).state) (sym it)
         (own b (ap (λ i. is_running s i) (sym at ∙ sym is) ∙ runs)))
@@ -211,7 +213,7 @@ module _ (d : SpiTable) (s : SpiState) (q : ℕ) (p : Pending) (there : find (is
   start_by_comes w unit made_by received None o out on is e = absurd (cc e)
   start_by_comes w unit made_by received (Some u) None out on is e = absurd (cc e)
   start_by_comes w unit made_by received (Some u) (Some next) out on is e =
-      subst (λ (x : Outcome SpiState). Comes d s q p (Starts unit made_by received) x.state) (some_same (started d w s u received next) out e) (start_comes w unit made_by received u next on is)
+      subst (λ (x : Outcome SpiState). Comes d s q p (Starts unit made_by received) x.state) (some_is (started d w s u received next) out e) (start_comes w unit made_by received u next on is)
 
   moved_comes : (w : World) (order : Order) → Comes d s q p (Moves order) (moved d w s order)
   moved_comes w (Fill c ws) = left (Moves (Fill c ws)) (moved d w s (Fill c ws)) refl refl
@@ -220,13 +222,13 @@ module _ (d : SpiTable) (s : SpiState) (q : ℕ) (p : Pending) (there : find (is
 
   pub happens_comes : (w : World) (h : Happening Call) (out : Outcome SpiState) → (spi_machine d).happens w s h ≡ Some out → drops h ≡ false → Comes d s q p h out.state
   happens_comes w (Acts call times) out e kept =
-      subst (λ (x : Outcome SpiState). Comes d s q p (Acts call times) x.state) (some_same _ out e) (acts_comes call times (error_by d call (is_off s.mode) (finds_held d s call)) refl kept)
+      subst (λ (x : Outcome SpiState). Comes d s q p (Acts call times) x.state) (some_is _ out e) (acts_comes call times (error_by d call (is_off s.mode) (finds_held d s call)) refl kept)
   happens_comes w (Serves line received) out e kept =
       subst (λ (x : Outcome SpiState). Comes d s q p (Serves line received) x.state) (serve_by (ready w s line) (served d w s (unit_of line) received (run_of s (unit_of line))) out e)
       (served_comes w line received (unit_of line) (run_of s (unit_of line)) refl refl)
   happens_comes w (Starts unit made_by received) out e kept = start_by_comes w unit made_by received (number_of unit) (next_at d s (number_of unit)) out refl refl e
   happens_comes w (Aborts unit) out e kept = absurd (cc e)
-  happens_comes w (Moves order) out e kept = subst (λ (x : Outcome SpiState). Comes d s q p (Moves order) x.state) (some_same _ out e) (moved_comes w order)
+  happens_comes w (Moves order) out e kept = subst (λ (x : Outcome SpiState). Comes d s q p (Moves order) x.state) (some_is _ out e) (moved_comes w order)
   happens_comes w (Restarts reason) out e kept = absurd (cc kept)
 
 -- ---- what has to become of it
@@ -302,7 +304,7 @@ cancel_quiet d s q times p None told there on =
 pub cancel_waits : (d : SpiTable) (w : World) (s : SpiState) (q : ℕ) (times : ℕ → ℕ) (out : Outcome SpiState) (p : Pending) → (spi_machine d).happens w s (Acts (Sequence q Cancel) times) ≡ Some out → out.told.error ≡ None
     → find (is_of q) s.pending ≡ Some p → is_running s q ≡ true → (find (is_of q) out.state.pending ≡ Some (cancels p)) × (out.told.notices ≡ [])
 cancel_waits d w s q times out p made told there on =
-    subst (λ (x : Outcome SpiState). x.told.error ≡ None → (find (is_of q) x.state.pending ≡ Some (cancels p)) × (x.told.notices ≡ [])) (some_same _ out made)
+    subst (λ (x : Outcome SpiState). x.told.error ≡ None → (find (is_of q) x.state.pending ≡ Some (cancels p)) × (x.told.notices ≡ [])) (some_is _ out made)
     (λ quiet. cancel_quiet d s q times p (error_by d (Sequence q Cancel) (is_off s.mode) (finds_held d s (Sequence q Cancel))) quiet there on) told
 
 -- ---- a start
@@ -311,7 +313,7 @@ started_by : (d : SpiTable) (w : World) (s : SpiState) (k : Option ℕ) (receive
     → find (is_of next.sequence) s.pending ≡ Some p → find (is_of next.sequence) out.state.pending ≡ Some (starts p)
 started_by d w s k received u next p out made on is there =
     let made_so : start_by d w s (Some u) received (Some next) ≡ Some out = ap (λ o. start_by d w s (Some u) received o) (sym is) ∙ (ap (λ i. start_by d w s i received (next_at d s i)) (sym on) ∙ made) in
-    ap (λ (x : Outcome SpiState). find (is_of next.sequence) x.state.pending) (sym (some_same (started d w s u received next) out made_so))
+    ap (λ (x : Outcome SpiState). find (is_of next.sequence) x.state.pending) (sym (some_is (started d w s u received next) out made_so))
     ∙ find-changed_own next.sequence starts (λ y. refl) s.pending p there
 
 pub has_started : (d : SpiTable) (w : World) (s : SpiState) (unit : units.Unit) (made_by : Option Call) (received : ℕ) (out : Outcome SpiState) (u : ℕ) (next p : Pending)

@@ -2,6 +2,8 @@
 use Rattle.std.proofs.Common.{◌≡◌, ◌≢◌, ℕ, zero, suc, ◌+◌, ◌<◌, Bool, true, false, cond, List, [], ◌∷◌, length, slice_index_or, Option, Some, None, refl, sym, ◌∙◌, ap, subst, arith, ◌⊎◌, inl, inr}
 use Rattle.std.specs.List.{list_all}
 use Rattle.std.specs.Prelude.{Contains, filter, is_some, if◌then◌else◌}
+use Rattle.plain_facts.specs.Options.{some_is}
+use Rattle.plain_facts.specs.Numbers.{same_or_other}
 use Rattle.mcal_base.specs.declared.answer.Answer.{Answer}
 use Rattle.mcal_base.specs.declared.answer.Head.TheVariants.{Name}
 use Rattle.mcal_base.specs.declared.answer_name.AnswerName.{AnswerName}
@@ -11,8 +13,8 @@ use Rattle.mcal_base.specs.declared.moves.Unit as units
 use Rattle.run_model.specs.Machine.{Acts, Serves, Starts, Outcome}
 use Rattle.run_model.specs.World.{World}
 use Rattle.service_outline.specs.Done.{named}
-use Rattle.spi_machine.proofs.Numbers.{same_or_other, item-same, item-other}
-use Rattle.spi_machine.proofs.Runs.{some_same, serve_by, one_more}
+use Rattle.spi_machine.proofs.Numbers.{item-same, item-other}
+use Rattle.spi_machine.proofs.Runs.{serve_by, one_more}
 use Rattle.spi_machine.specs.Checks.{error_by}
 use Rattle.spi_machine.specs.Machine.{spi_machine, acts_by, unless_busy, finds_held, served_by, served, unit_of, run_of, ready, started, start_by, next_by, next_at, number_of}
 use Rattle.spi_machine.specs.Numbered.{with_item}
@@ -51,14 +53,14 @@ queued_by d s q j None told has = gets_result SpiJobQueued (jobs_of d q) s.job_r
 pub queued : (d : SpiTable) (w : World) (s : SpiState) (q j : ℕ) (times : ℕ → ℕ) (out : Outcome SpiState) → (spi_machine d).happens w s (Acts (Sequence q AsyncTransmit) times) ≡ Some out → out.told.error ≡ None
     → Contains (jobs_of d q) j → job_result out.state.job_results j ≡ SpiJobQueued
 queued d w s q j times out made told has =
-    subst (λ (x : Outcome SpiState). x.told.error ≡ None → job_result x.state.job_results j ≡ SpiJobQueued) (some_same _ out made)
+    subst (λ (x : Outcome SpiState). x.told.error ≡ None → job_result x.state.job_results j ≡ SpiJobQueued) (some_is _ out made)
     (λ quiet. queued_by d s q j (error_by d (Sequence q AsyncTransmit) (is_off s.mode) (finds_held d s (Sequence q AsyncTransmit))) quiet has) told
 
 pending_by : (d : SpiTable) (w : World) (s : SpiState) (k : Option ℕ) (received u : ℕ) (p : Pending) (out : Outcome SpiState) → start_by d w s k received (next_at d s k) ≡ Some out → k ≡ Some u → next_at d s (Some u) ≡ Some p
     → job_result out.state.job_results (next_job d p) ≡ SpiJobPending
 pending_by d w s k received u p out made on is =
     let made_so : start_by d w s (Some u) received (Some p) ≡ Some out = ap (λ o. start_by d w s (Some u) received o) (sym is) ∙ (ap (λ i. start_by d w s i received (next_at d s i)) (sym on) ∙ made) in
-    ap (λ (x : Outcome SpiState). job_result x.state.job_results (next_job d p)) (sym (some_same (started d w s u received p) out made_so))
+    ap (λ (x : Outcome SpiState). job_result x.state.job_results (next_job d p)) (sym (some_is (started d w s u received p) out made_so))
     ∙ item-same SpiJobOk s.job_results (next_job d p) SpiJobPending
 
 pub started_job : (d : SpiTable) (w : World) (s : SpiState) (unit : units.Unit) (made_by : Option Call) (received : ℕ) (out : Outcome SpiState) (u : ℕ) (p : Pending)
@@ -82,7 +84,7 @@ pub mode_since : (d : SpiTable) (w : World) (s : SpiState) (m : AsyncMode) (time
     → out.told.error ≡ None → out.told.answer ≡ named EOk → list_all (λ (x : Occurrence). leaves_mode x.what) xs ≡ true → (after_all d out.state xs).mode ≡ mode_of m
 mode_since d w s m times out xs made told answer left =
     mode_all d out.state xs left
-    ∙ subst (λ (x : Outcome SpiState). x.told.error ≡ None → x.told.answer ≡ named EOk → x.state.mode ≡ mode_of m) (some_same _ out made)
+    ∙ subst (λ (x : Outcome SpiState). x.told.error ≡ None → x.told.answer ≡ named EOk → x.state.mode ≡ mode_of m) (some_is _ out made)
     (λ quiet ok. mode_by d s m (error_by d (SetAsyncMode m) (is_off s.mode) false) quiet ok) told answer
 
 first_by : (d : SpiTable) (s : SpiState) (e : Option ErrorName) → (acts_by d s Init e).told.error ≡ None → (acts_by d s Init e).state.mode ≡ Polling
@@ -93,7 +95,7 @@ pub mode_since_init : (d : SpiTable) (w : World) (s : SpiState) (times : ℕ →
     → out.told.error ≡ None → list_all (λ (x : Occurrence). leaves_mode x.what) xs ≡ true → (after_all d out.state xs).mode ≡ Polling
 mode_since_init d w s times out xs made told left =
     mode_all d out.state xs left
-    ∙ subst (λ (x : Outcome SpiState). x.told.error ≡ None → x.state.mode ≡ Polling) (some_same _ out made) (λ quiet. first_by d s (error_by d Init (is_off s.mode) false) quiet) told
+    ∙ subst (λ (x : Outcome SpiState). x.told.error ≡ None → x.state.mode ≡ Polling) (some_is _ out made) (λ quiet. first_by d s (error_by d Init (is_off s.mode) false) quiet) told
 
 -- ---- what may start
 
@@ -130,5 +132,5 @@ goes_to_next_word d w s line received out u r made on runs goes =
 pub one_word_more : (d : SpiTable) (w : World) (s : SpiState) (line received : ℕ) (out : Outcome SpiState) (u : ℕ) (r after : Run) → (spi_machine d).happens w s (Serves line received) ≡ Some out → unit_of line ≡ Some u
     → run_at s u ≡ Some r → goes_on r ≡ true → run_at out.state u ≡ Some after → length after.received ≡ length r.received + 1
 one_word_more d w s line received out u r after made on runs goes is =
-    let same = some_same _ after (sym (goes_to_next_word d w s line received out u r made on runs goes) ∙ is) in
+    let same = some_is _ after (sym (goes_to_next_word d w s line received out u r made on runs goes) ∙ is) in
     ap (λ (x : Run). length x.received) (sym same) ∙ one_more (length r.received) r.received r.transfer.incoming refl

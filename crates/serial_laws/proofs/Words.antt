@@ -3,6 +3,10 @@ use Rattle.std.proofs.Common.{◌≡◌, ◌≢◌, ℕ, zero, suc, ◌+◌, ◌
 use Rattle.std.specs.Prelude.{◌↔◌, find, is_some, if◌then◌else◌}
 use Rattle.std.specs.List.{list_all}
 use Rattle.std.proofs.lemmas.Bool.Decides.{nat_tests}
+use Rattle.std.proofs.lemmas.Bool.{and_from, and_parts, or_right}
+use Rattle.plain_facts.specs.Truths.{or_false, or_true}
+use Rattle.plain_facts.specs.Options.{some_is}
+use Rattle.plain_facts.specs.Numbers.{eq_is, eq_other, eq_self, same_or_other}
 use Rattle.mcal_base.specs.declared.answer_name.AnswerName.{AnswerName}
 use Rattle.mcal_base.specs.declared.directive.Order.{Order}
 use Rattle.mcal_base.specs.declared.directive.Order.TheVariants.{Fill, SpiFault}
@@ -10,8 +14,8 @@ use Rattle.mcal_base.specs.declared.error_name.ErrorName.{ErrorName}
 use Rattle.run_model.specs.Frame.{state_by}
 use Rattle.run_model.specs.Machine.{Happening, Acts, Serves, Starts, Aborts, Moves, Restarts, Begun, Outcome}
 use Rattle.run_model.specs.World.{World}
-use Rattle.spi_machine.proofs.Numbers.{same_or_other, item-same, item-other}
-use Rattle.spi_machine.proofs.Runs.{stored-seen, after_last-seen, some_same, serve_by}
+use Rattle.spi_machine.proofs.Numbers.{item-same, item-other}
+use Rattle.spi_machine.proofs.Runs.{stored-seen, after_last-seen, serve_by}
 use Rattle.spi_machine.proofs.Begins.{happens-begins}
 use Rattle.spi_machine.specs.Checks.{error_by}
 use Rattle.spi_machine.specs.Machine.{spi_machine, acts_by, unless_busy, cancelled, cancelled_by, finds_held, stored, after_last, sequence_after, job_over, pending_of, served_by, served, unit_of, run_of, ready, started, start_by, next_at, number_of, faulted_run, moved}
@@ -27,7 +31,6 @@ use Rattle.spi_machine.specs.declared.call.ChannelCall.TheVariants.{WriteIb, Rea
 use Rattle.spi_machine.specs.declared.call.SequenceCall.TheVariants.{AsyncTransmit, Cancel}
 use Rattle.spi_machine.specs.declared.table.SpiTable.{SpiTable}
 use Rattle.serial_laws.specs.Faults.{MeetsFault, begins_on, is_unit, leaves_word}
-use Rattle.serial_laws.proofs.Entries.{eq_self, eq_is, eq_other}
 
 -- ---- a word begins
 
@@ -41,7 +44,7 @@ started_begins : (d : SpiTable) (w : World) (s : SpiState) (k : Option ℕ) (rec
 started_begins d w s None received o out u e on = absurd (cc e)
 started_begins d w s (Some v) received None out u e on = absurd (cc e)
 started_begins d w s (Some v) received (Some p) out u e on =
-    let is : started d w s v received p ≡ out = some_same (started d w s v received p) out e in
+    let is : started d w s v received p ≡ out = some_is (started d w s v received p) out e in
     let at : v ≡ u = eq_is v u (ap (λ (x : Outcome SpiState). begins_on u x.begins) is ∙ on) in
     ap (λ (x : Outcome SpiState). word_seen (run_at x.state u)) (sym is)
     ∙ (ap (λ i. word_seen (run_at (started d w s v received p).state i)) (sym at) ∙ ap word_seen (item-same None s.units v _))
@@ -101,13 +104,9 @@ abbrev pub After : (unit : ℕ) → World → Option (ℕ × Bool) → Happening
 After u w None h = None
 After u w (Some x) h = Some (x.0, x.1 || hits u x.0 w.now h)
 
-or_none : (b : Bool) → (b || false) ≡ b
-or_none true = refl
-or_none false = refl
-
 same_word : (u : ℕ) (w : World) (o : Option (ℕ × Bool)) (h : Happening Call) → ((began : ℕ) → hits u began w.now h ≡ false) → After u w o h ≡ o
 same_word u w None h none = refl
-same_word u w (Some x) h none = ap (λ b. Some (x.0, b)) (ap (λ b. x.1 || b) (none x.0) ∙ or_none x.1)
+same_word u w (Some x) h none = ap (λ b. Some (x.0, b)) (ap (λ b. x.1 || b) (none x.0) ∙ or_false x.1)
 
 -- units are as before
 unless_units : (b : Bool) (s after : SpiState) → after.units ≡ s.units → (unless_busy b s after).state.units ≡ s.units
@@ -172,10 +171,6 @@ starts_other d w s (Some v) received (Some p) u left = item-other None s.units v
 
 -- ---- a fault
 
-or_true : (b : Bool) → (b || true) ≡ true
-or_true true = refl
-or_true false = refl
-
 -- a word that isn't done fails
 abbrev After_fault : (now : ℕ) → Option (ℕ × Bool) → Option (ℕ × Bool)
 After_fault now None = None
@@ -191,7 +186,7 @@ fault_own : (u now : ℕ) (o : Option Run) → word_seen (faulted_run now o) ≡
 fault_own u now None = refl
 fault_own u now (Some r) = by_done (is_done now r.transfer) where
   by_done : (b : Bool) → word_seen (Some (record r { transfer = if b then r.transfer else record r.transfer { failed = true } })) ≡ fault_seen r.transfer.began r.transfer.failed (not b)
-  by_done true = ap (λ q. pair r.transfer.began q) (sym (or_none r.transfer.failed))
+  by_done true = ap (λ q. pair r.transfer.began q) (sym (or_false r.transfer.failed))
   by_done false = ap (λ q. pair r.transfer.began q) (sym (or_true r.transfer.failed))
 
 hit_own : (u k : ℕ) (w : World) (o : Option (ℕ × Bool)) → (k == u) ≡ true → After_fault w.now o ≡ After u w o (Moves (SpiFault k))
@@ -231,15 +226,11 @@ abbrev pub fails : (unit began : ℕ) → Bool → List Occurrence → Bool
 fails u began f [] = f
 fails u began f (x ∷ xs) = fails u began (f || hits u began x.world.now x.what) xs
 
-both : (a b : Bool) → (a && b) ≡ true → (a ≡ true) × (b ≡ true)
-both true b h = (refl, h)
-both false b h = absurd (cc h)
-
 pub all_words : (d : SpiTable) (s : SpiState) (u began : ℕ) (f : Bool) (xs : List Occurrence) → list_all (λ (x : Occurrence). leaves_word u x.what) xs ≡ true → word_seen (run_at s u) ≡ Some (began, f)
     → word_seen (run_at (after_all d s xs) u) ≡ Some (began, fails u began f xs)
 all_words d s u began f [] left e = e
 all_words d s u began f (x ∷ xs) left e =
-    let parts = both (leaves_word u x.what) (list_all (λ (y : Occurrence). leaves_word u y.what) xs) left in
+    let parts = and_parts (leaves_word u x.what) (list_all (λ (y : Occurrence). leaves_word u y.what) xs) left in
     all_words d (state_after d x.world s x.what) u began (f || hits u began x.world.now x.what) xs parts.1
     (step_word d x.world s u x.what parts.0 ∙ ap (λ o. After u x.world o x.what) e)
 
@@ -253,18 +244,12 @@ is_late a b h = grind (arith, nat_tests)
 
 hit_is : (u began now : ℕ) (h : Happening Call) → hits u began now h ≡ true → (h ≡ Moves (SpiFault u)) × (now < began + 8)
 hit_is u began now (Moves (SpiFault k)) e =
-    let parts = both (k == u) (not (nat_le (began + 8) now)) e in
+    let parts = and_parts (k == u) (not (nat_le (began + 8) now)) e in
     (ap (λ i. Moves (SpiFault i)) (eq_is k u parts.0), late (began + 8) now parts.1)
 hit_is u began now h e = absurd (cc e)
 
-and_both : (a b : Bool) → a ≡ true → b ≡ true → (a && b) ≡ true
-and_both a b e f = ap (λ x. x && b) e ∙ f
-
-or_second : (a b : Bool) → b ≡ true → (a || b) ≡ true
-or_second a b e = ap (λ x. a || x) e ∙ or_true a
-
 is_hit : (u began now : ℕ) (h : Happening Call) → h ≡ Moves (SpiFault u) → now < began + 8 → hits u began now h ≡ true
-is_hit u began now h e soon = ap (λ x. hits u began now x) e ∙ and_both (u == u) (not (nat_le (began + 8) now)) (eq_self u) (is_late (began + 8) now soon)
+is_hit u began now h e soon = ap (λ x. hits u began now x) e ∙ and_from (u == u) (not (nat_le (began + 8) now)) (eq_self u) (is_late (began + 8) now soon)
 
 either : (a b : Bool) → (a || b) ≡ true → (a ≡ true) ⊎ (b ≡ true)
 either true b e = inl refl
@@ -294,7 +279,7 @@ hit_at : (u began : ℕ) (f : Bool) (xs : List Occurrence) (k : ℕ) (y : Occurr
 hit_at u began f [] k y lt at is soon = absurd (omega (arith, lt))
 hit_at u began f (x ∷ xs) zero y lt at is soon =
     stays_failed u began (f || hits u began x.world.now x.what) xs
-    (or_second f _ (ap (λ (z : Occurrence). hits u began z.world.now z.what) at ∙ is_hit u began y.world.now y.what is soon))
+    (or_right f _ (ap (λ (z : Occurrence). hits u began z.world.now z.what) at ∙ is_hit u began y.world.now y.what is soon))
 hit_at u began f (x ∷ xs) (suc k) y lt at is soon = hit_at u began (f || hits u began x.world.now x.what) xs k y (omega (arith, lt)) at is soon
 
 pub fault_fails : (u began : ℕ) (f : Bool) (xs : List Occurrence) → (f ≡ true) ⊎ MeetsFault u began xs → fails u began f xs ≡ true
@@ -304,7 +289,7 @@ fault_fails u began f xs (inr m) = hit_at u began f xs m.among.0 m.fault m.among
 -- ---- the word in transfer
 
 seen_failed : (o : Option Run) (r : Run) (began : ℕ) (f : Bool) → word_seen o ≡ Some (began, f) → o ≡ Some r → r.transfer.failed ≡ f
-seen_failed o r began f e is = let same : Some (r.transfer.began, r.transfer.failed) ≡ Some (began, f) = sym (ap word_seen is) ∙ e in ap (λ (p : ℕ × Bool). p.1) (some_same _ _ same)
+seen_failed o r began f e is = let same : Some (r.transfer.began, r.transfer.failed) ≡ Some (began, f) = sym (ap word_seen is) ∙ e in ap (λ (p : ℕ × Bool). p.1) (some_is _ _ same)
 
 pub failed_exactly : (d : SpiTable) (w : World) (s : SpiState) (h : Happening Call) (out : Outcome SpiState) (u : ℕ) (r : Run) (xs : List Occurrence)
     → (spi_machine d).happens w s h ≡ Some out → begins_on u out.begins ≡ true → list_all (λ (x : Occurrence). leaves_word u x.what) xs ≡ true → run_at (after_all d out.state xs) u ≡ Some r

@@ -11,7 +11,7 @@ use Rattle.run_model.specs.Frame.{Origin, Called, Entered, ActedAt, Open, is_wri
 use Rattle.run_model.specs.Moment.{Setting, Halves}
 use Rattle.run_model.specs.Legal.{HalvesRight, halves_of, ErrorsRight}
 use Rattle.std.specs.List.{list_any}
-use Rattle.service_outline.specs.Seen.{sets_output}
+use Rattle.service_outline.specs.WindowHistory.{sets_output}
 use Rattle.service_outline.specs.declared.done.Done.{Done}
 use Rattle.service_outline.specs.declared.done.BodyTaken.{BodyTaken}
 

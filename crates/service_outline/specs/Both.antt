@@ -6,14 +6,14 @@ use Rattle.run_model.specs.Frame.{Origin}
 use Rattle.service_outline.specs.declared.body.Or.{Or}
 use Rattle.service_outline.specs.declared.body.Or.TheVariants.{First, Second}
 use Rattle.service_outline.specs.Either.{either_of, either_work, either_takes}
-use Rattle.service_outline.specs.Outline.{Ground, Bodies}
-use Rattle.service_outline.specs.Services.{Basis, Spot, LongBodies}
+use Rattle.service_outline.specs.Outline.{Refinement, Bodies}
+use Rattle.service_outline.specs.Services.{SharedRefinement, PointAssertion, LongBodies}
 
 abbrev pub either_place : {A B State Call F : Type 0} → (F → World → State → A → Origin Call → Option Told → Type 0) → (F → World → State → B → Origin Call → Option Told → Type 0) → F → World → State → Or A B → Origin Call → Option Told → Type 0
 either_place f g b w s (First k) o t = f b w s k o t
 either_place f g b w s (Second k) o t = g b w s k o t
 
-abbrev pub either : {State Call A B : Type 0} {g : Ground State Call} → Bodies g A → Bodies g B → Bodies g (Or A B)
+abbrev pub either : {State Call A B : Type 0} {g : Refinement State Call} → Bodies g A → Bodies g B → Bodies g (Or A B)
 either v u = record {
   work_of = either_work v.work_of u.work_of;
   takes = either_takes v.takes u.takes;
@@ -23,16 +23,16 @@ either v u = record {
   place = either_place v.place u.place;
 }
 
-abbrev pub both_spot : {State Call A B : Type 0} {g : Basis State Call} → (A → Spot g) → (B → Spot g) → Or A B → Spot g
+abbrev pub both_spot : {State Call A B : Type 0} {g : SharedRefinement State Call} → (A → PointAssertion g) → (B → PointAssertion g) → Or A B → PointAssertion g
 both_spot f h (First k) = f k
 both_spot f h (Second k) = h k
 
-abbrev pub both : {State Call A B : Type 0} {g : Basis State Call} → LongBodies g A → LongBodies g B → LongBodies g (Or A B)
+abbrev pub both : {State Call A B : Type 0} {g : SharedRefinement State Call} → LongBodies g A → LongBodies g B → LongBodies g (Or A B)
 both v u = record {
   work_of = either_work v.work_of u.work_of;
   takes = either_takes v.takes u.takes;
   fuel = either_of v.fuel u.fuel;
   room = either_of v.room u.room;
   clean = either_of v.clean u.clean;
-  spot = both_spot v.spot u.spot;
+  assertion = both_spot v.assertion u.assertion;
 }

@@ -11,8 +11,8 @@ use Rattle.mcal_base.specs.declared.service.Service.{Service}
 use Rattle.det_errors.specs.Reports.{Reporting, reported}
 use Rattle.run_model.specs.Machine.{Told}
 use Rattle.run_model.specs.Frame.{report_as}
-use Rattle.service_outline.specs.declared.done.Owed.{Owed}
-use Rattle.service_outline.specs.declared.done.Owed.TheVariants.{Nothing, Error}
+use Rattle.service_outline.specs.declared.done.Epilogue.{Epilogue}
+use Rattle.service_outline.specs.declared.done.Epilogue.TheVariants.{Nothing, Error}
 use Rattle.service_outline.specs.declared.done.BodyTaken.{BodyTaken}
 
 -- the answer that is a name, alone or with words, and the one that is numbers
@@ -42,16 +42,16 @@ abbrev pub acts : BodyTaken
 acts = record { event = Some Act; done = None }
 
 -- it is done
-abbrev pub ends : Option Event → Answer → Owed → BodyTaken
+abbrev pub ends : Option Event → Answer → Epilogue → BodyTaken
 ends e a w = record { event = e; done = Some (record { answer = a; owed = w }) }
 
 -- a report, where there is one
-abbrev pub owed_report : Option DevError → Owed
+abbrev pub owed_report : Option DevError → Epilogue
 owed_report None = Nothing
 owed_report (Some e) = Error e
 
 -- what is owed for an error of a service, by the one rule of reports
-abbrev pub owed_error : Reporting → Service → ErrorName → Owed
+abbrev pub owed_error : Reporting → Service → ErrorName → Epilogue
 owed_error r s e = owed_report (report_as s e (reported r e))
 
 -- an act that answers this, and one that finds an error

@@ -1,7 +1,7 @@
 -- The steps that a frame has left, and the moves of its window, at most.
 use Rattle.std.specs.Prelude.{ℕ, ◌+◌, ◌<◌, ◌≤◌, Option, Some, None}
-use Rattle.service_outline.specs.declared.done.Owed.{Owed}
-use Rattle.service_outline.specs.declared.done.Owed.TheVariants.{Nothing, Error, One, Two}
+use Rattle.service_outline.specs.declared.done.Epilogue.{Epilogue}
+use Rattle.service_outline.specs.declared.done.Epilogue.TheVariants.{Nothing, Error, One, Two}
 use Rattle.service_outline.specs.declared.done.Done.{Done}
 use Rattle.service_outline.specs.declared.done.BodyTaken.{BodyTaken}
 use Rattle.service_outline.specs.declared.body.Looked.{Looked}
@@ -22,7 +22,7 @@ abbrev pub LooksShort : {Body : Type 0} → (Body → ℕ) → ℕ → Looked Bo
 LooksShort fuel most (Refused n) = Unit {0}
 LooksShort fuel most (Goes k) = fuel k ≤ most
 
-abbrev pub tell_fuel : Owed → ℕ
+abbrev pub tell_fuel : Epilogue → ℕ
 tell_fuel Nothing = 1
 tell_fuel (Error e) = 1
 tell_fuel (One k) = 2

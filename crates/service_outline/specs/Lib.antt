@@ -5,9 +5,9 @@ pub mod Done
 pub mod Either
 pub mod Fuel
 pub mod Outline
-pub mod Owing
-pub mod Past
-pub mod Seen
+pub mod DeferredWrites
+pub mod FrameHistory
+pub mod WindowHistory
 pub mod Services
 pub mod Short
 pub mod ShortServices

@@ -21,25 +21,25 @@ use Rattle.run_model.specs.Frame.{Origin, Called, Entered, Owing, Open, Brought,
 use Rattle.run_model.specs.Moment.{Setting}
 use Rattle.run_model.specs.Outside.{StandsIn}
 use Rattle.step_runner.specs.Driver.{IsFree}
-use Rattle.service_outline.specs.declared.done.Owed.{Owed}
-use Rattle.service_outline.specs.declared.done.Owed.TheVariants.{Nothing, Error, One, Two}
+use Rattle.service_outline.specs.declared.done.Epilogue.{Epilogue}
+use Rattle.service_outline.specs.declared.done.Epilogue.TheVariants.{Nothing, Error, One, Two}
 use Rattle.service_outline.specs.declared.done.Done.{Done}
 use Rattle.service_outline.specs.declared.done.BodyTaken.{BodyTaken}
 use Rattle.service_outline.specs.declared.body.Looked.{Looked}
 use Rattle.service_outline.specs.declared.body.Looked.TheVariants.{Refused, Goes}
 use Rattle.service_outline.specs.Acts.{Cleans, ActsRight}
 use Rattle.service_outline.specs.Fuel.{Shortens}
-use Rattle.service_outline.specs.Seen.{Seen, Starts, SeesTo}
+use Rattle.service_outline.specs.WindowHistory.{WindowHistory, Starts, SeesTo}
 
 -- ---- what is told
 
-abbrev pub error_in : Owed → Option DevError
+abbrev pub error_in : Epilogue → Option DevError
 error_in Nothing = None
 error_in (Error e) = Some e
 error_in (One k) = None
 error_in (Two k j) = None
 
-abbrev pub notices_in : Owed → List Notice
+abbrev pub notices_in : Epilogue → List Notice
 notices_in Nothing = []
 notices_in (Error e) = []
 notices_in (One k) = k ∷ []
@@ -79,7 +79,7 @@ form r origin acted served owed report inside = record { origin = origin; tag = 
 -- ---- what a driver gives
 
 -- what all bodies of a driver stand on: the machine with its bounds, and how words and registers agree with its state
-pub record Ground (State Call : Type 0) : Type 1 where
+pub record Refinement (State Call : Type 0) : Type 1 where
   pub setting : Setting State Call
   -- what the configuration has wired to the chip, as far as the driver rests on it
   pub wired : Chip → Type 0
@@ -93,16 +93,16 @@ pub record Ground (State Call : Type 0) : Type 1 where
   -- what the hardware makes of a state
   pub later : World → State → Order → State
   -- what the top frame may have under work, and nothing
-  pub Gap : Type 0
-  pub settled : Gap
+  pub Lag : Type 0
+  pub settled : Lag
   -- the words and registers agree with the state, but for what is under work
-  pub agrees : Gap → Chip → World → State → Type 0
+  pub represents : Lag → Chip → World → State → Type 0
   -- what the places of bodies may rest on, of the chip
-  pub Foot : Type 0
-  pub foot : Chip → Foot
+  pub Footprint : Type 0
+  pub foot : Chip → Footprint
 
 -- the move names nothing of the driver's
-abbrev pub Apart : {State Call : Type 0} → Ground State Call → Move → Type 0
+abbrev pub Apart : {State Call : Type 0} → Refinement State Call → Move → Type 0
 Apart {State} {Call} g made = (origin : Origin Call) → g.owns origin made ≡ false
 
 -- the hardware is free to move so, whatever frames are under way
@@ -111,12 +111,12 @@ pub record Comes {State Call : Type 0} (g : Setting State Call) (chip : Chip) (w
   pub free : IsFree g (is_masked chip) w s frames order
 
 -- what a driver owes of its ground, once
-pub record IsGround {State Call : Type 0} (g : Ground State Call) : Type 0 where
-  pub starts : (chip : Chip) (w : World) → g.wired chip → StandsIn chip w → g.agrees g.settled (reset_chip chip PowerOn) w g.setting.first
+pub record IsGround {State Call : Type 0} (g : Refinement State Call) : Type 0 where
+  pub starts : (chip : Chip) (w : World) → g.wired chip → StandsIn chip w → g.represents g.settled (reset_chip chip PowerOn) w g.setting.first
   pub moves : (w : World) (s : State) (order : Order) → g.setting.machine.happens w s (Moves order) ≡ Some (outcome (g.later w s order) tells_nothing)
-  pub resets : (gap : g.Gap) (chip : Chip) (w : World) (s : State) (reason : Reason) → g.agrees gap chip w s → (out : Outcome State) × (g.setting.machine.happens w s (Restarts reason) ≡ Some out) × g.agrees g.settled (reset_chip chip reason) w out.state
-  pub agrees_later : (gap : g.Gap) (chip : Chip) (w : World) (s : State) (order : Order) → Comes g.setting chip w s order → g.agrees gap chip w s → g.agrees gap (happened chip order) (world_after w chip.clock.rate order) (g.later w s order)
-  pub agrees_apart : (gap : g.Gap) (chip : Chip) (w : World) (s : State) (made : Move) (received : ℕ) → Apart g made → g.agrees gap chip w s → g.agrees gap (chip_after chip made received) w s
+  pub resets : (gap : g.Lag) (chip : Chip) (w : World) (s : State) (reason : Reason) → g.represents gap chip w s → (out : Outcome State) × (g.setting.machine.happens w s (Restarts reason) ≡ Some out) × g.represents g.settled (reset_chip chip reason) w out.state
+  pub agrees_later : (gap : g.Lag) (chip : Chip) (w : World) (s : State) (order : Order) → Comes g.setting chip w s order → g.represents gap chip w s → g.represents gap (happened chip order) (world_after w chip.clock.rate order) (g.later w s order)
+  pub agrees_apart : (gap : g.Lag) (chip : Chip) (w : World) (s : State) (made : Move) (received : ℕ) → Apart g made → g.represents gap chip w s → g.represents gap (chip_after chip made received) w s
   -- what a frame may do names what is the driver's own, and that is a register or a word, which is there
   pub may_owns : (origin : Origin Call) (made : Move) → g.setting.may origin made ≡ true → g.owns origin made ≡ true
   pub owns_plain : (origin : Origin Call) (made : Move) → g.owns origin made ≡ true → is_shared made ≡ false
@@ -125,7 +125,7 @@ pub record IsGround {State Call : Type 0} (g : Ground State Call) : Type 0 where
   pub enables : (origin : Origin Call) (bits line : ℕ) → g.setting.may origin (Write EnableSet bits) ≡ true → g.lines line ≡ false → has_bit bits line ≡ false
   -- no frame loads the watchdog but of a driver that has it; the time that runs then is the chip's, and else none does
   pub loads : (origin : Origin Call) (value : ℕ) → g.setting.may origin (Write WatchdogLoad value) ≡ true → g.watches ≡ true
-  pub watched : (gap : g.Gap) (chip : Chip) (w : World) (s : State) → g.watches ≡ true → chip.clock.osc ≡ w.osc → g.agrees gap chip w s → g.setting.machine.expires w s ≡ expiry_of chip
+  pub watched : (gap : g.Lag) (chip : Chip) (w : World) (s : State) → g.watches ≡ true → chip.clock.osc ≡ w.osc → g.represents gap chip w s → g.setting.machine.expires w s ≡ expiry_of chip
   pub unwatched : (w : World) (s : State) → g.watches ≡ false → g.setting.machine.expires w s ≡ None
   -- no call asks for a reset or polls a line, and no frame may make a reset
   pub asks_none : (c : Call) → is_reset_service (g.setting.machine.service_of c) ≡ false
@@ -137,14 +137,14 @@ pub record IsGround {State Call : Type 0} (g : Ground State Call) : Type 0 where
   pub owns_called : (line : ℕ) (made : Move) → g.owns (Entered line) made ≡ true → (c : Call) × (g.owns (Called c) made ≡ true)
   -- a line that an object uses is one of the modules' lines, and one that no object uses is not due
   pub used_lines : (line : ℕ) → g.setting.used line ≡ true → g.lines line ≡ true
-  pub due_used : (chip : Chip) (w : World) (s : State) (line : ℕ) → g.agrees g.settled chip w s → g.setting.machine.due w s line ≡ true → g.setting.used line ≡ true
+  pub due_used : (chip : Chip) (w : World) (s : State) (line : ℕ) → g.represents g.settled chip w s → g.setting.machine.due w s line ≡ true → g.setting.used line ≡ true
   -- each line, used or not, is pending exactly where it is due, and no unit waits for a start
-  pub pends : (chip : Chip) (w : World) (s : State) (line : ℕ) → g.lines line ≡ true → g.agrees g.settled chip w s → is_pending chip line ≡ g.setting.machine.due w s line
+  pub pends : (chip : Chip) (w : World) (s : State) (line : ℕ) → g.lines line ≡ true → g.represents g.settled chip w s → is_pending chip line ≡ g.setting.machine.due w s line
   -- the rest is the machine's too, and so are the outputs that are so at every time, and what a notice shows
-  pub rest : (chip : Chip) (w : World) (s : State) → g.agrees g.settled chip w s → g.setting.rest chip w s
-  pub unmasked : (chip : Chip) (w : World) (s : State) (origins : List (Origin Call)) → g.agrees g.settled chip w s → g.setting.unmasked chip w s origins
-  pub shows : (chip : Chip) (w : World) (s : State) (origin : Origin Call) (n : Notice) → g.agrees g.settled chip w s → g.setting.shows origin n chip s
-  pub waits : (chip : Chip) (w : World) (s : State) (u : units.Unit) → g.agrees g.settled chip w s → g.setting.machine.startable w s u ≡ false
+  pub rest : (chip : Chip) (w : World) (s : State) → g.represents g.settled chip w s → g.setting.rest chip w s
+  pub unmasked : (chip : Chip) (w : World) (s : State) (origins : List (Origin Call)) → g.represents g.settled chip w s → g.setting.unmasked chip w s origins
+  pub shows : (chip : Chip) (w : World) (s : State) (origin : Origin Call) (n : Notice) → g.represents g.settled chip w s → g.setting.shows origin n chip s
+  pub waits : (chip : Chip) (w : World) (s : State) (u : units.Unit) → g.represents g.settled chip w s → g.setting.machine.startable w s u ≡ false
   -- an act that finds an error leaves the state as it was, and gives no notice
   pub error_leaves : (w : World) (s : State) (c : Call) (times : ℕ → ℕ) (out : Outcome State) → g.setting.machine.happens w s (Acts c times) ≡ Some out → ErrorLeaves s out
   -- none are given out at first, at most one by what happens, and none by the hardware and by a reset
@@ -159,27 +159,27 @@ pub record IsGround {State Call : Type 0} (g : Ground State Call) : Type 0 where
   pub rate_resets : (chip : Chip) (w : World) (s : State) (reason : Reason) (out : Outcome State) → g.setting.machine.happens w s (Restarts reason) ≡ Some out → (reset_chip chip reason).clock.rate ≡ g.setting.machine.rate out.state
 
 -- bodies: their places, and what holds at each
-pub record Bodies {State Call : Type 0} (g : Ground State Call) (Body : Type 0) : Type 1 where
+pub record Bodies {State Call : Type 0} (g : Refinement State Call) (Body : Type 0) : Type 1 where
   pub work_of : Body → Move
   pub takes : Body → ℕ → Body × BodyTaken
   -- the steps that it has left, at most
   pub fuel : Body → ℕ
   -- what is under work before a step
-  pub gap_of : Body → g.Gap
+  pub gap_of : Body → g.Lag
   -- it has read no register and written nothing on the way there
   pub clean : Body → Bool
   -- what holds before a step, of a frame of this origin that was told this
-  pub place : g.Foot → World → State → Body → Origin Call → Option Told → Type 0
+  pub place : g.Footprint → World → State → Body → Origin Call → Option Told → Type 0
 
-abbrev pub At : {State Call Body : Type 0} (g : Ground State Call) → Bodies g Body → Chip → World → State → Body → Origin Call → Option Told → Type 0
-At g b chip w s k origin told = g.agrees (b.gap_of k) chip w s × b.place (g.foot chip) w s k origin told
+abbrev pub At : {State Call Body : Type 0} (g : Refinement State Call) → Bodies g Body → Chip → World → State → Body → Origin Call → Option Told → Type 0
+At g b chip w s k origin told = g.represents (b.gap_of k) chip w s × b.place (g.foot chip) w s k origin told
 
 -- a driver of short services
 pub record Outlined (State Call Asked Body : Type 0) : Type 1 where
-  pub basis : Ground State Call
+  pub basis : Refinement State Call
   pub bodies : Bodies basis Body
   -- what a frame has surely done in its window, at a place of a body
-  pub seen : Body → Seen
+  pub seen : Body → WindowHistory
   -- what the driver's value, and a call, have to be
   pub fits : Type 0
   pub can : Call → Type 0
@@ -196,7 +196,7 @@ pub record Outlined (State Call Asked Body : Type 0) : Type 1 where
 
 -- a body that may be entered wherever the words and registers agree
 pub record CanEnter {State Call Asked Body : Type 0} (d : Outlined State Call Asked Body) (k : Body) (origin : Origin Call) : Type 0 where
-  pub at : (chip : Chip) (w : World) (s : State) → d.basis.agrees d.basis.settled chip w s → At d.basis d.bodies chip w s k origin None
+  pub at : (chip : Chip) (w : World) (s : State) → d.basis.represents d.basis.settled chip w s → At d.basis d.bodies chip w s k origin None
   pub unseen : Starts (d.seen k)
   pub room : 2 + d.bodies.fuel k ≤ d.basis.setting.window_of origin
 
@@ -215,11 +215,11 @@ LooksRight d chip w s c (Refused n) = Refuses d w s c n
 LooksRight d chip w s c (Goes k) = At d.basis d.bodies chip w s k (Called c) None × (d.bodies.fuel k ≤ d.most (d.asked c))
 
 -- what stands after a body's step: its next place, or the agreement and what it may end with
-abbrev pub GoesOn : {State Call Body : Type 0} (g : Ground State Call) → Bodies g Body → Chip → World → State → Origin Call → Option Told → (ℕ → Bool) → Body → Option Done → Type 0
+abbrev pub GoesOn : {State Call Body : Type 0} (g : Refinement State Call) → Bodies g Body → Chip → World → State → Origin Call → Option Told → (ℕ → Bool) → Body → Option Done → Type 0
 GoesOn g b chip w s origin told missed k None = At g b chip w s k origin told
-GoesOn g b chip w s origin (Some t) missed k (Some n) = g.agrees g.settled chip w s × TellsAs g.setting.machine origin t n
+GoesOn g b chip w s origin (Some t) missed k (Some n) = g.represents g.settled chip w s × TellsAs g.setting.machine origin t n
 GoesOn g b chip w s (Called c) None missed k (Some n) = ⊥
-GoesOn g b chip w s (Entered l) None missed k (Some n) = g.agrees g.settled chip w s × (missed l ≡ true) × (n ≡ owes_nothing no_answer)
+GoesOn g b chip w s (Entered l) None missed k (Some n) = g.represents g.settled chip w s × (missed l ≡ true) × (n ≡ owes_nothing no_answer)
 
 -- a call acts, and a handler serves its line
 abbrev pub IsOwn : {Call : Type 0} → Origin Call → Event → Type 0
@@ -242,21 +242,21 @@ pub record Happens {State Call : Type 0} (g : Setting State Call) (w : World) (s
   pub next : Then state told
 
 -- a body's step
-abbrev pub StepsRight : {State Call Body : Type 0} (g : Ground State Call) → Bodies g Body → Chip → World → State → Origin Call → Move → (clean : Bool) → Option Told → (ℕ → Bool) → Body → Option Event → Option Done → Type 0
+abbrev pub StepsRight : {State Call Body : Type 0} (g : Refinement State Call) → Bodies g Body → Chip → World → State → Origin Call → Move → (clean : Bool) → Option Told → (ℕ → Bool) → Body → Option Event → Option Done → Type 0
 StepsRight g b chip w s origin made clean told missed k None left = GoesOn g b chip w s origin told missed k left
 StepsRight g b chip w s origin made clean None missed k (Some e) left = Happens g.setting w s origin made clean e left (λ s1 t. GoesOn g b chip w s1 origin (Some t) missed k left)
 StepsRight g b chip w s origin made clean (Some t) missed k (Some e) left = ⊥
 
 -- a body's step, by what it makes of the body
-abbrev pub StepsTo : {State Call Body : Type 0} (g : Ground State Call) → Bodies g Body → Chip → World → State → Origin Call → Move → (clean : Bool) → Option Told → (ℕ → Bool) → Body × BodyTaken → Type 0
+abbrev pub StepsTo : {State Call Body : Type 0} (g : Refinement State Call) → Bodies g Body → Chip → World → State → Origin Call → Move → (clean : Bool) → Option Told → (ℕ → Bool) → Body × BodyTaken → Type 0
 StepsTo g b chip w s origin made clean told missed p = StepsRight g b chip w s origin made clean told missed p.0 p.1.event p.1.done
 
 -- a body's step at a place, where no word comes in
-abbrev pub RightAt : {State Call Body : Type 0} (g : Ground State Call) → Bodies g Body → Chip → World → State → Body → Origin Call → Option Told → (ℕ → Bool) → Type 0
+abbrev pub RightAt : {State Call Body : Type 0} (g : Refinement State Call) → Bodies g Body → Chip → World → State → Body → Origin Call → Option Told → (ℕ → Bool) → Type 0
 RightAt g b chip w s k origin told missed = StepsTo g b (chip_after chip (b.work_of k) 0) w s origin (b.work_of k) (b.clean k) told (missed_after g.setting.machine w s missed) (b.takes k (value_of chip (b.work_of k)))
 
 -- what bodies owe
-pub record AreRight {State Call Body : Type 0} (g : Ground State Call) (b : Bodies g Body) : Type 0 where
+pub record AreRight {State Call Body : Type 0} (g : Refinement State Call) (b : Bodies g Body) : Type 0 where
   -- a body's move is one that its frame may make
   pub own : (chip : Chip) (w : World) (s : State) (k : Body) (origin : Origin Call) (told : Option Told) → At g b chip w s k origin told → g.setting.may origin (b.work_of k) ≡ true
   pub steps : (chip : Chip) (w : World) (s : State) (k : Body) (origin : Origin Call) (told : Option Told) (missed : ℕ → Bool) → At g b chip w s k origin told → RightAt g b chip w s k origin told missed
@@ -272,7 +272,7 @@ pub record IsOutlined {State Call Asked Body : Type 0} (d : Outlined State Call 
   pub windows : (chip : Chip) (w : World) (s : State) (k : Body) (origin : Origin Call) (told : Option Told) → At d.basis d.bodies chip w s k origin told → SeesTo d.seen true (d.bodies.work_of k) k (d.bodies.takes k (value_of chip (d.bodies.work_of k)))
   pub unseen : (chip : Chip) (w : World) (s : State) (k : Body) (c : Call) → At d.basis d.bodies chip w s k (Called c) None → Starts (d.seen k)
   -- the load of the state word, in the window
-  pub looks : (chip : Chip) (w : World) (s : State) (c : Call) → d.can c → d.basis.agrees d.basis.settled chip w s → LooksRight d chip w s c (d.looked (d.asked c) (value_of chip (Load d.word)))
+  pub looks : (chip : Chip) (w : World) (s : State) (c : Call) → d.can c → d.basis.represents d.basis.settled chip w s → LooksRight d chip w s c (d.looked (d.asked c) (value_of chip (Load d.word)))
   -- the state word is its own, and there
   pub own_word : (origin : Origin Call) → d.basis.setting.may origin (Load d.word) ≡ true
   pub word_there : CanApply (Load d.word)

@@ -7,8 +7,8 @@ use Rattle.mcal_base.specs.declared.moves.Event.{Event}
 use Rattle.mcal_base.specs.declared.moves.Event.TheVariants.{Act}
 use Rattle.mcal_base.specs.declared.routine.Taken.{Taken}
 use Rattle.run_model.specs.Machine.{no_answer}
-use Rattle.service_outline.specs.declared.done.Owed.{Owed}
-use Rattle.service_outline.specs.declared.done.Owed.TheVariants.{Nothing, Error, One, Two}
+use Rattle.service_outline.specs.declared.done.Epilogue.{Epilogue}
+use Rattle.service_outline.specs.declared.done.Epilogue.TheVariants.{Nothing, Error, One, Two}
 use Rattle.service_outline.specs.declared.done.Done.{Done}
 use Rattle.service_outline.specs.declared.done.BodyTaken.{BodyTaken}
 use Rattle.service_outline.specs.declared.body.Looked.{Looked}
@@ -26,7 +26,7 @@ IsLoading (Loading c) = Unit {0}
 IsLoading _ = ⊥
 
 -- how it tells what it owes
-abbrev pub tells : ℕ → Owed → Move
+abbrev pub tells : ℕ → Epilogue → Move
 tells word Nothing = Load word
 tells word (Error e) = Report e
 tells word (One k) = Note k
@@ -73,25 +73,25 @@ abbrev pub left_body : {Call Body : Type 0} → Body → Option Done → Short C
 left_body k None = Inside k
 left_body k (Some n) = Opening n
 
-abbrev pub left_open : {Call Body : Type 0} → Answer → Owed → Short Call Body
+abbrev pub left_open : {Call Body : Type 0} → Answer → Epilogue → Short Call Body
 left_open a Nothing = Returning no_answer
 left_open a (Error e) = Telling (record { answer = a; owed = Error e })
 left_open a (One k) = Telling (record { answer = a; owed = One k })
 left_open a (Two k j) = Telling (record { answer = a; owed = Two k j })
 
-abbrev pub gave_open : Answer → Owed → Taken
+abbrev pub gave_open : Answer → Epilogue → Taken
 gave_open a Nothing = ends a
 gave_open a (Error e) = goes
 gave_open a (One k) = goes
 gave_open a (Two k j) = goes
 
-abbrev pub left_told : {Call Body : Type 0} → Answer → Owed → Short Call Body
+abbrev pub left_told : {Call Body : Type 0} → Answer → Epilogue → Short Call Body
 left_told a Nothing = Returning no_answer
 left_told a (Error e) = Returning no_answer
 left_told a (One k) = Returning a
 left_told a (Two k j) = Telling (record { answer = a; owed = One j })
 
-abbrev pub gave_told : Answer → Owed → Taken
+abbrev pub gave_told : Answer → Epilogue → Taken
 gave_told a Nothing = ends a
 gave_told a (Error e) = ends a
 gave_told a (One k) = goes

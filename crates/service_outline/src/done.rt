@@ -79,7 +79,7 @@ impl Reply {
 
 /// What a frame tells after its window.
 #[derive(Clone, Copy)]
-pub enum Owed {
+pub enum Epilogue {
     /// Nothing.
     Nothing,
     /// A development error.
@@ -96,7 +96,7 @@ pub struct Done {
     /// The answer that the frame ends with.
     pub answer: Reply,
     /// What it tells before.
-    pub owed: Owed,
+    pub owed: Epilogue,
 }
 
 /// What a step of a body was, beside its move.
@@ -160,16 +160,16 @@ pub fn zero_null() -> Reply
 
 /// What is told of an error: its report, where a module that detects development errors or doesn't, and classifies state
 /// errors so, reports it.
-pub fn error(detect: bool, classification: u32, service: Service, error: ErrorName) -> Owed
+pub fn error(detect: bool, classification: u32, service: Service, error: ErrorName) -> Epilogue
     ensures { result ≡ spec.owed_error (record { detect = detect; classification = classification }) service error }
 {
     match reported(detect, classification, error) {
-        Some(runtime) => Owed::Error(DevError {
+        Some(runtime) => Epilogue::Error(DevError {
             service,
             error,
             runtime,
         }),
-        None => Owed::Nothing,
+        None => Epilogue::Nothing,
     }
 }
 
@@ -194,7 +194,7 @@ pub fn acts() -> BodyTaken
 }
 
 /// The last step of a body.
-pub fn ends(event: Option<Event>, answer: Reply, owed: Owed) -> BodyTaken
+pub fn ends(event: Option<Event>, answer: Reply, owed: Epilogue) -> BodyTaken
     ensures { result ≡ spec.ends event answer owed }
 {
     BodyTaken {
@@ -204,7 +204,7 @@ pub fn ends(event: Option<Event>, answer: Reply, owed: Owed) -> BodyTaken
 }
 
 /// The last step of a body, with its act.
-pub fn acts_with(answer: Reply, owed: Owed) -> BodyTaken
+pub fn acts_with(answer: Reply, owed: Epilogue) -> BodyTaken
     ensures { result ≡ spec.ends (Some Act) answer owed }
 {
     ends(Some(Event::Act), answer, owed)

@@ -13,7 +13,7 @@ mod words;
 
 pub use body::{Body, Looked, Or, Service};
 pub use done::{
-    BodyTaken, Carried, Done, Owed, Reply, acts, acts_with, ends, error, goes, named, nothing,
+    BodyTaken, Carried, Done, Epilogue, Reply, acts, acts_with, ends, error, goes, named, nothing,
     number, numbers, zero_null,
 };
 pub use short::Short;

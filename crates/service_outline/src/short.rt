@@ -5,7 +5,7 @@ ghost use Rattle.service_outline.specs.declared.short.Short.TheVariants.{Returni
 ghost use Rattle.service_outline.specs.Short as spec;
 
 use crate::body::{Body, Looked, Service};
-use crate::done::{BodyTaken, Done, Owed, Reply, nothing};
+use crate::done::{BodyTaken, Done, Epilogue, Reply, nothing};
 use mcal_base::{Answer, Event, Move, Routine, Taken};
 use std::mem;
 
@@ -44,9 +44,9 @@ impl<C: Service> Routine for Short<C, C::Body> {
             Short::Inside(body) => body.next(),
             Short::Opening(_) => Move::Unmask,
             Short::Telling(done) => match done.owed {
-                Owed::Nothing => Move::Load(C::WORD),
-                Owed::Error(error) => Move::Report(error),
-                Owed::One(notice) | Owed::Two(notice, _) => Move::Note(notice),
+                Epilogue::Nothing => Move::Load(C::WORD),
+                Epilogue::Error(error) => Move::Report(error),
+                Epilogue::One(notice) | Epilogue::Two(notice, _) => Move::Note(notice),
             },
         }
     }
@@ -147,7 +147,7 @@ impl<C: Service> Short<C, C::Body> {
         ensures answer { ended.new ≡ (spec.gave_open done.answer done.owed).ended }
     {
         match done.owed {
-            Owed::Nothing => self.returned(done.answer, ended),
+            Epilogue::Nothing => self.returned(done.answer, ended),
             _ => *self = Short::Telling(done),
         }
     }
@@ -161,10 +161,10 @@ impl<C: Service> Short<C, C::Body> {
     {
         let Done { answer, owed } = done;
         match owed {
-            Owed::Nothing | Owed::Error(_) => self.returned(answer, ended),
-            Owed::One(_) => *self = Short::Returning(answer),
-            Owed::Two(_, second) => {
-                let owed = Owed::One(second);
+            Epilogue::Nothing | Epilogue::Error(_) => self.returned(answer, ended),
+            Epilogue::One(_) => *self = Short::Returning(answer),
+            Epilogue::Two(_, second) => {
+                let owed = Epilogue::One(second);
                 *self = Short::Telling(Done { answer, owed });
             }
         }

@@ -5,11 +5,11 @@ use Rattle.chip_model.specs.Chip.{Chip, word_of, value_of, chip_after}
 use Rattle.mcal_base.specs.declared.answer.Answer.{Answer}
 use Rattle.mcal_base.specs.declared.moves.Move.{Move}
 use Rattle.mcal_base.specs.declared.moves.Move.TheVariants.{Read, Write, Load, Store, Mask, Unmask, Note, Report}
-use Rattle.service_outline.specs.Owing.{Owing, Either, Settles}
+use Rattle.service_outline.specs.DeferredWrites.{DeferredWrites, Either, CommitsTo}
 use Rattle.word_shapes.specs.Playing.{Memory, Play, given, after, NamesOwn, Ends}
 use Rattle.word_shapes.specs.Playing as playing
 use Rattle.shapes_on_chip.specs.OnChip.{HasWords, AreThere}
-use Rattle.shapes_on_chip.specs.Parts.{PartTo, IsPart, DiffersIn, Comes, Begins, AreListed, after_list, MayBegin, AllMay}
+use Rattle.shapes_on_chip.specs.Parts.{PartTo, IsPart, DiffersIn, CommitsAfter, Begins, AreListed, after_list, MayBegin, AllMay}
 use Rattle.shapes_on_chip.proofs.Steps.{value-same, store_word}
 
 -- two memories with the same in each word are the same
@@ -46,23 +46,23 @@ pub differs-on : (own : ℕ → Bool) (a b c : Chip) → DiffersIn own a b → D
 differs-on own a b c h k = record { rest = k.rest ∙ ap (λ (x : Chip). record x { words = c.words }) h.rest; whole = k.whole; others = λ j e. k.others j e ∙ h.others j e }
 
 -- one move, by what it leaves
-pub one_owed : {Owed : Type 0} (p : Owing Owed) (Done : Chip → Type 0) (x : Owed) (chip : Chip) (left : Option Owed) → p.own (p.move x) ≡ true → p.fits x chip → p.left x (value_of chip (p.move x)) ≡ left → Comes p left (chip_after chip (p.move x) 0) Done → (n : ℕ) × Settles p n x chip Done
-one_owed p Done x chip None named fits e h = (1, (named, fits, subst (λ a. Either a (λ y. Settles p 0 y (chip_after chip (p.move x) 0) Done) (Done (chip_after chip (p.move x) 0))) (sym e) h))
-one_owed p Done x chip (Some y) named fits e h = (suc h.0, (named, fits, subst (λ a. Either a (λ y. Settles p h.0 y (chip_after chip (p.move x) 0) Done) (Done (chip_after chip (p.move x) 0))) (sym e) h.1))
+pub one_owed : {Owed : Type 0} (p : DeferredWrites Owed) (Done : Chip → Type 0) (x : Owed) (chip : Chip) (left : Option Owed) → p.own (p.move x) ≡ true → p.fits x chip → p.left x (value_of chip (p.move x)) ≡ left → CommitsAfter p left (chip_after chip (p.move x) 0) Done → (n : ℕ) × CommitsTo p n x chip Done
+one_owed p Done x chip None named fits e h = (1, (named, fits, subst (λ a. Either a (λ y. CommitsTo p 0 y (chip_after chip (p.move x) 0) Done) (Done (chip_after chip (p.move x) 0))) (sym e) h))
+one_owed p Done x chip (Some y) named fits e h = (suc h.0, (named, fits, subst (λ a. Either a (λ y. CommitsTo p h.0 y (chip_after chip (p.move x) 0) Done) (Done (chip_after chip (p.move x) 0))) (sym e) h.1))
 
-module _ {R Owed : Type 0} (q : Play R) (own : ℕ → Bool) (p : Owing Owed) (into : R → Owed) (next : List ℕ → Option Owed) (part : IsPart q own p into next) (there : AreThere own)
+module _ {R Owed : Type 0} (q : Play R) (own : ℕ → Bool) (p : DeferredWrites Owed) (into : R → Owed) (next : List ℕ → Option Owed) (part : IsPart q own p into next) (there : AreThere own)
     (D : Memory → List ℕ → Type 0) (Done : Chip → Type 0) where
   -- what is owed at a place of the routine
   abbrev Settling : R → Chip → Type 0
-  Settling r chip = (n : ℕ) × Settles p n (into r) chip Done
+  Settling r chip = (n : ℕ) × CommitsTo p n (into r) chip Done
 
   abbrev Onward : Chip → Type 0
-  Onward chip = (c : Chip) (xs : List ℕ) → DiffersIn own chip c → D (word_of c) xs → Comes p (next xs) c Done
+  Onward chip = (c : Chip) (xs : List ℕ) → DiffersIn own chip c → D (word_of c) xs → CommitsAfter p (next xs) c Done
 
   -- a step of the routine, once its move is known
-  step : (r : R) (chip : Chip) (made : Move) → p.move (into r) ≡ made → NamesOwn own made → (left : Option Owed) → p.left (into r) (value_of chip made) ≡ left → Comes p left (chip_after chip made 0) Done → Settling r chip
+  step : (r : R) (chip : Chip) (made : Move) → p.move (into r) ≡ made → NamesOwn own made → (left : Option Owed) → p.left (into r) (value_of chip made) ≡ left → CommitsAfter p left (chip_after chip made 0) Done → Settling r chip
   step r chip made is at left e h =
-      one_owed p Done (into r) chip left (subst (λ m. p.own m ≡ true) (sym is) (part.named made at)) (part.fits r chip) (ap (λ m. p.left (into r) (value_of chip m)) is ∙ e) (subst (λ m. Comes p left (chip_after chip m 0) Done) (sym is) h)
+      one_owed p Done (into r) chip left (subst (λ m. p.own m ≡ true) (sym is) (part.named made at)) (part.fits r chip) (ap (λ m. p.left (into r) (value_of chip m)) is ∙ e) (subst (λ m. CommitsAfter p left (chip_after chip m 0) Done) (sym is) h)
 
   pub settles_part : (n : ℕ) (r : R) (chip : Chip) → HasWords chip → Ends q own n r (word_of chip) D → Onward chip → Settling r chip
   settles_part zero r chip whole h onward = absurd h
@@ -91,11 +91,11 @@ module _ {R Owed : Type 0} (q : Play R) (own : ℕ → Bool) (p : Owing Owed) (i
       by more (Some a) e d = step r chip made (part.moves r) h.0 (next a.words) (left_is (next a.words) e) (onward later a.words differs (subst (λ m. D m a.words) same d.1))
 
 -- moves in their order are made
-module _ {A Owed : Type 0} (p : Owing Owed) (made : A → Move) (owed : List A → Option Owed) (listed : AreListed p made owed) (Done : Chip → Type 0) where
-  first_owed : (q later : Option Owed) (m : Move) (chip : Chip) → Begins p q m later → MayBegin p q chip → Comes p later (chip_after chip m 0) Done → Comes p q chip Done
+module _ {A Owed : Type 0} (p : DeferredWrites Owed) (made : A → Move) (owed : List A → Option Owed) (listed : AreListed p made owed) (Done : Chip → Type 0) where
+  first_owed : (q later : Option Owed) (m : Move) (chip : Chip) → Begins p q m later → MayBegin p q chip → CommitsAfter p later (chip_after chip m 0) Done → CommitsAfter p q chip Done
   first_owed None later m chip b may h = absurd b
-  first_owed (Some x) later m chip b may h = one_owed p Done x chip later may.0 may.1 (b.1 (value_of chip (p.move x))) (subst (λ k. Comes p later (chip_after chip k 0) Done) (sym b.0) h)
+  first_owed (Some x) later m chip b may h = one_owed p Done x chip later may.0 may.1 (b.1 (value_of chip (p.move x))) (subst (λ k. CommitsAfter p later (chip_after chip k 0) Done) (sym b.0) h)
 
-  pub settles_list : (rest : List A) (chip : Chip) → AllMay p made owed chip rest → Done (after_list made chip rest) → Comes p (owed rest) chip Done
-  settles_list [] chip may done = subst (λ q. Comes p q chip Done) (sym listed.none) done
+  pub settles_list : (rest : List A) (chip : Chip) → AllMay p made owed chip rest → Done (after_list made chip rest) → CommitsAfter p (owed rest) chip Done
+  settles_list [] chip may done = subst (λ q. CommitsAfter p q chip Done) (sym listed.none) done
   settles_list (a ∷ rest) chip may done = first_owed (owed (a ∷ rest)) (owed rest) (made a) chip (listed.next a rest) may.0 (settles_list rest (chip_after chip (made a) 0) may.1 done)

@@ -12,13 +12,13 @@ use Rattle.chip_model.specs.Histories.{Happening, Made, chip_step}
 use Rattle.word_shapes.specs.Banks.{Putting, Taking, Banks, filling}
 use Rattle.word_shapes.specs.Order.{Entry}
 use Rattle.word_shapes.specs.Playing.{Memory, Play, stored, given, after, NamesOwn, Either, Ends, Agree}
-use Rattle.word_shapes.specs.Ranked as ranked
-use Rattle.word_shapes.specs.Trio.{Fits, Stands, PutStands, own_of, word_at}
-use Rattle.word_shapes.specs.declared.ranked.Ranked.{Ranked}
-use Rattle.word_shapes.specs.declared.trio.Trio.{Trio}
+use Rattle.word_shapes.specs.PriorityQueue as ranked
+use Rattle.word_shapes.specs.TripleBuffer.{Fits, Stands, PutStands, own_of, word_at}
+use Rattle.word_shapes.specs.declared.priority_queue.PriorityQueue.{PriorityQueue}
+use Rattle.word_shapes.specs.declared.triple_buffer.TripleBuffer.{TripleBuffer}
 use Rattle.word_shapes.proofs.PlayingLaws.{stored-same, stored-other, either-then, ends-agree}
-use Rattle.word_shapes.proofs.RankedLaws.{holds-agree}
-use Rattle.word_shapes.proofs.TrioLaws.{fills, newest-word, kept-word, stands-agree, own-word}
+use Rattle.word_shapes.proofs.PriorityQueueLaws.{holds-agree}
+use Rattle.word_shapes.proofs.TripleBufferLaws.{fills, newest-word, kept-word, stands-agree, own-word}
 use Rattle.shapes_on_chip.specs.OnChip.{HasWords, AreThere, LooksAt, Leaves, StepsTo}
 
 -- ---- a move of own words
@@ -68,13 +68,13 @@ routine_step-test p own n r chip received done whole there looks h =
     routine_step p own n r chip received (λ m xs. done m xs ≡ true) whole there (λ m k xs same d. sym (looks m k xs same) ∙ d) h
 
 -- a routine of an order, and one of banks
-pub order_step : {R : Type 0} (p : Play R) (at : Ranked) (n : ℕ) (r : R) (chip : Chip) (received : ℕ) (xs : List Entry) (gives : List ℕ) → HasWords chip → AreThere (ranked.own_of at)
+pub order_step : {R : Type 0} (p : Play R) (at : PriorityQueue) (n : ℕ) (r : R) (chip : Chip) (received : ℕ) (xs : List Entry) (gives : List ℕ) → HasWords chip → AreThere (ranked.own_of at)
     → Ends p (ranked.own_of at) (suc n) r (word_of chip) (λ m words. ranked.Holds at m xs × (words ≡ gives))
     → StepsTo p (ranked.own_of at) n r chip received (λ m words. ranked.Holds at m xs × (words ≡ gives))
 order_step p at n r chip received xs gives whole there h =
     routine_step p (ranked.own_of at) n r chip received (λ m words. ranked.Holds at m xs × (words ≡ gives)) whole there (λ m k words same d. (holds-agree at m k xs same d.0, d.1)) h
 
-pub banks_step : {R : Type 0} (p : Play R) (t : Trio) (n : ℕ) (r : R) (chip : Chip) (received : ℕ) (s : Banks) (gives : List ℕ) → HasWords chip → AreThere (own_of t)
+pub banks_step : {R : Type 0} (p : Play R) (t : TripleBuffer) (n : ℕ) (r : R) (chip : Chip) (received : ℕ) (s : Banks) (gives : List ℕ) → HasWords chip → AreThere (own_of t)
     → Ends p (own_of t) (suc n) r (word_of chip) (λ m words. (words ≡ gives) × Stands t m s)
     → StepsTo p (own_of t) n r chip received (λ m words. (words ≡ gives) × Stands t m s)
 banks_step p t n r chip received s gives whole there h =
@@ -89,21 +89,21 @@ store-leaves own k v received elsewhere j here = λ e. false≢true (sym elsewhe
 pub words-left : (own : ℕ → Bool) (chip : Chip) (x : Happening) → Leaves own x → Agree own (word_of chip) (word_of (chip_step chip x))
 words-left own chip x leaves j here = sym (word-left j chip x (leaves j here))
 
-pub order_left : (at : Ranked) (chip : Chip) (x : Happening) (xs : List Entry) → Leaves (ranked.own_of at) x → ranked.Holds at (word_of chip) xs → ranked.Holds at (word_of (chip_step chip x)) xs
+pub order_left : (at : PriorityQueue) (chip : Chip) (x : Happening) (xs : List Entry) → Leaves (ranked.own_of at) x → ranked.Holds at (word_of chip) xs → ranked.Holds at (word_of (chip_step chip x)) xs
 order_left at chip x xs leaves h = holds-agree at (word_of chip) (word_of (chip_step chip x)) xs (words-left (ranked.own_of at) chip x leaves) h
 
-pub banks_left : (t : Trio) (chip : Chip) (x : Happening) (s : Banks) → Leaves (own_of t) x → Stands t (word_of chip) s → Stands t (word_of (chip_step chip x)) s
+pub banks_left : (t : TripleBuffer) (chip : Chip) (x : Happening) (s : Banks) → Leaves (own_of t) x → Stands t (word_of chip) s → Stands t (word_of (chip_step chip x)) s
 banks_left t chip x s leaves h = stands-agree t (word_of chip) (word_of (chip_step chip x)) s (words-left (own_of t) chip x leaves) h
 
 -- ---- banks that are filled and read with the mask open
 
-own_there : (t : Trio) → Fits t → AreThere (own_of t)
+own_there : (t : TripleBuffer) → Fits t → AreThere (own_of t)
 own_there t fits k here = grind (arith, nat_tests, common_steps, fits.banks, fits.control)
 
-put_below : (t : Trio) (m : Memory) (s : Banks) (p : Putting) → s.put ≡ Some p → Stands t m s → p.bank < 3
+put_below : (t : TripleBuffer) (m : Memory) (s : Banks) (p : Putting) → s.put ≡ Some p → Stands t m s → p.bank < 3
 put_below t m s p is h = let put : PutStands t m s.bank s.take p = rw is at h.put in put.below
 
-pub fill_step : (t : Trio) (chip : Chip) (s : Banks) (p : Putting) (v received : ℕ) → Fits t → HasWords chip → s.put ≡ Some p → length p.filled < t.len → Stands t (word_of chip) s
+pub fill_step : (t : TripleBuffer) (chip : Chip) (s : Banks) (p : Putting) (v received : ℕ) → Fits t → HasWords chip → s.put ≡ Some p → length p.filled < t.len → Stands t (word_of chip) s
     → Stands t (word_of (chip_after chip (Store (word_at t p.bank (length p.filled)) v) received)) (filling v p s)
 fill_step t chip s p v received fits whole is lt h =
     let made = Store (word_at t p.bank (length p.filled)) v in
@@ -111,8 +111,8 @@ fill_step t chip s p v received fits whole is lt h =
     stands-agree t (stored (word_of chip) (word_at t p.bank (length p.filled)) v) (word_of (chip_after chip made received)) (filling v p s)
     (words-same (own_of t) chip made received whole (own_there t fits) (own-word t p.bank (length p.filled) (put_below t (word_of chip) s p is h) lt)) next
 
-pub newest_step : (t : Trio) (chip : Chip) (s : Banks) (i : ℕ) → i < t.len → Stands t (word_of chip) s → value_of chip (Load (word_at t s.bank i)) ≡ slice_index s.newest i
+pub newest_step : (t : TripleBuffer) (chip : Chip) (s : Banks) (i : ℕ) → i < t.len → Stands t (word_of chip) s → value_of chip (Load (word_at t s.bank i)) ≡ slice_index s.newest i
 newest_step t chip s i lt h = newest-word t (word_of chip) s i h lt
 
-pub kept_step : (t : Trio) (chip : Chip) (s : Banks) (x : Taking) (i : ℕ) → i < t.len → s.take ≡ Some x → Stands t (word_of chip) s → value_of chip (Load (word_at t x.bank i)) ≡ slice_index x.kept i
+pub kept_step : (t : TripleBuffer) (chip : Chip) (s : Banks) (x : Taking) (i : ℕ) → i < t.len → s.take ≡ Some x → Stands t (word_of chip) s → value_of chip (Load (word_at t x.bank i)) ≡ slice_index x.kept i
 kept_step t chip s x i lt is h = kept-word t (word_of chip) s x i h is lt

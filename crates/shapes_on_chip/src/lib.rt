@@ -8,10 +8,10 @@ ghost use Rattle.chip_model.specs.Histories.{Happening, chip_step};
 ghost use Rattle.word_shapes.specs.Banks.{Banks, Putting, Taking, filling};
 ghost use Rattle.word_shapes.specs.Order.{Entry};
 ghost use Rattle.word_shapes.specs.Playing.{Memory, Play, Ends};
-ghost use Rattle.word_shapes.specs.Ranked as ranked;
-ghost use Rattle.word_shapes.specs.Trio as trio;
-ghost use Rattle.word_shapes.specs.declared.ranked.Ranked.{Ranked};
-ghost use Rattle.word_shapes.specs.declared.trio.Trio.{Trio};
+ghost use Rattle.word_shapes.specs.PriorityQueue as ranked;
+ghost use Rattle.word_shapes.specs.TripleBuffer as trio;
+ghost use Rattle.word_shapes.specs.declared.priority_queue.PriorityQueue.{PriorityQueue};
+ghost use Rattle.word_shapes.specs.declared.triple_buffer.TripleBuffer.{TripleBuffer};
 ghost use Rattle.shapes_on_chip.specs.OnChip.{HasWords, AreThere, LooksAt, Leaves, StepsTo};
 
 use mcal_base::Routine;
@@ -29,20 +29,20 @@ pub fn routine_step<R: Routine>()
 
 /// What leaves an order's words as they are leaves the order: a store elsewhere, any other move, and hardware.
 pub fn order_elsewhere()
-    ensures { (at : Ranked) (chip : Chip) (x : Happening) (xs : List Entry) → Leaves (ranked.own_of at) x
+    ensures { (at : PriorityQueue) (chip : Chip) (x : Happening) (xs : List Entry) → Leaves (ranked.own_of at) x
         → ranked.Holds at (word_of chip) xs → ranked.Holds at (word_of (chip_step chip x)) xs }
 {}
 
 /// A frame that fills the bank of the open put stores the next value, and one that reads loads the words of the newest
 /// list, or of the list that was newest at its pin. What leaves the banks' words as they are leaves all.
 pub fn bank_steps()
-    ensures fill { (t : Trio) (chip : Chip) (s : Banks) (p : Putting) (value received : ℕ) → trio.Fits t → HasWords chip
+    ensures fill { (t : TripleBuffer) (chip : Chip) (s : Banks) (p : Putting) (value received : ℕ) → trio.Fits t → HasWords chip
         → s.put ≡ Some p → length p.filled < t.len → trio.Stands t (word_of chip) s
         → trio.Stands t (word_of (chip_after chip (Store (trio.word_at t p.bank (length p.filled)) value) received)) (filling value p s) }
-    ensures newest { (t : Trio) (chip : Chip) (s : Banks) (index : ℕ) → index < t.len → trio.Stands t (word_of chip) s
+    ensures newest { (t : TripleBuffer) (chip : Chip) (s : Banks) (index : ℕ) → index < t.len → trio.Stands t (word_of chip) s
         → value_of chip (Load (trio.word_at t s.bank index)) ≡ slice_index s.newest index }
-    ensures kept { (t : Trio) (chip : Chip) (s : Banks) (x : Taking) (index : ℕ) → index < t.len → s.take ≡ Some x
+    ensures kept { (t : TripleBuffer) (chip : Chip) (s : Banks) (x : Taking) (index : ℕ) → index < t.len → s.take ≡ Some x
         → trio.Stands t (word_of chip) s → value_of chip (Load (trio.word_at t x.bank index)) ≡ slice_index x.kept index }
-    ensures elsewhere { (t : Trio) (chip : Chip) (x : Happening) (s : Banks) → Leaves (trio.own_of t) x
+    ensures elsewhere { (t : TripleBuffer) (chip : Chip) (x : Happening) (s : Banks) → Leaves (trio.own_of t) x
         → trio.Stands t (word_of chip) s → trio.Stands t (word_of (chip_step chip x)) s }
 {}

@@ -5,7 +5,7 @@ use run_model::Class;
 use script_runner::Caller;
 use service_outline::Short;
 use spi_machine::{Call, SERIAL_STEPS, call_of};
-use spi_sequences::{Asked, Errand, ServePlace, SpiBody, UnitBody, UnitPlace, unit_body};
+use spi_sequences::{Asked, FrameRole, ServePlace, SpiBody, UnitBody, UnitPlace, unit_body};
 use std::marker::Model;
 use step_runner::Module;
 
@@ -31,7 +31,7 @@ impl Module for SpiDriver {
     type State = SpiMachine;
 
     ghost use Rattle.service_outline.specs.Services.{services_driver};
-    ghost use Rattle.spi_driver.specs.laws.Joined.{joined, joined_lawful};
+    ghost use Rattle.spi_driver.specs.laws.bookkeeping.Joined.{joined, joined_lawful};
 
     ghost spec = { λ d. services_driver (joined d.table) };
 
@@ -46,7 +46,7 @@ impl Module for SpiDriver {
         if self.table.uses(line) {
             Some(Short::Entering(unit_body(UnitBody {
                 table: self.table,
-                errand: Errand::Handler,
+                errand: FrameRole::Handler,
                 unit: if line == 26 { 0 } else { 1 },
                 place: UnitPlace::Serve(ServePlace::State),
             })))
@@ -81,7 +81,7 @@ impl Module for SpiDriver {
 impl Caller for SpiDriver {
     ghost use Rattle.spi_machine.specs.Requests.{has_service};
     ghost use Rattle.spi_driver.specs.Requests.{asked_call};
-    ghost use Rattle.spi_driver.specs.laws.Joined.{joined_slow};
+    ghost use Rattle.spi_driver.specs.laws.bookkeeping.Joined.{joined_slow};
 
     ghost has_service = { λ _. has_service };
 

@@ -7,8 +7,8 @@ ghost use Rattle.spi_jobs.specs.declared.channel.Channel.{Channel};
 ghost use Rattle.spi_machine.specs.Fits.{FitsSpi};
 ghost use Rattle.spi_machine.specs.State.{SpiState, internal_word};
 ghost use Rattle.spi_machine.specs.Table.{channel_of};
-ghost use Rattle.spi_sequences.specs.Ground.{SpiAgrees};
-ghost use Rattle.spi_driver.specs.laws.Told as spec;
+ghost use Rattle.spi_sequences.specs.Refinement.{SpiRepresents};
+ghost use Rattle.spi_driver.specs.laws.words.WordsToState as spec;
 
 use crate::driver::SpiDriver;
 use chip_model::Bus;
@@ -21,7 +21,7 @@ impl SpiDriver {
     /// A word of an internal channel by its place: one that it sends, as it was last written, or one that may be read
     /// of it. It is the machine's wherever no service is under way.
     pub fn internal(&self, bus: &Bus, channel: u32, received: bool, index: u32) -> u32
-        ensures { (w : World) (s : SpiState) (k : Channel) → FitsSpi self.now.table → channel_of self.now.table channel ≡ Some k → k.internal ≡ true → index < k.length → SpiAgrees self.now.table [] bus.now w s → result ≡ internal_word s channel received index }
+        ensures { (w : World) (s : SpiState) (k : Channel) → FitsSpi self.now.table → channel_of self.now.table channel ≡ Some k → k.internal ≡ true → index < k.length → SpiRepresents self.now.table [] bus.now w s → result ≡ internal_word s channel received index }
     {
         self.word_told(bus, channel, received, index)
     }

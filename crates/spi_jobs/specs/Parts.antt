@@ -4,7 +4,7 @@ use Rattle.mcal_base.specs.declared.answer.Answer.{Answer}
 use Rattle.mcal_base.specs.declared.moves.Move.{Move}
 use Rattle.mcal_base.specs.declared.moves.Move.TheVariants.{Load, Store}
 use Rattle.mcal_base.specs.declared.routine.Taken.{Taken}
-use Rattle.word_shapes.specs.Trio.{free, put_move, put_left, put_gave, take_move, take_left, take_gave}
+use Rattle.word_shapes.specs.TripleBuffer.{free, put_move, put_left, put_gave, take_move, take_left, take_gave}
 use Rattle.word_shapes.specs.declared.put.Put.{Put}
 use Rattle.word_shapes.specs.declared.put.Put.TheVariants as put
 use Rattle.word_shapes.specs.declared.take.Take.{Take}

@@ -1,7 +1,7 @@
 -- The driver words of a channel, and what stands in them.
 use Rattle.std.specs.Prelude.{ℕ, ◌+◌, ◌-◌, ◌*◌, ◌/◌, ◌%◌, ◌^◌, ◌==◌, nat_lt, Bool, true, false, ◌&&◌, if◌then◌else◌}
 use Rattle.mcal_base.specs.declared.layout.TheConstants.{SOURCES, DESTINATIONS}
-use Rattle.word_shapes.specs.declared.trio.Trio.{Trio}
+use Rattle.word_shapes.specs.declared.triple_buffer.TripleBuffer.{TripleBuffer}
 use Rattle.spi_jobs.specs.declared.channel.Channel.{Channel}
 use Rattle.spi_jobs.specs.declared.channel.Placed.{Placed}
 use Rattle.spi_jobs.specs.declared.channel.Side.{Side}
@@ -25,7 +25,7 @@ abbrev pub bank_word : Placed → Side → (bank place : ℕ) → ℕ
 bank_word x side b i = banks_word x side + b * x.channel.length + i
 
 -- the three banks of a side
-abbrev pub trio_of : Placed → Side → Trio
+abbrev pub trio_of : Placed → Side → TripleBuffer
 trio_of x side = record { banks = banks_word x side; control = control_word x side; len = x.channel.length }
 
 abbrev pub held_word : Placed → ℕ

@@ -3,6 +3,8 @@ use Rattle.std.proofs.Common.{◌≡◌, ℕ, Bool, true, false, ◌==◌, ◌�
 use Rattle.std.specs.Prelude.{find, if◌then◌else◌}
 use Rattle.std.proofs.lemmas.Bool.Decides.{nat_tests}
 use Rattle.std.proofs.lemmas.List.{append-nil}
+use Rattle.plain_facts.specs.Options.{some_is}
+use Rattle.plain_facts.specs.Numbers.{same_or_other}
 use Rattle.mcal_base.specs.declared.answer_name.AnswerName.{AnswerName}
 use Rattle.mcal_base.specs.declared.directive.Order.{Order}
 use Rattle.mcal_base.specs.declared.directive.Order.TheVariants.{Fill, SpiFault}
@@ -10,8 +12,8 @@ use Rattle.mcal_base.specs.declared.error_name.ErrorName.{ErrorName}
 use Rattle.mcal_base.specs.declared.moves.Unit as units
 use Rattle.run_model.specs.Machine.{Happening, Acts, Serves, Starts, Aborts, Moves, Restarts, Outcome, outcome, tells_nothing}
 use Rattle.run_model.specs.World.{World}
-use Rattle.spi_machine.proofs.Numbers.{item-same, item-other, same_or_other}
-use Rattle.spi_machine.proofs.Runs.{serve_by, some_same, one_more, stored-seen, after_last-seen}
+use Rattle.spi_machine.proofs.Numbers.{item-same, item-other}
+use Rattle.spi_machine.proofs.Runs.{serve_by, one_more, stored-seen, after_last-seen}
 use Rattle.spi_machine.specs.Checks.{error_by}
 use Rattle.spi_machine.specs.Promised.{is_beginning, does_go_on, is_reset, received_at, shown_on}
 use Rattle.spi_machine.specs.Machine.{spi_machine, acts_by, work, unless_busy, cancelled, cancelled_by, finds_held, stored, after_last, sequence_after, job_over, job_started, job_words, served_by, served, unit_of, run_of, ready, started, start_by, next_at, number_of, moved, begins_on, as_begun, pending_of}
@@ -97,32 +99,32 @@ start_by-begins : (d : SpiTable) (w : World) (s : SpiState) (k : Option ℕ) (re
     → start_by d w s k received o ≡ Some out → is_some out.begins ≡ true
 start_by-begins d w s None received o out h = absurd (cc h)
 start_by-begins d w s (Some u) received None out h = absurd (cc h)
-start_by-begins d w s (Some u) received (Some p) out h = rw (← some_same (started d w s u received p) out h) refl
+start_by-begins d w s (Some u) received (Some p) out h = rw (← some_is (started d w s u received p) out h) refl
 
 -- at a start and at a serving that goes on, and nowhere else
 pub happens-begins : (d : SpiTable) (w : World) (s : SpiState) (h : Happening Call) (out : Outcome SpiState) → (spi_machine d).happens w s h ≡ Some out → is_some out.begins ≡ is_beginning s h
 happens-begins d w s (Acts call times) out h =
-    rw (← some_same _ out h) (none-begins _ (still-acts d s call (error_by d call (is_off s.mode) (finds_held d s call))).0)
+    rw (← some_is _ out h) (none-begins _ (still-acts d s call (error_by d call (is_off s.mode) (finds_held d s call))).0)
 happens-begins d w s (Serves l received) out h =
     rw (← serve_by (ready w s l) (served d w s (unit_of l) received (run_of s (unit_of l))) out h) (served-begins d w s (unit_of l) received)
 happens-begins d w s (Starts u made_by received) out h = start_by-begins d w s (number_of u) received (next_at d s (number_of u)) out h
 happens-begins d w s (Aborts u) out h = absurd (cc h)
-happens-begins d w s (Moves order) out h = rw (← some_same _ out h) refl
-happens-begins d w s (Restarts reason) out h = rw (← some_same _ out h) refl
+happens-begins d w s (Moves order) out h = rw (← some_is _ out h) refl
+happens-begins d w s (Restarts reason) out h = rw (← some_is _ out h) refl
 
 -- ---- which word begins
 
 start_by-word : (d : SpiTable) (w : World) (s : SpiState) (u received : ℕ) (p : Pending) (o : Option Pending) (out : Outcome SpiState)
     → o ≡ Some p → start_by d w s (Some u) received o ≡ Some out → out.begins ≡ Some (as_begun d u (Some p) (slice_index_or (job_words d s (next_job d p)) 0 no_word))
 start_by-word d w s u received p None out e h = absurd (cc e)
-start_by-word d w s u received p (Some q) out e h = rw (← some_same (started d w s u received q) out h, some_same q p e) refl
+start_by-word d w s u received p (Some q) out e h = rw (← some_is (started d w s u received q) out h, some_is q p e) refl
 
 start_at-word : (d : SpiTable) (w : World) (s : SpiState) (k : Option ℕ) (received : ℕ) (out : Outcome SpiState) (u : ℕ) (p : Pending)
     → start_by d w s k received (next_at d s k) ≡ Some out → k ≡ Some u → next_at d s (Some u) ≡ Some p
     → out.begins ≡ Some (as_begun d u (Some p) (slice_index_or (job_words d s (next_job d p)) 0 no_word))
 start_at-word d w s None received out u p h e f = absurd (cc e)
 start_at-word d w s (Some v) received out u p h e f =
-    let g : v ≡ u = some_same v u e in
+    let g : v ≡ u = some_is v u e in
     let h' : start_by d w s (Some u) received (next_at d s (Some u)) ≡ Some out = rw (← g) h in
     start_by-word d w s u received p (next_at d s (Some u)) out f h'
 
@@ -140,7 +142,7 @@ served-word : (d : SpiTable) (w : World) (s : SpiState) (k : Option ℕ) (receiv
     → (served d w s k received o).begins ≡ Some (as_begun d u (pending_of s r) (slice_index_or r.words (length r.received + 1) no_word))
 served-word d w s None received o u r a b e = absurd (cc a)
 served-word d w s (Some v) received None u r a b e = absurd (cc b)
-served-word d w s (Some v) received (Some x) u r a b e = rw (some_same v u a, some_same x r b) (served_by-word d w s u received r (goes_on r) e)
+served-word d w s (Some v) received (Some x) u r a b e = rw (some_is v u a, some_is x r b) (served_by-word d w s u received r (goes_on r) e)
 
 pub serve-word : (d : SpiTable) (w : World) (s : SpiState) (l received : ℕ) (out : Outcome SpiState) (u : ℕ) (r : Run)
     → (spi_machine d).happens w s (Serves l received) ≡ Some out → unit_of l ≡ Some u → run_at s u ≡ Some r → goes_on r ≡ true
@@ -192,19 +194,19 @@ grows-start : (d : SpiTable) (w : World) (s : SpiState) (k : Option ℕ) (receiv
 grows-start d w s None received o out h = absurd (cc h)
 grows-start d w s (Some u) received None out h = absurd (cc h)
 grows-start d w s (Some u) received (Some p) out h =
-    rw (← some_same (started d w s u received p) out h)
+    rw (← some_is (started d w s u received p) out h)
     (grows-with d s (job_started d s p) u received (Some p) (begun w.now received p.sequence (job_words d s (next_job d p)) []) refl)
 
 -- whatever happens but a reset
 grows : (d : SpiTable) (w : World) (s : SpiState) (h : Happening Call) (out : Outcome SpiState) → (spi_machine d).happens w s h ≡ Some out → is_reset h ≡ false → Grows s (received_at h) out
 grows d w s (Acts call times) out h i =
     let error : Option ErrorName = error_by d call (is_off s.mode) (finds_held d s call) in
-    rw (← some_same _ out h) (grows-still s 0 (acts_by d s call error) (still-acts d s call error))
+    rw (← some_is _ out h) (grows-still s 0 (acts_by d s call error) (still-acts d s call error))
 grows d w s (Serves l received) out h i =
     rw (← serve_by (ready w s l) (served d w s (unit_of l) received (run_of s (unit_of l))) out h) (grows-served d w s (unit_of l) received (run_of s (unit_of l)))
 grows d w s (Starts u made_by received) out h i = grows-start d w s (number_of u) received (next_at d s (number_of u)) out h
 grows d w s (Aborts u) out h i = absurd (cc h)
-grows d w s (Moves order) out h i = rw (← some_same _ out h) (grows-still s 0 (outcome (moved d w s order) tells_nothing) (refl, still-moved d w s order))
+grows d w s (Moves order) out h i = rw (← some_is _ out h) (grows-still s 0 (outcome (moved d w s order) tells_nothing) (refl, still-moved d w s order))
 grows d w s (Restarts reason) out h i = absurd (cc i)
 
 pub happens-wire : (d : SpiTable) (w : World) (s : SpiState) (h : Happening Call) (out : Outcome SpiState) (u : ℕ)

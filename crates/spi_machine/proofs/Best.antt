@@ -2,8 +2,9 @@
 use Rattle.std.proofs.Common.{◌≡◌, ◌≢◌, ◌≤◌, ◌<◌, ◌⊎◌, inl, inr, sym, ◌∙◌, ℕ, suc, Bool, true, false, cond, ◌&&◌, ◌||◌, nat_lt, ◌==◌, List, [], ◌∷◌, Option, Some, None, refl, arith}
 use Rattle.std.specs.Prelude.{Contains, filter, if◌then◌else◌}
 use Rattle.std.specs.List.{AllByRecursion}
-use Rattle.spi_machine.proofs.Numbers.{same_or_other}
 use Rattle.std.proofs.lemmas.Bool.Decides.{nat_tests}
+use Rattle.plain_facts.specs.Options.{some_is}
+use Rattle.plain_facts.specs.Numbers.{same_or_other}
 use Rattle.spi_machine.specs.Promised.{IsNext, Yields, ToStarted, ToPriority, ToEarlier, HasPriorities}
 use Rattle.spi_machine.specs.Pending.{Pending, is_for, keeps_unit, priority_of, next_job, rank, precedes, better, best, next_on}
 use Rattle.spi_machine.specs.declared.table.SpiTable.{SpiTable}
@@ -71,9 +72,6 @@ beats d u q b p ps false e next r h = rw (← h) (record {
   first = (λ _. itself (rank d q) q.request, none_through d u b q ps r next.first);
 })
 
-some_same : {A : Type 0} (x y : A) → Some x ≡ Some y → x ≡ y
-some_same x y h = cc h
-
 joins : (d : SpiTable) (u : ℕ) (q p : Pending) (ps : List Pending) (o : Option Pending) → is_for d u q ≡ true → next_on d u ps ≡ o
     → ((b : Pending) → next_on d u ps ≡ Some b → IsBest d u ps b) → better d q o ≡ p → IsBest d u (q ∷ ps) p
 joins d u q p ps None e o rest h = rw (← h) (record {
@@ -85,7 +83,7 @@ joins d u q p ps (Some b) e o rest h = beats d u q b p ps (precedes d b q) e (re
 
 next_by : (d : SpiTable) (u : ℕ) (q p : Pending) (ps : List Pending) (b : Bool) → is_for d u q ≡ b → best d (kept d u b q ps) ≡ Some p
     → ((b : Pending) → next_on d u ps ≡ Some b → IsBest d u ps b) → IsBest d u (q ∷ ps) p
-next_by d u q p ps true e h rest = joins d u q p ps (next_on d u ps) e refl rest (some_same (better d q (next_on d u ps)) p h)
+next_by d u q p ps true e h rest = joins d u q p ps (next_on d u ps) e refl rest (some_is (better d q (next_on d u ps)) p h)
 next_by d u q p ps false e h rest =
     let next : IsBest d u ps p = rest p h in
     record { among = among_further ps q p next.among; on = next.on; first = (λ t. absurd (cc (e, t)), next.first) }

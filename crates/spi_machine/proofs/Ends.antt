@@ -2,13 +2,14 @@
 use Rattle.std.proofs.Common.{◌≡◌, ℕ, Bool, true, false, ◌+◌, Option, Some, None, drop, refl, sym, ◌∙◌, ap}
 use Rattle.std.specs.Prelude.{find}
 use Rattle.std.proofs.lemmas.List.{append-nil}
+use Rattle.plain_facts.specs.Options.{some_is}
 use Rattle.mcal_base.specs.declared.answer_name.AnswerName.{AnswerName}
 use Rattle.mcal_base.specs.declared.answer_name.AnswerName.TheVariants.{SpiJobOk}
 use Rattle.run_model.specs.Machine.{Serves, Outcome}
 use Rattle.run_model.specs.World.{World}
 use Rattle.spi_machine.proofs.Numbers.{item-same}
 use Rattle.spi_machine.proofs.Results.{results-other}
-use Rattle.spi_machine.proofs.Runs.{after_last-seen, serve_by, some_same}
+use Rattle.spi_machine.proofs.Runs.{after_last-seen, serve_by}
 use Rattle.spi_machine.proofs.Turns.{found, pending-changed, pending-without}
 use Rattle.spi_machine.proofs.WordLaws.{comes_again, comes-once}
 use Rattle.spi_machine.specs.Promised.{EndsJob, NamesJobsOnce, job_ends_as}
@@ -38,7 +39,7 @@ over-ends : (d : SpiTable) (s : SpiState) (u : ℕ) (failed : Bool) (o : Option 
     → EndsJob d u p (job_ends_as failed) (job_over d s u failed o)
 over-ends d s u failed None p e once there = absurd (cc e)
 over-ends d s u failed (Some x) p e once there =
-    rw (some_same x p e)
+    rw (some_is x p e)
     (after-ends d _ u p (end_by p.cancelled failed (has_further d p)) (job_ends_as failed) (item-same None s.units u None)
     (item-same SpiJobOk s.job_results (next_job d p) (result_by failed) ∙ as-result failed) once there)
 
@@ -55,7 +56,7 @@ served-ends : (d : SpiTable) (w : World) (s : SpiState) (k : Option ℕ) (receiv
     → goes_on r ≡ false → find (is_of r.sequence) s.pending ≡ Some p → comes_again d p ≡ false → EndsJob d u p (job_ends_as r.transfer.failed) (served d w s k received o)
 served-ends d w s None received o u r p a b e f once = absurd (cc a)
 served-ends d w s (Some v) received None u r p a b e f once = absurd (cc b)
-served-ends d w s (Some v) received (Some x) u r p a b e f once = rw (some_same v u a, some_same x r b) (served_by-ends d w s u received r (goes_on r) p e f once)
+served-ends d w s (Some v) received (Some x) u r p a b e f once = rw (some_is v u a, some_is x r b) (served_by-ends d w s u received r (goes_on r) p e f once)
 
 pub serve-ends : (d : SpiTable) (w : World) (s : SpiState) (l received : ℕ) (out : Outcome SpiState) (u : ℕ) (r : Run) (p : Pending)
     → (spi_machine d).happens w s (Serves l received) ≡ Some out → unit_of l ≡ Some u → run_at s u ≡ Some r

@@ -2,6 +2,7 @@
 use Rattle.std.proofs.Common.{◌≡◌, ℕ, suc, arith, Bool, true, false, not, ◌&&◌, List, [], ◌∷◌, length, nat_eq, Option, Some, None, is_some, refl, sym, ◌∙◌, ap}
 use Rattle.std.specs.Prelude.{find, if◌then◌else◌}
 use Rattle.std.proofs.lemmas.Bool.Decides.{nat_tests}
+use Rattle.plain_facts.specs.Options.{some_is}
 use Rattle.mcal_base.specs.declared.answer_name.AnswerName.{AnswerName}
 use Rattle.mcal_base.specs.declared.answer_name.AnswerName.TheVariants.{ENotOk}
 use Rattle.mcal_base.specs.declared.directive.Order.{Order}
@@ -15,7 +16,7 @@ use Rattle.run_model.specs.Frame.{state_by}
 use Rattle.run_model.specs.Machine.{Happening, Acts, Serves, Starts, Aborts, Moves, Restarts, Outcome, outcome}
 use Rattle.run_model.specs.World.{World}
 use Rattle.service_outline.specs.Done.{answers, named}
-use Rattle.spi_machine.proofs.Runs.{stored-seen, after_last-seen, serve_by, some_same}
+use Rattle.spi_machine.proofs.Runs.{stored-seen, after_last-seen, serve_by}
 use Rattle.spi_machine.specs.Checks.{error_by}
 use Rattle.spi_machine.specs.Promised.{is_change, needs_init, Renewed}
 use Rattle.spi_machine.specs.Machine.{spi_machine, acts_by, unless_busy, accepted, cancelled, cancelled_by, finds_held, next_by, after_last, sequence_after, job_over, served_by, served, unit_of, run_of, has_done, ready, started, start_by, next_at, number_of, moved, pending_of}
@@ -73,7 +74,7 @@ pub finds-off : (d : SpiTable) (w : World) (s : SpiState) (call : Call) (times :
     → (spi_machine d).happens w s (Acts call times) ≡ Some out → is_off s.mode ≡ true → needs_init call ≡ true → out.told.error ≡ Some SpiUninit
 finds-off d w s call times out h off n =
     let e : error_by d call (is_off s.mode) (finds_held d s call) ≡ Some SpiUninit = rw off (found-off d call (finds_held d s call) n) in
-    rw (← some_same _ out h) (refused-off d s call (error_by d call (is_off s.mode) (finds_held d s call)) e)
+    rw (← some_is _ out h) (refused-off d s call (error_by d call (is_off s.mode) (finds_held d s call)) e)
 
 -- ---- a change while a sequence is pending
 
@@ -96,7 +97,7 @@ pub act-busy : (d : SpiTable) (w : World) (s : SpiState) (call : Call) (times : 
     → (spi_machine d).happens w s (Acts call times) ≡ Some out → out.told.error ≡ None → is_change call ≡ true → is_busy s ≡ true → out ≡ outcome s (answers (named ENotOk))
 act-busy d w s call times out h none c b =
     let error : Option ErrorName = error_by d call (is_off s.mode) (finds_held d s call) in
-    let e : acts_by d s call error ≡ out = some_same _ out h in
+    let e : acts_by d s call error ≡ out = some_is _ out h in
     sym e ∙ changes-busy d s call error (rw e none) c b
 
 -- ---- nothing is pending
@@ -193,7 +194,7 @@ idle-starts : (d : SpiTable) (w : World) (s : SpiState) (k : Option ℕ) (receiv
 idle-starts d w s None received o out e h = absurd (cc h)
 idle-starts d w s (Some u) received None out e h = absurd (cc h)
 idle-starts d w s (Some u) received (Some p) out e h =
-    rw (← some_same (started d w s u received p) out h) (idle-on s (started d w s u received p).state refl (on-next (is_off s.mode) (next_by d s u (run_at s u)) p e))
+    rw (← some_is (started d w s u received p) out h) (idle-on s (started d w s u received p).state refl (on-next (is_off s.mode) (next_by d s u (run_at s u)) p e))
 
 idle-moved : (d : SpiTable) (w : World) (s : SpiState) (order : Order) → IsIdle s → IsIdle (moved d w s order)
 idle-moved d w s (Fill c ws) idle = idle
@@ -202,15 +203,15 @@ idle-moved d w s _ idle = idle
 
 idle-happens : (d : SpiTable) (w : World) (s : SpiState) (h : Happening Call) (out : Outcome SpiState) → (spi_machine d).happens w s h ≡ Some out → IsIdle s → IsIdle out.state
 idle-happens d w s (Acts call times) out h idle =
-    rw (← some_same _ out h) (idle-acts d s call (error_by d call (is_off s.mode) (finds_held d s call)) refl idle)
+    rw (← some_is _ out h) (idle-acts d s call (error_by d call (is_off s.mode) (finds_held d s call)) refl idle)
 idle-happens d w s (Serves l received) out h idle =
     rw (← serve_by (ready w s l) (served d w s (unit_of l) received (run_of s (unit_of l))) out h)
     (idle-on s (served d w s (unit_of l) received (run_of s (unit_of l))).state (mode-served d w s (unit_of l) received (run_of s (unit_of l)))
     (on-ready (is_off s.mode) (has_done w.now (run_of s (unit_of l))) (served d w s (unit_of l) received (run_of s (unit_of l))) out h))
 idle-happens d w s (Starts u made_by received) out h idle = idle-starts d w s (number_of u) received (next_at d s (number_of u)) out refl h
 idle-happens d w s (Aborts u) out h idle = absurd (cc h)
-idle-happens d w s (Moves order) out h idle = rw (← some_same _ out h) (idle-moved d w s order idle)
-idle-happens d w s (Restarts reason) out h idle = rw (← some_same _ out h) (λ off. refl)
+idle-happens d w s (Moves order) out h idle = rw (← some_is _ out h) (idle-moved d w s order idle)
+idle-happens d w s (Restarts reason) out h idle = rw (← some_is _ out h) (λ off. refl)
 
 idle-by : (d : SpiTable) (w : World) (s : SpiState) (h : Happening Call) (o : Option (Outcome SpiState)) → (spi_machine d).happens w s h ≡ o → IsIdle s → IsIdle (state_by s o)
 idle-by d w s h None e idle = idle
@@ -240,5 +241,5 @@ pub renewed : (d : SpiTable) (w : World) (xs : List Occurrence) (times : ℕ →
 renewed d w xs times out q h none =
     let s : SpiState = after_all d first_state xs in
     let error : Option ErrorName = error_by d Init (is_off s.mode) false in
-    let e : acts_by d s Init error ≡ out = some_same _ out h in
+    let e : acts_by d s Init error ≡ out = some_is _ out h in
     rw (← e) (renewed-by d s q error refl (rw e none) (idle-run d xs))

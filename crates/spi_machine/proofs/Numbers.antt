@@ -1,11 +1,9 @@
 -- Lists by number: an item that is put there, and the others.
-use Rattle.std.proofs.Common.{◌≡◌, ℕ, zero, suc, ◌≢◌, List, [], ◌∷◌, slice_index_or, refl, ◌∙◌, ap, arith, ◌⊎◌, inl, inr}
+use Rattle.std.proofs.Common.{◌≡◌, ℕ, zero, suc, ◌≢◌, List, [], ◌∷◌, slice_index_or, refl, ◌∙◌, ap, ◌⊎◌, inl, inr}
+use Rattle.plain_facts.specs.Numbers.{same_or_other}
 use Rattle.spi_machine.specs.Channels.{ChannelState, untouched}
 use Rattle.spi_machine.specs.State.{SpiState, channel_at, with_channel}
 use Rattle.spi_machine.specs.Numbered.{with_item}
-
-pub same_or_other : (u k : ℕ) → (u ≡ k) ⊎ (u ≢ k)
-same_or_other u k = grind arith
 
 pub item-same : {A : Type 0} (f : A) (xs : List A) (k : ℕ) (x : A) → slice_index_or (with_item f xs k x) k f ≡ x
 item-same f [] zero x = refl

@@ -1,6 +1,8 @@
 -- What each happening leaves of the running jobs.
 use Rattle.std.proofs.Common.{◌≡◌, ℕ, Bool, true, false, ◌≢◌, List, [], ◌∷◌, Option, Some, None, slice_index_or, refl, sym, ◌∙◌, ap, ◌⊎◌, inl, inr, ◌+◌, ◌++◌, length, length-append}
 use Rattle.std.specs.Prelude.{find, if◌then◌else◌}
+use Rattle.plain_facts.specs.Options.{some_is}
+use Rattle.plain_facts.specs.Numbers.{same_or_other}
 use Rattle.mcal_base.specs.declared.answer_name.AnswerName.{AnswerName}
 use Rattle.mcal_base.specs.declared.directive.Order.{Order}
 use Rattle.mcal_base.specs.declared.directive.Order.TheVariants.{Fill, SpiFault}
@@ -8,7 +10,7 @@ use Rattle.mcal_base.specs.declared.error_name.ErrorName.{ErrorName}
 use Rattle.mcal_base.specs.declared.moves.Unit as units
 use Rattle.run_model.specs.Machine.{Happening, Acts, Serves, Starts, Aborts, Moves, Restarts, Outcome, tells_nothing, outcome}
 use Rattle.run_model.specs.World.{World}
-use Rattle.spi_machine.proofs.Numbers.{same_or_other, item-same, item-other}
+use Rattle.spi_machine.proofs.Numbers.{item-same, item-other}
 use Rattle.spi_machine.specs.Channels.{ChannelState}
 use Rattle.spi_machine.specs.Checks.{error_by}
 use Rattle.spi_machine.specs.Machine.{spi_machine, acts_by, work, unless_busy, cancelled, cancelled_by, finds_held, stored, kept, all_kept, after_last, sequence_after, job_over, served_by, served, unit_of, run_of, ready, started, start_by, next_by, next_at, number_of, job_words, faulted_run, moved}
@@ -63,9 +65,6 @@ Follows r n = (q : Run) → n ≡ Some q → q.words ≡ r.words
 -- the units are as they were but for one, which follows its run
 abbrev GoOn : List (Option Run) → List (Option Run) → Type 0
 GoOn us vs = (u : ℕ) (r q : Run) → slice_index_or us u None ≡ Some r → slice_index_or vs u None ≡ Some q → q.words ≡ r.words
-
-pub some_same : {A : Type 0} (x y : A) → Some x ≡ Some y → x ≡ y
-some_same x y h = cc h
 
 same_run : (o : Option Run) (r q : Run) → o ≡ Some r → o ≡ Some q → q.words ≡ r.words
 same_run o r q e f = let g : q ≡ r = cc (e, f) in ap (λ r. r.words) g
@@ -131,7 +130,7 @@ acts_by-goes d s call (Some e) = goes_same s.units _ refl
 
 faulted-follows : (now : ℕ) (o : Option Run) (x : Run) → o ≡ Some x → Follows x (faulted_run now o)
 faulted-follows now None x h q e = absurd (cc h)
-faulted-follows now (Some r) x h q e = let f : record r { transfer = _ } ≡ q = some_same _ q e in sym (ap (λ r. r.words) f) ∙ ap (λ r. r.words) (some_same r x h)
+faulted-follows now (Some r) x h q e = let f : record r { transfer = _ } ≡ q = some_is _ q e in sym (ap (λ r. r.words) f) ∙ ap (λ r. r.words) (some_is r x h)
 
 moved-goes : (d : SpiTable) (w : World) (s : SpiState) (order : Order) → GoOn s.units (moved d w s order).units
 moved-goes d w s (SpiFault u) = goes_at s.units _ u (faulted_run w.now (run_at s u)) refl (faulted-follows w.now (run_at s u))
@@ -161,7 +160,7 @@ start_by-goes : (d : SpiTable) (w : World) (s : SpiState) (k : Option ℕ) (rece
 start_by-goes d w s None received o out e h = absurd (cc h)
 start_by-goes d w s (Some u) received None out e h = absurd (cc h)
 start_by-goes d w s (Some u) received (Some p) out e h =
-    rw (← some_same (started d w s u received p) out h)
+    rw (← some_is (started d w s u received p) out h)
     (goes_at s.units _ u _ refl (λ x f. let free : run_at s u ≡ None = free-start d s u p e in absurd (cc (f, free))))
 
 pub serve_by : {A : Type 0} (b : Bool) (x out : A) → (if b then Some x else None) ≡ Some out → x ≡ out
@@ -171,13 +170,13 @@ serve_by false x out h = absurd (cc h)
 -- whatever happens, a unit that runs a job before and after it has the same words
 pub happens-goes : (d : SpiTable) (w : World) (s : SpiState) (h : Happening Call) (out : Outcome SpiState) → (spi_machine d).happens w s h ≡ Some out → GoOn s.units out.state.units
 happens-goes d w s (Acts call times) out h =
-    rw (← some_same _ out h) (acts_by-goes d s call (error_by d call (is_off s.mode) (finds_held d s call)))
+    rw (← some_is _ out h) (acts_by-goes d s call (error_by d call (is_off s.mode) (finds_held d s call)))
 happens-goes d w s (Serves l received) out h =
     rw (← serve_by (ready w s l) (served d w s (unit_of l) received (run_of s (unit_of l))) out h) (served-goes d w s (unit_of l) received (run_of s (unit_of l)) refl)
 happens-goes d w s (Starts u made_by received) out h = start_by-goes d w s (number_of u) received (next_at d s (number_of u)) out refl h
 happens-goes d w s (Aborts u) out h = absurd (cc h)
-happens-goes d w s (Moves order) out h = rw (← some_same (outcome (moved d w s order) tells_nothing) out h) (moved-goes d w s order)
-happens-goes d w s (Restarts reason) out h = rw (← some_same _ out h) (λ u r q f g. absurd (cc g))
+happens-goes d w s (Moves order) out h = rw (← some_is (outcome (moved d w s order) tells_nothing) out h) (moved-goes d w s order)
+happens-goes d w s (Restarts reason) out h = rw (← some_is _ out h) (λ u r q f g. absurd (cc g))
 
 -- ---- a start
 
@@ -185,14 +184,14 @@ start_by-begins : (d : SpiTable) (w : World) (s : SpiState) (u received : ℕ) (
     → o ≡ Some p → start_by d w s (Some u) received o ≡ Some out → run_at out.state u ≡ Some (begun w.now received p.sequence (job_words d s (next_job d p)) [])
 start_by-begins d w s u received p None out e h = absurd (cc e)
 start_by-begins d w s u received p (Some q) out e h =
-    rw (← some_same (started d w s u received q) out h, some_same q p e) (item-same None s.units u _)
+    rw (← some_is (started d w s u received q) out h, some_is q p e) (item-same None s.units u _)
 
 start_at-begins : (d : SpiTable) (w : World) (s : SpiState) (k : Option ℕ) (received : ℕ) (out : Outcome SpiState) (u : ℕ) (p : Pending)
     → start_by d w s k received (next_at d s k) ≡ Some out → k ≡ Some u → next_at d s (Some u) ≡ Some p
     → run_at out.state u ≡ Some (begun w.now received p.sequence (job_words d s (next_job d p)) [])
 start_at-begins d w s None received out u p h e f = absurd (cc e)
 start_at-begins d w s (Some v) received out u p h e f =
-    let g : v ≡ u = some_same v u e in
+    let g : v ≡ u = some_is v u e in
     let h' : start_by d w s (Some u) received (next_at d s (Some u)) ≡ Some out = rw (← g) h in
     start_by-begins d w s u received p (next_at d s (Some u)) out f h'
 
@@ -220,7 +219,7 @@ served-sends : (d : SpiTable) (w : World) (s : SpiState) (k : Option ℕ) (recei
     → wire_at (served d w s k received o).state u ≡ wire_at s u ++ on_wire received (slice_index_or r.words (length r.received + 1) no_word) ∷ []
 served-sends d w s None received o u r a b e = absurd (cc a)
 served-sends d w s (Some v) received None u r a b e = absurd (cc b)
-served-sends d w s (Some v) received (Some x) u r a b e = rw (some_same v u a, some_same x r b) (served_by-sends d w s u received r (goes_on r) e)
+served-sends d w s (Some v) received (Some x) u r a b e = rw (some_is v u a, some_is x r b) (served_by-sends d w s u received r (goes_on r) e)
 
 -- a serving that goes on sends the job's next word
 pub serve-sends : (d : SpiTable) (w : World) (s : SpiState) (l received : ℕ) (out : Outcome SpiState) (u : ℕ) (r : Run)

@@ -3,11 +3,13 @@
 use Rattle.std.proofs.Common.{◌≡◌, ◌≤◌, ℕ, zero, suc, arith, Bool, true, false, not, ◌&&◌, ◌==◌, ◌+◌, ◌≢◌, List, [], ◌∷◌, length, drop, slice_get, slice_index_or, nat_lt, Option, Some, None, refl, ◌∙◌, ap, ◌⊎◌, inl, inr}
 use Rattle.std.specs.Prelude.{if◌then◌else◌}
 use Rattle.std.proofs.lemmas.Bool.Decides.{nat_tests}
+use Rattle.std.proofs.lemmas.Bool.{or_parts}
+use Rattle.plain_facts.specs.Options.{some_is}
+use Rattle.plain_facts.specs.Numbers.{eq_self, eq_turned, same_or_other}
 use Rattle.run_model.specs.Machine.{Serves, Outcome}
 use Rattle.run_model.specs.World.{World}
-use Rattle.spi_machine.proofs.Numbers.{same_or_other, item-same, item-other, channel-seen}
-use Rattle.spi_machine.proofs.Results.{neither}
-use Rattle.spi_machine.proofs.Runs.{serve_by, some_same, one_more}
+use Rattle.spi_machine.proofs.Numbers.{item-same, item-other, channel-seen}
+use Rattle.spi_machine.proofs.Runs.{serve_by, one_more}
 use Rattle.spi_machine.proofs.WordLaws.{job_over-channels, stored-keeps}
 use Rattle.spi_machine.specs.Channels.{ChannelState, untouched}
 use Rattle.spi_machine.specs.Promised.{destination_word, ends_well, goes_to_array, goes_to_channel, go_there}
@@ -20,15 +22,9 @@ use Rattle.spi_machine.specs.declared.table.SpiTable.{SpiTable}
 
 -- ---- a word that is put at a place
 
-same : (n : ℕ) → (n == n) ≡ true
-same n = grind (arith, nat_tests)
-
-other : (n k : ℕ) → n ≢ k → (k == n) ≡ false
-other n k ne = grind (arith, nat_tests)
-
 put-word_by : (xs : List ℕ) (k i v : ℕ) → (i ≡ k) ⊎ (i ≢ k) → word_at (with_item 0 xs k v) i ≡ (if k == i then v else word_at xs i)
-put-word_by xs k i v (inl at) = rw (at, same k) (item-same 0 xs k v)
-put-word_by xs k i v (inr ne) = rw (other i k ne) (item-other 0 xs k i v ne)
+put-word_by xs k i v (inl at) = rw (at, eq_self k) (item-same 0 xs k v)
+put-word_by xs k i v (inr ne) = rw (eq_turned i k ne) (item-other 0 xs k i v ne)
 
 put-word : (xs : List ℕ) (k i v : ℕ) → word_at (with_item 0 xs k v) i ≡ (if k == i then v else word_at xs i)
 put-word xs k i v = put-word_by xs k i v (same_or_other i k)
@@ -37,9 +33,9 @@ put-word xs k i v = put-word_by xs k i v (same_or_other i k)
 put-at_by : (see : ChannelState → List ℕ) (s : SpiState) (k c : ℕ) (x : ChannelState) (place i v : ℕ) → see x ≡ with_item 0 (see (channel_at s k)) place v → (c ≡ k) ⊎ (c ≢ k)
     → word_at (see (channel_at (with_channel s k x) c)) i ≡ (if k == c && place == i then v else word_at (see (channel_at s c)) i)
 put-at_by see s k c x place i v e (inl at) =
-    rw (at, same k) (ap (λ y. word_at (see y) i) (item-same untouched s.channels k x) ∙ ap (λ ys. word_at ys i) e ∙ put-word (see (channel_at s k)) place i v)
+    rw (at, eq_self k) (ap (λ y. word_at (see y) i) (item-same untouched s.channels k x) ∙ ap (λ ys. word_at ys i) e ∙ put-word (see (channel_at s k)) place i v)
 put-at_by see s k c x place i v e (inr ne) =
-    rw (other c k ne) (ap (λ y. word_at (see y) i) (item-other untouched s.channels k c x ne))
+    rw (eq_turned c k ne) (ap (λ y. word_at (see y) i) (item-other untouched s.channels k c x ne))
 
 put-at : (see : ChannelState → List ℕ) (s : SpiState) (k c : ℕ) (x : ChannelState) (place i v : ℕ) → see x ≡ with_item 0 (see (channel_at s k)) place v
     → word_at (see (channel_at (with_channel s k x) c)) i ≡ (if k == c && place == i then v else word_at (see (channel_at s c)) i)
@@ -81,7 +77,7 @@ served-word : (d : SpiTable) (w : World) (s : SpiState) (k : Option ℕ) (receiv
     → destination_word (served d w s k received o).state c i ≡ (if goes_to_array c i (word_of r) (word_of r).goes then r.transfer.incoming else destination_word s c i)
 served-word d w s None received o u r c i a b e = absurd (cc a)
 served-word d w s (Some v) received None u r c i a b e = absurd (cc b)
-served-word d w s (Some v) received (Some x) u r c i a b e = rw (some_same v u a, some_same x r b) (served_by-word d w s u received r (goes_on r) c i e)
+served-word d w s (Some v) received (Some x) u r c i a b e = rw (some_is v u a, some_is x r b) (served_by-word d w s u received r (goes_on r) c i e)
 
 pub serve-stores : (d : SpiTable) (w : World) (s : SpiState) (l received : ℕ) (out : Outcome SpiState) (u : ℕ) (r : Run) (c i : ℕ)
     → (spi_machine d).happens w s (Serves l received) ≡ Some out → unit_of l ≡ Some u → run_at s u ≡ Some r → r.transfer.failed ≡ false
@@ -102,7 +98,7 @@ all_kept-none : (s : SpiState) (xs : List JobWord) (vs : List ℕ) (c i : ℕ) �
 all_kept-none s [] vs c i h = refl
 all_kept-none s (x ∷ xs) [] c i h = refl
 all_kept-none s (x ∷ xs) (v ∷ vs) c i h =
-    let parts = neither (goes_to_channel c i x x.goes) (go_there c i xs) h in
+    let parts = or_parts (goes_to_channel c i x x.goes) (go_there c i xs) h in
     all_kept-none (kept s x x.goes v) xs vs c i parts.1 ∙ kept-word s x x.goes v c i ∙ rw parts.0 refl
 
 all_kept-last : (s : SpiState) (xs : List JobWord) (vs : List ℕ) (n c i : ℕ) (x : JobWord) → slice_get xs n ≡ Some x → goes_to_channel c i x x.goes ≡ true
@@ -115,7 +111,7 @@ all_kept-last s (y ∷ ys) (v ∷ vs) zero c i x at there h fit =
 all_kept-last s (y ∷ ys) (v ∷ vs) (suc n) c i x at there h fit = all_kept-last (kept s y y.goes v) ys vs n c i x at there h (omega (arith, fit))
 
 there-own : (x : JobWord) (g : Goes) → g ≡ ToChannel → goes_to_channel x.channel x.place x g ≡ true
-there-own x ToChannel e = rw (same x.channel, same x.place) refl
+there-own x ToChannel e = rw (eq_self x.channel, eq_self x.place) refl
 there-own x ToDestination e = absurd (cc e)
 there-own x Nowhere e = absurd (cc e)
 
@@ -147,7 +143,7 @@ served-kept : (d : SpiTable) (w : World) (s : SpiState) (k : Option ℕ) (receiv
     → internal_word (served d w s k received o).state c true i ≡ internal_word (all_kept (stored s (word_of r) (word_of r).goes r.transfer.incoming) r.words (received_with r)) c true i
 served-kept d w s None received o u r c i a b e = absurd (cc a)
 served-kept d w s (Some v) received None u r c i a b e = absurd (cc b)
-served-kept d w s (Some v) received (Some x) u r c i a b e = rw (some_same v u a, some_same x r b) (ends-kept d w s u received r (goes_on r) c i e)
+served-kept d w s (Some v) received (Some x) u r c i a b e = rw (some_is v u a, some_is x r b) (ends-kept d w s u received r (goes_on r) c i e)
 
 serve-kept : (d : SpiTable) (w : World) (s : SpiState) (l received : ℕ) (out : Outcome SpiState) (u : ℕ) (r : Run) (c i : ℕ)
     → (spi_machine d).happens w s (Serves l received) ≡ Some out → unit_of l ≡ Some u → run_at s u ≡ Some r → ends_well (Some r) ≡ true

@@ -1,9 +1,12 @@
 -- What each happening does to a sequence: it stays, is requested or ends.
-use Rattle.std.proofs.Common.{◌≡◌, ℕ, Bool, true, false, not, cond, ◌&&◌, ◌||◌, ◌==◌, ◌≢◌, List, [], ◌∷◌, ◌++◌, Option, Some, None, refl, sym, ◌∙◌, ap, ◌⊎◌, inl, inr, arith}
+use Rattle.std.proofs.Common.{◌≡◌, ℕ, Bool, true, false, not, cond, ◌&&◌, ◌||◌, ◌==◌, ◌≢◌, List, [], ◌∷◌, ◌++◌, Option, Some, None, refl, sym, ◌∙◌, ap, ◌⊎◌, inl, inr}
 use Rattle.std.specs.Prelude.{find, is_some, drop}
 use Rattle.std.specs.List.{list_any}
-use Rattle.std.proofs.lemmas.Bool.Decides.{nat_tests}
 use Rattle.std.proofs.lemmas.List.Folds.{list_any-append}
+use Rattle.std.proofs.lemmas.Bool.{or_parts}
+use Rattle.plain_facts.specs.Truths.{and_false, and_true, or_false, or_true}
+use Rattle.plain_facts.specs.Options.{some_is}
+use Rattle.plain_facts.specs.Numbers.{eq_is, eq_self, eq_turned, same_or_other}
 use Rattle.mcal_base.specs.declared.answer_name.AnswerName.{AnswerName}
 use Rattle.mcal_base.specs.declared.answer_name.AnswerName.TheVariants.{SpiSeqOk, SpiSeqPending, SpiSeqFailed, SpiSeqCanceled}
 use Rattle.mcal_base.specs.declared.directive.Order.{Order}
@@ -13,9 +16,9 @@ use Rattle.mcal_base.specs.declared.service.Service.TheVariants as services
 use Rattle.det_errors.specs.Rows.{first_error}
 use Rattle.run_model.specs.Machine.{Happening, Acts, Serves, Starts, Aborts, Moves, Restarts, Told, Outcome, tells_nothing, outcome}
 use Rattle.run_model.specs.World.{World}
-use Rattle.spi_machine.proofs.Numbers.{same_or_other, item-same, item-other}
-use Rattle.spi_machine.proofs.Results.{neither, repeats-drop, results-own}
-use Rattle.spi_machine.proofs.Runs.{stored-seen, after_last-seen, serve_by, some_same}
+use Rattle.spi_machine.proofs.Numbers.{item-same, item-other}
+use Rattle.spi_machine.proofs.Results.{repeats-drop, results-own}
+use Rattle.spi_machine.proofs.Runs.{stored-seen, after_last-seen, serve_by}
 use Rattle.spi_machine.specs.Checks.{error_by}
 use Rattle.spi_machine.specs.Promised.{Turn, Stays, Begins, Ends, names_end, tells_end, is_init, drops, is_cancelled, takes_failed, has_failed, ends_as, had_by, had_of, first_unrun, GivesBack}
 use Rattle.spi_machine.specs.Machine.{spi_machine, acts_by, work, unless_busy, cancelled, cancelled_by, finds_held, ended, after_last, sequence_after, job_over, served_by, served, unit_of, run_of, ready, started, start_by, next_at, number_of, moved}
@@ -30,15 +33,6 @@ use Rattle.spi_machine.specs.declared.call.SequenceCall.TheVariants.{AsyncTransm
 use Rattle.spi_machine.specs.declared.table.SpiTable.{SpiTable}
 
 -- ---- the pending list
-
-eq_self : (n : ℕ) → (n == n) ≡ true
-eq_self n = grind (arith, nat_tests)
-
-eq_other : (n k : ℕ) → n ≢ k → (k == n) ≡ false
-eq_other n k ne = grind (arith, nat_tests)
-
-eq_is : (n k : ℕ) → (n == k) ≡ true → n ≡ k
-eq_is n k h = grind (arith, nat_tests)
 
 -- a change that keeps the sequence's number keeps what is pending
 changed_item : (q : ℕ) (f : Pending → Pending) (p : Pending) (b : Bool) → (f p).sequence ≡ p.sequence → (cond b (f p) p).sequence ≡ p.sequence
@@ -61,7 +55,7 @@ pending-without q (p ∷ ps) = without_by q p ps (without q ps) (p.sequence == q
 
 other_by : (q k : ℕ) (p : Pending) (ps rest : List Pending) (b : Bool) → q ≢ k → (p.sequence == k) ≡ b → is_pending q rest ≡ is_pending q ps
     → is_pending q (cond (not b) (p ∷ rest) rest) ≡ is_pending q (p ∷ ps)
-other_by q k p ps rest true ne e h = let g : p.sequence ≡ k = eq_is p.sequence k e in rw (g, eq_other q k ne) h
+other_by q k p ps rest true ne e h = let g : p.sequence ≡ k = eq_is p.sequence k e in rw (g, eq_turned q k ne) h
 other_by q k p ps rest false ne e h = rw h refl
 
 pending-other : (q k : ℕ) (ps : List Pending) → q ≢ k → is_pending q (without k ps) ≡ is_pending q ps
@@ -88,7 +82,7 @@ had-changed q k f e g (p ∷ ps) =
 
 had-other_by : (q k : ℕ) (p : Pending) (ps rest : List Pending) (b : Bool) → q ≢ k → (p.sequence == k) ≡ b → had_of q rest ≡ had_of q ps
     → had_of q (cond (not b) (p ∷ rest) rest) ≡ had_of q (p ∷ ps)
-had-other_by q k p ps rest true ne e h = let g : (p.sequence == q) ≡ false = rw (eq_is p.sequence k e) (eq_other q k ne) in rw g h
+had-other_by q k p ps rest true ne e h = let g : (p.sequence == q) ≡ false = rw (eq_is p.sequence k e) (eq_turned q k ne) in rw g h
 had-other_by q k p ps rest false ne e h = had-head (p.sequence == q) p p (find (is_of q) rest) (find (is_of q) ps) refl h
 
 had-other : (q k : ℕ) (ps : List Pending) → q ≢ k → had_of q (without k ps) ≡ had_of q ps
@@ -98,11 +92,11 @@ had-other q k (p ∷ ps) ne = had-other_by q k p ps (without k ps) (p.sequence =
 had-joined : (k : ℕ) (ps : List Pending) (x : Pending) → x.sequence ≡ k → is_pending k ps ≡ false → had_of k (ps ++ x ∷ []) ≡ x.had
 had-joined k [] x e h = let g : (x.sequence == k) ≡ true = rw e (eq_self k) in rw g refl
 had-joined k (p ∷ ps) x e h =
-    let parts = neither (p.sequence == k) (is_pending k ps) h in
+    let parts = or_parts (p.sequence == k) (is_pending k ps) h in
     rw parts.0 (had-joined k ps x e parts.1)
 
 had-beside : (q k : ℕ) (ps : List Pending) (x : Pending) → x.sequence ≡ k → q ≢ k → had_of q (ps ++ x ∷ []) ≡ had_of q ps
-had-beside q k [] x e ne = let g : (x.sequence == q) ≡ false = rw e (eq_other q k ne) in rw g refl
+had-beside q k [] x e ne = let g : (x.sequence == q) ≡ false = rw e (eq_turned q k ne) in rw g refl
 had-beside q k (p ∷ ps) x e ne = had-head (p.sequence == q) p p (find (is_of q) (ps ++ x ∷ [])) (find (is_of q) ps) refl (had-beside q k ps x e ne)
 
 -- ---- an entry that is found
@@ -119,10 +113,6 @@ found k x (p ∷ ps) h = found_by k p x ps (p.sequence == k) refl h (found k x p
 
 -- ---- notices
 
-or_false : (b : Bool) → (b || false) ≡ b
-or_false true = refl
-or_false false = refl
-
 tells-job : (d : SpiTable) (q j : ℕ) (b : Bool) → notifies_job (job_of d j) ≡ b → list_any (names_end q) (job_notice d j) ≡ false
 tells-job d q j true e = rw e refl
 tells-job d q j false e = rw e refl
@@ -131,19 +121,11 @@ tells-sequence_by : (d : SpiTable) (q k : ℕ) (b : Bool) → notifies_sequence 
 tells-sequence_by d q k true e = rw e (or_false (k == q))
 tells-sequence_by d q k false e = rw e refl
 
-and_true : (b : Bool) → (b && true) ≡ b
-and_true true = refl
-and_true false = refl
-
-and_false : (b : Bool) → (b && false) ≡ false
-and_false true = refl
-and_false false = refl
-
 pub tells-own : (d : SpiTable) (q : ℕ) → list_any (names_end q) (sequence_notice d q) ≡ notifies_sequence (sequence_of d q)
 tells-own d q = tells-sequence_by d q q (notifies_sequence (sequence_of d q)) refl ∙ rw (eq_self q) (and_true (notifies_sequence (sequence_of d q)))
 
 tells-other : (d : SpiTable) (q k : ℕ) → q ≢ k → list_any (names_end q) (sequence_notice d k) ≡ false
-tells-other d q k ne = tells-sequence_by d q k (notifies_sequence (sequence_of d k)) refl ∙ rw (eq_other q k ne) (and_false (notifies_sequence (sequence_of d k)))
+tells-other d q k ne = tells-sequence_by d q k (notifies_sequence (sequence_of d k)) refl ∙ rw (eq_turned q k ne) (and_false (notifies_sequence (sequence_of d k)))
 
 -- ---- a sequence that ends, and all others
 
@@ -169,10 +151,10 @@ ended-turn d q s t h p result told e f there why tells (inr ne) =
     (had-other q p.sequence t.pending ne ∙ ap (λ ps. had_of q ps) e) (tells q ∙ tells-other d q p.sequence ne)
 
 why-ends : (c f g : Bool) (r : AnswerName) → end_by c f g ≡ Some r → (c || f || not g ≡ true) × (r ≡ ends_as c f)
-why-ends true f g r h = (refl, sym (some_same SpiSeqCanceled r h))
-why-ends false true g r h = (refl, sym (some_same SpiSeqFailed r h))
+why-ends true f g r h = (refl, sym (some_is SpiSeqCanceled r h))
+why-ends false true g r h = (refl, sym (some_is SpiSeqFailed r h))
 why-ends false false true r h = absurd (cc h)
-why-ends false false false r h = (refl, sym (some_same SpiSeqOk r h))
+why-ends false false false r h = (refl, sym (some_is SpiSeqOk r h))
 
 tells-both : (d : SpiTable) (j k n : ℕ) → list_any (names_end n) (job_notice d j ++ sequence_notice d k) ≡ list_any (names_end n) (sequence_notice d k)
 tells-both d j k n = list_any-append (names_end n) (job_notice d j) (sequence_notice d k) ∙ rw (tells-job d n j (notifies_job (job_of d j)) refl) refl
@@ -219,15 +201,11 @@ served-turn d w q s l (Some k) received (Some r) g = served_by-turn d w q s l k 
 
 -- ---- requests
 
-or_true : (b : Bool) → (b || true) ≡ true
-or_true true = refl
-or_true false = refl
-
 joined-own : (k : ℕ) (ps : List Pending) (x : Pending) → x.sequence ≡ k → is_pending k (ps ++ x ∷ []) ≡ true
 joined-own k ps x e = list_any-append (is_of k) ps (x ∷ []) ∙ rw (e, eq_self k) (or_true (is_pending k ps))
 
 joined-other : (q k : ℕ) (ps : List Pending) (x : Pending) → x.sequence ≡ k → q ≢ k → is_pending q (ps ++ x ∷ []) ≡ is_pending q ps
-joined-other q k ps x e ne = list_any-append (is_of q) ps (x ∷ []) ∙ rw (e, eq_other q k ne) (or_false (is_pending q ps))
+joined-other q k ps x e ne = list_any-append (is_of q) ps (x ∷ []) ∙ rw (e, eq_turned q k ne) (or_false (is_pending q ps))
 
 not_held_by : (a b c : Bool) → ((a || b) || c) ≡ false → (a ≡ false) × (c ≡ false)
 not_held_by true b c h = absurd (cc h)
@@ -296,7 +274,7 @@ start_by-turn : (d : SpiTable) (w : World) (q : ℕ) (s : SpiState) (h : Happeni
 start_by-turn d w q s h None received o out e = absurd (cc e)
 start_by-turn d w q s h (Some u) received None out e = absurd (cc e)
 start_by-turn d w q s h (Some u) received (Some p) out e =
-    rw (← some_same (started d w s u received p) out e) (Stays (pending-changed q p.sequence starts (λ p. refl) s.pending) refl (had-changed q p.sequence starts (λ p. refl) (λ p. refl) s.pending) refl)
+    rw (← some_is (started d w s u received p) out e) (Stays (pending-changed q p.sequence starts (λ p. refl) s.pending) refl (had-changed q p.sequence starts (λ p. refl) (λ p. refl) s.pending) refl)
 
 moved-turn : (d : SpiTable) (w : World) (q : ℕ) (s : SpiState) (order : Order) → Turn d q s (Moves order) (outcome (moved d w s order) tells_nothing)
 moved-turn d w q s (Fill c ws) = Stays refl refl refl refl
@@ -305,10 +283,10 @@ moved-turn d w q s _ = Stays refl refl refl refl
 
 pub happens-turn : (d : SpiTable) (w : World) (s : SpiState) (h : Happening Call) (out : Outcome SpiState) (q : ℕ) → (spi_machine d).happens w s h ≡ Some out → drops h ≡ false → Turn d q s h out
 happens-turn d w s (Acts call times) out q h i =
-    rw (← some_same _ out h) (acts_by-turn d q s call times (error_by d call (is_off s.mode) (finds_held d s call)) refl i)
+    rw (← some_is _ out h) (acts_by-turn d q s call times (error_by d call (is_off s.mode) (finds_held d s call)) refl i)
 happens-turn d w s (Serves l received) out q h i =
     rw (← serve_by (ready w s l) (served d w s (unit_of l) received (run_of s (unit_of l))) out h) (served-turn d w q s l (unit_of l) received (run_of s (unit_of l)) refl)
 happens-turn d w s (Starts u made_by received) out q h i = start_by-turn d w q s (Starts u made_by received) (number_of u) received (next_at d s (number_of u)) out h
 happens-turn d w s (Aborts u) out q h i = absurd (cc h)
-happens-turn d w s (Moves order) out q h i = rw (← some_same _ out h) (moved-turn d w q s order)
+happens-turn d w s (Moves order) out q h i = rw (← some_is _ out h) (moved-turn d w q s order)
 happens-turn d w s (Restarts reason) out q h i = absurd (cc i)

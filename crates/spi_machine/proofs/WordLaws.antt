@@ -2,6 +2,7 @@
 use Rattle.std.proofs.Common.{◌≡◌, ℕ, suc, Bool, true, false, not, ◌&&◌, ◌==◌, ◌+◌, List, Option, Some, None, drop, slice_index_or, refl, ◌∙◌, ap, arith}
 use Rattle.std.specs.Prelude.{find}
 use Rattle.std.specs.List.{list_any}
+use Rattle.plain_facts.specs.Options.{some_is}
 use Rattle.mcal_base.specs.declared.answer_name.AnswerName.{AnswerName}
 use Rattle.mcal_base.specs.declared.answer_name.AnswerName.TheVariants.{SpiJobOk, SpiJobFailed, SpiSeqOk, SpiSeqCanceled}
 use Rattle.mcal_base.specs.declared.directive.Order.{Order}
@@ -11,7 +12,7 @@ use Rattle.run_model.specs.Machine.{Happening, Acts, Serves, Starts, Aborts, Mov
 use Rattle.run_model.specs.World.{World}
 use Rattle.spi_machine.proofs.Numbers.{item-same, channel-seen}
 use Rattle.spi_machine.proofs.Results.{results-other, not_later}
-use Rattle.spi_machine.proofs.Runs.{serve_by, some_same}
+use Rattle.spi_machine.proofs.Runs.{serve_by}
 use Rattle.spi_machine.proofs.Turns.{found, pending-without}
 use Rattle.spi_machine.specs.Channels.{ChannelState, untouched, written_from, filled}
 use Rattle.spi_machine.specs.Checks.{error_by}
@@ -41,7 +42,7 @@ cancelled-ends : (d : SpiTable) (s : SpiState) (q : ℕ) (p : Pending) (o : Opti
 cancelled-ends d s q p None e h r = absurd (cc e)
 cancelled-ends d s q p (Some x) e h r =
     let at = found q p s.pending h in
-    rw (some_same x p e, ← at.0) (cancelled_by-ends d s p (is_running s p.sequence) (rw at.0 r))
+    rw (some_is x p e, ← at.0) (cancelled_by-ends d s p (is_running s p.sequence) (rw at.0 r))
 
 acts_by-ends : (d : SpiTable) (s : SpiState) (q : ℕ) (p : Pending) (e : Option ErrorName) → (acts_by d s (Sequence q Cancel) e).told.error ≡ None
     → find (is_of q) s.pending ≡ Some p → is_running s q ≡ false → EndsCancelled d q (acts_by d s (Sequence q Cancel) e)
@@ -53,7 +54,7 @@ pub cancel-ends : (d : SpiTable) (w : World) (s : SpiState) (q : ℕ) (times : �
     → EndsCancelled d q out
 cancel-ends d w s q times out p h none f r =
     let error : Option ErrorName = error_by d (Sequence q Cancel) (is_off s.mode) (finds_held d s (Sequence q Cancel)) in
-    let e : acts_by d s (Sequence q Cancel) error ≡ out = some_same _ out h in
+    let e : acts_by d s (Sequence q Cancel) error ≡ out = some_is _ out h in
     rw (← e) (acts_by-ends d s q p error (rw e none) f r)
 
 -- ---- a failed word
@@ -78,7 +79,7 @@ job_over-fails : (d : SpiTable) (s : SpiState) (u : ℕ) (p : Pending) (o : Opti
     → FailsJob u (next_job d p) s (job_over d s u true o).state
 job_over-fails d s u p None e once = absurd (cc e)
 job_over-fails d s u p (Some x) e once =
-    rw (some_same x p e)
+    rw (some_is x p e)
     (sequence_after-fails d s _ u p p.cancelled (has_further d p) refl (item-same None s.units u None) (item-same SpiJobOk s.job_results (next_job d p) SpiJobFailed) once)
 
 served_by-fails : (d : SpiTable) (w : World) (s : SpiState) (u received : ℕ) (r : Run) (p : Pending) → r.transfer.failed ≡ true
@@ -89,7 +90,7 @@ served-fails : (d : SpiTable) (w : World) (s : SpiState) (k : Option ℕ) (recei
     → r.transfer.failed ≡ true → find (is_of r.sequence) s.pending ≡ Some p → comes_again d p ≡ false → FailsJob u (next_job d p) s (served d w s k received o).state
 served-fails d w s None received o u r p a b e f once = absurd (cc a)
 served-fails d w s (Some v) received None u r p a b e f once = absurd (cc b)
-served-fails d w s (Some v) received (Some x) u r p a b e f once = rw (some_same v u a, some_same x r b) (served_by-fails d w s u received r p e f once)
+served-fails d w s (Some v) received (Some x) u r p a b e f once = rw (some_is v u a, some_is x r b) (served_by-fails d w s u received r p e f once)
 
 pub serve-fails : (d : SpiTable) (w : World) (s : SpiState) (l received : ℕ) (out : Outcome SpiState) (u : ℕ) (r : Run) (p : Pending)
     → (spi_machine d).happens w s (Serves l received) ≡ Some out → unit_of l ≡ Some u → run_at s u ≡ Some r
@@ -179,7 +180,7 @@ start_by-keeps : (d : SpiTable) (w : World) (s : SpiState) (k : Option ℕ) (rec
     → start_by d w s k received o ≡ Some out → Keeps s out.state
 start_by-keeps d w s None received o out h = absurd (cc h)
 start_by-keeps d w s (Some u) received None out h = absurd (cc h)
-start_by-keeps d w s (Some u) received (Some p) out h = rw (← some_same (started d w s u received p) out h) (λ c. refl)
+start_by-keeps d w s (Some u) received (Some p) out h = rw (← some_is (started d w s u received p) out h) (λ c. refl)
 
 moved-keeps : (d : SpiTable) (w : World) (s : SpiState) (order : Order) → Keeps s (moved d w s order)
 moved-keeps d w s (Fill k ws) = keeps-with s k (filled ws (channel_of d k) (channel_at s k)) refl
@@ -188,10 +189,10 @@ moved-keeps d w s _ = λ c. refl
 
 pub happens-keeps : (d : SpiTable) (w : World) (s : SpiState) (h : Happening Call) (out : Outcome SpiState) → (spi_machine d).happens w s h ≡ Some out → renews s h ≡ false → Keeps s out.state
 happens-keeps d w s (Acts call times) out h i =
-    rw (← some_same _ out h) (acts_by-keeps d s call (error_by d call (is_off s.mode) (finds_held d s call)) i)
+    rw (← some_is _ out h) (acts_by-keeps d s call (error_by d call (is_off s.mode) (finds_held d s call)) i)
 happens-keeps d w s (Serves l received) out h i =
     rw (← serve_by (ready w s l) (served d w s (unit_of l) received (run_of s (unit_of l))) out h) (served-keeps d w s (unit_of l) received (run_of s (unit_of l)) i)
 happens-keeps d w s (Starts u made_by received) out h i = start_by-keeps d w s (number_of u) received (next_at d s (number_of u)) out h
 happens-keeps d w s (Aborts u) out h i = absurd (cc h)
-happens-keeps d w s (Moves order) out h i = rw (← some_same _ out h) (moved-keeps d w s order)
+happens-keeps d w s (Moves order) out h i = rw (← some_is _ out h) (moved-keeps d w s order)
 happens-keeps d w s (Restarts reason) out h i = absurd (cc i)

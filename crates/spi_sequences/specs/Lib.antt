@@ -1,5 +1,6 @@
 pub mod Going
-pub mod Ground
-pub mod Owed
+pub mod Refinement
+pub mod PendingWrites
+pub mod Terms
 pub mod Words
 pub mod laws

@@ -2,7 +2,7 @@ ghost use Rattle.std.specs.Prelude.{◌≡◌, ◌==◌, false};
 ghost use Rattle.spi_machine.specs.Checks as checks;
 ghost use Rattle.spi_machine.specs.Table as table;
 ghost use Rattle.spi_machine.specs.Wiring as wiring;
-ghost use Rattle.spi_sequences.specs.laws.Look as spec;
+ghost use Rattle.spi_sequences.specs.laws.services.LookSteps as spec;
 
 use crate::service::cancel::{CancelBody, Cancelled};
 use crate::service::init::{InitBody, InitPlace};
@@ -10,14 +10,14 @@ use crate::service::query::{JobPlace, JobQuery, QueryBody};
 use crate::service::read::{ReadBody, ReadPlace};
 use crate::service::request::RequestPlace;
 use crate::service::set_up::SetUpBody;
-use crate::service::unit::{Errand, UnitBody, UnitPlace};
+use crate::service::unit::{FrameRole, UnitBody, UnitPlace};
 use crate::service::whole::{Whole, WholeBody};
 use crate::service::write::{WriteBody, Written};
 use crate::service::{self, SpiBody};
 use crate::words::STATE;
 use det_errors::{Facts, first_error};
 use mcal_base::{Answer, AnswerName, ErrorName, Words};
-use service_outline::{Done, Looked, Or, Owed, Reply, error, named, nothing};
+use service_outline::{Done, Epilogue, Looked, Or, Reply, error, named, nothing};
 use spi_jobs::{Channel, SetUp, Side, pin};
 use spi_machine::{Call, ChannelCall, Query, SequenceCall, SpiTable};
 
@@ -33,8 +33,8 @@ pub struct Asked {
 impl service_outline::Service for Asked {
     type Body = SpiBody;
 
-    ghost use Rattle.spi_sequences.specs.laws.Look.{spi_looked};
-    ghost use Rattle.spi_sequences.specs.laws.Bodies.{spi_ends};
+    ghost use Rattle.spi_sequences.specs.laws.services.LookSteps.{spi_looked};
+    ghost use Rattle.spi_sequences.specs.laws.services.Bodies.{spi_ends};
     ghost use Rattle.spi_sequences.specs.declared.words.TheConstants.{STATE};
 
     ghost WORD = { STATE };
@@ -136,7 +136,7 @@ impl Asked {
         if state == 1 {
             Looked::Goes(service::unit_body(UnitBody {
                 table: self.table,
-                errand: Errand::Main,
+                errand: FrameRole::Main,
                 unit: 0,
                 place: UnitPlace::Act,
             }))
@@ -177,7 +177,7 @@ impl Asked {
         match call {
             SequenceCall::AsyncTransmit => Looked::Goes(service::unit_body(UnitBody {
                 table: self.table,
-                errand: Errand::Transmit(sequence),
+                errand: FrameRole::Transmit(sequence),
                 unit,
                 place: UnitPlace::Request(RequestPlace::Look(0)),
             })),
@@ -237,7 +237,7 @@ fn done_with(answer: Reply) -> Looked<SpiBody>
 {
     Looked::Refused(Done {
         answer,
-        owed: Owed::Nothing,
+        owed: Epilogue::Nothing,
     })
 }
 

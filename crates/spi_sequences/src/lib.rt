@@ -7,6 +7,6 @@ mod words;
 
 pub use asked::Asked;
 pub use service::serve::ServePlace;
-pub use service::unit::{Errand, UnitBody, UnitPlace};
+pub use service::unit::{FrameRole, UnitBody, UnitPlace};
 pub use service::{SpiBody, unit_body};
 pub use words::{PENDING, STATE, sequence_word};

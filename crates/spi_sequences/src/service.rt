@@ -13,7 +13,7 @@ pub mod whole;
 pub mod write;
 
 ghost use Rattle.std.specs.Prelude.{◌≡◌};
-ghost use Rattle.spi_sequences.specs.laws.Bodies as spec;
+ghost use Rattle.spi_sequences.specs.laws.services.Bodies as spec;
 
 use cancel::CancelBody;
 use init::InitBody;

@@ -15,14 +15,14 @@ use Rattle.spi_machine.specs.Transfers.{JobWord, Run, is_done, no_word, received
 use Rattle.spi_machine.specs.declared.table.SpiTable.{SpiTable}
 use Rattle.spi_sequences.specs.Words.{cancelled_bit, has_mark, position_in, position_word, run_in, running_word}
 use Rattle.spi_sequences.specs.declared.service.serve.Arrived.{Arrived}
-use Rattle.spi_sequences.specs.declared.service.serve.Course.{Course}
-use Rattle.spi_sequences.specs.declared.service.serve.Course.TheVariants.{Further, Ends}
+use Rattle.spi_sequences.specs.declared.service.serve.SequenceNext.{SequenceNext}
+use Rattle.spi_sequences.specs.declared.service.serve.SequenceNext.TheVariants.{Further, Ends}
 use Rattle.spi_sequences.specs.declared.service.serve.ServePlace.{ServePlace}
 use Rattle.spi_sequences.specs.declared.service.serve.ServePlace.TheVariants as serve
 use Rattle.spi_sequences.specs.declared.service.serve.Served.{Served}
 use Rattle.spi_sequences.specs.declared.words.Position.{Position}
 use Rattle.spi_sequences.specs.declared.words.TheConstants.{MARKS, NEXTS}
-use Rattle.spi_sequences.specs.laws.Serve.{after_job, begins_of, channel_next, channel_served, further_of}
+use Rattle.spi_sequences.specs.laws.services.ServeSteps.{after_job, begins_of, channel_next, channel_served, further_of}
 
 -- ---- what was loaded and read
 
@@ -126,7 +126,7 @@ serve_fuel p = 1 + serve_room p
 -- ---- what is told
 
 -- the notices of a job's end, by how its sequence goes on
-abbrev pub notices_by : SpiTable → Served → Course → List Notice
+abbrev pub notices_by : SpiTable → Served → SequenceNext → List Notice
 notices_by d r (Further v) = job_notice d r.run.job
 notices_by d r (Ends x) = job_notice d r.run.job ++ sequence_notice d r.run.sequence
 

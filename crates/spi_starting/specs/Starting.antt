@@ -2,8 +2,8 @@
 use Rattle.std.specs.Prelude.{◌≡◌, ℕ, ◌+◌, ◌<◌, true, if◌then◌else◌, [], ◌∷◌, Some, None, slice_get, slice_index_or}
 use Rattle.run_model.specs.Machine.{select_of}
 use Rattle.word_shapes.specs.Playing.{Memory, Ends}
-use Rattle.word_shapes.specs.Ranked as ranked
-use Rattle.word_shapes.specs.Ranked.{choosing_front}
+use Rattle.word_shapes.specs.PriorityQueue as ranked
+use Rattle.word_shapes.specs.PriorityQueue.{choosing_front}
 use Rattle.word_shapes.specs.Room.{front_room}
 use Rattle.spi_jobs.specs.Placing.{bank_of, bank_word, control_word, masked_by, or_none, set_up_word, source_word}
 use Rattle.spi_jobs.specs.declared.channel.Channel.{Channel}
@@ -19,13 +19,13 @@ use Rattle.spi_machine.specs.Table.{channel_of, channels_of, job_of, select_by}
 use Rattle.spi_machine.specs.Transfers.{JobWord, no_word}
 use Rattle.spi_machine.specs.Wiring.{placed_of}
 use Rattle.spi_machine.specs.declared.table.SpiTable.{SpiTable}
-use Rattle.spi_sequences.specs.Owed.{start_more}
+use Rattle.spi_sequences.specs.PendingWrites.{start_more}
 use Rattle.spi_sequences.specs.Words.{order_word}
 use Rattle.spi_sequences.specs.declared.service.start.Chosen.{Chosen}
 use Rattle.spi_sequences.specs.declared.service.start.StartPlace.{StartPlace}
 use Rattle.spi_sequences.specs.declared.service.start.StartPlace.TheVariants as start
 use Rattle.spi_sequences.specs.declared.words.TheConstants.{MARKS, NEXTS}
-use Rattle.spi_sequences.specs.laws.Choosing.{number_of}
+use Rattle.spi_sequences.specs.laws.bookkeeping.NextChosen.{number_of}
 
 -- what places see of the chip: the driver words, and what the units have selected and their widths
 abbrev pub Seen : Type 0

@@ -2,12 +2,13 @@
 use Rattle.std.proofs.Common.{◌≡◌, ℕ, Bool, true, false, cond, not, ◌&&◌, List, [], ◌∷◌, Option, Some, None, is_some, refl}
 use Rattle.std.specs.Prelude.{IsSome}
 use Rattle.std.specs.List.{list_all}
+use Rattle.std.proofs.lemmas.Bool.{and_from}
+use Rattle.plain_facts.specs.Truths.{and_first, and_second}
 use Rattle.mcal_base.specs.declared.moves.Move.{Move}
 use Rattle.run_model.specs.World.{World}
 use Rattle.run_model.specs.Machine.{Starts, Aborts, Outcome}
 use Rattle.run_model.specs.Frame.{Origin, Called, Entered}
 use Rattle.step_runner.specs.Driver.{Driver}
-use Rattle.step_runner.specs.Lifts.{and-left, and-right}
 use Rattle.step_runner.specs.Union.{either_handler, by_origin, in_first, first_call, second_call, others, has_handler, AreApart, union_of}
 use Rattle.step_runner.specs.declared.either.Either.{Either}
 use Rattle.step_runner.specs.declared.either.Either.TheVariants.{Left, Right}
@@ -46,16 +47,13 @@ none-neither s t x y e f = rw (e, f)
 
 -- ---- lines
 
-both-true : (a b : Bool) → a ≡ true → b ≡ true → a && b ≡ true
-both-true a b e f = rw (e, f)
-
 pub all-into : (p q : ℕ → Bool) (ls : List ℕ) → ((l : ℕ) → p l ≡ true → q l ≡ true) → list_all p ls ≡ true → list_all q ls ≡ true
 all-into p q [] into h = refl
-all-into p q (l ∷ ls) into h = both-true (q l) (list_all q ls) (into l (and-left (p l) (list_all p ls) h)) (all-into p q ls into (and-right (p l) (list_all p ls) h))
+all-into p q (l ∷ ls) into h = and_from (q l) (list_all q ls) (into l (and_first (p l) (list_all p ls) h)) (all-into p q ls into (and_second (p l) (list_all p ls) h))
 
 all-both : (p q r : ℕ → Bool) (ls : List ℕ) → ((l : ℕ) → p l ≡ true → q l ≡ true → r l ≡ true) → list_all p ls ≡ true → list_all q ls ≡ true → list_all r ls ≡ true
 all-both p q r [] into h k = refl
-all-both p q r (l ∷ ls) into h k = both-true (r l) (list_all r ls) (into l (and-left (p l) (list_all p ls) h) (and-left (q l) (list_all q ls) k)) (all-both p q r ls into (and-right (p l) (list_all p ls) h) (and-right (q l) (list_all q ls) k))
+all-both p q r (l ∷ ls) into h k = and_from (r l) (list_all r ls) (into l (and_first (p l) (list_all p ls) h) (and_first (q l) (list_all q ls) k)) (all-both p q r ls into (and_second (p l) (list_all p ls) h) (and_second (q l) (list_all q ls) k))
 
 pub handler-first : {F G : Type 0} (x : Option F) (y : Option G) → is_some x ≡ true → is_some (either_handler x y) ≡ true
 handler-first (Some f) y h = refl

@@ -3,6 +3,8 @@ use Rattle.std.proofs.Common.{◌≡◌, ℕ, ◌<◌, ◌≤◌, ◌==◌, nat_
 use Rattle.std.specs.Prelude.{IsSome, Result, Ok, Err}
 use Rattle.std.proofs.lemmas.List.{append-nil}
 use Rattle.std.proofs.lemmas.Bool.Decides.{nat_tests}
+use Rattle.std.proofs.lemmas.Bool.{not-false}
+use Rattle.plain_facts.specs.Truths.{and_first, and_second}
 use Rattle.chip_model.specs.Chip.{Chip, expiry_of, happened, CanHappen, reset_chip, is_masked, is_pending}
 use Rattle.chip_model.proofs.HistoryLaws.{rate-event}
 use Rattle.irq_control.specs.declared.held.Held.{Held}
@@ -21,9 +23,8 @@ use Rattle.run_model.specs.Frame.{Origin, Called, Entered, Open, opened, state_b
 use Rattle.run_model.specs.Causes.{may_reenter, none_above, all_below, call_level_allows, line_level_allows, first_cause, is_full, call_cause, line_cause, fill_cause, tags_of, origins_of, top_noted}
 use Rattle.run_model.specs.Outside.{StandsIn}
 use Rattle.run_model.specs.Legal.{InTime, IsLegalDeed, IsServed, order_held, hardware_held}
-use Rattle.run_model.specs.Moment.{is_busy, Moment, Deed, Begins, Enters, Happens, Resets, call_tag, line_tag, start_moment, after, after_all}
+use Rattle.run_model.specs.Moment.{is_busy, Moment, Transition, Begins, Enters, Happens, Resets, call_tag, line_tag, start_moment, after, after_all}
 use Rattle.step_runner.specs.Driver.{Driver, NotOver, EndsBefore, IsLawful, AllOutside, tags_in, TicksFit, IsFree}
-use Rattle.step_runner.specs.Lifts.{and-left, and-right}
 use Rattle.step_runner.specs.Kept.{Kept, tags_under, top_is_noted, cause_of, beginning, put_by, enter_by}
 use Rattle.step_runner.specs.Stands.{paired, class_by, AreFramesOf, IsGuarded, LevelsRise, Matches, Stands, done}
 use Rattle.step_runner.specs.declared.stack.Under.{Under}
@@ -42,10 +43,6 @@ first-none false true reentry idle full e = cc
 first-none false false true idle full e = cc
 first-none false false false true full e = cc
 first-none false false false false full e = (refl, refl, refl, refl)
-
-not-false : (b : Bool) → not b ≡ false → b ≡ true
-not-false true e = refl
-not-false false e = cc
 
 -- ---- levels
 
@@ -66,14 +63,14 @@ le-under a b c h k = grind (arith, nat_tests)
 above-more : (tags : List Tag) (level more : ℕ) → none_above tags level ≡ true → nat_le level more ≡ true → none_above tags more ≡ true
 above-more [] level more h k = refl
 above-more (t ∷ ts) level more h k =
-    let here = le-more t.level level more (and-left (nat_le t.level level) (none_above ts level) h) k in
-    rw here (above-more ts level more (and-right (nat_le t.level level) (none_above ts level) h) k)
+    let here = le-more t.level level more (and_first (nat_le t.level level) (none_above ts level) h) k in
+    rw here (above-more ts level more (and_second (nat_le t.level level) (none_above ts level) h) k)
 
 below-more : (tags : List Tag) (level more : ℕ) → none_above tags level ≡ true → nat_lt level more ≡ true → all_below tags more ≡ true
 below-more [] level more h k = refl
 below-more (t ∷ ts) level more h k =
-    let here = le-under t.level level more (and-left (nat_le t.level level) (none_above ts level) h) k in
-    rw here (below-more ts level more (and-right (nat_le t.level level) (none_above ts level) h) k)
+    let here = le-under t.level level more (and_first (nat_le t.level level) (none_above ts level) h) k in
+    rw here (below-more ts level more (and_second (nat_le t.level level) (none_above ts level) h) k)
 
 call-above : (tags : List Tag) (noted : Bool) (level : ℕ) → LevelsRise tags → call_level_allows tags noted level ≡ true → none_above tags level ≡ true
 call-above [] noted level r h = refl
@@ -88,8 +85,8 @@ line-above (t ∷ ts) level r h = rw h (below-more ts t.level level r.0 h)
 below-above : (tags : List Tag) (level : ℕ) → all_below tags level ≡ true → none_above tags level ≡ true
 below-above [] level h = refl
 below-above (t ∷ ts) level h =
-    let here = line-allowed t.level level (and-left (nat_lt t.level level) (all_below ts level) h) in
-    rw here (below-above ts level (and-right (nat_lt t.level level) (all_below ts level) h))
+    let here = line-allowed t.level level (and_first (nat_lt t.level level) (all_below ts level) h) in
+    rw here (below-above ts level (and_second (nat_lt t.level level) (all_below ts level) h))
 
 -- a hardware event that isn't held is free
 fill-free : (masked there busy : Bool) → fill_cause masked there busy ≡ None → masked || (there && busy) ≡ false
@@ -154,7 +151,7 @@ module _ {State Call Frame : Type 0} (d : Driver State Call Frame) where
 
 module _ {State Call Frame : Type 0} (d : Driver State Call Frame) (move_of : Frame → Move) (left : Frame → ℕ → Frame) (gave : Frame → ℕ → Taken) (law : IsLawful d move_of left gave) where
   -- a call begins, or is held
-  pub stands-begin : {A : Type 0} (first : Chip) (h : List (Deed Call)) (chip : Chip) (k : Kept Frame) (r : Result A Held) (c : Call) (level : ℕ) → d.can_call c → cause_of r ≡ call_cause (is_masked chip) (tags_under k.frames) (top_is_noted k.frames) (d.setting.class_of c) level → Stands d first chip k.frames h → Stands d first chip (put_by r (beginning (d.frame_of c) (call_tag d.setting c level)) k).frames (h ++ done r (Begins c level))
+  pub stands-begin : {A : Type 0} (first : Chip) (h : List (Transition Call)) (chip : Chip) (k : Kept Frame) (r : Result A Held) (c : Call) (level : ℕ) → d.can_call c → cause_of r ≡ call_cause (is_masked chip) (tags_under k.frames) (top_is_noted k.frames) (d.setting.class_of c) level → Stands d first chip k.frames h → Stands d first chip (put_by r (beginning (d.frame_of c) (call_tag d.setting c level)) k).frames (h ++ done r (Begins c level))
   stands-begin first h chip k (Err cause) c level can is st = subst (λ x. Stands d first chip k.frames x) (sym (append-nil h)) st
   stands-begin first h chip k (Ok a) c level can is st =
       let us = k.frames in
@@ -175,7 +172,7 @@ module _ {State Call Frame : Type 0} (d : Driver State Call Frame) (move_of : Fr
       (put-on d chip us m (d.frame_of c) (Called c) (call_tag d.setting c level) refl e above (law.call_fuel c can) (λ out. law.begins m.chip m.world (paired us m.opens) m.state c level can e out reenters above_in mm.relates) mm)
 
   -- a handler begins, or is held
-  pub stands-enter : {A : Type 0} (first : Chip) (h : List (Deed Call)) (chip : Chip) (k : Kept Frame) (r : Result A Held) (line : ℕ) (handler : Option Frame) → d.handler_of line ≡ handler → cause_of r ≡ line_cause (is_masked chip) (tags_under k.frames) (d.setting.level_of line) (is_some handler && is_pending chip line) → Stands d first chip k.frames h → Stands d first chip (enter_by r handler (line_tag d.setting line) k).frames (h ++ done r (Enters line))
+  pub stands-enter : {A : Type 0} (first : Chip) (h : List (Transition Call)) (chip : Chip) (k : Kept Frame) (r : Result A Held) (line : ℕ) (handler : Option Frame) → d.handler_of line ≡ handler → cause_of r ≡ line_cause (is_masked chip) (tags_under k.frames) (d.setting.level_of line) (is_some handler && is_pending chip line) → Stands d first chip k.frames h → Stands d first chip (enter_by r handler (line_tag d.setting line) k).frames (h ++ done r (Enters line))
   stands-enter first h chip k (Err cause) line None there is st = subst (λ x. Stands d first chip k.frames x) (sym (append-nil h)) st
   stands-enter first h chip k (Err cause) line (Some f) there is st = subst (λ x. Stands d first chip k.frames x) (sym (append-nil h)) st
   stands-enter first h chip k (Ok a) line None there is st =
@@ -224,7 +221,7 @@ module _ {State Call Frame : Type 0} (d : Driver State Call Frame) (move_of : Fr
       )
 
   -- the hardware moves
-  pub stands-happens : (first : Chip) (h : List (Deed Call)) (chip : Chip) (us : List (Under Frame)) (order : Order) → CanHappen chip order → EndsBefore order (expiry_of chip) → hardware_held d.setting (after_all d.setting (start_moment d.setting first) h) order ≡ None → Stands d first chip us h → Stands d first (happened chip order) us (h ++ Happens order ∷ [])
+  pub stands-happens : (first : Chip) (h : List (Transition Call)) (chip : Chip) (us : List (Under Frame)) (order : Order) → CanHappen chip order → EndsBefore order (expiry_of chip) → hardware_held d.setting (after_all d.setting (start_moment d.setting first) h) order ≡ None → Stands d first chip us h → Stands d first (happened chip order) us (h ++ Happens order ∷ [])
   stands-happens first h chip us order can early free st =
       let m = after_all d.setting (start_moment d.setting first) h in
       let k = happens-right chip us m order can free (early-fits d order (expiry_of chip) early) st.matches in
@@ -250,7 +247,7 @@ module _ {State Call Frame : Type 0} (d : Driver State Call Frame) (move_of : Fr
         },
       )
 
-  pub stands-resets : (first : Chip) (h : List (Deed Call)) (chip : Chip) (us : List (Under Frame)) (reason : Reason) → Stands d first chip us h → Stands d first (reset_chip chip reason) [] (h ++ Resets reason ∷ [])
+  pub stands-resets : (first : Chip) (h : List (Transition Call)) (chip : Chip) (us : List (Under Frame)) (reason : Reason) → Stands d first chip us h → Stands d first (reset_chip chip reason) [] (h ++ Resets reason ∷ [])
   stands-resets first h chip us reason st =
       let k = resets-right chip us (after_all d.setting (start_moment d.setting first) h) reason st.matches in
       stands-on d move_of left gave law first chip (reset_chip chip reason) us [] h (Resets reason) st tt tt k.0 k.1
@@ -260,7 +257,7 @@ module _ {State Call Frame : Type 0} (d : Driver State Call Frame) (move_of : Fr
   reset-timely None = tt
   reset-timely (Some n) = tt
 
-  pub stands-runs-out : (first : Chip) (h : List (Deed Call)) (chip : Chip) (us : List (Under Frame)) (n : ℕ) → CanHappen chip (orders.Tick n) → expiry_of chip ≡ Some n → Stands d first chip us h → Stands d first (reset_chip (happened chip (orders.Tick n)) Watchdog) [] (h ++ Happens (orders.Tick n) ∷ Resets Watchdog ∷ [])
+  pub stands-runs-out : (first : Chip) (h : List (Transition Call)) (chip : Chip) (us : List (Under Frame)) (n : ℕ) → CanHappen chip (orders.Tick n) → expiry_of chip ≡ Some n → Stands d first chip us h → Stands d first (reset_chip (happened chip (orders.Tick n)) Watchdog) [] (h ++ Happens (orders.Tick n) ∷ Resets Watchdog ∷ [])
   stands-runs-out first h chip us n can ends st =
       let g = d.setting in
       let m = after_all g (start_moment g first) h in
@@ -282,21 +279,21 @@ module _ {State Call Frame : Type 0} (d : Driver State Call Frame) (move_of : Fr
 
   -- the same, from what the runner's calls ensure
 
-  pub after-begin : {A : Type 0} (first : Chip) (h : List (Deed Call)) (chip : Chip) (k k1 : Kept Frame) (r : Result A Held) (c : Call) (level : ℕ) → cause_of r ≡ call_cause (is_masked chip) (tags_under k.frames) (top_is_noted k.frames) (d.setting.class_of c) level → k1 ≡ put_by r (beginning (d.frame_of c) (call_tag d.setting c level)) k → d.can_call c → Stands d first chip k.frames h → Stands d first chip k1.frames (h ++ done r (Begins c level))
+  pub after-begin : {A : Type 0} (first : Chip) (h : List (Transition Call)) (chip : Chip) (k k1 : Kept Frame) (r : Result A Held) (c : Call) (level : ℕ) → cause_of r ≡ call_cause (is_masked chip) (tags_under k.frames) (top_is_noted k.frames) (d.setting.class_of c) level → k1 ≡ put_by r (beginning (d.frame_of c) (call_tag d.setting c level)) k → d.can_call c → Stands d first chip k.frames h → Stands d first chip k1.frames (h ++ done r (Begins c level))
   after-begin first h chip k k1 r c level is new can st = subst (λ x. Stands d first chip x.frames (h ++ done r (Begins c level))) (sym new) (stands-begin first h chip k r c level can is st)
 
-  pub after-enter : {A : Type 0} (first : Chip) (h : List (Deed Call)) (chip : Chip) (k k1 : Kept Frame) (r : Result A Held) (line : ℕ) → cause_of r ≡ line_cause (is_masked chip) (tags_under k.frames) (d.setting.level_of line) (is_some (d.handler_of line) && is_pending chip line) → k1 ≡ enter_by r (d.handler_of line) (line_tag d.setting line) k → Stands d first chip k.frames h → Stands d first chip k1.frames (h ++ done r (Enters line))
+  pub after-enter : {A : Type 0} (first : Chip) (h : List (Transition Call)) (chip : Chip) (k k1 : Kept Frame) (r : Result A Held) (line : ℕ) → cause_of r ≡ line_cause (is_masked chip) (tags_under k.frames) (d.setting.level_of line) (is_some (d.handler_of line) && is_pending chip line) → k1 ≡ enter_by r (d.handler_of line) (line_tag d.setting line) k → Stands d first chip k.frames h → Stands d first chip k1.frames (h ++ done r (Enters line))
   after-enter first h chip k k1 r line is new st = subst (λ x. Stands d first chip x.frames (h ++ done r (Enters line))) (sym new) (stands-enter first h chip k r line (d.handler_of line) refl is st)
 
-  pub after-hardware : (first : Chip) (h : List (Deed Call)) (chip chip1 : Chip) (us : List (Under Frame)) (order : Order) → chip1 ≡ happened chip order → CanHappen chip order → EndsBefore order (expiry_of chip) → hardware_held d.setting (after_all d.setting (start_moment d.setting first) h) order ≡ None → Stands d first chip us h → Stands d first chip1 us (h ++ Happens order ∷ [])
+  pub after-hardware : (first : Chip) (h : List (Transition Call)) (chip chip1 : Chip) (us : List (Under Frame)) (order : Order) → chip1 ≡ happened chip order → CanHappen chip order → EndsBefore order (expiry_of chip) → hardware_held d.setting (after_all d.setting (start_moment d.setting first) h) order ≡ None → Stands d first chip us h → Stands d first chip1 us (h ++ Happens order ∷ [])
   after-hardware first h chip chip1 us order is can early free st = subst (λ x. Stands d first x us (h ++ Happens order ∷ [])) (sym is) (stands-happens first h chip us order can early free st)
 
-  pub after-reset : (first : Chip) (h : List (Deed Call)) (chip chip1 : Chip) (k k1 : Kept Frame) (reason : Reason) → chip1 ≡ reset_chip chip reason → k1 ≡ record k { frames = [] } → Stands d first chip k.frames h → Stands d first chip1 k1.frames (h ++ Resets reason ∷ [])
+  pub after-reset : (first : Chip) (h : List (Transition Call)) (chip chip1 : Chip) (k k1 : Kept Frame) (reason : Reason) → chip1 ≡ reset_chip chip reason → k1 ≡ record k { frames = [] } → Stands d first chip k.frames h → Stands d first chip1 k1.frames (h ++ Resets reason ∷ [])
   after-reset first h chip chip1 k k1 reason is new st =
       subst (λ x. Stands d first x k1.frames (h ++ Resets reason ∷ [])) (sym is)
       (subst (λ x. Stands d first (reset_chip chip reason) x.frames (h ++ Resets reason ∷ [])) (sym new) (stands-resets first h chip k.frames reason st))
 
-  pub after-end : (first : Chip) (h : List (Deed Call)) (chip chip1 chip2 : Chip) (k k1 : Kept Frame) (n : ℕ) → chip1 ≡ happened chip (orders.Tick n) → chip2 ≡ reset_chip chip1 Watchdog → k1 ≡ record k { frames = [] } → CanHappen chip (orders.Tick n) → expiry_of chip ≡ Some n → Stands d first chip k.frames h → Stands d first chip2 k1.frames (h ++ Happens (orders.Tick n) ∷ Resets Watchdog ∷ [])
+  pub after-end : (first : Chip) (h : List (Transition Call)) (chip chip1 chip2 : Chip) (k k1 : Kept Frame) (n : ℕ) → chip1 ≡ happened chip (orders.Tick n) → chip2 ≡ reset_chip chip1 Watchdog → k1 ≡ record k { frames = [] } → CanHappen chip (orders.Tick n) → expiry_of chip ≡ Some n → Stands d first chip k.frames h → Stands d first chip2 k1.frames (h ++ Happens (orders.Tick n) ∷ Resets Watchdog ∷ [])
   after-end first h chip chip1 chip2 k k1 n ticks is new can ends st =
       subst (λ x. Stands d first x k1.frames (h ++ Happens (orders.Tick n) ∷ Resets Watchdog ∷ [])) (sym (is ∙ ap (λ c. reset_chip c Watchdog) ticks))
       (subst (λ x. Stands d first (reset_chip (happened chip (orders.Tick n)) Watchdog) x.frames (h ++ Happens (orders.Tick n) ∷ Resets Watchdog ∷ [])) (sym new) (stands-runs-out first h chip k.frames n can ends st))

@@ -1,6 +1,7 @@
 -- What the runner needs of the chip: when the mask is closed, which lines are enabled, and the word that comes in.
 use Rattle.std.proofs.Common.{◌≡◌, ℕ, ◌≤◌, Bool, true, false, ◌&&◌, ◌||◌, ◌-◌, ◌^◌, refl, ◌∙◌, ap, subst, arith}
 use Rattle.std.specs.Prelude.{MatchBool, bit_or}
+use Rattle.plain_facts.specs.Truths.{and_false}
 use Rattle.chip_units.specs.Serials.{unit_at}
 use Rattle.chip_model.specs.Chip.{Chip, names_device, has_device, next_word, after_read, after_write, chip_after, happened, CanHappen, flag_of, is_masked, is_pending}
 use Rattle.chip_model.specs.Histories.{Made, Hardware, FillsThere}
@@ -38,13 +39,9 @@ mask-happened c order = mask-left c (Hardware order) tt
 
 -- ---- the lines that are enabled
 
-no-and : (a : Bool) → a && false ≡ false
-no-and true = refl
-no-and false = refl
-
 -- a line that isn't enabled is never pending
 pub disabled-pending : (c : Chip) (line : ℕ) → has_bit c.control.enabled line ≡ false → is_pending c line ≡ false
-disabled-pending c line e = ap (λ b. flag_of c line && b) e ∙ no-and (flag_of c line)
+disabled-pending c line e = ap (λ b. flag_of c line && b) e ∙ and_false (flag_of c line)
 
 control-read : (c : Chip) (r : Reg) → (after_read c r).control ≡ c.control
 control-read c (TimerLow k) = refl

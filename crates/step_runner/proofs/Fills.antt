@@ -9,7 +9,7 @@ use Rattle.run_model.specs.World.{World}
 use Rattle.run_model.specs.Frame.{Origin, Called, Entered, Open}
 use Rattle.run_model.specs.Causes.{reads_source, fill_cause, origins_of}
 use Rattle.run_model.specs.Legal.{hardware_held}
-use Rattle.run_model.specs.Moment.{reads_from, is_busy, Moment, Deed, start_moment, after_all}
+use Rattle.run_model.specs.Moment.{reads_from, is_busy, Moment, Transition, start_moment, after_all}
 use Rattle.step_runner.specs.Driver.{Driver, AllOutside}
 use Rattle.step_runner.specs.Kept.{is_read, used_by, fill_by}
 use Rattle.step_runner.specs.Stands.{paired, class_by, AreFramesOf, Matches, Stands}
@@ -77,7 +77,7 @@ module _ {State Call Frame : Type 0} (d : Driver State Call Frame) where
       ∙ ap (λ r. cond ((is_masked m.chip || used) || r) (Some Busy) None) (reads-are c us m.opens k.frames)
       ∙ busy-same (is_masked m.chip) used (d.setting.in_use m.world m.state c) (list_any (reads_from d.setting c) (origins_of m.opens)) same)
 
-  pub fill-cause : (first : Chip) (h : List (Deed Call)) (c : ℕ) (ws : List ℕ) (chip : Chip) (us : List (Under Frame)) (q : Option Bool) → is_some q ≡ d.setting.fills c → Tells c chip q → Stands d first chip us h → fill_by q (is_masked chip) (is_read c us) ≡ hardware_held d.setting (after_all d.setting (start_moment d.setting first) h) (Fill c ws)
+  pub fill-cause : (first : Chip) (h : List (Transition Call)) (c : ℕ) (ws : List ℕ) (chip : Chip) (us : List (Under Frame)) (q : Option Bool) → is_some q ≡ d.setting.fills c → Tells c chip q → Stands d first chip us h → fill_by q (is_masked chip) (is_read c us) ≡ hardware_held d.setting (after_all d.setting (start_moment d.setting first) h) (Fill c ws)
   fill-cause first h c ws chip us q there tells st = cause-by c (after_all d.setting (start_moment d.setting first) h) chip us q there tells st.matches
 
   free-by : (q : Option Bool) (masked read : Bool) (c : ℕ) → IfSome q (λ used. c < 16) → fill_by q masked read ≡ None → c < 16
@@ -85,7 +85,7 @@ module _ {State Call Frame : Type 0} (d : Driver State Call Frame) where
   free-by (Some used) masked read c few e = few
 
   -- one that isn't held may happen
-  pub fill-fits : (first : Chip) (h : List (Deed Call)) (c : ℕ) (ws : List ℕ) (chip : Chip) (us : List (Under Frame)) (q : Option Bool) → IfSome q (λ used. c < 16) → Stands d first chip us h → fill_by q (is_masked chip) (is_read c us) ≡ None → CanHappen chip (Fill c ws)
+  pub fill-fits : (first : Chip) (h : List (Transition Call)) (c : ℕ) (ws : List ℕ) (chip : Chip) (us : List (Under Frame)) (q : Option Bool) → IfSome q (λ used. c < 16) → Stands d first chip us h → fill_by q (is_masked chip) (is_read c us) ≡ None → CanHappen chip (Fill c ws)
   fill-fits first h c ws chip us q few st e =
       let lt = free-by q (is_masked chip) (is_read c us) c few e in
       (lt, subst (λ x. source_length x c ≤ 64) (sym st.matches.chip_is) (st.matches.outside.all.sources c lt))

@@ -4,6 +4,7 @@ use Rattle.std.specs.List.{list_any, list_all}
 use Rattle.std.proofs.lemmas.Bool.Decides.{nat_tests}
 use Rattle.std.proofs.lemmas.List.{reverse-append}
 use Rattle.std.proofs.lemmas.List.Folds.{list_any-append, list_all-append}
+use Rattle.plain_facts.specs.Truths.{and_true, or_false}
 use Rattle.run_model.specs.declared.class.Class.{Class}
 use Rattle.run_model.specs.Causes.{may_reenter, blocks, reads_source, is_full}
 use Rattle.step_runner.specs.Kept.{tags_under, is_read}
@@ -25,12 +26,8 @@ reenter-tags_under class (u ∷ us) = ap (λ b. not (blocks class u.tag) && b) (
 pub full-tags_under : {Frame : Type 0} (us : List (Under Frame)) (n : ℕ) → n ≡ length us → nat_le 8 n ≡ is_full (tags_under us)
 full-tags_under us n e = let k : n ≡ length (tags_under us) = e ∙ sym (length-tags_under us) in le_not_lt n (length (tags_under us)) k
 
-and-true : (a : Bool) → (a && true) ≡ a
-and-true true = refl
-and-true false = refl
-
 swapped : (a b c : Bool) → a ≡ c → (a && (b && true)) ≡ (b && c)
-swapped a true c e = and-true a ∙ e
+swapped a true c e = and_true a ∙ e
 swapped true false c e = refl
 swapped false false c e = refl
 
@@ -42,17 +39,13 @@ list_all-reverse p (x ∷ xs) = ap (list_all p) (reverse-append (x ∷ []) xs) �
 pub reenter-items : {Frame : Type 0} (class : Class) (items us : List (Under Frame)) → reverse items ≡ us → list_all (λ u. not (blocks class u.tag)) items ≡ may_reenter class (tags_under us)
 reenter-items class items us e = sym (list_all-reverse (λ u. not (blocks class u.tag)) items) ∙ (ap (list_all (λ u. not (blocks class u.tag))) e ∙ reenter-tags_under class us)
 
-or-false : (a : Bool) → (a || false) ≡ a
-or-false true = refl
-or-false false = refl
-
 turned : (a b c : Bool) → a ≡ c → (a || (b || false)) ≡ (b || c)
 turned a true c e = or-true a
   where
     or-true : (a : Bool) → (a || true) ≡ true
     or-true true = refl
     or-true false = refl
-turned a false c e = or-false a ∙ e
+turned a false c e = or_false a ∙ e
 
 list_any-reverse : {X : Type 0} (p : X → Bool) (xs : List X) → list_any p (reverse xs) ≡ list_any p xs
 list_any-reverse p [] = refl

@@ -2,6 +2,7 @@
 use Rattle.std.proofs.Common.{◌≡◌, ℕ, ◌+◌, ◌<◌, ◌≤◌, Bool, true, false, ◌||◌, List, [], ◌∷◌, ◌++◌, Option, Some, None, refl, sym, ◌∙◌, ap, subst, arith}
 use Rattle.std.specs.Prelude.{Result, Ok}
 use Rattle.std.proofs.lemmas.List.{append-nil}
+use Rattle.std.proofs.lemmas.Bool.{false_from_ne_true}
 use Rattle.chip_model.specs.Chip.{Chip, value_of, stall_of, chip_after, expiry_of, is_masked, is_pending}
 use Rattle.chip_model.specs.Devices.{ComesIn}
 use Rattle.chip_model.proofs.DeviceLaws.{devices-move}
@@ -20,7 +21,7 @@ use Rattle.run_model.specs.World.{World, world_start}
 use Rattle.run_model.specs.Causes.{tags_of, origins_of}
 use Rattle.run_model.specs.Frame.{Open, brought_by, happening_at, outcome_of, state_by, state_after, open_after, report_by, outcome_at, inside_after, top_after, is_shared}
 use Rattle.run_model.specs.Machine.{Happening, Outcome}
-use Rattle.run_model.specs.Moment.{Moment, Deed, Begins, Enters, Steps, Happens, Resets, start_moment, after, after_all}
+use Rattle.run_model.specs.Moment.{Moment, Transition, Begins, Enters, Steps, Happens, Resets, start_moment, after, after_all}
 use Rattle.run_model.specs.Legal.{InTime, IsLegalDeed, EndRight, AreGoing, IsServed, QuietAtRest}
 use Rattle.step_runner.specs.Driver.{Driver, most_steps, NotOver, EndsBefore, IsLawful, AllOutside, origins_in, FuelRight, stepped}
 use Rattle.step_runner.specs.Kept.{Kept, moved, TakesStep, CanStep, IsStill, total_fuel}
@@ -59,10 +60,6 @@ levels-after : {Call : Type 0} (o o1 : Open Call) (os : List (Open Call)) (ended
 levels-after o o1 os None e h = subst (λ t. LevelsRise (t ∷ tags_of os)) (sym e) h
 levels-after o o1 os (Some a) e h = h.1
 
-never : (b : Bool) → (b ≡ true → ⊥) → b ≡ false
-never true h = absurd (h refl)
-never false h = refl
-
 or-second : (a b : Bool) → a ≡ false → a || b ≡ true → b ≡ true
 or-second true b e h = cc
 or-second false b e h = h
@@ -87,7 +84,7 @@ module _ {State Call Frame : Type 0} (d : Driver State Call Frame) (move_of : Fr
   apart-at : (chip : Chip) (w : World) (s : State) (line : ℕ) (q : Bool) → NoneEnabled chip → d.lines line ≡ q → d.relates chip w [] s → is_pending chip line ≡ d.setting.machine.due w s line
   apart-at chip w s line true none e r = law.rests chip w s line e r
   apart-at chip w s line false none e r =
-      let due : d.setting.machine.due w s line ≡ false = never (d.setting.machine.due w s line) (λ h. let k = law.used_lines line (law.due_used chip w [] s line tt r h) in cc) in
+      let due : d.setting.machine.due w s line ≡ false = false_from_ne_true (d.setting.machine.due w s line) (λ h. let k = law.used_lines line (law.due_used chip w [] s line tt r h) in cc) in
       disabled-pending chip line (none line e) ∙ sym due
 
   -- a line that no object uses isn't pending, whether it is the driver's or not
@@ -160,11 +157,11 @@ module _ {State Call Frame : Type 0} (d : Driver State Call Frame) (move_of : Fr
       record { legal = served-of first [] m k; matches = k; alive = subst (λ c. NotOver (expiry_of c)) is.is_reset tt }
 
   -- ticks that end before the watchdog's time does come in time, and so does any other deed while that isn't over
-  abbrev Early : Deed Call → Option ℕ → Type 0
+  abbrev Early : Transition Call → Option ℕ → Type 0
   Early (Happens order) left = EndsBefore order left
   Early _ left = Unit {0}
 
-  timely : (x : Deed Call) (left : Option ℕ) → NotOver left → Early x left → InTime left x
+  timely : (x : Transition Call) (left : Option ℕ) → NotOver left → Early x left → InTime left x
   timely x None alive early = tt
   timely (Begins c level) (Some left) alive early = alive
   timely (Enters l) (Some left) alive early = alive
@@ -174,11 +171,11 @@ module _ {State Call Frame : Type 0} (d : Driver State Call Frame) (move_of : Fr
   timely (Resets Watchdog) (Some left) alive early = tt
   timely (Resets reason) (Some left) alive early = alive
 
-  in-time : (chip : Chip) (us : List (Under Frame)) (m : Moment State Call) (x : Deed Call) → Matches d chip us m → NotOver (expiry_of chip) → Early x (expiry_of chip) → InTime (d.setting.machine.expires m.world m.state) x
+  in-time : (chip : Chip) (us : List (Under Frame)) (m : Moment State Call) (x : Transition Call) → Matches d chip us m → NotOver (expiry_of chip) → Early x (expiry_of chip) → InTime (d.setting.machine.expires m.world m.state) x
   in-time chip us m x k alive early = subst (λ t. InTime t x) (ap expiry_of k.chip_is ∙ sym (left-is chip us m k)) (timely x (expiry_of chip) alive early)
 
   -- a legal deed whose moment is matched again
-  pub stands-on : (first chip chip1 : Chip) (us us1 : List (Under Frame)) (h : List (Deed Call)) (x : Deed Call) → Stands d first chip us h → Early x (expiry_of chip) → NotOver (expiry_of chip1) → IsLegalDeed d.setting (after_all d.setting (start_moment d.setting first) h) x → Matches d chip1 us1 (after d.setting (after_all d.setting (start_moment d.setting first) h) x) → Stands d first chip1 us1 (h ++ x ∷ [])
+  pub stands-on : (first chip chip1 : Chip) (us us1 : List (Under Frame)) (h : List (Transition Call)) (x : Transition Call) → Stands d first chip us h → Early x (expiry_of chip) → NotOver (expiry_of chip1) → IsLegalDeed d.setting (after_all d.setting (start_moment d.setting first) h) x → Matches d chip1 us1 (after d.setting (after_all d.setting (start_moment d.setting first) h) x) → Stands d first chip1 us1 (h ++ x ∷ [])
   stands-on first chip chip1 us us1 h x st early alive l k = record {
     alive = alive;
     legal = legal-append d.setting (start_moment d.setting first) h x st.legal (in-time chip us (after_all d.setting (start_moment d.setting first) h) x st.matches st.alive early) l (served-of chip1 us1 (after d.setting (after_all d.setting (start_moment d.setting first) h) x) k);
@@ -294,7 +291,7 @@ module _ {State Call Frame : Type 0} (d : Driver State Call Frame) (move_of : Fr
   goes-on chip u us m received still comes few k = subst (λ c. GoesOn c u us m received) (sym k.chip_is) (goes-at m.chip m.world m.state u us m.opens m.steps received (subst (λ c. stall_of c (move_of u.frame) ≡ 0) k.chip_is still) (subst (λ c. ComesIn c (move_of u.frame) received) k.chip_is comes) few (subst (λ c. Matches d c (u ∷ us) m) k.chip_is k))
 
   -- what a step leaves stands for the deeds with the step
-  pub stands-step : (first : Chip) (h : List (Deed Call)) (chip chip1 : Chip) (us : List (Under Frame)) (steps : ℕ) (k1 : Kept Frame) (r : Result Stepped Held) → IsStill move_of us chip → TakesStep move_of left gave us steps chip k1 chip1 r → (after_all d.setting (start_moment d.setting first) h).steps < most_steps → Stands d first chip us h → Stands d first chip1 k1.frames (h ++ step_done r)
+  pub stands-step : (first : Chip) (h : List (Transition Call)) (chip chip1 : Chip) (us : List (Under Frame)) (steps : ℕ) (k1 : Kept Frame) (r : Result Stepped Held) → IsStill move_of us chip → TakesStep move_of left gave us steps chip k1 chip1 r → (after_all d.setting (start_moment d.setting first) h).steps < most_steps → Stands d first chip us h → Stands d first chip1 k1.frames (h ++ step_done r)
   stands-step first h chip chip1 [] steps k1 r still t few st =
       subst (λ x. Stands d first chip1 k1.frames (h ++ step_done x)) (sym t.result_is)
       (subst (λ x. Stands d first chip1 k1.frames x) (sym (append-nil h))
@@ -308,7 +305,7 @@ module _ {State Call Frame : Type 0} (d : Driver State Call Frame) (move_of : Fr
       (stands-on first chip (chip_after chip (move_of u.frame) t.received) (u ∷ us) (top_after (moved u (left u.frame (value_of chip (move_of u.frame))) (move_of u.frame)) (gave u.frame (value_of chip (move_of u.frame))).ended us) h (Steps (stepped (move_of u.frame) (value_of chip (move_of u.frame)) t.received (gave u.frame (value_of chip (move_of u.frame))))) st tt (over-move chip (move_of u.frame) t.received st.alive) k.legal k.matches)))
 
   -- and the frames have fewer steps left
-  pub fuel-step : (first : Chip) (h : List (Deed Call)) (chip chip1 : Chip) (us : List (Under Frame)) (steps : ℕ) (k1 : Kept Frame) (r : Result Stepped Held) → IsStill move_of us chip → TakesStep move_of left gave us steps chip k1 chip1 r → (after_all d.setting (start_moment d.setting first) h).steps < most_steps → Stands d first chip us h → FuelFalls d.fuel us k1.frames r
+  pub fuel-step : (first : Chip) (h : List (Transition Call)) (chip chip1 : Chip) (us : List (Under Frame)) (steps : ℕ) (k1 : Kept Frame) (r : Result Stepped Held) → IsStill move_of us chip → TakesStep move_of left gave us steps chip k1 chip1 r → (after_all d.setting (start_moment d.setting first) h).steps < most_steps → Stands d first chip us h → FuelFalls d.fuel us k1.frames r
   fuel-step first h chip chip1 [] steps k1 r still t few st = subst (λ x. FuelFalls d.fuel [] k1.frames x) (sym t.result_is) tt
   fuel-step first h chip chip1 (u ∷ us) steps k1 r still t few st =
       let k = goes-on chip u us (after_all d.setting (start_moment d.setting first) h) t.received still t.comes few st.matches in
@@ -321,5 +318,5 @@ module _ {State Call Frame : Type 0} (d : Driver State Call Frame) (move_of : Fr
   can-at (u ∷ us) m (o ∷ os) a r = law.there m.chip m.world u.frame o (paired us os) m.state r
 
   -- the top frame's move may be made
-  pub can-step : (first : Chip) (h : List (Deed Call)) (chip : Chip) (us : List (Under Frame)) → Stands d first chip us h → CanStep move_of us
+  pub can-step : (first : Chip) (h : List (Transition Call)) (chip : Chip) (us : List (Under Frame)) → Stands d first chip us h → CanStep move_of us
   can-step first h chip us st = let m = after_all d.setting (start_moment d.setting first) h in can-at us m m.opens st.matches.frames st.matches.relates

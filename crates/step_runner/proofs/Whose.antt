@@ -2,6 +2,7 @@
 use Rattle.std.proofs.Common.{◌≡◌, ℕ, Bool, true, false, not, ◌&&◌, ◌||◌, Option, Some, None, is_some, refl}
 use Rattle.std.specs.Prelude.{IsSome}
 use Rattle.std.specs.List.{list_all}
+use Rattle.std.proofs.lemmas.Bool.{or_left, or_right}
 use Rattle.chip_model.specs.Histories.{sets_rate}
 use Rattle.chip_model.proofs.HistoryLaws.{rate-left}
 use Rattle.mcal_base.specs.Bits.{has_bit}
@@ -108,13 +109,6 @@ sets-none p _ e h = refl
 
 -- ---- more modules
 
-or-left : (a b : Bool) → a ≡ true → a || b ≡ true
-or-left a b e = rw e refl
-
-or-right : (a b : Bool) → b ≡ true → a || b ≡ true
-or-right true b e = refl
-or-right false b e = e
-
 neither-left : (a b : Bool) → a || b ≡ false → a ≡ false
 neither-left true b e = e
 neither-left false b e = refl
@@ -126,11 +120,11 @@ neither-right false b e = e
 module _ (p q : ModuleName → Bool) where
   of-left : (x : Option ModuleName) → is_of p x ≡ true → is_of (all_of p q) x ≡ true
   of-left None h = h
-  of-left (Some m) h = or-left (p m) (q m) h
+  of-left (Some m) h = or_left (p m) (q m) h
 
   of-right : (x : Option ModuleName) → is_of q x ≡ true → is_of (all_of p q) x ≡ true
   of-right None h = h
-  of-right (Some m) h = or-right (p m) (q m) h
+  of-right (Some m) h = or_right (p m) (q m) h
 
   off-left : (x : Option ModuleName) → is_of (all_of p q) x ≡ false → is_of p x ≡ false
   off-left None h = h
@@ -217,8 +211,8 @@ module _ {S T C D F G : Type 0} (p q : ModuleName → Bool) (d : Driver S C F) (
     owns = λ o made h. owns-neither (has_handler d) d.owns e.owns o made (λ x. one.owns x made (names-fewer p (all_of p q) (of-left p q) (off-left p q) made h)) (λ y. other.owns y made (names-fewer q (all_of p q) (of-right p q) (off-right p q) made h));
     handlers = λ l h. some-of (d.handler_of l) (e.handler_of l) h (λ i. of-left p q (module_of_line l) (one.handlers l i)) (λ i. of-right p q (module_of_line l) (other.handlers l i));
     polls = polls-both;
-    starts = λ w s u by r some. some-either s.0 s.1 (d.setting.machine.happens w s.0 (Starts u (first_call by) r)) (e.setting.machine.happens w s.1 (Starts u (second_call by) r)) some (λ i. or-left (p (module_of_unit u)) (q (module_of_unit u)) (one.starts w s.0 u (first_call by) r i)) (λ i. or-right (p (module_of_unit u)) (q (module_of_unit u)) (other.starts w s.1 u (second_call by) r i));
-    aborts = λ w s u some. some-either s.0 s.1 (d.setting.machine.happens w s.0 (Aborts u)) (e.setting.machine.happens w s.1 (Aborts u)) some (λ i. or-left (p (module_of_unit u)) (q (module_of_unit u)) (one.aborts w s.0 u i)) (λ i. or-right (p (module_of_unit u)) (q (module_of_unit u)) (other.aborts w s.1 u i));
+    starts = λ w s u by r some. some-either s.0 s.1 (d.setting.machine.happens w s.0 (Starts u (first_call by) r)) (e.setting.machine.happens w s.1 (Starts u (second_call by) r)) some (λ i. or_left (p (module_of_unit u)) (q (module_of_unit u)) (one.starts w s.0 u (first_call by) r i)) (λ i. or_right (p (module_of_unit u)) (q (module_of_unit u)) (other.starts w s.1 u (second_call by) r i));
+    aborts = λ w s u some. some-either s.0 s.1 (d.setting.machine.happens w s.0 (Aborts u)) (e.setting.machine.happens w s.1 (Aborts u)) some (λ i. or_left (p (module_of_unit u)) (q (module_of_unit u)) (one.aborts w s.0 u i)) (λ i. or_right (p (module_of_unit u)) (q (module_of_unit u)) (other.aborts w s.1 u i));
   }
 
 -- two drivers of different modules, of which the second isn't the clock's, and the first polls lines that it handles, are apart

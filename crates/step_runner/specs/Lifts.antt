@@ -3,6 +3,7 @@ use Rattle.std.proofs.Common.{◌≡◌, ℕ, ◌+◌, Bool, true, false, not, �
 use Rattle.std.specs.Prelude.{IsSome, is_some, option_map}
 use Rattle.std.specs.List.{list_all}
 use Rattle.std.proofs.lemmas.Bool.Decides.{nat_tests}
+use Rattle.plain_facts.specs.Truths.{and_first, and_second}
 use Rattle.chip_model.specs.Chip.{Chip}
 use Rattle.det_errors.specs.Reports.{reported}
 use Rattle.mcal_base.specs.declared.answer.Answer.{Answer}
@@ -31,27 +32,19 @@ same-owed put ns e (Some out) = refl
 
 -- ---- lines of a list that are all a member's
 
-pub and-left : (a b : Bool) → a && b ≡ true → a ≡ true
-and-left true b e = refl
-and-left false b e = e
-
-pub and-right : (a b : Bool) → a && b ≡ true → b ≡ true
-and-right true b e = e
-and-right false b e = cc
-
 has-one : (mine : ℕ → Bool) (l : ℕ) (ls : List ℕ) (k : ℕ) (q : Bool) → (l == k) ≡ q → mine l ≡ true → (has_line ls k ≡ true → mine k ≡ true) → q || has_line ls k ≡ true → mine k ≡ true
 has-one mine l ls k true e m more h = let same : l ≡ k = grind (arith, nat_tests) in subst (λ x. mine x ≡ true) same m
 has-one mine l ls k false e m more h = more h
 
 all-has : (mine : ℕ → Bool) (ls : List ℕ) (k : ℕ) → list_all mine ls ≡ true → has_line ls k ≡ true → mine k ≡ true
 all-has mine [] k a h = cc
-all-has mine (l ∷ ls) k a h = has-one mine l ls k (l == k) refl (and-left (mine l) (list_all mine ls) a) (λ i. all-has mine ls k (and-right (mine l) (list_all mine ls) a) i) h
+all-has mine (l ∷ ls) k a h = has-one mine l ls k (l == k) refl (and_first (mine l) (list_all mine ls) a) (λ i. all-has mine ls k (and_second (mine l) (list_all mine ls) a) i) h
 
 all-same : (mine p q : ℕ → Bool) (ls : List ℕ) → ((l : ℕ) → mine l ≡ true → q l ≡ p l) → list_all mine ls ≡ true → list_all p ls ≡ true → list_all q ls ≡ true
 all-same mine p q [] same a h = h
 all-same mine p q (l ∷ ls) same a h =
-    let here : q l ≡ true = same l (and-left (mine l) (list_all mine ls) a) ∙ and-left (p l) (list_all p ls) h in
-    rw here (all-same mine p q ls same (and-right (mine l) (list_all mine ls) a) (and-right (p l) (list_all p ls) h))
+    let here : q l ≡ true = same l (and_first (mine l) (list_all mine ls) a) ∙ and_first (p l) (list_all p ls) h in
+    rw here (all-same mine p q ls same (and_second (mine l) (list_all mine ls) a) (and_second (p l) (list_all p ls) h))
 
 same-acted : {S U : Type 0} (put : S → U) (a : Option Answer) (e : Option Event) (x : Option (Outcome S)) → acted_by a e (lift_out put x) ≡ acted_by a e x
 same-acted put a None x = refl

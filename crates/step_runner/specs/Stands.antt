@@ -10,7 +10,7 @@ use Rattle.run_model.specs.declared.item.Stepped.{Stepped}
 use Rattle.run_model.specs.World.{world_start}
 use Rattle.run_model.specs.declared.class.Class.{Class}
 use Rattle.run_model.specs.Frame.{Origin, Called, Entered, Open}
-use Rattle.run_model.specs.Moment.{Setting, Moment, Deed, Steps, start_moment, after_all}
+use Rattle.run_model.specs.Moment.{Setting, Moment, Transition, Steps, start_moment, after_all}
 use Rattle.run_model.specs.Legal.{IsLegal}
 use Rattle.run_model.specs.Outside.{StandsIn}
 use Rattle.step_runner.specs.Driver.{Driver, NotOver}
@@ -85,18 +85,18 @@ pub record IsFirst (chip : Chip) : Type 0 where
   pub is_reset : reset_chip chip PowerOn ≡ chip
 
 -- A chip and the frames of a stack stand for a list of deeds, from power on with this chip: those are a legal run, and lead to them, and the watchdog's time isn't over.
-pub record Stands {State Call Frame : Type 0} (d : Driver State Call Frame) (first : Chip) (chip : Chip) (us : List (Under Frame)) (h : List (Deed Call)) : Type 0 where
+pub record Stands {State Call Frame : Type 0} (d : Driver State Call Frame) (first : Chip) (chip : Chip) (us : List (Under Frame)) (h : List (Transition Call)) : Type 0 where
   pub legal : IsLegal d.setting (start_moment d.setting first) h
   pub matches : Matches d chip us (after_all d.setting (start_moment d.setting first) h)
   pub alive : NotOver (expiry_of chip)
 
 -- the deed, unless it was held
-abbrev pub done : {A Call : Type 0} → Result A Held → Deed Call → List (Deed Call)
+abbrev pub done : {A Call : Type 0} → Result A Held → Transition Call → List (Transition Call)
 done (Ok a) deed = deed ∷ []
 done (Err cause) deed = []
 
 -- the step, if there was one
-abbrev pub step_done : {Call : Type 0} → Result Stepped Held → List (Deed Call)
+abbrev pub step_done : {Call : Type 0} → Result Stepped Held → List (Transition Call)
 step_done (Ok s) = Steps s ∷ []
 step_done (Err cause) = []
 

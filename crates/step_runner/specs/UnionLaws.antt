@@ -3,6 +3,9 @@ use Rattle.std.proofs.Common.{◌≡◌, ℕ, ◌+◌, ◌<◌, ◌≤◌, min, 
 use Rattle.std.proofs.Math.Nat.{min-le_left, min-le_right, min-eq_left}
 use Rattle.std.specs.Prelude.{IsSome, option_map}
 use Rattle.std.specs.List.{list_any, list_all}
+use Rattle.std.proofs.lemmas.Bool.{and_from, false_from_ne_true, not-true, or_from, or_left, or_parts, or_right}
+use Rattle.plain_facts.specs.Truths.{and_first, and_second}
+use Rattle.plain_facts.specs.Options.{some_same}
 use Rattle.chip_model.specs.Chip.{Chip, value_of, chip_after, expiry_of, happened, reset_chip, is_masked, is_pending}
 use Rattle.mcal_base.specs.Bits.{has_bit}
 use Rattle.mcal_base.specs.Reach.{CanApply}
@@ -23,23 +26,12 @@ use Rattle.run_model.specs.Frame.{Origin, Called, Entered, Open, opened, outcome
 use Rattle.run_model.specs.Causes.{may_reenter, blocks, none_above, all_below}
 use Rattle.run_model.specs.Moment.{Setting, reads_from, call_tag, line_tag}
 use Rattle.step_runner.specs.Driver.{Driver, most_steps, IsLawful, AllOutside, tags_in, origins_in, TicksFit, IsFree, ComesRight, KeepsStep, stepped}
-use Rattle.step_runner.specs.Lifts.{and-left, and-right, LiesIn, lift-keeps, out-at, same-state}
+use Rattle.step_runner.specs.Lifts.{LiesIn, lift-keeps, out-at, same-state}
 use Rattle.step_runner.specs.Union.{sooner, either, EitherFits, either_left, either_gave, either_handler, lift_out, in_both, in_first, first_call, second_call, by_origin, lift_origin, lift_open, first_origins, second_origins, IsMine, SameOn, others, Splits, Nothing_open, Left_open, Right_open, UnionRelates, has_handler, AreApart, union_setting, union_of}
 use Rattle.step_runner.specs.declared.either.Either.{Either}
 use Rattle.step_runner.specs.declared.either.Either.TheVariants.{Left, Right}
 
 -- ---- tests
-
-both-true : (a b : Bool) → a ≡ true → b ≡ true → a && b ≡ true
-both-true a b e f = rw (e, f)
-
-none-true : (b : Bool) → (b ≡ true → ⊥) → b ≡ false
-none-true true h = absurd (h refl)
-none-true false h = refl
-
-not-true : (b : Bool) → not b ≡ true → b ≡ false
-not-true true e = cc
-not-true false e = refl
 
 -- what is shared, or what the one may do, isn't the other's
 foreign : (shared x y : Bool) → (y ≡ true → shared ≡ false) → (x ≡ true → y ≡ false) → shared || x ≡ true → y ≡ false
@@ -47,33 +39,21 @@ foreign true x true plain apart h = let e = plain refl in cc
 foreign false x true plain apart h = apart h
 foreign shared x false plain apart h = refl
 
-none-of : (a b : Bool) → a ≡ false → b ≡ false → a || b ≡ false
-none-of a b e f = rw (e, f)
-
-none-either : (a b : Bool) → a || b ≡ false → (a ≡ false) × (b ≡ false)
-none-either true b e = cc
-none-either false b e = (refl, e)
-
 one-of : {X : Type 0} (a b : Bool) → a || b ≡ true → (a ≡ true → X) → (b ≡ true → X) → X
 one-of true b e f g = f refl
 one-of false b e f g = g e
-
--- an array that isn't busy for both is free for each: a and b tell which have it, u and v whether they use it, and x and y whether their calls read it
-or-none : (a b : Bool) → a || b ≡ false → (a ≡ false) × (b ≡ false)
-or-none true b e = cc
-or-none false b e = (refl, e)
 
 free-first : (m a b u v x y : Bool) → m || ((a || b) && ((a && u || b && v) || (x || y))) ≡ false → m || (a && (u || x)) ≡ false
 free-first true a b u v x y e = cc
 free-first false false b u v x y e = refl
 free-first false true b true v x y e = cc
-free-first false true b false v x y e = (or-none x y (or-none (b && v) (x || y) e).1).0
+free-first false true b false v x y e = (or_parts x y (or_parts (b && v) (x || y) e).1).0
 
 free-second : (m a b u v x y : Bool) → m || ((a || b) && ((a && u || b && v) || (x || y))) ≡ false → m || (b && (v || y)) ≡ false
 free-second true a b u v x y e = cc
 free-second false a false u v x y e = refl
-free-second false true true u v x y e = let k = or-none (u || v) (x || y) e in rw ((or-none u v k.0).1, (or-none x y k.1).1) refl
-free-second false false true u v x y e = let k = or-none v (x || y) e in rw (k.0, (or-none x y k.1).1) refl
+free-second false true true u v x y e = let k = or_parts (u || v) (x || y) e in rw ((or_parts u v k.0).1, (or_parts x y k.1).1) refl
+free-second false false true u v x y e = let k = or_parts v (x || y) e in rw (k.0, (or_parts x y k.1).1) refl
 
 or-onto : (r x y : Bool) → r || (x || y) ≡ (r || x) || y
 or-onto true x y = refl
@@ -90,16 +70,9 @@ ticks-split n None y h = (tt, h)
 ticks-split n (Some a) None h = (h, tt)
 ticks-split n (Some a) (Some b) h = let k = min-le_left a b in let l = min-le_right a b in (omega (arith, h, k), omega (arith, h, l))
 
-or-first : (a b : Bool) → a ≡ true → a || b ≡ true
-or-first a b e = rw e
-
-or-second : (a b : Bool) → b ≡ true → a || b ≡ true
-or-second true b e = refl
-or-second false b e = e
-
 either-true : (a b c d : Bool) → (a ≡ true → c ≡ true) → (b ≡ true → d ≡ true) → a || b ≡ true → c || d ≡ true
-either-true true b c d f g h = or-first c d (f refl)
-either-true false b c d f g h = or-second c d (g h)
+either-true true b c d f g h = or_left c d (f refl)
+either-true false b c d f g h = or_right c d (g h)
 
 -- by the member that has the line: x and y tell what is due
 due-by : (b x y z : Bool) → cond b x y ≡ true → (x ≡ true → z ≡ true) → (y ≡ true → z ≡ true) → z ≡ true
@@ -111,8 +84,8 @@ rests-by : (b u v i j x y z : Bool) → b ≡ u → (u ≡ true → i ≡ true) 
 rests-by true u v i j x y z e in_i in_j of_x of_y at_x at_y h = at_x (in_i (sym e))
 rests-by false u v i true x y z e in_i in_j of_x of_y at_x at_y h = at_y refl
 rests-by false u v true false x y z e in_i in_j of_x of_y at_x at_y h =
-    let no_x : x ≡ false = none-true x (λ k. let f = of_x k in cc) in
-    let no_y : y ≡ false = none-true y (λ k. let f = in_j (of_y k) in cc) in
+    let no_x : x ≡ false = false_from_ne_true x (λ k. let f = of_x k in cc) in
+    let no_y : y ≡ false = false_from_ne_true y (λ k. let f = in_j (of_y k) in cc) in
     at_x refl ∙ (no_x ∙ sym no_y)
 rests-by false u v false false x y z e in_i in_j of_x of_y at_x at_y h = cc
 
@@ -144,9 +117,6 @@ sooner-is false false t x y has one none other lack = cc
 
 -- ---- outcomes
 
-some-injective : {A : Type 0} {x y : A} → Some x ≡ Some y → x ≡ y
-some-injective e = cc
-
 first-some : {S T : Type 0} (s : S) (t : T) (x : Option (Outcome S)) (y : Option (Outcome T)) → IsSome x → in_first s t x y ≡ lift_out (λ a. (a, t)) x
 first-some s t (Some x) y h = refl
 first-some s t None y h = cc
@@ -160,21 +130,21 @@ both-some x y p q e f = rw (e, f)
 both-first : {S T : Type 0} (x : Option (Outcome S)) (y : Option (Outcome T)) (out : Outcome (S × T)) → in_both x y ≡ Some out → (p : Outcome S) × (x ≡ Some p) × (p.state ≡ out.state.0)
 both-first None y out e = cc
 both-first (Some p) None out e = cc
-both-first (Some p) (Some q) out e = (p, refl, ap (λ o. o.state.0) (some-injective e))
+both-first (Some p) (Some q) out e = (p, refl, ap (λ o. o.state.0) (some_same e))
 
 both-each : {S T : Type 0} (x : Option (Outcome S)) (y : Option (Outcome T)) (out : Outcome (S × T)) → in_both x y ≡ Some out → (p : Outcome S) × (q : Outcome T) × (x ≡ Some p) × (y ≡ Some q) × ((p.state, q.state) ≡ out.state)
 both-each None y out e = cc
 both-each (Some p) None out e = cc
-both-each (Some p) (Some q) out e = (p, q, refl, refl, ap (λ o. o.state) (some-injective e))
+both-each (Some p) (Some q) out e = (p, q, refl, refl, ap (λ o. o.state) (some_same e))
 
 lift-each : {S U : Type 0} (put : S → U) (x : Option (Outcome S)) (out : Outcome U) → lift_out put x ≡ Some out → (p : Outcome S) × (x ≡ Some p) × (put p.state ≡ out.state)
 lift-each put None out e = cc
-lift-each put (Some p) out e = (p, refl, ap (λ o. o.state) (some-injective e))
+lift-each put (Some p) out e = (p, refl, ap (λ o. o.state) (some_same e))
 
 -- what leaves a member's state leaves that of both
 leaves-lifted : {S U : Type 0} (put : S → U) (s : S) (x : Option (Outcome S)) (out : Outcome U) → ((p : Outcome S) → x ≡ Some p → ErrorLeaves s p) → lift_out put x ≡ Some out → ErrorLeaves (put s) out
 leaves-lifted put s None out h e = absurd (cc)
-leaves-lifted put s (Some p) out h e = subst (λ o. ErrorLeaves (put s) o) (some-injective e) (λ some. let k = h p refl some in (ap put k.0, k.1))
+leaves-lifted put s (Some p) out h e = subst (λ o. ErrorLeaves (put s) o) (some_same e) (λ some. let k = h p refl some in (ap put k.0, k.1))
 
 -- ---- frames
 
@@ -184,8 +154,8 @@ handler-some None (Some g) = refl
 handler-some None None = refl
 
 fuel-by : {F G : Type 0} (fuel_f : F → ℕ) (fuel_g : G → ℕ) (x : Option F) (y : Option G) (u : Either F G) (m n : ℕ) → either_handler x y ≡ Some u → ((f : F) → x ≡ Some f → fuel_f f ≤ m) → ((g : G) → y ≡ Some g → fuel_g g ≤ n) → either fuel_f fuel_g u ≤ cond (is_some x) m n
-fuel-by fuel_f fuel_g (Some f) y u m n e h k = subst (λ z. either fuel_f fuel_g z ≤ m) (some-injective e) (h f refl)
-fuel-by fuel_f fuel_g None (Some g) u m n e h k = subst (λ z. either fuel_f fuel_g z ≤ n) (some-injective e) (k g refl)
+fuel-by fuel_f fuel_g (Some f) y u m n e h k = subst (λ z. either fuel_f fuel_g z ≤ m) (some_same e) (h f refl)
+fuel-by fuel_f fuel_g None (Some g) u m n e h k = subst (λ z. either fuel_f fuel_g z ≤ n) (some_same e) (k g refl)
 fuel-by fuel_f fuel_g None None u m n e h k = cc
 
 origin-left : {C D Z : Type 0} (ours : ℕ → Bool) (p : Origin C → Z) (q : Origin D → Z) (o : Origin C) → IsMine ours o → by_origin ours p q (lift_origin Left o) ≡ p o
@@ -239,11 +209,11 @@ module _ {C D F G : Type 0} (ours : ℕ → Bool) where
   tags-split : (p : Tag → Bool) (ps : List (Either F G × Open (Either C D))) (fs : List (F × Open C)) (gs : List (G × Open D)) → Splits ours ps fs gs → list_all p (tags_in ps) ≡ true → (list_all p (tags_in fs) ≡ true) × (list_all p (tags_in gs) ≡ true)
   tags-split p ps fs gs Nothing_open h = (refl, refl)
   tags-split p ps fs gs (Left_open f o missed qs fs1 gs1 m all same sp) h =
-      let k = tags-split p qs fs1 gs1 sp (and-right (p o.tag) (list_all p (tags_in qs)) h) in
-      (both-true (p o.tag) (list_all p (tags_in fs1)) (and-left (p o.tag) (list_all p (tags_in qs)) h) k.0, k.1)
+      let k = tags-split p qs fs1 gs1 sp (and_second (p o.tag) (list_all p (tags_in qs)) h) in
+      (and_from (p o.tag) (list_all p (tags_in fs1)) (and_first (p o.tag) (list_all p (tags_in qs)) h) k.0, k.1)
   tags-split p ps fs gs (Right_open g o missed qs fs1 gs1 m all same sp) h =
-      let k = tags-split p qs fs1 gs1 sp (and-right (p o.tag) (list_all p (tags_in qs)) h) in
-      (k.0, both-true (p o.tag) (list_all p (tags_in gs1)) (and-left (p o.tag) (list_all p (tags_in qs)) h) k.1)
+      let k = tags-split p qs fs1 gs1 sp (and_second (p o.tag) (list_all p (tags_in qs)) h) in
+      (k.0, and_from (p o.tag) (list_all p (tags_in gs1)) (and_first (p o.tag) (list_all p (tags_in qs)) h) k.1)
 
   -- the origins of the members
   first-same : (ps : List (Either F G × Open (Either C D))) (fs : List (F × Open C)) (gs : List (G × Open D)) → Splits ours ps fs gs → first_origins ours (origins_in ps) ≡ origins_in fs
@@ -434,7 +404,7 @@ module _ {S T C D F G : Type 0} (d : Driver S C F) (e : Driver T D G) (move_a : 
       let level_is : g.level_of line ≡ d.setting.level_of line = rw m refl in
       let levels = tags-split ours (λ x. nat_lt x.level (d.setting.level_of line)) ps h.firsts h.seconds h.splits (subst (λ n. all_below (tags_in ps) n ≡ true) level_is under) in
       let outs = outside-split ours ps h.firsts h.seconds h.splits out in
-      subst (λ z. URelates chip w ((z, opened (Entered line) (line_tag g line)) ∷ ps) s) (some-injective is)
+      subst (λ z. URelates chip w ((z, opened (Entered line) (line_tag g line)) ∷ ps) s) (some_same is)
       (subst (λ b. URelates chip w ((Left f, opened (Entered line) (tag-by b line)) ∷ ps) s) (sym m)
       (record {
         firsts = (f, opened (Entered line) (line_tag d.setting line)) ∷ h.firsts;
@@ -448,7 +418,7 @@ module _ {S T C D F G : Type 0} (d : Driver S C F) (e : Driver T D G) (move_a : 
       let level_is : g.level_of line ≡ e.setting.level_of line = rw m refl in
       let levels = tags-split ours (λ x. nat_lt x.level (e.setting.level_of line)) ps h.firsts h.seconds h.splits (subst (λ n. all_below (tags_in ps) n ≡ true) level_is under) in
       let outs = outside-split ours ps h.firsts h.seconds h.splits out in
-      subst (λ z. URelates chip w ((z, opened (Entered line) (line_tag g line)) ∷ ps) s) (some-injective is)
+      subst (λ z. URelates chip w ((z, opened (Entered line) (line_tag g line)) ∷ ps) s) (some_same is)
       (subst (λ b. URelates chip w ((Right f, opened (Entered line) (tag-by b line)) ∷ ps) s) (sym m)
       (record {
         firsts = h.firsts;
@@ -508,11 +478,11 @@ module _ {S T C D F G : Type 0} (d : Driver S C F) (e : Driver T D G) (move_a : 
   -- a move that is none of the union's is none of a member's
   none-first : (made : Move) → ((origin : Origin (Either C D)) → (union_of d e).owns origin made ≡ false) → (p : Origin C) → d.owns p made ≡ false
   none-first made none (Called c) = none (Called (Left c))
-  none-first made none (Entered l) = none-true (d.owns (Entered l) made) (λ h. let k = la.owns_called l made h in let f = none (Called (Left k.0)) in let t = k.1 in cc)
+  none-first made none (Entered l) = false_from_ne_true (d.owns (Entered l) made) (λ h. let k = la.owns_called l made h in let f = none (Called (Left k.0)) in let t = k.1 in cc)
 
   none-second : (made : Move) → ((origin : Origin (Either C D)) → (union_of d e).owns origin made ≡ false) → (p : Origin D) → e.owns p made ≡ false
   none-second made none (Called c) = none (Called (Right c))
-  none-second made none (Entered l) = none-true (e.owns (Entered l) made) (λ h. let k = lb.owns_called l made h in let f = none (Called (Right k.0)) in let t = k.1 in cc)
+  none-second made none (Entered l) = false_from_ne_true (e.owns (Entered l) made) (λ h. let k = lb.owns_called l made h in let f = none (Called (Right k.0)) in let t = k.1 in cc)
 
   u-may : (origin : Origin (Either C D)) (made : Move) → g.may origin made ≡ true → (union_of d e).owns origin made ≡ true
   u-may (Called (Left c)) made h = la.may_owns (Called c) made h
@@ -529,25 +499,25 @@ module _ {S T C D F G : Type 0} (d : Driver S C F) (e : Driver T D G) (move_a : 
 
   -- a line that is neither's no frame enables
   u-enables : (origin : Origin (Either C D)) (bits line : ℕ) → g.may origin (Write EnableSet bits) ≡ true → (union_of d e).lines line ≡ false → has_bit bits line ≡ false
-  u-enables (Called (Left c)) bits line h out = la.enables (Called c) bits line h (none-either (d.lines line) (e.lines line) out).0
-  u-enables (Called (Right c)) bits line h out = lb.enables (Called c) bits line h (none-either (d.lines line) (e.lines line) out).1
+  u-enables (Called (Left c)) bits line h out = la.enables (Called c) bits line h (or_parts (d.lines line) (e.lines line) out).0
+  u-enables (Called (Right c)) bits line h out = lb.enables (Called c) bits line h (or_parts (d.lines line) (e.lines line) out).1
   u-enables (Entered l) bits line h out =
-      let none = none-either (d.lines line) (e.lines line) out in
+      let none = or_parts (d.lines line) (e.lines line) out in
       owned-by (ours l) (d.setting.may (Entered l)) (e.setting.may (Entered l)) (Write EnableSet bits) h (λ k. la.enables (Entered l) bits line k none.0) (λ k. lb.enables (Entered l) bits line k none.1)
 
   -- ---- the watchdog
 
   u-loads : (origin : Origin (Either C D)) (value : ℕ) → g.may origin (Write WatchdogLoad value) ≡ true → d.watches || e.watches ≡ true
-  u-loads (Called (Left c)) value h = or-first d.watches e.watches (la.loads (Called c) value h)
-  u-loads (Called (Right c)) value h = or-second d.watches e.watches (lb.loads (Called c) value h)
-  u-loads (Entered l) value h = owned-by (ours l) (d.setting.may (Entered l)) (e.setting.may (Entered l)) (Write WatchdogLoad value) h (λ k. or-first d.watches e.watches (la.loads (Entered l) value k)) (λ k. or-second d.watches e.watches (lb.loads (Entered l) value k))
+  u-loads (Called (Left c)) value h = or_left d.watches e.watches (la.loads (Called c) value h)
+  u-loads (Called (Right c)) value h = or_right d.watches e.watches (lb.loads (Called c) value h)
+  u-loads (Entered l) value h = owned-by (ours l) (d.setting.may (Entered l)) (e.setting.may (Entered l)) (Write WatchdogLoad value) h (λ k. or_left d.watches e.watches (la.loads (Entered l) value k)) (λ k. or_right d.watches e.watches (lb.loads (Entered l) value k))
 
   u-expiry : (chip : Chip) (w : World) (ps : List (Either F G × Open (Either C D))) (s : S × T) → d.watches || e.watches ≡ true → chip.clock.osc ≡ w.osc → URelates chip w ps s → sooner (d.setting.machine.expires w s.0) (e.setting.machine.expires w s.1) ≡ expiry_of chip
   u-expiry chip w ps s has osc h = sooner-is d.watches e.watches (expiry_of chip) (d.setting.machine.expires w s.0) (e.setting.machine.expires w s.1) has
       (λ k. la.expiry chip w h.firsts s.0 k osc h.first) (λ k. la.unwatched w s.0 k) (λ k. lb.expiry chip w h.seconds s.1 k osc h.second) (λ k. lb.unwatched w s.1 k)
 
   u-unwatched : (w : World) (s : S × T) → d.watches || e.watches ≡ false → sooner (d.setting.machine.expires w s.0) (e.setting.machine.expires w s.1) ≡ None
-  u-unwatched w s none = let k = none-either d.watches e.watches none in rw (la.unwatched w s.0 k.0, lb.unwatched w s.1 k.1)
+  u-unwatched w s none = let k = or_parts d.watches e.watches none in rw (la.unwatched w s.0 k.0, lb.unwatched w s.1 k.1)
 
   u-call-fuel : (c : Either C D) → EitherFits d.can_call e.can_call c → either d.fuel e.fuel (either (λ x. Left (d.frame_of x)) (λ y. Right (e.frame_of y)) c) ≤ g.steps_of (Called c)
   u-call-fuel (Left c) can = la.call_fuel c can
@@ -564,7 +534,7 @@ module _ {S T C D F G : Type 0} (d : Driver S C F) (e : Driver T D G) (move_a : 
       there
 
   waits-at : (chip : Chip) (w : World) (s : S × T) (u : units.Unit) (fs : List (F × Open C)) (gs : List (G × Open D)) → fs ≡ [] → gs ≡ [] → d.relates chip w fs s.0 → e.relates chip w gs s.1 → g.machine.startable w s u ≡ false
-  waits-at chip w s u fs gs no_fs no_gs x y = none-of (d.setting.machine.startable w s.0 u) (e.setting.machine.startable w s.1 u) (la.waits chip w s.0 u (subst (λ z. d.relates chip w z s.0) no_fs x)) (lb.waits chip w s.1 u (subst (λ z. e.relates chip w z s.1) no_gs y))
+  waits-at chip w s u fs gs no_fs no_gs x y = or_from (d.setting.machine.startable w s.0 u) (e.setting.machine.startable w s.1 u) (la.waits chip w s.0 u (subst (λ z. d.relates chip w z s.0) no_fs x)) (lb.waits chip w s.1 u (subst (λ z. e.relates chip w z s.1) no_gs y))
 
   u-lines : (line : ℕ) → g.used line ≡ true → (union_of d e).lines line ≡ true
   u-lines line h = either-true (d.setting.used line) (e.setting.used line) (d.lines line) (e.lines line) (la.used_lines line) (lb.used_lines line) h
@@ -573,8 +543,8 @@ module _ {S T C D F G : Type 0} (d : Driver S C F) (e : Driver T D G) (move_a : 
   u-due-used chip w ps s line out h due =
       let outs = outside-split ours ps h.firsts h.seconds h.splits out in
       due-by (ours line) (d.setting.machine.due w s.0 line) (e.setting.machine.due w s.1 line) (g.used line) due
-      (λ k. or-first (d.setting.used line) (e.setting.used line) (la.due_used chip w h.firsts s.0 line outs.0 h.first k))
-      (λ k. or-second (d.setting.used line) (e.setting.used line) (lb.due_used chip w h.seconds s.1 line outs.1 h.second k))
+      (λ k. or_left (d.setting.used line) (e.setting.used line) (la.due_used chip w h.firsts s.0 line outs.0 h.first k))
+      (λ k. or_right (d.setting.used line) (e.setting.used line) (lb.due_used chip w h.seconds s.1 line outs.1 h.second k))
 
   u-due : (chip : Chip) (w : World) (ps : List (Either F G × Open (Either C D))) (s : S × T) (line : ℕ) → is_masked chip ≡ false → AllOutside ps → URelates chip w ps s → g.machine.due w s line ≡ true → is_pending chip line ≡ true
   u-due chip w ps s line masked out h due =
@@ -586,7 +556,7 @@ module _ {S T C D F G : Type 0} (d : Driver S C F) (e : Driver T D G) (move_a : 
   u-unused : (chip : Chip) (w : World) (ps : List (Either F G × Open (Either C D))) (s : S × T) (line : ℕ) → is_masked chip ≡ false → AllOutside ps → URelates chip w ps s → (union_of d e).lines line ≡ true → g.used line ≡ false → is_pending chip line ≡ false
   u-unused chip w ps s line masked out h there free =
       let outs = outside-split ours ps h.firsts h.seconds h.splits out in
-      let none = none-either (d.setting.used line) (e.setting.used line) free in
+      let none = or_parts (d.setting.used line) (e.setting.used line) free in
       one-of (d.lines line) (e.lines line) there
       (λ k. la.unused chip w h.firsts s.0 line masked outs.0 h.first k none.0)
       (λ k. lb.unused chip w h.seconds s.1 line masked outs.1 h.second k none.1)

@@ -4,7 +4,7 @@ ghost use Rattle.run_model.specs.Causes.{call_cause, line_cause};
 ghost use Rattle.mcal_base.specs.declared.directive.Order.TheVariants.{Fill, Tick};
 ghost use Rattle.mcal_base.specs.declared.directive.Reason.TheVariants.{Watchdog};
 ghost use Rattle.run_model.specs.Legal.{hardware_held};
-ghost use Rattle.run_model.specs.Moment.{Deed, Begins, Enters, Happens, Resets, call_tag, line_tag, start_moment, after_all};
+ghost use Rattle.run_model.specs.Moment.{Transition, Begins, Enters, Happens, Resets, call_tag, line_tag, start_moment, after_all};
 ghost use Rattle.step_runner.specs.Driver.{EndsBefore};
 ghost use Rattle.step_runner.specs.Stands.{Stands, done, step_done, FuelFalls};
 ghost use Rattle.step_runner.specs.Kept.{tags_under, top_is_noted, cause_of, beginning, put_by, enter_by, fill_by, written_by, CanStep, IsStill, IsLooked, TakesStep, hung_for, StepCalls};
@@ -29,7 +29,7 @@ pub fn begin<M: Module>(
     ensures stack { let frame = (M.spec driver.now).frame_of call in
         let tag = call_tag (M.spec driver.now).setting call level in
         stack.new ≡ put_by result (beginning frame tag) stack.old }
-    ensures stands { (first : Chip) (h : List (Deed M.Call)) → (M.spec driver.now).fits → (M.spec driver.now).can_call call →
+    ensures stands { (first : Chip) (h : List (Transition M.Call)) → (M.spec driver.now).fits → (M.spec driver.now).can_call call →
         Stands (M.spec driver.now) first bus.now stack.old.frames h →
         Stands (M.spec driver.now) first bus.now stack.new.frames (h ++ done result (Begins call level)) }
 {
@@ -52,7 +52,7 @@ pub fn enter<M: Module>(stack: &mut Stack<M>, driver: &M, bus: &Bus, line: u32) 
         cause_of result ≡ line_cause (is_masked bus.now) (tags_under stack.old.frames) level is_due }
     ensures stack { let tag = line_tag (M.spec driver.now).setting line in
         stack.new ≡ enter_by result ((M.spec driver.now).handler_of line) tag stack.old }
-    ensures stands { (first : Chip) (h : List (Deed M.Call)) → (M.spec driver.now).fits →
+    ensures stands { (first : Chip) (h : List (Transition M.Call)) → (M.spec driver.now).fits →
         Stands (M.spec driver.now) first bus.now stack.old.frames h →
         Stands (M.spec driver.now) first bus.now stack.new.frames (h ++ done result (Enters line)) }
 {
@@ -88,12 +88,12 @@ pub fn step<M: Module>(
     ensures count { vec_len rack.new ≡ vec_len rack.old }
     ensures hung { OnOk result (bus.new.devices ≡ vec_len rack.new) }
     ensures calls { StepCalls (hung (vec_len rack.old) bus.old) result (map (λ d. line d) rack.old.items) (map (λ d. line d) rack.new.items) }
-    ensures stands { (driver : M) (first : Chip) (h : List (Deed M.Call)) → vec_len rack.old ≡ bus.old.devices → (M.spec driver).fits →
+    ensures stands { (driver : M) (first : Chip) (h : List (Transition M.Call)) → vec_len rack.old ≡ bus.old.devices → (M.spec driver).fits →
         let setting = (M.spec driver).setting in
         (after_all setting (start_moment setting first) h).steps < 4294967295 →
         Stands (M.spec driver) first bus.old stack.old.frames h →
         Stands (M.spec driver) first bus.new stack.new.frames (h ++ step_done result) }
-    ensures shortens { (driver : M) (first : Chip) (h : List (Deed M.Call)) → vec_len rack.old ≡ bus.old.devices → (M.spec driver).fits →
+    ensures shortens { (driver : M) (first : Chip) (h : List (Transition M.Call)) → vec_len rack.old ≡ bus.old.devices → (M.spec driver).fits →
         let setting = (M.spec driver).setting in
         (after_all setting (start_moment setting first) h).steps < 4294967295 →
         Stands (M.spec driver) first bus.old stack.old.frames h →
@@ -123,12 +123,12 @@ pub fn step_into<M: Module>(
     ensures count { vec_len rack.new ≡ vec_len rack.old }
     ensures hung { OnOk result (bus.new.devices ≡ vec_len rack.new) }
     ensures calls { StepCalls (hung (vec_len rack.old) bus.old) (written_by result stepped.new) (map (λ d. line d) rack.old.items) (map (λ d. line d) rack.new.items) }
-    ensures stands { (driver : M) (first : Chip) (h : List (Deed M.Call)) → vec_len rack.old ≡ bus.old.devices → (M.spec driver).fits →
+    ensures stands { (driver : M) (first : Chip) (h : List (Transition M.Call)) → vec_len rack.old ≡ bus.old.devices → (M.spec driver).fits →
         let setting = (M.spec driver).setting in
         (after_all setting (start_moment setting first) h).steps < 4294967295 →
         Stands (M.spec driver) first bus.old stack.old.frames h →
         Stands (M.spec driver) first bus.new stack.new.frames (h ++ step_done (written_by result stepped.new)) }
-    ensures shortens { (driver : M) (first : Chip) (h : List (Deed M.Call)) → vec_len rack.old ≡ bus.old.devices → (M.spec driver).fits →
+    ensures shortens { (driver : M) (first : Chip) (h : List (Transition M.Call)) → vec_len rack.old ≡ bus.old.devices → (M.spec driver).fits →
         let setting = (M.spec driver).setting in
         (after_all setting (start_moment setting first) h).steps < 4294967295 →
         Stands (M.spec driver) first bus.old stack.old.frames h →
@@ -150,11 +150,11 @@ fn fill_cause(used: Option<bool>, masked: bool, read: bool) -> Option<Held>
 
 /// Why a fill of a serial channel's source array is held, if it is; one that isn't may happen.
 pub fn fill_held<M: Module>(stack: &Stack<M>, driver: &M, bus: &Bus, channel: u32) -> Option<Held>
-    ensures cause { (first : Chip) (h : List (Deed M.Call)) (words : List ℕ) → (M.spec driver.now).fits →
+    ensures cause { (first : Chip) (h : List (Transition M.Call)) (words : List ℕ) → (M.spec driver.now).fits →
         Stands (M.spec driver.now) first bus.now stack.now.frames h →
         let setting = (M.spec driver.now).setting in
         result ≡ hardware_held setting (after_all setting (start_moment setting first) h) (Fill channel words) }
-    ensures free { (first : Chip) (h : List (Deed M.Call)) (words : List ℕ) → (M.spec driver.now).fits →
+    ensures free { (first : Chip) (h : List (Transition M.Call)) (words : List ℕ) → (M.spec driver.now).fits →
         Stands (M.spec driver.now) first bus.now stack.now.frames h →
         result ≡ None → CanHappen bus.now (Fill channel words) }
 {
@@ -166,7 +166,7 @@ pub fn fill_held<M: Module>(stack: &Stack<M>, driver: &M, bus: &Bus, channel: u3
 pub fn hardware<M: Module>(stack: &Stack<M>, bus: &mut Bus, happening: &Directive)
     requires { CanHappen bus.old happening.now.order }
     ensures chip { bus.new ≡ happened bus.old happening.now.order }
-    ensures stands { (driver : M) (first : Chip) (h : List (Deed M.Call)) → (M.spec driver).fits →
+    ensures stands { (driver : M) (first : Chip) (h : List (Transition M.Call)) → (M.spec driver).fits →
         let setting = (M.spec driver).setting in
         hardware_held setting (after_all setting (start_moment setting first) h) happening.now.order ≡ None →
         EndsBefore happening.now.order (expiry_of bus.old) →
@@ -182,7 +182,7 @@ pub fn reset<M: Module>(stack: &mut Stack<M>, bus: &mut Bus, reason: Reason) -> 
     ensures dropped { result ≡ length stack.old.frames }
     ensures stack { stack.new ≡ record stack.old { frames = [] } }
     ensures chip { bus.new ≡ reset_chip bus.old reason }
-    ensures stands { (driver : M) (first : Chip) (h : List (Deed M.Call)) → (M.spec driver).fits →
+    ensures stands { (driver : M) (first : Chip) (h : List (Transition M.Call)) → (M.spec driver).fits →
         Stands (M.spec driver) first bus.old stack.old.frames h →
         Stands (M.spec driver) first bus.new stack.new.frames (h ++ Resets reason ∷ []) }
 {
@@ -197,7 +197,7 @@ pub fn run_out<M: Module>(stack: &mut Stack<M>, bus: &mut Bus, ticks: u32) -> u3
     ensures dropped { result ≡ length stack.old.frames }
     ensures stack { stack.new ≡ record stack.old { frames = [] } }
     ensures chip { bus.new ≡ reset_chip (happened bus.old (Tick ticks)) Watchdog }
-    ensures stands { (driver : M) (first : Chip) (h : List (Deed M.Call)) → (M.spec driver).fits →
+    ensures stands { (driver : M) (first : Chip) (h : List (Transition M.Call)) → (M.spec driver).fits →
         Stands (M.spec driver) first bus.old stack.old.frames h →
         Stands (M.spec driver) first bus.new stack.new.frames (h ++ Happens (Tick ticks) ∷ Resets Watchdog ∷ []) }
 {

@@ -13,6 +13,8 @@ pub enum Form {
     Part,
     /// What `--show 2` prints.
     Place,
+    /// What `--show 2 --json` prints.
+    Refused,
 }
 
 impl Form {
@@ -25,6 +27,7 @@ impl Form {
             "json" => Some(Form::Json),
             "part" => Some(Form::Part),
             "place" => Some(Form::Place),
+            "refused" => Some(Form::Refused),
             _ => None,
         }
     }
@@ -38,6 +41,7 @@ impl Form {
             Form::Json => &["--json"],
             Form::Part => &["--part", "2/3"],
             Form::Place => &["--show", "2"],
+            Form::Refused => &["--show", "2", "--json"],
         }
     }
 }

@@ -11,8 +11,8 @@ use Rattle.mcal_base.specs.declared.directive.Order.TheVariants as orders
 use Rattle.mcal_base.specs.declared.directive.Reason.TheVariants.{Software}
 use Rattle.mcal_base.specs.declared.directive.Request.{Request}
 use Rattle.run_model.specs.declared.item.Stepped.{Stepped}
-use Rattle.run_model.specs.declared.reach.Reach.{Reach}
-use Rattle.run_model.specs.declared.reach.Reach.TheVariants.{Count, Until, Whole}
+use Rattle.run_model.specs.declared.stop_condition.StopCondition.{StopCondition}
+use Rattle.run_model.specs.declared.stop_condition.StopCondition.TheVariants.{Count, Until, Whole}
 use Rattle.run_model.specs.Entry as entry
 use Rattle.run_model.specs.Follows.{BeginsOnly, BeginsWhole, ComesAwaited, Follows, GoesOn, Goes, Gives, HappensOnly, IsOne, IsStep, Shows, Ticks, call_held, deeds_in, is_reached, line_held, ticks_left, ticks_through}
 use Rattle.run_model.specs.Legal.{hardware_held}
@@ -130,7 +130,7 @@ not_equal : (a b : ℕ) (c : Bool) → (a == b) ≡ c → (a ≡ b → ⊥) → 
 not_equal a b true p n = absurd (n (eqb-true a b p))
 not_equal a b false p n = p
 
-module _ {State Call : Type 0} (g : Setting State Call) (line : ℕ) (reach : Reach) where
+module _ {State Call : Type 0} (g : Setting State Call) (line : ℕ) (reach : StopCondition) where
   -- the steps up to one of them: as many as are asked for
   abbrev IsCut : (fs back : List entry.Entry) (e : entry.Entry) → Type 0
   IsCut fs back e = (made k : ℕ) (m : Moment State Call) → k ≡ steps_in (fs ++ e ∷ []) → GoesOn g line reach made m (fs ++ e ∷ back) → GoesOn g line (Count (made + k)) made m (fs ++ e ∷ [])
@@ -205,7 +205,7 @@ parted (f ∷ fs) (x ∷ xs) later back e i = parted_more f x fs xs later back e
 -- ---- a directive
 
 module _ {State Call : Type 0} (g : Setting State Call) (call_of : Request → Call) where
-  cut_goes : (line j : ℕ) (m : Moment State Call) (os : List (Open Call)) (reach : Reach) (fs back : List entry.Entry) (e : entry.Entry) (s : Stepped) → e.said ≡ entry.Steps s → resets_chip s.made ≡ false → suc j ≡ steps_in (fs ++ e ∷ []) → Goes g line reach m os (fs ++ e ∷ back) → Goes g line (Count (suc j)) m os (fs ++ e ∷ [])
+  cut_goes : (line j : ℕ) (m : Moment State Call) (os : List (Open Call)) (reach : StopCondition) (fs back : List entry.Entry) (e : entry.Entry) (s : Stepped) → e.said ≡ entry.Steps s → resets_chip s.made ≡ false → suc j ≡ steps_in (fs ++ e ∷ []) → Goes g line reach m os (fs ++ e ∷ back) → Goes g line (Count (suc j)) m os (fs ++ e ∷ [])
   cut_goes line j m [] reach fs back e s p r c h = absurd (quiet_as fs back _ e s p h (refl, tt))
   cut_goes line j m (o ∷ os) (Count zero) fs back e s p r c h = absurd (not_none fs back e h)
   cut_goes line j m (o ∷ os) (Count (suc n)) fs back e s p r c h = whole_count g line j m (fs ++ e ∷ []) (cut g line (Count (suc n)) fs back e s p r 0 (suc j) m c h)
@@ -362,7 +362,7 @@ module _ {State Call : Type 0} (g : Setting State Call) (call_of : Request → C
   -- ---- a beginning
 
   -- among the steps of a frame nothing begins
-  no_begin_item : (line : ℕ) (reach : Reach) (fs back : List entry.Entry) (f e : entry.Entry) (w : entry.Said) → is_made e.said ≡ true → ((n : ℕ) (m : Moment State Call) → GoesOn g line reach n m (fs ++ e ∷ back) → ⊥) → (made : ℕ) (m : Moment State Call) → IsStep g line reach made m f (fs ++ e ∷ back) w (λ n deed. GoesOn g line reach n (after g m deed) (fs ++ e ∷ back)) → ⊥
+  no_begin_item : (line : ℕ) (reach : StopCondition) (fs back : List entry.Entry) (f e : entry.Entry) (w : entry.Said) → is_made e.said ≡ true → ((n : ℕ) (m : Moment State Call) → GoesOn g line reach n m (fs ++ e ∷ back) → ⊥) → (made : ℕ) (m : Moment State Call) → IsStep g line reach made m f (fs ++ e ∷ back) w (λ n deed. GoesOn g line reach n (after g m deed) (fs ++ e ∷ back)) → ⊥
   no_begin_item line reach fs back f e (entry.Steps t) p more made m h =
       more (made + 1) (after g m (Steps t)) (comes_more (resets_chip t.made) (is_some t.ended || is_reached reach (made + 1) t) _ _ _ (λ i. made_as fs back _ e p i (refl, tt)) (not_none fs back e) h.2).2
   no_begin_item line reach fs back f e (entry.Happens (orders.Tick n)) p more made m h = waits_end _ _ _ _ _ _ (λ i. made_as fs back _ e p i (refl, tt)) (more made (after g m (Happens (orders.Tick n)))) h.2.goes
@@ -371,11 +371,11 @@ module _ {State Call : Type 0} (g : Setting State Call) (call_of : Request → C
   no_begin_item line reach fs back f e (entry.Stays c) p more made m h = h
   no_begin_item line reach fs back f e (entry.Resets r k) p more made m h = h
 
-  no_begin : (line : ℕ) (reach : Reach) (fs back : List entry.Entry) (e : entry.Entry) → e.said ≡ entry.Begins → (made : ℕ) (m : Moment State Call) → GoesOn g line reach made m (fs ++ e ∷ back) → ⊥
+  no_begin : (line : ℕ) (reach : StopCondition) (fs back : List entry.Entry) (e : entry.Entry) → e.said ≡ entry.Begins → (made : ℕ) (m : Moment State Call) → GoesOn g line reach made m (fs ++ e ∷ back) → ⊥
   no_begin line reach [] back e p made m h = subst (λ (w : entry.Said). IsStep g line reach made m e back w (λ n deed. GoesOn g line reach n (after g m deed) back)) p h
   no_begin line reach (f ∷ fs) back e p made m h = no_begin_item line reach fs back f e f.said (ap is_made p) (no_begin line reach fs back e p) made m h
 
-  no_begin_goes : (line : ℕ) (reach : Reach) (m : Moment State Call) (os : List (Open Call)) (fs back : List entry.Entry) (e : entry.Entry) → e.said ≡ entry.Begins → Goes g line reach m os (fs ++ e ∷ back) → ⊥
+  no_begin_goes : (line : ℕ) (reach : StopCondition) (m : Moment State Call) (os : List (Open Call)) (fs back : List entry.Entry) (e : entry.Entry) → e.said ≡ entry.Begins → Goes g line reach m os (fs ++ e ∷ back) → ⊥
   no_begin_goes line reach m [] fs back e p h = made_as fs back _ e (ap is_made p) h (refl, tt)
   no_begin_goes line (Count zero) m (o ∷ os) fs back e p h = not_none fs back e h
   no_begin_goes line (Count (suc n)) m (o ∷ os) fs back e p h = no_begin line (Count (suc n)) fs back e p 0 m h

@@ -19,8 +19,9 @@ pub fn places_are_all()
     ensures order { (block : List Directive) (steps : List ℕ) → AreInOrder (places block steps) }
 {}
 
-/// Whatever step or beginning of a block's run it is behind which the mark begins: the run up to there is that of the block up to
-/// one of its places.
+/// Whatever step or beginning of a frame in a block's run it is behind which the mark begins: the run up to there is that of the
+/// block up to one of its places. Two are left out: behind a step that resets the chip comes the reset itself, and a frame that
+/// makes no step, as one in whose first wait the watchdog's time ends, has no place behind its beginning.
 pub fn runs_stop_at_places()
     ensures steps { (config : Config) (m : Moment SystemState SystemCall) (block : List Directive) (steps : List ℕ) (front back : List Entry) →
         Makes (system_setting config) call_of m block steps (front ++ back) → EndsByStep front → StopsAtPlace config m block steps front }

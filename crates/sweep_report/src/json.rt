@@ -1,5 +1,5 @@
 use crate::listed::asked_on;
-use crate::shown::{SweepShown, common_from, is_common, longest_wait, outcome_at, waiting};
+use crate::shown::{SweepShown, is_common, is_told, longest_wait, outcome_at, waiting};
 use bench_sweep::Told;
 use mcal_base::Directive;
 use serde_json::{Value, json};
@@ -61,18 +61,16 @@ fn put_told(alloc: Global, all: &mut Vec<Value>, told: &Told) -> Result<(), Allo
     Ok(())
 }
 
-/// The lines of an outcome in which outcomes differ, or those that are the same in all, from a line of the file on.
+/// The lines of an outcome in which outcomes differ.
 fn lines_value(
     alloc: Global,
     told: &[Told],
     groups: &[Group],
     swept: &Swept,
-    common: bool,
-    from: u32,
 ) -> Result<Value, AllocError> {
     let mut all = Vec::new(alloc);
     for told in told {
-        if from <= told.line && is_common(swept, groups, told) == common {
+        if !is_common(swept, groups, told) {
             put_told(alloc, &mut all, told)?;
         }
     }
@@ -88,7 +86,7 @@ fn group_value(
 ) -> Result<Value, AllocError> {
     let ranges = rows_value(alloc, &group.rows)?;
     let told = outcome_at(swept, group.outcome);
-    let lines = lines_value(alloc, told, groups, swept, false, 0)?;
+    let lines = lines_value(alloc, told, groups, swept)?;
     json!(in alloc; {
         "standing": group.standing.text(),
         "places": group.places,
@@ -106,20 +104,17 @@ fn groups_value(alloc: Global, groups: &[Group], swept: &Swept) -> Result<Value,
     Ok(Value::Array(all))
 }
 
-/// What is told in all outcomes.
-fn common_value(
-    alloc: Global,
-    from: u32,
-    groups: &[Group],
-    swept: &Swept,
-) -> Result<Value, AllocError> {
-    match groups.first() {
-        Some(first) => {
-            let told = outcome_at(swept, first.outcome);
-            lines_value(alloc, told, groups, swept, true, from)
+/// What is told in all outcomes, of the lines of which that is told.
+fn common_value(alloc: Global, shown: SweepShown<'_>) -> Result<Value, AllocError> {
+    let mut all = Vec::new(alloc);
+    if let Some(first) = shown.groups.first() {
+        for told in outcome_at(shown.swept, first.outcome) {
+            if is_told(shown, told.line) && is_common(shown.swept, shown.groups, told) {
+                put_told(alloc, &mut all, told)?;
+            }
         }
-        None => Ok(Value::Array(Vec::new(alloc))),
     }
+    Ok(Value::Array(all))
 }
 
 /// A sweep as a value.
@@ -136,7 +131,7 @@ fn sweep_value(alloc: Global, shown: SweepShown<'_>) -> Result<Value, AllocError
     let block = part_value(alloc, script, parts.block)?;
     let reactions = reactions_value(alloc, script, reactions)?;
     let outcomes = groups_value(alloc, groups, swept)?;
-    let common = common_value(alloc, common_from(parts.swept), groups, swept)?;
+    let common = common_value(alloc, shown)?;
     json!(in alloc; {
         "on": reactions,
         "swept": placed,

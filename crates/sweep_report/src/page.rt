@@ -1,5 +1,5 @@
 use crate::listed::{asked_on, counted, listed};
-use crate::shown::{SweepShown, common_from, is_common, longest_wait, outcome_at, waiting};
+use crate::shown::{SweepShown, is_common, is_told, longest_wait, outcome_at, waiting};
 use bench_sweep::{Settled, Told};
 use mcal_base::Directive;
 use std::alloc::{AllocError, Global};
@@ -121,20 +121,14 @@ fn put_group(
     Ok(())
 }
 
-/// What is told in all outcomes, from the first line that is placed on.
-fn put_common(
-    alloc: Global,
-    text: &mut String,
-    from: u32,
-    groups: &[Group],
-    swept: &Swept,
-) -> Result<(), AllocError> {
-    let Some(first) = groups.first() else {
+/// What is told in all outcomes, of the lines of which that is told.
+fn put_common(alloc: Global, text: &mut String, shown: SweepShown<'_>) -> Result<(), AllocError> {
+    let Some(first) = shown.groups.first() else {
         return Ok(());
     };
     let mut common = String::new(alloc);
-    for told in outcome_at(swept, first.outcome) {
-        if from <= told.line && is_common(swept, groups, told) {
+    for told in outcome_at(shown.swept, first.outcome) {
+        if is_told(shown, told.line) && is_common(shown.swept, shown.groups, told) {
             put_told(&mut common, told)?;
         }
     }
@@ -165,6 +159,6 @@ pub fn sweep_text(alloc: Global, shown: SweepShown<'_>) -> Result<String, AllocE
     for number in 0..groups.len() {
         put_group(alloc, &mut text, number + 1, &groups[number], groups, swept)?;
     }
-    put_common(alloc, &mut text, common_from(parts.swept), groups, swept)?;
+    put_common(alloc, &mut text, shown)?;
     Ok(text)
 }

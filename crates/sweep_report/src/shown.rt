@@ -56,12 +56,22 @@ pub(crate) fn longest_wait(settled: &[Settled]) -> usize {
     longest
 }
 
-/// The line from which on lines are told that are the same in all outcomes: that of the first directive that is placed.
-pub(crate) fn common_from(swept: &[Directive]) -> u32 {
+/// The first line that is placed.
+fn first_placed(swept: &[Directive]) -> u32 {
     match swept.first() {
         Some(directive) => directive.line,
         None => 0,
     }
+}
+
+/// Whether what a line of the file printed is told also where it is the same in all outcomes: from the first line on that is
+/// placed, and of each line `on`.
+pub(crate) fn is_told(shown: SweepShown<'_>, line: u32) -> bool {
+    first_placed(shown.parts.swept) <= line
+        || shown
+            .reactions
+            .iter()
+            .any(|reaction| reaction.directive.line == line)
 }
 
 /// A bench file for a flat script: each line tells from which line of the file it came.

@@ -7,7 +7,7 @@ use bench_top::Refusal;
 use mcal_base::{Directive, Notice, NoticeKind, Order};
 use std::alloc::Global;
 use std::str;
-use sweep_trials::Reaction;
+use sweep_trials::{Reaction, reaction_to};
 
 /// The callbacks.
 const KINDS: [NoticeKind; 9] = [
@@ -80,6 +80,9 @@ fn reaction_of(alloc: Global, found: ReactionLine<'_>) -> Result<Reaction, Sweep
     let Some(notice) = notice_on(found) else {
         return Err(SweepEnd::Fault(SweepFault::Notice(line)));
     };
+    if found.lacks_level() {
+        return Err(SweepEnd::Fault(SweepFault::Level(line)));
+    }
     if found.order.len() > 1_048_576 {
         return Err(SweepEnd::TooManyBytes);
     }
@@ -87,13 +90,26 @@ fn reaction_of(alloc: Global, found: ReactionLine<'_>) -> Result<Reaction, Sweep
     Ok(Reaction { notice, directive })
 }
 
-/// All that follows notices, by a script.
+/// Refuses what follows a notice that another line names already.
+fn refuse_doubled(reactions: &[Reaction], reaction: &Reaction) -> Result<(), SweepFault> {
+    match reaction_to(reactions, reaction.notice) {
+        Some(first) => Err(SweepFault::Doubled(
+            reaction.directive.line,
+            reactions[first].directive.line,
+        )),
+        None => Ok(()),
+    }
+}
+
+/// All that follows notices, by a script: one call at most behind each.
 pub(crate) fn reactions_of(alloc: Global, script: &[u8]) -> Result<Vec<Reaction>, SweepEnd>
     requires { length script.now ≤ 1048576 }
 {
     let mut reactions = Vec::new(alloc);
     for found in &reaction_lines(alloc, script)? {
-        reactions.push(reaction_of(alloc, *found)?)?;
+        let reaction = reaction_of(alloc, *found)?;
+        refuse_doubled(&reactions, &reaction)?;
+        reactions.push(reaction)?;
     }
     Ok(reactions)
 }

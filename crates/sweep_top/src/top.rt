@@ -5,13 +5,16 @@ use crate::ends::SweepEnd;
 use crate::read::{directives_of, reactions_of};
 use crate::words::{Asked, asked_by};
 use bench_script::split_file;
-use bench_sweep::{SweepFault, marks_of, parts_of};
+use bench_sweep::{Marks, SweepFault, marks_of, parts_of};
 use bench_top::{ReadEnd, Refusal, read_all, write_all};
 use mcal_base::{Sink, Source};
 use mcal_config::read_config;
 use std::alloc::Global;
 use sweep_report::{SweepShown, flat_text, sweep_json, sweep_text};
-use sweep_trials::{Bench, Opened, Progress, Sweep, Swept, Wish, groups_of, make_sweep, moment_of};
+use sweep_trials::{
+    Bench, Following, Opened, Progress, Reaction, Sweep, Swept, Wish, groups_of, make_sweep,
+    moment_of,
+};
 
 /// All that is printed, and the status.
 #[derive(Drop)]
@@ -72,7 +75,7 @@ fn made<P: Progress>(
     let shown = SweepShown {
         script,
         parts: sweep.parts,
-        reactions: sweep.bench.reactions,
+        reactions: sweep.bench.following.calls,
         swept: &swept,
         groups: &groups,
     };
@@ -85,6 +88,22 @@ fn made<P: Progress>(
         text,
         status: status_of(&swept),
     })
+}
+
+/// What stays the same in all runs of a sweep with these marks.
+fn bench_of<'a, 'b>(
+    board: &'a Board<'b>,
+    calls: &'a [Reaction],
+    marks: Marks,
+) -> Bench<'a, Board<'b>> {
+    Bench {
+        runs: board,
+        following: Following {
+            calls,
+            sweep: marks.sweep,
+            over: marks.over,
+        },
+    }
 }
 
 /// Does what is asked for with a sweep.
@@ -106,12 +125,7 @@ fn conclude<P: Progress>(
     let reactions = reactions_of(alloc, script)?;
     let board = Board { configuration };
     let sweep = Sweep {
-        bench: Bench {
-            runs: &board,
-            reactions: &reactions,
-            sweep: marks.sweep,
-            over: marks.over,
-        },
+        bench: bench_of(&board, &reactions, marks),
         parts,
     };
     let opened = sweep.open(alloc)?;

@@ -100,7 +100,7 @@ impl Asked {
     }
 }
 
-/// What the words ask for, where they are of a form.
+/// What the words ask for, where they are of a form. With the place whose flat script is printed nothing else is asked for.
 pub fn asked_by(words: &[String]) -> Option<Asked> {
     let mut asked = Asked::nothing();
     let mut awaited = Awaited::Any;
@@ -110,7 +110,7 @@ pub fn asked_by(words: &[String]) -> Option<Asked> {
         awaited = next;
     }
     match awaited {
-        Awaited::Any => Some(asked),
+        Awaited::Any if asked.show.is_none() || words.len() == 2 => Some(asked),
         _ => None,
     }
 }

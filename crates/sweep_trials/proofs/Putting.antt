@@ -10,7 +10,7 @@ use Rattle.bench_sweep.specs.declared.cuts.Cut.{Cut}
 use Rattle.bench_sweep.specs.declared.places.Place.{Place}
 use Rattle.sweep_trials.specs.Grown.{IsSeen}
 use Rattle.sweep_trials.specs.declared.followed.Followed.{Followed}
-use Rattle.sweep_trials.specs.declared.reactions.Reaction.{Reaction}
+use Rattle.sweep_trials.specs.declared.reactions.Following.{Following}
 use Rattle.sweep_trials.specs.declared.seen.Seen.{Seen}
 
 -- there is a place in each block
@@ -39,6 +39,6 @@ pub put_together : (before block placed behind : List Directive) (steps : List �
 put_together before block placed behind steps p z a b c d e r s t up on n q1 q2 q3 u o k1 k2 k3 k4 k5 = rw (k5, k4, k3, k2, k1, n, q1, q2, q3, u, o) refl
 
 -- what was seen of the directives that were put together
-pub seen_at : {E : Type 0} (of_run : List Directive → Seen → Type 0) (reactions : List Reaction) (start : List Directive) (r : Result Followed E) (listed : List Place) (n : ℕ) (put : Place → List Directive) → ((p : Place) → slice_get listed n ≡ Some p → start ≡ put p) → IfOk r (λ found. IsSeen of_run reactions start found) → IfOk r (λ found. (p : Place) → slice_get listed n ≡ Some p → IsSeen of_run reactions (put p) found)
-seen_at of_run reactions start (Ok found) listed n put h s = λ p e. subst (λ (ds : List Directive). IsSeen of_run reactions ds found) (h p e) s
-seen_at of_run reactions start (Err x) listed n put h s = tt
+pub seen_at : {E : Type 0} (of_run : List Directive → Seen → Type 0) (following : Following) (start : List Directive) (r : Result Followed E) (listed : List Place) (n : ℕ) (put : Place → List Directive) → ((p : Place) → slice_get listed n ≡ Some p → start ≡ put p) → IfOk r (λ found. IsSeen of_run following start found) → IfOk r (λ found. (p : Place) → slice_get listed n ≡ Some p → IsSeen of_run following (put p) found)
+seen_at of_run following start (Ok found) listed n put h s = λ p e. subst (λ (ds : List Directive). IsSeen of_run following ds found) (h p e) s
+seen_at of_run following start (Err x) listed n put h s = tt

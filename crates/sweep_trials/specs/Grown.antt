@@ -3,30 +3,42 @@ use Rattle.std.specs.Prelude.{◌≡◌, ℕ, ◌<◌, List, ◌∷◌, ◌++◌
 use Rattle.mcal_base.specs.declared.directive.Directive.{Directive}
 use Rattle.bench_sweep.specs.Flat.{lines_of, numbered_from}
 use Rattle.bench_sweep.specs.Placed.{block_on, block_up}
-use Rattle.bench_sweep.specs.declared.places.Place.{Place}
+use Rattle.bench_sweep.specs.Places.{at}
+use Rattle.bench_sweep.specs.declared.places.Spot.TheVariants.{Step}
+use Rattle.sweep_trials.specs.Counts.{counts}
+use Rattle.sweep_trials.specs.Follows.{AreAllFollowed, GivesAt}
 use Rattle.sweep_trials.specs.declared.followed.Followed.{Followed}
+use Rattle.sweep_trials.specs.declared.reactions.Following.{Following}
 use Rattle.sweep_trials.specs.declared.reactions.Reaction.{Reaction}
 use Rattle.sweep_trials.specs.declared.seen.Seen.{Seen}
 
--- a call was put at a place of directives that make some numbers of steps
-pub record IsGrown (before : List Directive) (call : Directive) (after : List Directive) : Type 0 where
-  pub place : Place
-  pub steps : List ℕ
-  pub same : length steps ≡ length before
-  pub there : place.directive < length before
-  pub is : after ≡ block_up before place ++ call ∷ block_on before steps place
+-- directives that make so many steps each, with a call behind so many steps of one of them
+abbrev pub with_call_behind : List Directive → List ℕ → (directive made : ℕ) → Directive → List Directive
+with_call_behind directives steps directive made call = block_up directives (at directive (Step made)) ++ call ∷ block_on directives steps (at directive (Step made))
 
--- calls that follow notices were put at places, one after another
-pub data AreGrown (reactions : List Reaction) (first : List Directive) : List Directive → Type 0 where
-  Same : AreGrown reactions first first
-  More : (n : ℕ) (reaction : Reaction) (now next : List Directive) → slice_get reactions n ≡ Some reaction → AreGrown reactions first now → IsGrown now reaction.directive next → AreGrown reactions first next
+-- a call was put right behind a step that gives its notice in a run
+pub record IsGrown (of_run : List Directive → Seen → Type 0) (before : List Directive) (reaction : Reaction) (after : List Directive) : Type 0 where
+  pub seen : Seen
+  pub run : of_run (numbered_from 1 before) seen
+  pub directive : ℕ
+  pub made : ℕ
+  pub there : directive < length before
+  pub gives : GivesAt seen.steps.items directive made reaction.notice
+  pub is : after ≡ with_call_behind before (counts (length before) seen.steps.items) directive made reaction.directive
 
--- what was seen of directives in which calls follow notices: a run of their flat script
-pub record IsSeen (of_run : List Directive → Seen → Type 0) (reactions : List Reaction) (first : List Directive) (found : Followed) : Type 0 where
-  pub grown : AreGrown reactions first found.directives.items
+-- calls were put behind notices, one after another
+pub data AreGrown (of_run : List Directive → Seen → Type 0) (calls : List Reaction) (first : List Directive) : List Directive → Type 0 where
+  Same : AreGrown of_run calls first first
+  More : (n : ℕ) (reaction : Reaction) (now next : List Directive) → slice_get calls n ≡ Some reaction → AreGrown of_run calls first now → IsGrown of_run now reaction next → AreGrown of_run calls first next
+
+-- What was seen of directives in which calls follow notices: a run of their flat script, in which each notice that a call is to
+-- follow is followed by one of its own, and no other call was put.
+pub record IsSeen (of_run : List Directive → Seen → Type 0) (following : Following) (first : List Directive) (found : Followed) : Type 0 where
+  pub grown : AreGrown of_run following.calls.now first found.directives.items
   pub script : found.flat.script.items ≡ numbered_from 1 found.directives.items
   pub lines : found.flat.lines.items ≡ lines_of found.directives.items
   pub run : of_run found.flat.script.items found.seen
+  pub followed : AreAllFollowed following found.directives.items found.seen.steps.items
 
 -- without calls that follow notices the flat script is that of the directives that were given
 abbrev pub IsPlain : (of_run : List Directive → Seen → Type 0) (first : List Directive) (found : Followed) → Type 0

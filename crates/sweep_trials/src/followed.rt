@@ -1,10 +1,11 @@
-ghost use Rattle.std.specs.Prelude.{List, Some, ◌≡◌, ◌<◌, ◌++◌, ◌∷◌, length, slice_get, vec_len, IfOk};
+ghost use Rattle.std.specs.Prelude.{Some, ◌≡◌, ◌<◌, ◌++◌, ◌∷◌, length, slice_get, vec_len, IfOk, MatchOption};
 ghost use Rattle.std.specs.Option.{IfSome};
-ghost use Rattle.mcal_base.specs.declared.directive.Directive as records;
 ghost use Rattle.sweep_trials.specs.Counts.{counts, with_step};
-ghost use Rattle.sweep_trials.specs.Grown.{AreGrown, IsGrown, IsSeen};
+ghost use Rattle.sweep_trials.specs.Follows.{AreAllFollowed, IsNew, IsUnfollowed, StandsBehind};
+ghost use Rattle.sweep_trials.specs.Grown.{IsSeen, with_call_behind};
+ghost use Rattle.sweep_trials.specs.declared.reactions.Reaction as records;
 
-use crate::reactions::{Bench, Reaction, reaction_to};
+use crate::reactions::{Bench, Following, Reaction, call_wanted, reaction_at};
 use crate::seen::{Runs, Seen, StepSeen};
 use crate::stop::Stop;
 use bench_sweep::{Cut, Flat, Place, Spot, copy_behind, cut_block, flatten};
@@ -21,11 +22,13 @@ const MOST_DIRECTIVES: usize = 1_100_000;
 /// A notice that nothing follows yet.
 #[derive(Drop)]
 struct Unfollowed {
-    /// Where it is given.
-    place: Place,
+    /// Which directive gives it.
+    directive: usize,
+    /// With the last of how many of its steps.
+    made: u32,
     /// How many steps each directive makes.
     steps: Vec<u32>,
-    /// Which reaction is to follow it.
+    /// Which call is to follow it.
     reaction: usize,
 }
 
@@ -60,122 +63,72 @@ pub(crate) fn steps_of(
     Ok(steps)
 }
 
-/// A walk over the steps of a run: the line of the directive, how many of its steps were seen, and where the calls stand
-/// that follow notices.
-#[derive(Drop)]
-struct Walk {
-    line: u32,
-    made: u32,
-    taken: Vec<usize>,
+/// The number at a place.
+fn number_at(numbers: &[u32], at: usize) -> u32
+    requires { at < length numbers.now }
+    ensures { slice_get numbers.now at ≡ Some result }
+{
+    numbers[at]
 }
 
-impl Walk {
-    /// A walk before the first step.
-    fn new(alloc: Global) -> Walk {
-        Walk {
-            line: 0,
-            made: 0,
-            taken: Vec::new(alloc),
-        }
-    }
-
-    /// Sees a step of the directive of a line.
-    fn see(&mut self, line: u32) {
-        if line != self.line {
-            self.line = line;
-            self.made = 0;
-        }
-        self.made = self.made.saturating_add(1);
-    }
-
-    /// Which of so many directives makes the step that was seen last.
-    fn directive(&self, count: usize) -> Option<usize>
-        ensures { IfSome result (λ n. n < count) }
-    {
-        let directive = (self.line as usize).checked_sub(1)?;
-        if directive < count {
-            Some(directive)
-        } else {
-            None
-        }
-    }
-
-    /// Whether the call from a line stands there already that follows the last of a directive's steps. It follows no other
-    /// one then.
-    fn is_followed<R>(
-        &mut self,
-        bench: &Bench<'_, R>,
-        lines: &[u32],
-        directive: usize,
-        steps: u32,
-        line: u32,
-    ) -> Result<bool, AllocError>
-        requires { directive < length lines.now }
-    {
-        if self.made != steps {
-            return Ok(false);
-        }
-        match bench.follower(lines, directive, line, &self.taken) {
-            Some(at) => {
-                self.taken.push(at)?;
-                Ok(true)
-            }
-            None => Ok(false),
-        }
-    }
-
-    /// The reaction to a step, and the directive that makes it, where a call is to follow it and doesn't yet.
-    fn unfollowed<R>(
-        &mut self,
-        bench: &Bench<'_, R>,
-        lines: &[u32],
-        steps: &[u32],
-        step: StepSeen,
-    ) -> Result<Option<(usize, usize)>, AllocError>
-        requires { length steps.now ≡ length lines.now }
-        ensures { IfOk result (λ found. IfSome found (λ f. (f.0 < length lines.now) × (f.1 < length bench.now.reactions.now))) }
-    {
-        let Some(notice) = step.notice else {
-            return Ok(None);
-        };
-        let Some(reaction) = reaction_to(bench.reactions, notice) else {
-            return Ok(None);
-        };
-        let Some(directive) = self.directive(lines.len()) else {
-            return Ok(None);
-        };
-        let reactions = bench.reactions;
-        let line = reactions[reaction].directive.line;
-        if self.is_followed(bench, lines, directive, steps[directive], line)? {
-            Ok(None)
-        } else {
-            Ok(Some((directive, reaction)))
-        }
+/// Where the call from a line stands that follows the notice of a directive's step, unless it follows an earlier one. More steps
+/// of the directive are to come, unless it has made them all.
+fn own_call(
+    following: Following<'_>,
+    directives: &[Directive],
+    steps: (u32, u32),
+    directive: usize,
+    line: u32,
+    taken: &[usize],
+) -> Option<usize>
+    requires { directive < length directives.now }
+    ensures { IfSome result (λ at. (steps.0 ≡ steps.1) × StandsBehind following.entry directives.now directive line at × IsNew taken.now at) }
+{
+    let (made, all) = steps;
+    if made == all {
+        following.follower(directives, directive, line, taken)
+    } else {
+        None
     }
 }
 
 /// The first notice of a run that a call is to follow and doesn't yet.
-fn first_unfollowed<R>(
+fn first_unfollowed(
     alloc: Global,
-    bench: &Bench<'_, R>,
-    lines: &[u32],
+    following: Following<'_>,
+    directives: &[Directive],
     seen: &[StepSeen],
 ) -> Result<Option<Unfollowed>, AllocError>
-    ensures there { IfOk result (λ found. IfSome found (λ f. f.place.directive < length lines.now)) }
-    ensures same { IfOk result (λ found. IfSome found (λ f. vec_len f.steps ≡ length lines.now)) }
-    ensures reaction { IfOk result (λ found. IfSome found (λ f. f.reaction < length bench.now.reactions.now)) }
+    ensures { IfOk result (λ found. MatchOption found (AreAllFollowed following.entry directives.now seen.now) (λ f. IsUnfollowed following.entry.calls.now directives.now seen.now f.directive f.made f.reaction f.steps.items)) }
 {
-    let steps = steps_of(alloc, lines.len(), seen)?;
-    let mut walk = Walk::new(alloc);
+    let count = directives.len();
+    let steps = steps_of(alloc, count, seen)?;
+    let mut made = steps_of(alloc, count, &[])?;
+    let mut taken = Vec::new(alloc);
     for step in seen {
-        walk.see(step.line);
-        if let Some((directive, reaction)) = walk.unfollowed(bench, lines, &steps, *step)? {
-            let spot = Spot::Step(walk.made);
-            return Ok(Some(Unfollowed {
-                place: Place { directive, spot },
-                steps,
-                reaction,
-            }));
+        count_step(&mut made, step.line);
+        if let Some(found) = call_wanted(following.calls, count, *step) {
+            let line = reaction_at(following.calls, found.reaction).directive.line;
+            let so_far = number_at(&made, found.directive);
+            let all = number_at(&steps, found.directive);
+            match own_call(
+                following,
+                directives,
+                (so_far, all),
+                found.directive,
+                line,
+                &taken,
+            ) {
+                Some(at) => taken.push(at)?,
+                None => {
+                    return Ok(Some(Unfollowed {
+                        directive: found.directive,
+                        made: so_far,
+                        steps,
+                        reaction: found.reaction,
+                    }));
+                }
+            }
         }
     }
     Ok(None)
@@ -192,43 +145,25 @@ fn joined(cut: Cut, call: &Directive) -> Result<Vec<Directive>, AllocError>
     Ok(all)
 }
 
-/// Directives in which a call follows a notice.
-fn with_call(
-    alloc: Global,
-    directives: &[Directive],
-    found: &Unfollowed,
-    call: &Directive,
-) -> Result<Vec<Directive>, AllocError>
-    requires same { vec_len found.now.steps ≡ length directives.now }
-    requires there { found.now.place.directive < length directives.now }
-    ensures { IfOk result (λ all. IsGrown directives.now call.now all.items) }
-{
-    let cut = cut_block(alloc, directives, &found.steps, found.place)?;
-    joined(cut, call)
-}
-
-/// The reaction of a number.
-fn reaction_at(reactions: &[Reaction], number: usize) -> &Reaction
-    requires { number < length reactions.now }
-    ensures { slice_get reactions.now number ≡ Some result.now }
-{
-    &reactions[number]
-}
-
 /// Directives with the call that follows a notice, put behind it.
 fn put_call(
     alloc: Global,
-    reactions: &[Reaction],
-    directives: Vec<Directive>,
+    calls: &[Reaction],
+    directives: &[Directive],
     found: &Unfollowed,
 ) -> Result<Vec<Directive>, AllocError>
-    requires same { vec_len found.now.steps ≡ vec_len directives }
-    requires there { found.now.place.directive < vec_len directives }
-    requires reaction { found.now.reaction < length reactions.now }
-    ensures { IfOk result (λ all. (first : List records.Directive) → AreGrown reactions.now first directives.items → AreGrown reactions.now first all.items) }
+    requires same { vec_len found.now.steps ≡ length directives.now }
+    requires there { found.now.directive < length directives.now }
+    requires reaction { found.now.reaction < length calls.now }
+    ensures { IfOk result (λ all. (r : records.Reaction) → slice_get calls.now found.now.reaction ≡ Some r → all.items ≡ with_call_behind directives.now found.now.steps.items found.now.directive found.now.made r.directive) }
 {
-    let reaction = reaction_at(reactions, found.reaction);
-    with_call(alloc, &directives, found, &reaction.directive)
+    let reaction = reaction_at(calls, found.reaction);
+    let place = Place {
+        directive: found.directive,
+        spot: Spot::Step(found.made),
+    };
+    let cut = cut_block(alloc, directives, &found.steps, place)?;
+    joined(cut, &reaction.directive)
 }
 
 /// A run in which each notice is followed by its call.
@@ -250,10 +185,10 @@ pub fn run_followed<R: Runs>(
     start: Vec<Directive>,
     named: bool,
 ) -> Result<Followed, Stop>
-    ensures { IfOk result (λ found. IsSeen (R.is_seen bench.now.runs.now) bench.now.reactions.now start.items found) }
+    ensures { IfOk result (λ found. IsSeen (R.is_seen bench.now.runs.now) bench.now.following start.items found) }
 {
     let runs = bench.runs;
-    let reactions = bench.reactions;
+    let following = bench.following;
     let mut directives = start;
     for _ in 0..MOST_FOLLOWED {
         if directives.len() > MOST_DIRECTIVES {
@@ -261,14 +196,14 @@ pub fn run_followed<R: Runs>(
         }
         let flat = flatten(alloc, &directives)?;
         let seen = runs.run(alloc, &flat.script, named)?;
-        let Some(found) = first_unfollowed(alloc, bench, &flat.lines, &seen.steps)? else {
+        let Some(found) = first_unfollowed(alloc, following, &directives, &seen.steps)? else {
             return Ok(Followed {
                 directives,
                 flat,
                 seen,
             });
         };
-        let next = put_call(alloc, reactions, directives, &found)?;
+        let next = put_call(alloc, following.calls, &directives, &found)?;
         directives = next;
     }
     Err(Stop::TooManyNotices)

@@ -55,7 +55,7 @@ impl Opened {
         before: Vec<Directive>,
         block: &[Directive],
     ) -> Result<Opened, Stop>
-        ensures { IfOk result (λ o. IsOpened (R.is_seen bench.now.runs.now) bench.now.reactions.now (before.items ++ block.now) (vec_len before) o) }
+        ensures { IfOk result (λ o. IsOpened (R.is_seen bench.now.runs.now) bench.now.following (before.items ++ block.now) (vec_len before) o) }
     {
         let count = before.len();
         let mut start = before;
@@ -155,7 +155,7 @@ impl Opened {
     ) -> Result<Followed, Stop>
         requires { place < vec_len self.now.all }
         ensures { IfOk result (λ found. (p : Place) → slice_get (places self.now.block.items self.now.steps.items) place ≡ Some p →
-            IsSeen (R.is_seen bench.now.runs.now) bench.now.reactions.now (put_in self.now.before.items placed.now self.now.block.items behind.now self.now.steps.items p) found) }
+            IsSeen (R.is_seen bench.now.runs.now) bench.now.following (put_in self.now.before.items placed.now self.now.block.items behind.now self.now.steps.items p) found) }
     {
         let start = self.placed(alloc, place, placed, behind)?;
         run_followed(alloc, bench, start, false)
@@ -181,7 +181,7 @@ impl Opened {
     ) -> Result<Opened, Stop>
         requires { place < vec_len self.now.all }
         ensures { IfOk result (λ inner. (p : Place) → slice_get (places self.now.block.items self.now.steps.items) place ≡ Some p →
-            IsInner (R.is_seen bench.now.runs.now) bench.now.reactions.now self.now placed.now p inner) }
+            IsInner (R.is_seen bench.now.runs.now) bench.now.following self.now placed.now p inner) }
     {
         let cut = self.cut(alloc, place)?;
         let before = self.up_to(alloc, &cut)?;

@@ -1,7 +1,10 @@
-ghost use Rattle.std.specs.Prelude.{◌<◌, length};
+ghost use Rattle.std.specs.Prelude.{◌≡◌, ◌<◌, Some, length, slice_get, MatchOption};
+ghost use Rattle.std.specs.List.{position};
 ghost use Rattle.std.specs.Option.{IfSome};
+ghost use Rattle.sweep_trials.specs.Follows as spec;
 
-use mcal_base::{Directive, Notice};
+use crate::seen::StepSeen;
+use mcal_base::{Directive, Notice, Order};
 
 /// A call that is made right behind a notice, wherever that comes.
 #[derive(Drop)]
@@ -12,57 +15,133 @@ pub struct Reaction {
     pub directive: Directive,
 }
 
-/// What stays the same in all runs of a sweep.
+/// What follows notices, and where in the file what is placed stands: that may come between a notice and its call.
 #[derive(Clone, Copy)]
-pub struct Bench<'a, R> {
-    /// What runs a script.
-    pub runs: &'a R,
-    /// What follows notices.
-    pub reactions: &'a [Reaction],
+pub struct Following<'a> {
+    /// What follows notices. Of several for one notice the first counts.
+    pub calls: &'a [Reaction],
     /// The line of `sweep`: what is placed stands below it.
     pub sweep: u32,
     /// The line of `over`: what is placed stands above it.
     pub over: u32,
 }
 
+/// What stays the same in all runs of a sweep.
+#[derive(Clone, Copy)]
+pub struct Bench<'a, R> {
+    /// What runs a script.
+    pub runs: &'a R,
+    /// What follows notices.
+    pub following: Following<'a>,
+}
+
 /// Whether two notices are the same.
-fn is_same(notice: Notice, other: Notice) -> bool {
+fn is_same(notice: Notice, other: Notice) -> bool
+    ensures { result ≡ spec.is_same notice other }
+{
     notice.id == other.id && notice.kind.text() == other.kind.text()
 }
 
-/// Which reaction follows a notice, if one does.
-pub(crate) fn reaction_to(reactions: &[Reaction], notice: Notice) -> Option<usize>
-    ensures { IfSome result (λ n. n < length reactions.now) }
+/// Which call follows a notice, if one does.
+pub fn reaction_to(calls: &[Reaction], notice: Notice) -> Option<usize>
+    ensures is { result ≡ spec.reaction_to calls.now notice }
+    ensures within { IfSome result (λ n. n < length calls.now) }
 {
-    reactions
+    calls
         .iter()
         .position(|reaction| is_same(reaction.notice, notice))
 }
 
-/// Whether something from a line may stand between a notice and what follows it: what is placed, and what follows others.
-fn may_intrude(reactions: &[Reaction], sweep: u32, over: u32, line: u32) -> bool {
-    (sweep < line && line < over)
-        || reactions
-            .iter()
-            .any(|reaction| reaction.directive.line == line)
+/// The directive of a script that makes a step, by its number from 0, and the call that is to follow what the step gives.
+#[derive(Clone, Copy)]
+pub(crate) struct Wanted {
+    /// The directive.
+    pub directive: usize,
+    /// Which call.
+    pub reaction: usize,
 }
 
-impl<R> Bench<'_, R> {
+/// Which call is to follow what a step of a script with so many directives gives, if one is.
+pub(crate) fn call_wanted(calls: &[Reaction], count: usize, step: StepSeen) -> Option<Wanted>
+    ensures { MatchOption result (spec.IsQuiet calls.now count step) (λ w. spec.IsWanted calls.now count step w.directive w.reaction) }
+{
+    let Some(notice) = step.notice else {
+        return None;
+    };
+    let Some(reaction) = reaction_to(calls, notice) else {
+        return None;
+    };
+    if step.line == 0 || count < step.line as usize {
+        return None;
+    }
+    Some(Wanted {
+        directive: step.line as usize - 1,
+        reaction,
+    })
+}
+
+/// The call of a number.
+pub(crate) fn reaction_at(calls: &[Reaction], number: usize) -> &Reaction
+    requires { number < length calls.now }
+    ensures { slice_get calls.now number ≡ Some result.now }
+{
+    &calls[number]
+}
+
+/// Whether a call stands on a line.
+fn is_call_line(calls: &[Reaction], line: u32) -> bool
+    ensures { result ≡ spec.is_call_line calls.now line }
+{
+    calls.iter().any(|reaction| reaction.directive.line == line)
+}
+
+/// Whether an order begins a call.
+fn begins_call(order: &Order) -> bool
+    ensures { result ≡ spec.begins_call order.now }
+{
+    matches!(order, Order::Call(..) | Order::Do(..))
+}
+
+/// Whether a directive begins the call from a line.
+fn is_call_from(directive: &Directive, line: u32) -> bool
+    ensures { result ≡ spec.is_call_from line directive.now }
+{
+    directive.line == line && begins_call(&directive.order)
+}
+
+/// The directive at a place.
+fn directive_at(directives: &[Directive], at: usize) -> &Directive
+    requires { at < length directives.now }
+    ensures { slice_get directives.now at ≡ Some result.now }
+{
+    &directives[at]
+}
+
+impl Following<'_> {
+    /// Whether something from a line may stand between a notice and what follows it: what is placed, and what follows others.
+    fn may_intrude(self, line: u32) -> bool
+        ensures { result ≡ spec.may_intrude self.entry line }
+    {
+        (self.sweep < line && line < self.over) || is_call_line(self.calls, line)
+    }
+
     /// Where the call from a line stands that follows a notice of a directive's last step, unless it follows an earlier one.
-    pub(crate) fn follower(
-        &self,
-        lines: &[u32],
+    pub fn follower(
+        self,
+        directives: &[Directive],
         directive: usize,
         line: u32,
         taken: &[usize],
     ) -> Option<usize>
-        requires { directive < length lines.now }
+        requires { directive < length directives.now }
+        ensures { IfSome result (λ at. spec.StandsBehind self.entry directives.now directive line at × spec.IsNew taken.now at) }
     {
-        for at in directive + 1..lines.len() {
-            if lines[at] == line && !taken.contains(&at) {
-                return Some(at);
+        for place in directive + 1..directives.len() {
+            let found = directive_at(directives, place);
+            if is_call_from(found, line) && !taken.contains(&place) {
+                return Some(place);
             }
-            if !may_intrude(self.reactions, self.sweep, self.over, lines[at]) {
+            if !self.may_intrude(found.line) {
                 return None;
             }
         }

@@ -1,4 +1,4 @@
-ghost use Rattle.std.specs.Prelude.{◌≡◌, ◌<◌, Some, false, length, IfOk, slice_get, vec_len};
+ghost use Rattle.std.specs.Prelude.{◌≡◌, ◌<◌, Some, false, true, length, IfOk, slice_get, vec_len};
 ghost use Rattle.bench_sweep.specs.Placed.{put_in};
 ghost use Rattle.bench_sweep.specs.Places.{places};
 ghost use Rattle.bench_sweep.specs.declared.places.Place.{Place};
@@ -38,7 +38,7 @@ pub struct Moment {
 impl<R: Runs> Sweep<'_, R> {
     /// The block, run with nothing placed in it.
     pub fn open(&self, alloc: Global) -> Result<Opened, Stop>
-        ensures { IfOk result (λ o. IsBlock (R.is_seen self.now.bench.runs.now) self.now.bench.reactions.now self.now.parts.before.now self.now.parts.block.now o) }
+        ensures { IfOk result (λ o. IsBlock (R.is_seen self.now.bench.runs.now) self.now.bench.following self.now.parts.before.now self.now.parts.block.now o) }
     {
         let mut before = Vec::new(alloc);
         copy_behind(&mut before, self.parts.before)?;
@@ -50,7 +50,7 @@ impl<R: Runs> Sweep<'_, R> {
     pub(crate) fn inner(&self, alloc: Global, opened: &Opened, first: usize) -> Result<Opened, Stop>
         requires { first < vec_len opened.now.all }
         ensures { IfOk result (λ inner. (p : Place) → slice_get (places opened.now.block.items opened.now.steps.items) first ≡ Some p →
-            IsInner (R.is_seen self.now.bench.runs.now) self.now.bench.reactions.now opened.now self.now.parts.swept.now p inner) }
+            IsInner (R.is_seen self.now.bench.runs.now) self.now.bench.following opened.now self.now.parts.swept.now p inner) }
     {
         opened.inner(alloc, &self.bench, first, self.parts.swept)
     }
@@ -65,14 +65,15 @@ impl<R: Runs> Sweep<'_, R> {
     ) -> Result<Followed, Stop>
         requires { place < vec_len opened.now.all }
         ensures { IfOk result (λ found. (p : Place) → slice_get (places opened.now.block.items opened.now.steps.items) place ≡ Some p →
-            IsSeen (R.is_seen self.now.bench.runs.now) self.now.bench.reactions.now (put_in opened.now.before.items placed.now opened.now.block.items self.now.parts.behind.now opened.now.steps.items p) found) }
+            IsSeen (R.is_seen self.now.bench.runs.now) self.now.bench.following (put_in opened.now.before.items placed.now opened.now.block.items self.now.parts.behind.now opened.now.steps.items p) found) }
     {
         opened.with(alloc, &self.bench, place, placed, self.parts.behind)
     }
 
     /// Whether something is placed a second time.
     pub fn is_double(&self) -> bool
-        ensures { length self.now.parts.second.now ≡ 0 → result ≡ false }
+        ensures no { length self.now.parts.second.now ≡ 0 → result ≡ false }
+        ensures yes { 0 < length self.now.parts.second.now → result ≡ true }
     {
         !self.parts.second.is_empty()
     }

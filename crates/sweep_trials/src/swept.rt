@@ -1,7 +1,8 @@
-ghost use Rattle.std.specs.Prelude.{◌≡◌, ◌<◌, ◌≤◌, ◌+◌, ◌-◌, ◌^◌, None, false, take, vec_len, length, IfOk};
+ghost use Rattle.std.specs.Prelude.{◌≡◌, ◌<◌, ◌≤◌, ◌+◌, ◌-◌, ◌^◌, ◌++◌, [], ◌∷◌, None, count_by, false, is_some, map, take, vec_len, length, IfOk, OnOk};
 ghost use Rattle.bench_sweep.specs.Groups.{settled};
 ghost use Rattle.bench_sweep.specs.Outcomes.{AreDifferent};
-ghost use Rattle.sweep_trials.specs.Trials.{IsSweptOnce, once_from, part_end};
+ghost use Rattle.sweep_trials.specs.Pairs.{AreSweptPairs, IsSweptTwice, told_from};
+ghost use Rattle.sweep_trials.specs.Trials.{AreKept, IsSweptOnce, once_from, part_end};
 
 use crate::opened::Opened;
 use crate::progress::Progress;
@@ -98,12 +99,21 @@ fn sweep_once<R: Runs, P: Progress>(
     requires first { first ≤ vec_len opened.now.all }
     requires end { end ≤ vec_len opened.now.all }
     requires few { vec_len opened.now.all ≤ 100000000 }
-    ensures { IfOk result (λ s. IsSweptOnce (R.is_seen sweep.now.bench.runs.now) sweep.now.bench.reactions.now sweep.now.parts.swept.now sweep.now.parts.behind.now opened.now first end wish.first s) }
+    ensures { IfOk result (λ s. IsSweptOnce (R.is_seen sweep.now.bench.runs.now) sweep.now.bench.following sweep.now.parts.swept.now sweep.now.parts.behind.now opened.now first end wish.first s) }
 {
     let mut trials = trials;
     let ends = trials.try_ends(alloc, sweep, opened)?;
     let stops = stops_of(wish, ends);
-    let tried = trials.try_part(alloc, sweep, opened, first, end, stops, progress)?;
+    let tried = trials.try_part(
+        alloc,
+        sweep,
+        opened,
+        sweep.parts.swept,
+        first,
+        end,
+        stops,
+        progress,
+    )?;
     let most = end.saturating_sub(first);
     let settled = settled_of(alloc, &tried, most)?;
     let moments = moments_of(alloc, first, most, settled.len())?;
@@ -127,7 +137,7 @@ fn sweep_places<R: Runs, P: Progress>(
     progress: &mut P,
 ) -> Result<Swept, Stop>
     requires { AreDifferent trials.outcomes.items }
-    ensures { IfOk result (λ s. IsSweptOnce (R.is_seen sweep.now.bench.runs.now) sweep.now.bench.reactions.now sweep.now.parts.swept.now sweep.now.parts.behind.now opened.now
+    ensures { IfOk result (λ s. IsSweptOnce (R.is_seen sweep.now.bench.runs.now) sweep.now.bench.following sweep.now.parts.swept.now sweep.now.parts.behind.now opened.now
         (part_end (vec_len opened.now.all) (wish.part - 1) wish.parts) (part_end (vec_len opened.now.all) wish.part wish.parts) wish.first s) }
 {
     let count = opened.count();
@@ -147,14 +157,29 @@ struct Pairs {
     skipped: usize,
 }
 
+/// How many places there are where what is placed waits.
+fn count_waiting(tried: &[Tried]) -> usize
+    ensures is { result ≡ count_by (λ t. t.waits) tried.now }
+{
+    tried.iter().filter(|found| found.waits).count()
+}
+
 impl Pairs {
-    /// Keeps what came of a pair, unless one of two waits: then it comes again at a later one.
-    fn keep(&mut self, moment: Moment, found: Tried) -> Result<(), Stop> {
+    /// Keeps what came of a pair, unless one of the two waits: then it comes again at a later one.
+    fn keep(&mut self, number: usize, first: usize, second: usize, found: Tried) -> Result<(), Stop>
+        requires { number + second < 2 ^ 64 }
+        ensures moments { OnOk result (self.new.moments.items ≡ self.old.moments.items ++ map (λ t. t.0) (told_from number first second (found ∷ []))) }
+        ensures settled { OnOk result (self.new.settled.items ≡ self.old.settled.items ++ map (λ t. t.1) (told_from number first second (found ∷ []))) }
+        ensures skipped { self.new.skipped ≡ self.old.skipped }
+    {
         if found.waits {
-            self.skipped = self.skipped.saturating_add(1);
             return Ok(());
         }
-        self.moments.push(moment)?;
+        self.moments.push(Moment {
+            number: number + second,
+            first,
+            second: Some(second),
+        })?;
         self.settled.push(Settled {
             outcome: found.outcome,
             wait: 0,
@@ -162,60 +187,55 @@ impl Pairs {
         Ok(())
     }
 
-    /// Tries all second places behind a first one; the first of them has the number. Tells whether the sweep is to stop.
-    fn sweep_behind<R: Runs, P: Progress>(
-        &mut self,
-        alloc: Global,
-        sweep: &Sweep<'_, R>,
-        inner: &Opened,
-        start: Moment,
-        trials: &mut Trials,
-        stops: Option<Ends>,
-        progress: &mut P,
-    ) -> Result<bool, Stop> {
-        for place in 0..inner.count() {
-            let found = trials.try_at(alloc, sweep, inner, place, sweep.parts.second)?;
-            trials.count(progress);
-            let moment = Moment {
-                number: start.number.saturating_add(place),
-                first: start.first,
-                second: Some(place),
-            };
-            self.keep(moment, found)?;
-            if !found.waits && Ends::are_passed(stops, found.outcome) {
-                return Ok(true);
-            }
+    /// Keeps what came of the pairs behind a first place, of which the first has the number.
+    #[tactic(auto, using(crate::proofs::Pairing::few_waiting))]
+    fn keep_all(&mut self, number: usize, first: usize, tried: &[Tried]) -> Result<(), Stop>
+        requires number { number + length tried.now < 2 ^ 64 }
+        requires skipped { self.old.skipped ≤ number }
+        ensures moments { OnOk result (self.new.moments.items ≡ self.old.moments.items ++ map (λ t. t.0) (told_from number first 0 tried.now)) }
+        ensures settled { OnOk result (self.new.settled.items ≡ self.old.settled.items ++ map (λ t. t.1) (told_from number first 0 tried.now)) }
+        ensures skipped { OnOk result (self.new.skipped ≡ self.old.skipped + count_by (λ t. t.waits) tried.now) }
+    {
+        for second in 0..tried.len() {
+            self.keep(number, first, second, tried[second])?;
         }
-        Ok(false)
+        self.skipped += count_waiting(tried);
+        Ok(())
     }
 
     /// Tries all pairs of places whose first one is of a part.
+    #[tactic(auto, using(crate::proofs::Pairing::few_waiting))]
     fn sweep_part<R: Runs, P: Progress>(
         &mut self,
         alloc: Global,
         sweep: &Sweep<'_, R>,
         opened: &Opened,
-        wish: Wish,
+        part: (usize, usize),
         trials: &mut Trials,
         stops: Option<Ends>,
         progress: &mut P,
-    ) -> Result<(), Stop> {
-        let count = opened.count();
-        let from = end_of(count, wish.part.saturating_sub(1), wish.parts);
+    ) -> Result<(), Stop>
+        requires end { part.1 ≤ vec_len opened.now.all }
+        requires moments { self.old.moments.items ≡ [] }
+        requires settled { self.old.settled.items ≡ [] }
+        requires skipped { self.old.skipped ≡ 0 }
+        ensures pairs { OnOk result (AreSweptPairs (R.is_seen sweep.now.bench.runs.now) sweep.now.bench.following sweep.now.parts.swept.now sweep.now.parts.second.now sweep.now.parts.behind.now opened.now trials.new.outcomes.items part.0 part.1 (is_some stops) self.new.moments.items self.new.settled.items self.new.skipped) }
+        ensures kept { OnOk result (AreKept trials.old.outcomes.items trials.new.outcomes.items) }
+    {
+        let (from, end) = part;
         let mut number = 0usize;
-        for first in 0..end_of(count, wish.part, wish.parts) {
+        for first in 0..end {
             let inner = sweep.inner(alloc, opened, first)?;
-            let start = Moment {
-                number,
-                first,
-                second: None,
-            };
-            if from <= first
-                && self.sweep_behind(alloc, sweep, &inner, start, trials, stops, progress)?
-            {
+            let count = inner.count();
+            if count > MOST_IN_ALL - number {
+                return Err(Stop::TooManyInAll);
+            }
+            let tried = trials.try_behind(alloc, sweep, &inner, first, from, stops, progress)?;
+            self.keep_all(number, first, &tried)?;
+            if Ends::are_passed_by(stops, &tried) {
                 return Ok(());
             }
-            number = number.saturating_add(inner.count());
+            number += count;
         }
         Ok(())
     }
@@ -229,7 +249,11 @@ fn sweep_twice<R: Runs, P: Progress>(
     wish: Wish,
     trials: Trials,
     progress: &mut P,
-) -> Result<Swept, Stop> {
+) -> Result<Swept, Stop>
+    requires { AreDifferent trials.outcomes.items }
+    ensures { IfOk result (λ s. IsSweptTwice (R.is_seen sweep.now.bench.runs.now) sweep.now.bench.following sweep.now.parts.swept.now sweep.now.parts.second.now sweep.now.parts.behind.now opened.now
+        (part_end (vec_len opened.now.all) (wish.part - 1) wish.parts) (part_end (vec_len opened.now.all) wish.part wish.parts) wish.first s) }
+{
     let mut trials = trials;
     let ends = trials.try_end_pairs(alloc, sweep, opened)?;
     let stops = stops_of(wish, ends);
@@ -238,7 +262,18 @@ fn sweep_twice<R: Runs, P: Progress>(
         settled: Vec::new(alloc),
         skipped: 0,
     };
-    pairs.sweep_part(alloc, sweep, opened, wish, &mut trials, stops, progress)?;
+    let count = opened.count();
+    let from = end_of(count, wish.part.saturating_sub(1), wish.parts);
+    let end = end_of(count, wish.part, wish.parts);
+    pairs.sweep_part(
+        alloc,
+        sweep,
+        opened,
+        (from, end),
+        &mut trials,
+        stops,
+        progress,
+    )?;
     Ok(Swept {
         outcomes: trials.outcomes,
         moments: pairs.moments,
@@ -278,7 +313,9 @@ pub fn make_sweep<R: Runs, P: Progress>(
     wish: Wish,
     progress: &mut P,
 ) -> Result<Swept, Stop>
-    ensures { length sweep.now.parts.second.now ≡ 0 → IfOk result (λ s. IsSweptOnce (R.is_seen sweep.now.bench.runs.now) sweep.now.bench.reactions.now sweep.now.parts.swept.now sweep.now.parts.behind.now opened.now
+    ensures once { length sweep.now.parts.second.now ≡ 0 → IfOk result (λ s. IsSweptOnce (R.is_seen sweep.now.bench.runs.now) sweep.now.bench.following sweep.now.parts.swept.now sweep.now.parts.behind.now opened.now
+        (part_end (vec_len opened.now.all) (wish.part - 1) wish.parts) (part_end (vec_len opened.now.all) wish.part wish.parts) wish.first s) }
+    ensures twice { 0 < length sweep.now.parts.second.now → IfOk result (λ s. IsSweptTwice (R.is_seen sweep.now.bench.runs.now) sweep.now.bench.following sweep.now.parts.swept.now sweep.now.parts.second.now sweep.now.parts.behind.now opened.now
         (part_end (vec_len opened.now.all) (wish.part - 1) wish.parts) (part_end (vec_len opened.now.all) wish.part wish.parts) wish.first s) }
 {
     let (all, steps) = lengths(alloc, sweep, opened)?;

@@ -1,6 +1,7 @@
 ghost use Rattle.std.specs.Prelude.{◌≡◌, ℕ, ◌<◌, ◌≤◌, ◌+◌, ◌-◌, [], None, false, vec_len, IfOk, OnOk, string_bytes};
 ghost use Rattle.bench_sweep.specs.Outcomes.{Tells};
 ghost use Rattle.bench_sweep.specs.Reports.{telling_of};
+ghost use Rattle.sweep_trials.specs.Pairs.{IsPairTried};
 ghost use Rattle.sweep_trials.specs.Trials.{AreKept, AreTried, IsTriedAt, part_end};
 
 use crate::followed::Followed;
@@ -48,9 +49,19 @@ impl Ends {
             None => false,
         }
     }
+
+    /// Whether a sweep that stops at an outcome that is neither stopped at the last of these places.
+    pub fn are_passed_by(stops: Option<Ends>, tried: &[Tried]) -> bool
+        ensures { stops ≡ None → result ≡ false }
+    {
+        match tried.last() {
+            Some(found) => !found.waits && Ends::are_passed(stops, found.outcome),
+            None => false,
+        }
+    }
 }
 
-/// The first of so many places that is behind a part.
+/// The first of so many places that is behind a part. The product has room in 128 bits.
 pub(crate) fn end_of(places: usize, part: usize, parts: usize) -> usize
     ensures is { result ≡ part_end places part parts }
     ensures within { result ≤ places }
@@ -58,7 +69,7 @@ pub(crate) fn end_of(places: usize, part: usize, parts: usize) -> usize
     if parts == 0 {
         return 0;
     }
-    (places.saturating_mul(part) / parts).min(places)
+    (places as u128 * part as u128 / parts as u128).min(places as u128) as usize
 }
 
 /// The line of the first of some directives.
@@ -138,7 +149,7 @@ impl Trials {
         placed: &[Directive],
     ) -> Result<Tried, Stop>
         requires { place < vec_len opened.now.all }
-        ensures tried { IfOk result (λ t. IsTriedAt (R.is_seen sweep.now.bench.runs.now) sweep.now.bench.reactions.now placed.now sweep.now.parts.behind.now opened.now self.new.outcomes.items place t.outcome) }
+        ensures tried { IfOk result (λ t. IsTriedAt (R.is_seen sweep.now.bench.runs.now) sweep.now.bench.following placed.now sweep.now.parts.behind.now opened.now self.new.outcomes.items place t.outcome) }
         ensures kept { OnOk result (AreKept self.old.outcomes.items self.new.outcomes.items) }
     {
         let found = sweep.with(alloc, opened, place, placed)?;
@@ -155,8 +166,8 @@ impl Trials {
         sweep: &Sweep<'_, R>,
         opened: &Opened,
     ) -> Result<Ends, Stop>
-        ensures before { IfOk result (λ e. IsTriedAt (R.is_seen sweep.now.bench.runs.now) sweep.now.bench.reactions.now sweep.now.parts.swept.now sweep.now.parts.behind.now opened.now self.new.outcomes.items 0 e.before) }
-        ensures behind { IfOk result (λ e. IsTriedAt (R.is_seen sweep.now.bench.runs.now) sweep.now.bench.reactions.now sweep.now.parts.swept.now sweep.now.parts.behind.now opened.now self.new.outcomes.items (vec_len opened.now.all - 1) e.behind) }
+        ensures before { IfOk result (λ e. IsTriedAt (R.is_seen sweep.now.bench.runs.now) sweep.now.bench.following sweep.now.parts.swept.now sweep.now.parts.behind.now opened.now self.new.outcomes.items 0 e.before) }
+        ensures behind { IfOk result (λ e. IsTriedAt (R.is_seen sweep.now.bench.runs.now) sweep.now.bench.following sweep.now.parts.swept.now sweep.now.parts.behind.now opened.now self.new.outcomes.items (vec_len opened.now.all - 1) e.behind) }
         ensures kept { OnOk result (AreKept self.old.outcomes.items self.new.outcomes.items) }
     {
         let count = opened.count();
@@ -175,13 +186,16 @@ impl Trials {
         alloc: Global,
         sweep: &Sweep<'_, R>,
         opened: &Opened,
-    ) -> Result<Ends, Stop> {
+    ) -> Result<Ends, Stop>
+        ensures before { IfOk result (λ e. IsPairTried (R.is_seen sweep.now.bench.runs.now) sweep.now.bench.following sweep.now.parts.swept.now sweep.now.parts.second.now sweep.now.parts.behind.now opened.now self.new.outcomes.items 0 (λ inner. 0) e.before) }
+        ensures behind { IfOk result (λ e. IsPairTried (R.is_seen sweep.now.bench.runs.now) sweep.now.bench.following sweep.now.parts.swept.now sweep.now.parts.second.now sweep.now.parts.behind.now opened.now self.new.outcomes.items (vec_len opened.now.all - 1) (λ inner. vec_len inner.all - 1) e.behind) }
+        ensures kept { OnOk result (AreKept self.old.outcomes.items self.new.outcomes.items) }
+    {
         let placed = sweep.parts.second;
-        let inner = sweep.inner(alloc, opened, 0)?;
-        let before = self.try_at(alloc, sweep, &inner, 0, placed)?;
-        let inner = sweep.inner(alloc, opened, opened.count() - 1)?;
-        let last = inner.count() - 1;
-        let behind = self.try_at(alloc, sweep, &inner, last, placed)?;
+        let first = sweep.inner(alloc, opened, 0)?;
+        let before = self.try_at(alloc, sweep, &first, 0, placed)?;
+        let last = sweep.inner(alloc, opened, opened.count() - 1)?;
+        let behind = self.try_at(alloc, sweep, &last, last.count() - 1, placed)?;
         Ok(Ends {
             before: before.outcome,
             behind: behind.outcome,
@@ -195,28 +209,30 @@ impl Trials {
         sweep: &Sweep<'_, R>,
         opened: &Opened,
         place: usize,
+        placed: &[Directive],
         all: &mut Vec<Tried>,
         progress: &mut P,
     ) -> Result<Tried, Stop>
         requires { place < vec_len opened.now.all }
         ensures each { OnOk result ((from : ℕ) → from + vec_len all.old ≡ place →
-            AreTried (R.is_seen sweep.now.bench.runs.now) sweep.now.bench.reactions.now sweep.now.parts.swept.now sweep.now.parts.behind.now opened.now self.old.outcomes.items from all.old.items →
-            AreTried (R.is_seen sweep.now.bench.runs.now) sweep.now.bench.reactions.now sweep.now.parts.swept.now sweep.now.parts.behind.now opened.now self.new.outcomes.items from all.new.items) }
+            AreTried (R.is_seen sweep.now.bench.runs.now) sweep.now.bench.following placed.now sweep.now.parts.behind.now opened.now self.old.outcomes.items from all.old.items →
+            AreTried (R.is_seen sweep.now.bench.runs.now) sweep.now.bench.following placed.now sweep.now.parts.behind.now opened.now self.new.outcomes.items from all.new.items) }
         ensures more { OnOk result (vec_len all.new ≡ vec_len all.old + 1) }
         ensures kept { OnOk result (AreKept self.old.outcomes.items self.new.outcomes.items) }
     {
-        let found = self.try_at(alloc, sweep, opened, place, sweep.parts.swept)?;
+        let found = self.try_at(alloc, sweep, opened, place, placed)?;
         self.count(progress);
         all.push(found)?;
         Ok(found)
     }
 
-    /// Tries the places from one up to another, and those behind them where what is placed waits.
+    /// Tries something at the places from one up to another, and those behind them where what is placed waits.
     pub fn try_part<R: Runs, P: Progress>(
         &mut self,
         alloc: Global,
         sweep: &Sweep<'_, R>,
         opened: &Opened,
+        placed: &[Directive],
         first: usize,
         end: usize,
         stops: Option<Ends>,
@@ -226,7 +242,7 @@ impl Trials {
         requires end { end ≤ vec_len opened.now.all }
         ensures few { IfOk result (λ all. vec_len all ≤ vec_len opened.now.all) }
         ensures whole { stops ≡ None → IfOk result (λ all. end - first ≤ vec_len all) }
-        ensures each { IfOk result (λ all. AreTried (R.is_seen sweep.now.bench.runs.now) sweep.now.bench.reactions.now sweep.now.parts.swept.now sweep.now.parts.behind.now opened.now self.new.outcomes.items first all.items) }
+        ensures each { IfOk result (λ all. AreTried (R.is_seen sweep.now.bench.runs.now) sweep.now.bench.following placed.now sweep.now.parts.behind.now opened.now self.new.outcomes.items first all.items) }
         ensures kept { OnOk result (AreKept self.old.outcomes.items self.new.outcomes.items) }
     {
         let mut all = Vec::new(alloc);
@@ -235,12 +251,46 @@ impl Trials {
             if end <= place && !waits {
                 return Ok(all);
             }
-            let found = self.try_next(alloc, sweep, opened, place, &mut all, progress)?;
+            let found = self.try_next(alloc, sweep, opened, place, placed, &mut all, progress)?;
             waits = found.waits;
             if !waits && Ends::are_passed(stops, found.outcome) {
                 return Ok(all);
             }
         }
         Ok(all)
+    }
+
+    /// Tries what is placed a second time at all places of the block that begins at the first place of a number, where that is of
+    /// the part that begins at another.
+    pub fn try_behind<R: Runs, P: Progress>(
+        &mut self,
+        alloc: Global,
+        sweep: &Sweep<'_, R>,
+        inner: &Opened,
+        first: usize,
+        from: usize,
+        stops: Option<Ends>,
+        progress: &mut P,
+    ) -> Result<Vec<Tried>, Stop>
+        ensures few { IfOk result (λ all. vec_len all ≤ vec_len inner.now.all) }
+        ensures ahead { first < from → IfOk result (λ all. all.items ≡ []) }
+        ensures whole { from ≤ first → stops ≡ None → IfOk result (λ all. vec_len inner.now.all ≤ vec_len all) }
+        ensures each { IfOk result (λ all. AreTried (R.is_seen sweep.now.bench.runs.now) sweep.now.bench.following sweep.now.parts.second.now sweep.now.parts.behind.now inner.now self.new.outcomes.items 0 all.items) }
+        ensures kept { OnOk result (AreKept self.old.outcomes.items self.new.outcomes.items) }
+    {
+        if first < from {
+            return Ok(Vec::new(alloc));
+        }
+        let second = sweep.parts.second;
+        self.try_part(
+            alloc,
+            sweep,
+            inner,
+            second,
+            0,
+            inner.count(),
+            stops,
+            progress,
+        )
     }
 }

@@ -3,6 +3,7 @@ use Rattle.std.proofs.Common.{◌≡◌, ℕ, ◌<◌, Bool, true, false, not, �
 use Rattle.std.specs.List.{list_all}
 use Rattle.std.specs.Prelude.{◌↔◌, if◌then◌else◌, is_some}
 use Rattle.std.proofs.lemmas.Bool.Decides.{nat_tests}
+use Rattle.std.proofs.lemmas.Bool.{and_right}
 use Rattle.mcal_base.specs.declared.error_name.ErrorName.{ErrorName}
 use Rattle.mcal_base.specs.declared.service.Service.TheVariants as services
 use Rattle.det_errors.specs.Rows.{first_error}
@@ -19,7 +20,7 @@ use Rattle.gpt_driver.specs.declared.call.ChannelCall.TheVariants.{GetTimeElapse
 use Rattle.gpt_driver.specs.declared.call.GptMode.TheVariants.{Sleep}
 use Rattle.gpt_driver.specs.declared.driver.Channel.{Channel}
 use Rattle.gpt_driver.specs.declared.driver.GptDriver.{GptDriver}
-use Rattle.gpt_driver.specs.laws.Ground.{within}
+use Rattle.gpt_driver.specs.laws.RefinementRight.{within}
 use Rattle.timer_laws.specs.Channels.{Occurrence, after_all, leaves_module, leaves_course, leaves_start}
 use Rattle.timer_laws.specs.Expiries.{ExpiresBetween}
 use Rattle.timer_laws.proofs.ChannelSteps.{Makes, begins, starts, stops, sleeps, switched, serves, put_same, step, step_on, all_steps, not_itself}
@@ -190,10 +191,6 @@ still_unmarked o after now Never e = refl
 still_unmarked o after now (Running s v) e = absurd (cc e)
 still_unmarked o after now (Stopped value v) e = refl
 
-and_false : (p q : Bool) → q ≡ false → (p && q) ≡ false
-and_false true q e = e
-and_false false q e = refl
-
 pub still_all : (d : GptDriver) (later : World) (s : GptState) (c : ℕ) (xs : List Occurrence) → c < 8 → list_all (λ (x : Occurrence). leaves_start c x.what) xs ≡ true → still (channel_at s c).course ≡ true
     → ready d later (after_all d s xs) c ≡ false
 still_all d later s c xs lt left e =
@@ -201,4 +198,4 @@ still_all d later s c xs lt left e =
     let rests : still (channel_at end c).course ≡ true =
     all_steps d (λ after. still (channel_at after c).course ≡ true) (leaves_start c)
     (λ w after h one f. step (λ t. still t.course ≡ true) d w after c lt f h (λ y m. still_made d w (channel_at after c) c h y one f m)) s xs left e in
-    and_false (nat_lt c 8) _ (still_unmarked (channel_of d c) (channel_at end c).dropped later.now (channel_at end c).course rests)
+    and_right (nat_lt c 8) _ (still_unmarked (channel_of d c) (channel_at end c).dropped later.now (channel_at end c).course rests)

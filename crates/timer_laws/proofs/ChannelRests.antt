@@ -3,6 +3,7 @@ use Rattle.std.proofs.Common.{◌≡◌, ℕ, ◌+◌, ◌*◌, ◌<◌, Bool, t
 use Rattle.std.specs.List.{list_all}
 use Rattle.std.specs.Prelude.{if◌then◌else◌, is_some}
 use Rattle.std.proofs.lemmas.Bool.Decides.{nat_tests}
+use Rattle.std.proofs.lemmas.Bool.{and_right, false_from_ne_true}
 use Rattle.mcal_base.specs.Expiry.{runs_on}
 use Rattle.mcal_base.specs.declared.error_name.ErrorName.{ErrorName}
 use Rattle.run_model.specs.World.{World}
@@ -16,7 +17,7 @@ use Rattle.gpt_driver.specs.declared.call.ChannelCall.TheVariants.{GetTimeElapse
 use Rattle.gpt_driver.specs.declared.call.GptMode.TheVariants.{Sleep}
 use Rattle.gpt_driver.specs.declared.driver.Channel.{Channel}
 use Rattle.gpt_driver.specs.declared.driver.GptDriver.{GptDriver}
-use Rattle.gpt_driver.specs.laws.Ground.{within}
+use Rattle.gpt_driver.specs.laws.RefinementRight.{within}
 use Rattle.gpt_driver.specs.laws.Parts.{table_at}
 use Rattle.timer_laws.specs.Channels.{Occurrence, after_all, leaves_course, leaves_start}
 use Rattle.timer_laws.specs.Expiries.{ExpiresBetween}
@@ -108,24 +109,16 @@ done_by true s v p now later e x =
     let soon : now < s + v * p = omega (arith, once, x.expires.comes, x.later) in
     let on = (runs_until s v p now (factor_left v p counts) (factor_right v p counts)).1 soon in absurd (cc (sym e ∙ on))
 
-not_true : (q : Bool) → (q ≡ true → ⊥) → q ≡ false
-not_true true f = absurd (f refl)
-not_true false f = refl
-
 rest_expired : (o : Option Channel) (now later : ℕ) (x : Course) → runs o now x ≡ false → expired o now later x ≡ false
 rest_expired o now later Never e = refl
 rest_expired o now later (Stopped value v) e = refl
 rest_expired o now later (Running s v) e =
-    not_true _ (λ marked. done_by (one_shot_of o) s v (prescaler_of o) now later e ((by_times (one_shot_of o) s v (prescaler_of o) now later).0 marked))
+    false_from_ne_true _ (λ marked. done_by (one_shot_of o) s v (prescaler_of o) now later e ((by_times (one_shot_of o) s v (prescaler_of o) now later).0 marked))
 
 stopped_expired : (o : Option Channel) (now later : ℕ) (t : Timing) (q : Bool) → runs o now t.course ≡ q
     → expired o now later (if q then record t { course = Stopped (elapsed o now t.course) (target_of t.course); dropped = now } else t).course ≡ false
 stopped_expired o now later t true e = refl
 stopped_expired o now later t false e = rest_expired o now later t.course e
-
-and_false : (p q : Bool) → q ≡ false → (p && q) ≡ false
-and_false true q e = e
-and_false false q e = refl
 
 order : (a b : ℕ) → (a < b) ⊎ (nat_lt a b ≡ false)
 order a b = by (nat_lt a b) refl where
@@ -143,7 +136,7 @@ sleep_mark d w later s c xs on off left = by_number (order c 8) where
   by_number (inr past) = ap (λ q. q && expired (channel_of d c) (channel_at end c).dropped later.now (channel_at end c).course) past
   by_number (inl lt) =
       let is = seen_all d (acts d w s (SetMode (Some Sleep))).state c xs lt left ∙ ap (λ (t : Timing). seen t) (asleep_channel d w s c lt on off) in
-      and_false (nat_lt c 8) _
+      and_right (nat_lt c 8) _
       (ap (λ (p : Course × ℕ). expired (channel_of d c) p.1 later.now p.0) is
       ∙ stopped_expired (channel_of d c) w.now later.now (channel_at s c) (runs (channel_of d c) w.now (channel_at s c).course) refl)
 

@@ -3,6 +3,8 @@ use Rattle.std.proofs.Common.{◌≡◌, ℕ, ◌<◌, ◌==◌, Bool, true, fal
 use Rattle.std.specs.List.{list_all}
 use Rattle.std.specs.Prelude.{if◌then◌else◌}
 use Rattle.std.proofs.lemmas.Bool.Decides.{nat_tests}
+use Rattle.std.proofs.lemmas.Bool.{and_parts}
+use Rattle.plain_facts.specs.Numbers.{eq_self}
 use Rattle.mcal_base.specs.declared.error_name.ErrorName.{ErrorName}
 use Rattle.run_model.specs.Frame.{state_by}
 use Rattle.run_model.specs.Machine.{Happening, Acts, Serves, Starts, Aborts, Moves, Restarts}
@@ -34,9 +36,6 @@ pub data Makes (d : GptDriver) (w : World) (t : Timing) (c : ℕ) : Happening Ca
 
 -- ---- a channel that was put
 
-same : (c : ℕ) → (c == c) ≡ true
-same c = grind (arith, nat_tests)
-
 are_same : (c n : ℕ) → (c == n) ≡ true → n ≡ c
 are_same c n e = grind (arith, nat_tests)
 
@@ -44,7 +43,7 @@ pub put_at : (s : GptState) (n c : ℕ) (x : Timing) → c < 8 → channel_at (w
 put_at s n c x lt = table_at (λ k. if k == n then x else channel_at s k) c lt
 
 pub put_same : (s : GptState) (c : ℕ) (x : Timing) → c < 8 → channel_at (with_channel s c x) c ≡ x
-put_same s c x lt = put_at s c c x lt ∙ ap (λ q. if q then x else channel_at s c) (same c)
+put_same s c x lt = put_at s c c x lt ∙ ap (λ q. if q then x else channel_at s c) (eq_self c)
 
 -- where it is another one, the channel is as it was
 put : (P : Timing → Type 0) (s : GptState) (n c : ℕ) (x : Timing) → c < 8 → (n ≡ c → P x) → P (channel_at s c) → P (channel_at (with_channel s n x) c)
@@ -147,17 +146,13 @@ step_on d w s (Restarts reason) left on = absurd (cc left)
 
 -- ---- histories
 
-pub both : (a b : Bool) → (a && b) ≡ true → (a ≡ true) × (b ≡ true)
-both true b h = (refl, h)
-both false b h = absurd (cc h)
-
 pub all_steps : (d : GptDriver) (P : GptState → Type 0) (leaves : Happening Call → Bool)
     → ((w : World) (s : GptState) (h : Happening Call) → leaves h ≡ true → P s → P (state_after d w s h))
     → (s : GptState) (xs : List Occurrence) → list_all (λ (x : Occurrence). leaves x.what) xs ≡ true → P s → P (after_all d s xs)
 all_steps d P leaves one s [] left p = p
 all_steps d P leaves one s (x ∷ xs) left p =
-    let parts = both (leaves x.what) (list_all (λ (y : Occurrence). leaves y.what) xs) left in
+    let parts = and_parts (leaves x.what) (list_all (λ (y : Occurrence). leaves y.what) xs) left in
     all_steps d P leaves one (state_after d x.world s x.what) xs parts.1 (one x.world s x.what parts.0 p)
 
 pub not_itself : (c : ℕ) → not (c == c) ≡ true → ⊥
-not_itself c e = let no : not (c == c) ≡ false = ap not (same c) in absurd (cc (sym no ∙ e))
+not_itself c e = let no : not (c == c) ≡ false = ap not (eq_self c) in absurd (cc (sym no ∙ e))

@@ -1,17 +1,11 @@
 -- The numbers of expiries differ exactly where an expiry time lies between.
 use Rattle.std.proofs.Common.{◌≡◌, ℕ, zero, suc, ◌+◌, ◌-◌, ◌*◌, ◌/◌, ◌<◌, ◌≤◌, min, Bool, true, false, nat_lt, refl, arith, ◌⊎◌, inl, inr}
 use Rattle.std.specs.Prelude.{◌↔◌}
-use Rattle.std.proofs.lemmas.Bool.Decides.{nat_tests}
 use Rattle.std.proofs.Math.Nat.{div-mul-le_self, div-zero, mul-le-mul_right}
+use Rattle.plain_facts.specs.Numbers.{lt_from, lt_is}
 use Rattle.mcal_base.specs.Expiry.{expiries}
 use Rattle.mcal_base.proofs.ExpiryLaws.{expiries-reached}
 use Rattle.timer_laws.specs.Expiries.{ExpiresBetween}
-
-less : (a b : ℕ) → nat_lt a b ≡ true → a < b
-less a b e = grind (arith, nat_tests)
-
-is_less : (a b : ℕ) → a < b → nat_lt a b ≡ true
-is_less a b h = grind (arith, nat_tests)
 
 -- where one came its time has come
 came : (n k j : ℕ) → j ≤ n / k → j * k ≤ n
@@ -96,4 +90,4 @@ numbers_of false s v p first last e = let many = many_came false s v p first las
 pub by_times : (one_shot : Bool) (s v p first last : ℕ)
     → (nat_lt (expiries one_shot s v p first) (expiries one_shot s v p last) ≡ true) ↔ ExpiresBetween one_shot s v p first last
 by_times one_shot s v p first last =
-    (λ e. times_of one_shot s v p first last (less _ _ e), λ e. is_less _ _ (numbers_of one_shot s v p first last e))
+    (λ e. times_of one_shot s v p first last (lt_is _ _ e), λ e. lt_from _ _ (numbers_of one_shot s v p first last e))

@@ -3,6 +3,7 @@ use Rattle.std.proofs.Common.{◌≡◌, ℕ, ◌+◌, ◌<◌, Bool, true, fals
 use Rattle.std.specs.Prelude.{◌↔◌, if◌then◌else◌}
 use Rattle.std.specs.List.{AllByRecursion}
 use Rattle.std.proofs.lemmas.Bool.Decides.{nat_tests}
+use Rattle.std.proofs.lemmas.Bool.{or_left, or_right}
 use Rattle.mcal_base.specs.Bits.{has_bit}
 use Rattle.mcal_base.specs.declared.register.Reg.TheVariants.{TimerGateSet, TimerFlags}
 use Rattle.chip_timers.specs.Accesses.{Access, after, after_all, LeavesFlag, LeavesStanding, HasChannel, Starts, expires_by, expires_in}
@@ -57,17 +58,11 @@ pub expiry_found : (c : ℕ) (b : Timers) (xs : List Access) → expires_in c b 
 expiry_found c b [] e = absurd (cc e)
 expiry_found c b (x ∷ xs) e = by_place c b x xs (λ f. expiry_found c (after b x) xs f) (either (expires_by c b x) (expires_in c (after b x) xs) e)
 
-or_first : (p q : Bool) → p ≡ true → (p || q) ≡ true
-or_first p q e = grind arith
-
-or_second : (p q : Bool) → q ≡ true → (p || q) ≡ true
-or_second p q e = grind arith
-
 in_part : (c : ℕ) (b : Timers) (before : List Access) (ticks : ℕ) (rest : List Access)
     → expired_between (timer_at (after_all b before) c).count (after_all b before).time ((after_all b before).time + ticks) ≡ true
     → expires_in c b (before ++ accesses.Passes ticks ∷ rest) ≡ true
-in_part c b [] ticks rest e = or_first _ _ e
-in_part c b (x ∷ before) ticks rest e = or_second _ _ (in_part c (after b x) before ticks rest e)
+in_part c b [] ticks rest e = or_left _ _ e
+in_part c b (x ∷ before) ticks rest e = or_right _ _ (in_part c (after b x) before ticks rest e)
 
 pub expiry_flags : (c : ℕ) (b : Timers) (xs : List Access) → ExpiryIn b c xs → expires_in c b xs ≡ true
 expiry_flags c b xs e =

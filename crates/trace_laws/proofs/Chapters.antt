@@ -14,10 +14,10 @@ use Rattle.run_model.specs.Entry.{Entry, Said}
 use Rattle.run_model.specs.Follows.{IsOne, Waits, ThenComes, IsStep, GoesOn, deeds_in, ends_within, is_reached}
 use Rattle.run_model.specs.Frame.{resets_chip}
 use Rattle.run_model.specs.Legal.{IsLegal}
-use Rattle.run_model.specs.Moment.{Setting, Moment, Deed, Begins, Steps, Happens, after, after_all}
+use Rattle.run_model.specs.Moment.{Setting, Moment, Transition, Begins, Steps, Happens, after, after_all}
 use Rattle.run_model.specs.Stops.{is_step, steps_in}
 use Rattle.run_model.specs.declared.item.Stepped.{Stepped}
-use Rattle.run_model.specs.declared.reach.Reach.{Reach}
+use Rattle.run_model.specs.declared.stop_condition.StopCondition.{StopCondition}
 use Rattle.bench_report.specs.Report.{frames_after_end, steps_next, wait_lines, said_lines, chapter_lines, chapter_frames}
 use Rattle.bench_report.specs.Rows.{Row}
 use Rattle.bench_report.specs.Shown.{next_rows}
@@ -83,7 +83,7 @@ module _ {State Call : Type 0} (g : Setting State Call) (call_of : Request → C
       (step_told n d depth s frames (length m.opens) (steps_in es + left) h step.some e step.mark))
 
   -- behind a step comes its reset, or nothing, or more
-  comes_follow : (n : ℕ) (reach : Reach) (made : ℕ) (s : Stepped) (order : Order) (frames : List Purpose) (shows : List (List Row)) (es : List Entry) (m : Moment State Call) (left : ℕ) (More : Type 0) → StepIs g m s →
+  comes_follow : (n : ℕ) (reach : StopCondition) (made : ℕ) (s : Stepped) (order : Order) (frames : List Purpose) (shows : List (List Row)) (es : List Entry) (m : Moment State Call) (left : ℕ) (More : Type 0) → StepIs g m s →
       ThenComes g n reach made m s es More → (More → 0 < length (after g m (Steps s)).opens → Later n order (frames_after_end frames s.ended) shows es (after g m (Steps s)) left) → Later n order (frames_after_end frames s.ended) shows es (after g m (Steps s)) left
   comes_follow n reach made s order frames shows es m left More step h more =
       let m1 = after g m (Steps s) in
@@ -112,7 +112,7 @@ module _ {State Call : Type 0} (g : Setting State Call) (call_of : Request → C
       (λ ends is e k. reset_follow n Watchdog order frames shows es (after g m (Happens (orders.Tick ticks))) e left is.1 (stands_less e.frames e.steps frames (length m.opens) (steps_in es) left k))
       (λ on goes. more goes.2)
 
-  said_follows : HasLines g → (n : ℕ) (reach : Reach) (made : ℕ) (order : Order) (frames : List Purpose) (shows : List (List Row)) (line depth : ℕ) (said : Said) (es : List Entry) (m : Moment State Call) (d : Drawing) (left : ℕ) (more : List (Deed Call)) (More : ℕ → Deed Call → Type 0) →
+  said_follows : HasLines g → (n : ℕ) (reach : StopCondition) (made : ℕ) (order : Order) (frames : List Purpose) (shows : List (List Row)) (line depth : ℕ) (said : Said) (es : List Entry) (m : Moment State Call) (d : Drawing) (left : ℕ) (more : List (Transition Call)) (More : ℕ → Transition Call → Type 0) →
       IsStep g n reach made m (record { line = line; depth = depth; said = said }) es said More → IsLegal g m (deeds_in call_of order ((record { line = line; depth = depth; said = said }) ∷ es) ++ more) → OnChip m.opens →
       Stands d.frames d.steps frames (length m.opens) (steps_in ((record { line = line; depth = depth; said = said }) ∷ es) + left) →
       ((s : Stepped) → More (made + 1) (Steps s) → IsLegal g (after g m (Steps s)) (deeds_in call_of order es ++ more) → OnChip (after g m (Steps s)).opens → 0 < length (after g m (Steps s)).opens → Later n order (frames_after_end frames s.ended) shows es (after g m (Steps s)) left) →
@@ -132,7 +132,7 @@ module _ {State Call : Type 0} (g : Setting State Call) (call_of : Request → C
   said_follows lines n reach made order frames shows line depth (entry.Stays c) es m d left more More h legal chip stands ih wait = absurd h
   said_follows lines n reach made order frames shows line depth (entry.Resets r k) es m d left more More h legal chip stands ih wait = absurd h
 
-  pub steps_follow : HasLines g → (n : ℕ) (reach : Reach) (order : Order) (shows : List (List Row)) (left : ℕ) (more : List (Deed Call)) (items : List Entry) (made : ℕ) (frames : List Purpose) (m : Moment State Call) (d : Drawing) →
+  pub steps_follow : HasLines g → (n : ℕ) (reach : StopCondition) (order : Order) (shows : List (List Row)) (left : ℕ) (more : List (Transition Call)) (items : List Entry) (made : ℕ) (frames : List Purpose) (m : Moment State Call) (d : Drawing) →
       GoesOn g n reach made m items → IsLegal g m (deeds_in call_of order items ++ more) → OnChip m.opens → Stands d.frames d.steps frames (length m.opens) (steps_in items + left) → Follow n order frames shows items m d left
   steps_follow lines n reach order shows left more [] made frames m d h legal chip stands = absurd h
   steps_follow lines n reach order shows left more (e ∷ es) made frames m d h legal chip stands =

@@ -9,7 +9,7 @@ use Rattle.mcal_base.specs.declared.directive.Request.{Request}
 use Rattle.run_model.specs.Entry.{Entry}
 use Rattle.run_model.specs.Follows.{Follows, deeds_in}
 use Rattle.run_model.specs.Legal.{IsLegal}
-use Rattle.run_model.specs.Moment.{Setting, Moment, Deed, after_all, start_moment}
+use Rattle.run_model.specs.Moment.{Setting, Moment, Transition, after_all, start_moment}
 use Rattle.run_model.specs.Script.{deeds_of}
 use Rattle.run_model.specs.Stops.{is_step, steps_in}
 use Rattle.script_runner.specs.Scripts.{LinesRise, IsRun}
@@ -85,7 +85,7 @@ module _ {State Call : Type 0} (g : Setting State Call) (call_of : Request → C
       let own : Each d.line any h.first = lines_of g call_of m d.line d.order h.first (is_show d.order) refl h.gives in
       let above : AllAbove d.line h.later = all_above g call_of d.line script _ h.later rise.1 h.rest in
       let deeds = deeds_in call_of d.order h.first in
-      let behind : IsLegal g m (deeds ++ deeds_of call_of all h.later) = subst (λ (xs : List (Deed Call)). IsLegal g m xs) (ap (deeds_of call_of all) h.is ∙ deeds_split g call_of all d.line d.order h.first h.later found.0 own) legal in
+      let behind : IsLegal g m (deeds ++ deeds_of call_of all h.later) = subst (λ (xs : List (Transition Call)). IsLegal g m xs) (ap (deeds_of call_of all) h.is ∙ deeds_split g call_of all d.line d.order h.first h.later found.0 own) legal in
       let ready : Stands x.frames x.steps frames (length m.opens) (steps_in h.first + steps_in h.later) = subst (λ (k : ℕ). Stands x.frames x.steps frames (length m.opens) k) (ap steps_in h.is ∙ steps_parted h.first h.later) stands in
       let m1 = after_all g m deeds in
       let told_first = gives_chapter g call_of lines d.line d.order frames shows h.first m x (steps_in h.later) (deeds_of call_of all h.later) h.gives behind chip ready in

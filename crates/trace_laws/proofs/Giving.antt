@@ -15,11 +15,11 @@ use Rattle.run_model.specs.Entry.{Entry, Said}
 use Rattle.run_model.specs.Follows.{IsOne, Ticks, ticks_through, is_awaiting, ComesAwaited, ends_within, IsStep, GoesOn, Goes, BeginsOnly, BeginsWhole, Shows, HappensOnly, Gives, deeds_in, call_held, line_held}
 use Rattle.run_model.specs.Frame.{Open}
 use Rattle.run_model.specs.Legal.{IsLegal}
-use Rattle.run_model.specs.Moment.{Setting, Moment, Deed, Begins, Enters, after, after_all}
+use Rattle.run_model.specs.Moment.{Setting, Moment, Transition, Begins, Enters, after, after_all}
 use Rattle.run_model.specs.Script.{deed_of}
 use Rattle.run_model.specs.Stops.{steps_in}
-use Rattle.run_model.specs.declared.reach.Reach.{Reach}
-use Rattle.run_model.specs.declared.reach.Reach.TheVariants.{Count, Until, Whole}
+use Rattle.run_model.specs.declared.stop_condition.StopCondition.{StopCondition}
+use Rattle.run_model.specs.declared.stop_condition.StopCondition.TheVariants.{Count, Until, Whole}
 use Rattle.bench_report.specs.Lines as Lines
 use Rattle.bench_report.specs.Lines.{Line}
 use Rattle.bench_report.specs.Report.{purpose_of, is_stepped, steps_next, wait_lines, chapter_lines, chapter_frames}
@@ -90,7 +90,7 @@ module _ {State Call : Type 0} (g : Setting State Call) (call_of : Request → C
       by true one = ticks_one t n order frames shows items m d left one h
       by false all = same_follows g call_of n order frames shows items _ m d left all (through (t - k))
 
-  goes_follow : HasLines g → (n : ℕ) (reach : Reach) (order : Order) (frames : List Purpose) (shows : List (List Row)) (items : List Entry) (m : Moment State Call) (os : List (Open Call)) (d : Drawing) (left : ℕ) (more : List (Deed Call)) →
+  goes_follow : HasLines g → (n : ℕ) (reach : StopCondition) (order : Order) (frames : List Purpose) (shows : List (List Row)) (items : List Entry) (m : Moment State Call) (os : List (Open Call)) (d : Drawing) (left : ℕ) (more : List (Transition Call)) →
       Goes g n reach m os items → IsLegal g m (deeds_in call_of order items ++ more) → OnChip m.opens → Ready frames items m d left → Follow g call_of n order frames shows items m d left
   goes_follow lines n reach order frames shows items m [] d left more h legal chip r = stays n order frames shows Empty items m d left h r
   goes_follow lines n (Count zero) order frames shows items m (o ∷ os) d left more h legal chip r = same_follows g call_of n order frames shows items [] m d left h (less frames items m d left r)
@@ -124,7 +124,7 @@ module _ {State Call : Type 0} (g : Setting State Call) (call_of : Request → C
   -- ---- directives that begin a frame
 
   -- what begins by an order
-  record BeginsBy (order : Order) (p : Purpose) (m : Moment State Call) (deed : Deed Call) : Type 0 where
+  record BeginsBy (order : Order) (p : Purpose) (m : Moment State Call) (deed : Transition Call) : Type 0 where
     purpose : purpose_of order ≡ Some p
     deeds : deed_of call_of (Some order) entry.Begins ≡ deed ∷ []
     more : length (after g m deed).opens ≡ suc (length m.opens)
@@ -135,23 +135,23 @@ module _ {State Call : Type 0} (g : Setting State Call) (call_of : Request → C
       (stays_follow g call_of n order frames shows cause _ m (entered d (first_at n order (Lines.Holds cause))) left refl
       (quiet_entered d n order (Lines.Holds cause) frames (length m.opens) left refl (less frames items m d left h)))
 
-  begun_chapter : (n : ℕ) (order : Order) (p : Purpose) (deed : Deed Call) (frames : List Purpose) (shows : List (List Row)) (items : List Entry) (m : Moment State Call) (d : Drawing) (left : ℕ) → BeginsBy order p m deed → length m.opens < 8 →
+  begun_chapter : (n : ℕ) (order : Order) (p : Purpose) (deed : Transition Call) (frames : List Purpose) (shows : List (List Row)) (items : List Entry) (m : Moment State Call) (d : Drawing) (left : ℕ) → BeginsBy order p m deed → length m.opens < 8 →
       IsOne m n entry.Begins items → Ready frames items m d left → Chapter n order frames shows items m d left
   begun_chapter n order p deed frames shows items m d left b lt is h =
       let E = entered d (first_at n order Lines.Done) in
       let stands : Stands E.frames E.steps (p ∷ frames) (suc (length m.opens)) left = begun_entered d n order Lines.Done p frames (length m.opens) left b.purpose lt (less frames items m d left h) in
-      let count : suc (length m.opens) ≡ length (after_all g m (deed_of call_of (Some order) entry.Begins ++ [])).opens = sym (ap (λ (ds : List (Deed Call)). length (after_all g m (ds ++ [])).opens) b.deeds ∙ b.more) in
+      let count : suc (length m.opens) ≡ length (after_all g m (deed_of call_of (Some order) entry.Begins ++ [])).opens = sym (ap (λ (ds : List (Transition Call)). length (after_all g m (ds ++ [])).opens) b.deeds ∙ b.more) in
       subst (λ (xs : List Entry). Chapter n order frames shows xs m d left) (sym is)
       (subst (λ (c : ℕ). Stands E.frames E.steps (option_to_list (purpose_of order) ++ frames) c left) count
       (subst (λ (o : Option Purpose). Stands E.frames E.steps (option_to_list o ++ frames) (suc (length m.opens)) left) (sym b.purpose) stands))
 
-  begins_only : (n : ℕ) (order : Order) (p : Purpose) (deed : Deed Call) (held : Option Held) (frames : List Purpose) (shows : List (List Row)) (items : List Entry) (m : Moment State Call) (d : Drawing) (left : ℕ) → BeginsBy order p m deed → (held ≡ None → length m.opens < 8) →
+  begins_only : (n : ℕ) (order : Order) (p : Purpose) (deed : Transition Call) (held : Option Held) (frames : List Purpose) (shows : List (List Row)) (items : List Entry) (m : Moment State Call) (d : Drawing) (left : ℕ) → BeginsBy order p m deed → (held ≡ None → length m.opens < 8) →
       BeginsOnly m n held items → Ready frames items m d left → Chapter n order frames shows items m d left
   begins_only n order p deed (Some cause) frames shows items m d left b lt is h = held_chapter n order frames shows cause items m d left is h
   begins_only n order p deed None frames shows items m d left b lt is h = begun_chapter n order p deed frames shows items m d left b (lt refl) is h
 
   -- steps say first that one was made, or that it waited, or the reset that ended its wait
-  said_first : (n : ℕ) (reach : Reach) (made : ℕ) (order : Order) (frames : List Purpose) (shows : List (List Row)) (line depth : ℕ) (said : Said) (es : List Entry) (m : Moment State Call) (More : ℕ → Deed Call → Type 0) → IsStep g n reach made m (record { line = line; depth = depth; said = said }) es said More →
+  said_first : (n : ℕ) (reach : StopCondition) (made : ℕ) (order : Order) (frames : List Purpose) (shows : List (List Row)) (line depth : ℕ) (said : Said) (es : List Entry) (m : Moment State Call) (More : ℕ → Transition Call → Type 0) → IsStep g n reach made m (record { line = line; depth = depth; said = said }) es said More →
       begins_of order (told (first_said (chapter_lines true order frames shows ((record { line = line; depth = depth; said = said }) ∷ es)))) ≡ purpose_of order
   said_first n reach made order frames shows line depth (entry.Steps s) es m More h = refl
   said_first n reach made order frames shows line depth (entry.Happens (orders.Tick ticks)) es m More h =
@@ -164,7 +164,7 @@ module _ {State Call : Type 0} (g : Setting State Call) (call_of : Request → C
   said_first n reach made order frames shows line depth (entry.Stays c) es m More h = absurd h
   said_first n reach made order frames shows line depth (entry.Resets r k) es m More h = absurd h
 
-  steps_first : (n : ℕ) (reach : Reach) (made : ℕ) (order : Order) (frames : List Purpose) (shows : List (List Row)) (steps : List Entry) (m : Moment State Call) → GoesOn g n reach made m steps → begins_of order (told (first_said (chapter_lines true order frames shows steps))) ≡ purpose_of order
+  steps_first : (n : ℕ) (reach : StopCondition) (made : ℕ) (order : Order) (frames : List Purpose) (shows : List (List Row)) (steps : List Entry) (m : Moment State Call) → GoesOn g n reach made m steps → begins_of order (told (first_said (chapter_lines true order frames shows steps))) ≡ purpose_of order
   steps_first n reach made order frames shows [] m h = absurd h
   steps_first n reach made order frames shows (e ∷ es) m h = said_first n reach made order frames shows e.line e.depth e.said es m (λ k deed. GoesOn g n reach k (after g m deed) es) h
 
@@ -172,22 +172,22 @@ module _ {State Call : Type 0} (g : Setting State Call) (call_of : Request → C
   begins_counted n depth steps = counted (record { line = n; depth = depth; said = entry.Begins }) steps ∙ omega arith
 
   -- a frame that begins, and its steps
-  whole_by : HasLines g → (n : ℕ) (order : Order) (p : Purpose) (deed : Deed Call) (frames fs : List Purpose) (shows : List (List Row)) (steps : List Entry) (ds : List (Deed Call)) (m : Moment State Call) (d : Drawing) (left : ℕ) (more : List (Deed Call)) → BeginsBy order p m deed → length m.opens < 8 →
+  whole_by : HasLines g → (n : ℕ) (order : Order) (p : Purpose) (deed : Transition Call) (frames fs : List Purpose) (shows : List (List Row)) (steps : List Entry) (ds : List (Transition Call)) (m : Moment State Call) (d : Drawing) (left : ℕ) (more : List (Transition Call)) → BeginsBy order p m deed → length m.opens < 8 →
       fs ≡ p ∷ frames → ds ≡ deed ∷ [] → GoesOn g n Whole 0 (after g m deed) steps → IsLegal g m ((ds ++ deeds_in call_of order steps) ++ more) → OnChip (after g m deed).opens → Stands d.frames d.steps frames (length m.opens) (steps_in steps + left) →
       Tells n (entered d (first_at n order (first_said (chapter_lines true order fs shows steps)))) (chapter_lines true order fs shows steps)
       (λ e. Stands e.frames e.steps (chapter_frames order fs steps) (length (after_all g m (ds ++ deeds_in call_of order steps)).opens) left)
   whole_by lines n order p deed frames fs shows steps ds m d left more b lt f e goes legal chip h =
-      let P : List Purpose → List (Deed Call) → Type 0 = λ qs xs. Tells n (entered d (first_at n order (first_said (chapter_lines true order qs shows steps)))) (chapter_lines true order qs shows steps)
+      let P : List Purpose → List (Transition Call) → Type 0 = λ qs xs. Tells n (entered d (first_at n order (first_said (chapter_lines true order qs shows steps)))) (chapter_lines true order qs shows steps)
       (λ y. Stands y.frames y.steps (chapter_frames order qs steps) (length (after_all g m (xs ++ deeds_in call_of order steps)).opens) left) in
       let gs : List Purpose = p ∷ frames in
       let first = first_said (chapter_lines true order gs shows steps) in
       let E = entered d (first_at n order first) in
       let stands = begun_entered d n order first p frames (length m.opens) (steps_in steps + left) (steps_first n Whole 0 order gs shows steps (after g m deed) goes ∙ b.purpose) lt h in
-      let behind : IsLegal g (after g m deed) (deeds_in call_of order steps ++ more) = (subst (λ (xs : List (Deed Call)). IsLegal g m ((xs ++ deeds_in call_of order steps) ++ more)) e legal).3 in
-      subst (λ (xs : List (Deed Call)). P fs xs) (sym e) (subst (λ (qs : List Purpose). P qs (deed ∷ [])) (sym f)
+      let behind : IsLegal g (after g m deed) (deeds_in call_of order steps ++ more) = (subst (λ (xs : List (Transition Call)). IsLegal g m ((xs ++ deeds_in call_of order steps) ++ more)) e legal).3 in
+      subst (λ (xs : List (Transition Call)). P fs xs) (sym e) (subst (λ (qs : List Purpose). P qs (deed ∷ [])) (sym f)
       (steps_follow g call_of lines n Whole order shows left more steps 0 gs (after g m deed) E goes behind chip (subst (λ (c : ℕ). Stands E.frames E.steps gs c (steps_in steps + left)) (sym b.more) stands)))
 
-  whole_chapter : HasLines g → (n : ℕ) (order : Order) (p : Purpose) (deed : Deed Call) (held : Option Held) (frames : List Purpose) (shows : List (List Row)) (items : List Entry) (m : Moment State Call) (d : Drawing) (left : ℕ) (more : List (Deed Call)) → BeginsBy order p m deed → (held ≡ None → length m.opens < 8) →
+  whole_chapter : HasLines g → (n : ℕ) (order : Order) (p : Purpose) (deed : Transition Call) (held : Option Held) (frames : List Purpose) (shows : List (List Row)) (items : List Entry) (m : Moment State Call) (d : Drawing) (left : ℕ) (more : List (Transition Call)) → BeginsBy order p m deed → (held ≡ None → length m.opens < 8) →
       (held ≡ None → OnChip (after g m deed).opens) → BeginsWhole g m n deed held items → IsLegal g m (deeds_in call_of order items ++ more) → Ready frames items m d left → Chapter n order frames shows items m d left
   whole_chapter lines n order p deed (Some cause) frames shows items m d left more b lt chip is legal h = held_chapter n order frames shows cause items m d left is h
   whole_chapter lines n order p deed None frames shows items m d left more b lt chip is legal h =
@@ -208,7 +208,7 @@ module _ {State Call : Type 0} (g : Setting State Call) (call_of : Request → C
   line_by : (l : ℕ) (order : Order) (m : Moment State Call) → purpose_of order ≡ Some (purposes.Handler l) → deed_of call_of (Some order) entry.Begins ≡ Enters l ∷ [] → BeginsBy order (purposes.Handler l) m (Enters l)
   line_by l order m e f = record { purpose = e; deeds = f; more = refl }
 
-  pub gives_chapter : HasLines g → (n : ℕ) (order : Order) (frames : List Purpose) (shows : List (List Row)) (items : List Entry) (m : Moment State Call) (d : Drawing) (left : ℕ) (more : List (Deed Call)) → Gives g call_of m n order items → IsLegal g m (deeds_in call_of order items ++ more) →
+  pub gives_chapter : HasLines g → (n : ℕ) (order : Order) (frames : List Purpose) (shows : List (List Row)) (items : List Entry) (m : Moment State Call) (d : Drawing) (left : ℕ) (more : List (Transition Call)) → Gives g call_of m n order items → IsLegal g m (deeds_in call_of order items ++ more) →
       OnChip m.opens → Ready frames items m d left → Chapter n order frames shows items m d left
   gives_chapter lines n (orders.Call level r) frames shows items m d left more h legal chip ready =
       begins_only n (orders.Call level r) (purposes.Call r.service) (Begins (call_of r) level) (call_held g m (call_of r) level) frames shows items m d left (call_by level r (orders.Call level r) m refl refl) (call_room g m (call_of r) level) h ready

@@ -2,6 +2,7 @@
 use Rattle.std.proofs.Common.{◌≡◌, ℕ, suc, ◌+◌, ◌-◌, ◌<◌, Bool, true, false, List, [], ◌∷◌, ◌++◌, length, Option, Some, None, refl, ◌∙◌, ap, sym, subst, arith}
 use Rattle.std.specs.Prelude.{not, nat_lt, option_map}
 use Rattle.std.proofs.lemmas.Bool.Decides.{nat_tests}
+use Rattle.std.proofs.lemmas.Bool.{not-false}
 use Rattle.chip_model.specs.Chip.{is_pending, is_masked}
 use Rattle.mcal_base.specs.declared.answer.Answer.{Answer}
 use Rattle.mcal_base.specs.declared.moves.Event.{Event}
@@ -9,7 +10,7 @@ use Rattle.mcal_base.specs.declared.moves.Event.TheVariants as events
 use Rattle.run_model.specs.Causes.{first_cause, call_cause, line_cause, is_full, tags_of, call_level_allows, line_level_allows, may_reenter, top_noted}
 use Rattle.run_model.specs.Frame.{Origin, Called, Entered, Open, open_after, top_after, resets_chip}
 use Rattle.run_model.specs.Legal.{IsOwnEvent, EventRight, LegalStep, IsLegalDeed, IsServed, UnusedIsIdle, IsLegal}
-use Rattle.run_model.specs.Moment.{Setting, Moment, Deed, Begins, Enters, Steps, Happens, Resets, after, after_step, after_all}
+use Rattle.run_model.specs.Moment.{Setting, Moment, Transition, Begins, Enters, Steps, Happens, Resets, after, after_step, after_all}
 use Rattle.run_model.specs.declared.item.Stepped.{Stepped}
 use Rattle.trace_reader.specs.Told.{mark_of}
 use Rattle.trace_signs.specs.Drawing.{is_on_chip}
@@ -34,10 +35,6 @@ free_by false false true d e h = cc
 free_by false false false true e h = cc
 free_by false false false false true h = cc
 free_by false false false false false h = (refl, refl, refl)
-
-not_false : (b : Bool) → not b ≡ false → b ≡ true
-not_false true h = refl
-not_false false h = cc
 
 tags_counted : {Call : Type 0} (os : List (Open Call)) → length (tags_of os) ≡ length os
 tags_counted [] = refl
@@ -65,7 +62,7 @@ module _ {State Call : Type 0} (g : Setting State Call) where
   pub line_used : (m : Moment State Call) (l : ℕ) → IsServed g m → line_cause (is_masked m.chip) (tags_of m.opens) (g.level_of l) (is_pending m.chip l) ≡ None → g.used l ≡ true
   line_used m l served h =
       let free = free_by (is_masked m.chip) (not (line_level_allows (tags_of m.opens) (g.level_of l))) false (not (is_pending m.chip l)) (is_full (tags_of m.opens)) h in
-      used_by m l (g.used l) refl served.unused free.0 (not_false (is_pending m.chip l) free.1)
+      used_by m l (g.used l) refl served.unused free.0 (not-false (is_pending m.chip l) free.1)
 
   -- ---- a step
 
@@ -117,22 +114,22 @@ module _ {State Call : Type 0} (g : Setting State Call) where
 
   -- ---- all deeds
 
-  deed_chip : HasLines g → (m : Moment State Call) (d : Deed Call) → OnChip m.opens → IsServed g m → IsLegalDeed g m d → OnChip (after g m d).opens
+  deed_chip : HasLines g → (m : Moment State Call) (d : Transition Call) → OnChip m.opens → IsServed g m → IsLegalDeed g m d → OnChip (after g m d).opens
   deed_chip lines m (Begins c level) chip served h = (tt, chip)
   deed_chip lines m (Enters l) chip served h = (lines.used l (line_used m l served h), chip)
   deed_chip lines m (Steps s) chip served h = (step_is lines m s chip h).chip
   deed_chip lines m (Happens order) chip served h = chip
   deed_chip lines m (Resets reason) chip served h = tt
 
-  pub all_chip : HasLines g → (m : Moment State Call) (ds more : List (Deed Call)) → OnChip m.opens → IsLegal g m (ds ++ more) → OnChip (after_all g m ds).opens
+  pub all_chip : HasLines g → (m : Moment State Call) (ds more : List (Transition Call)) → OnChip m.opens → IsLegal g m (ds ++ more) → OnChip (after_all g m ds).opens
   all_chip lines m [] more chip h = chip
   all_chip lines m (d ∷ ds) more chip h = all_chip lines (after g m d) ds more (deed_chip lines m d chip h.0 h.2) h.3
 
-  pub legal_behind : (m : Moment State Call) (ds more : List (Deed Call)) → IsLegal g m (ds ++ more) → IsLegal g (after_all g m ds) more
+  pub legal_behind : (m : Moment State Call) (ds more : List (Transition Call)) → IsLegal g m (ds ++ more) → IsLegal g (after_all g m ds) more
   legal_behind m [] more h = h
   legal_behind m (d ∷ ds) more h = legal_behind (after g m d) ds more h.3
 
   -- the moment before deeds of a legal run
-  pub served : (m : Moment State Call) (ds : List (Deed Call)) → IsLegal g m ds → IsServed g m
+  pub served : (m : Moment State Call) (ds : List (Transition Call)) → IsLegal g m ds → IsServed g m
   served m [] h = h
   served m (d ∷ ds) h = h.0

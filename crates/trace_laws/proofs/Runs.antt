@@ -8,7 +8,7 @@ use Rattle.mcal_base.specs.declared.directive.Order.{Order}
 use Rattle.mcal_base.specs.declared.directive.Request.{Request}
 use Rattle.run_model.specs.Entry.{Entry}
 use Rattle.run_model.specs.Follows.{Follows, deeds_in}
-use Rattle.run_model.specs.Moment.{Setting, Moment, Deed}
+use Rattle.run_model.specs.Moment.{Setting, Moment, Transition}
 use Rattle.run_model.specs.Script.{order_at, deed_of, deeds_of}
 use Rattle.run_model.proofs.Following.{deeds_of-append}
 use Rattle.script_runner.specs.Scripts.{LinesRise}
@@ -73,7 +73,7 @@ module _ {State Call : Type 0} (g : Setting State Call) (call_of : Request → C
   same_deeds script line order (e ∷ es) found h =
       ap (λ (n : ℕ). deed_of call_of (order_at script n) e.said ++ deeds_of call_of script es) h.0
       ∙ (ap (λ o. deed_of call_of o e.said ++ deeds_of call_of script es) found
-      ∙ ap (λ (xs : List (Deed Call)). deed_of call_of (Some order) e.said ++ xs) (same_deeds script line order es found h.2))
+      ∙ ap (λ (xs : List (Transition Call)). deed_of call_of (Some order) e.said ++ xs) (same_deeds script line order es found h.2))
 
   pub deeds_split : (script : List Directive) (line : ℕ) (order : Order) (first later : List Entry) → order_at script line ≡ Some order → Each line any first → deeds_of call_of script (first ++ later) ≡ deeds_in call_of order first ++ deeds_of call_of script later
-  deeds_split script line order first later found h = deeds_of-append call_of script first later ∙ ap (λ (xs : List (Deed Call)). xs ++ deeds_of call_of script later) (same_deeds script line order first found h)
+  deeds_split script line order first later found h = deeds_of-append call_of script first later ∙ ap (λ (xs : List (Transition Call)). xs ++ deeds_of call_of script later) (same_deeds script line order first found h)

@@ -1,8 +1,9 @@
 -- What lines may tell of a drawing that stands for the frames of a run, and how it stands behind them.
 use Rattle.std.proofs.Common.{◌≡◌, ℕ, suc, ◌+◌, ◌-◌, ◌<◌, ◌≤◌, Bool, true, false, List, [], ◌∷◌, ◌++◌, length, map, drop, Option, Some, None, refl, ◌∙◌, ap, sym, subst, arith}
-use Rattle.std.specs.Prelude.{◌==◌, nat_lt, nat_le, min, option_map, if◌then◌else◌}
+use Rattle.std.specs.Prelude.{◌==◌, nat_le, min, option_map, if◌then◌else◌}
 use Rattle.std.proofs.lemmas.Bool.Decides.{nat_tests}
 use Rattle.std.proofs.lemmas.Slice.Eq.{bytes_eq-Decides}
+use Rattle.plain_facts.specs.Numbers.{eq_self, lt_from}
 use Rattle.mcal_base.specs.Names.{service_text}
 use Rattle.mcal_base.specs.declared.answer.Answer.{Answer}
 use Rattle.mcal_base.specs.declared.directive.Reason.{Reason}
@@ -113,16 +114,10 @@ stepped_steps d n step = behind_steps (counted (put (before_step d step.made) n 
 
 -- ---- the line of an end
 
-is_below : (m n : ℕ) → m < n → nat_lt m n ≡ true
-is_below m n h = grind (arith, nat_tests)
-
-is_same : (n : ℕ) → (n == n) ≡ true
-is_same n = grind (arith, nat_tests)
-
 top_is : (d : Drawing) (f : Frame) (fs : List Frame) (p : Purpose → Bool) (purpose : Purpose) → d.frames ≡ f ∷ fs → f.purpose ≡ purpose → f.from < d.steps → p purpose ≡ true → is_of p (top_of d.steps d.frames) ≡ true
 top_is d f fs p purpose e is lt h =
     ap (λ (x : List Frame). is_of p (top_of d.steps x)) e
-    ∙ (ap (λ (b : Bool). is_of p (if b then Some f.purpose else None)) (is_below f.from d.steps lt) ∙ (ap p is ∙ h))
+    ∙ (ap (λ (b : Bool). is_of p (if b then Some f.purpose else None)) (lt_from f.from d.steps lt) ∙ (ap p is ∙ h))
 
 one_ended : (n : ℕ) (d : Drawing) (f : Frame) (fs : List Frame) (K : Drawing → Type 0) → d.frames ≡ f ∷ fs → ((e : Drawing) → e.frames ≡ fs → e.steps ≡ d.steps → K e) → K (ended_of d n endings.Ended d.frames)
 one_ended n d f fs K e k = k (ended_of d n endings.Ended d.frames) (ap (λ (x : List Frame). (ended_of d n endings.Ended x).frames) e) (ap (λ (x : List Frame). (ended_of d n endings.Ended x).steps) e)
@@ -133,7 +128,7 @@ end_line n d f fs (purposes.Call service) frames answer count K e is lt c few k 
     let own : is_call_of service (purposes.Call service) ≡ true = (bytes_eq-Decides (service_text service) (service_text service)).1 refl in
     (fits_by d (tells.Returned service) count c few (top_is d f fs (is_call_of service) (purposes.Call service) e is lt own), one_ended n d f fs K e k)
 end_line n d f fs (purposes.Handler line) frames answer count K e is lt c few k =
-    (fits_by d (tells.Left line) count c few (top_is d f fs (is_handler_of line) (purposes.Handler line) e is lt (is_same line)), one_ended n d f fs K e k)
+    (fits_by d (tells.Left line) count c few (top_is d f fs (is_handler_of line) (purposes.Handler line) e is lt (eq_self line)), one_ended n d f fs K e k)
 
 -- how many frames there are after an end
 abbrev pub end_count : ℕ → Option Answer → ℕ
@@ -185,7 +180,7 @@ abbrev step_of : ℕ → Stepped → Step
 step_of depth s = record { depth = depth; made = s.made; value = given s.made s.value; received = incoming s.made s.received; mark = option_map mark_of s.event }
 
 step_fits : (d : Drawing) (depth : ℕ) (s : Stepped) (count : ℕ) → length d.frames ≡ count → 0 < count → depth ≡ count → is_on_chip (option_map mark_of s.event) ≡ true → fits_frames d (tells.Step (step_of depth s)) ≡ true
-step_fits d depth s count c some e chip = rw (c, e, is_same count, is_below 0 count some, chip) refl
+step_fits d depth s count c some e chip = rw (c, e, eq_self count, lt_from 0 count some, chip) refl
 
 pub step_told : (n : ℕ) (d : Drawing) (depth : ℕ) (s : Stepped) (frames : List Purpose) (count left : ℕ) → Stands d.frames d.steps frames count (1 + left) → 0 < count → depth ≡ count → is_on_chip (option_map mark_of s.event) ≡ true →
     Tells n d (step_lines true depth s ++ (move_lines s.made ++ end_lines frames s.ended)) (λ e. Stands e.frames e.steps (frames_after_end frames s.ended) (end_count count s.ended) left)
@@ -227,6 +222,6 @@ reset_told n d reason dropped frames count left h e =
     let none : (shut_at y n y.since).frames ≡ [] = shut_frames y n y.since ∙ all_gone x n endings.Dropped d.frames refl in
     let steps : (shut_at y n y.since).steps ≡ d.steps = shut_steps y n y.since ∙ all_steps x n endings.Dropped d.frames in
     let is : Stands [] d.steps [] 0 left = record { purposes = refl; begun = tt; size = refl; few = omega arith; room = h.room } in (
-      fits_by d (tells.Reset reason dropped) count h.size h.few (rw (h.size, e) (is_same count)),
+      fits_by d (tells.Reset reason dropped) count h.size h.few (rw (h.size, e) (eq_self count)),
       subst (λ (k : ℕ). Stands (shut_at y n y.since).frames k [] 0 left) (sym steps) (subst (λ (fs : List Frame). Stands fs d.steps [] 0 left) (sym none) is),
     )

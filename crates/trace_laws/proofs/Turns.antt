@@ -3,6 +3,7 @@ use Rattle.std.proofs.Common.{◌≡◌, ℕ, ◌+◌, ◌<◌, Bool, true, fals
 use Rattle.std.specs.Prelude.{◌==◌, Ok}
 use Rattle.std.specs.List.{list_all}
 use Rattle.std.proofs.lemmas.Bool.Decides.{nat_tests}
+use Rattle.plain_facts.specs.Numbers.{eq_self}
 use Rattle.mcal_base.specs.declared.directive.Directive.{Directive}
 use Rattle.run_model.specs.Entry.{Entry}
 use Rattle.script_runner.specs.Scripts.{LinesRise}
@@ -67,9 +68,6 @@ lines_above low (d ∷ script) frames shows es h =
 other_line : (low n : ℕ) → low < n → (n == low) ≡ false
 other_line low n h = grind (arith, nat_tests)
 
-same_line : (n : ℕ) → (n == n) ≡ true
-same_line n = grind (arith, nat_tests)
-
 none_own : (n : ℕ) (rest : List Numbered) → AllAbove n rest → own_lines n (map told_line rest) ≡ []
 unfolding AllAbove
 none_own n [] h = refl
@@ -82,11 +80,11 @@ all_behind n (line ∷ rest) h = rw (other_line n line.number h.0) refl
 
 own_are : (n : ℕ) (lines : List Line) (rest : List Numbered) → AllAbove n rest → own_lines n (map told_line (all_numbered n lines ++ rest)) ≡ later_moments n lines
 own_are n [] rest h = none_own n rest h
-own_are n (line ∷ lines) rest h = rw (same_line n) (ap (λ (ms : List Moment). later_of (line_at n line) ∷ ms) (own_are n lines rest h))
+own_are n (line ∷ lines) rest h = rw (eq_self n) (ap (λ (ms : List Moment). later_of (line_at n line) ∷ ms) (own_are n lines rest h))
 
 behind_are : (n : ℕ) (lines : List Line) (rest : List Numbered) → AllAbove n rest → lines_behind n (map told_line (all_numbered n lines ++ rest)) ≡ map told_line rest
 behind_are n [] rest h = all_behind n rest h
-behind_are n (line ∷ lines) rest h = rw (same_line n) (behind_are n lines rest h)
+behind_are n (line ∷ lines) rest h = rw (eq_self n) (behind_are n lines rest h)
 
 -- ---- each directive prints something
 
@@ -104,7 +102,7 @@ chapter_cut : (before : List Moment) (d : Directive) (script : List Directive) (
     moments_from before (d ∷ script) (map told_line (all_numbered d.line lines ++ rest)) ≡ moments_from (before ++ chapter_moments d lines) script (map told_line rest)
 chapter_cut before d script [] rest some h = absurd (omega (arith, some))
 chapter_cut before d script (line ∷ lines) rest some h =
-    rw (same_line d.line, own_are d.line lines rest h, behind_are d.line lines rest h) refl
+    rw (eq_self d.line, own_are d.line lines rest h, behind_are d.line lines rest h) refl
 
 pub moments_are : (low : ℕ) (script : List Directive) → LinesRise low script → (before : List Moment) (frames : List Purpose) (shows : List (List Row)) (es : List Entry) →
     moments_from before script (map told_line (report_lines true frames shows script es)) ≡ Ok (before ++ script_moments frames shows script es)

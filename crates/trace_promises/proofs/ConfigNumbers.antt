@@ -27,6 +27,8 @@ use Rattle.mcal_base.specs.declared.config.pwm.PwmConfig.{PwmConfig}
 use Rattle.mcal_base.specs.declared.config.spi.SpiChannel.{SpiChannel}
 use Rattle.mcal_base.specs.declared.config.spi.SpiChannelType.{SpiChannelType}
 use Rattle.mcal_base.specs.declared.config.spi.SpiConfig.{SpiConfig}
+use Rattle.mcal_base.specs.declared.config.dio.DioConfig.{DioConfig}
+use Rattle.mcal_base.specs.declared.config.wdg.WdgConfig.{WdgConfig}
 use Rattle.mcal_base.specs.declared.config.spi.SpiJob.{SpiJob}
 use Rattle.mcal_base.specs.declared.config.spi.SpiSequence.{SpiSequence}
 use Rattle.mcal_base.specs.declared.config.whole.Config.{Config}
@@ -37,6 +39,8 @@ use Rattle.mcal_config.specs.Pwm as pwm_table
 use Rattle.mcal_config.specs.Icu as icu_table
 use Rattle.mcal_config.specs.Adc as adc_table
 use Rattle.mcal_config.specs.Spi as spi_table
+use Rattle.mcal_config.specs.Dio as dio_table
+use Rattle.mcal_config.specs.Wdg as wdg_table
 use Rattle.mcal_config.specs.Whole.{tree_of, is_bare, default_board, modules_checks, modules_value, config_checks, config_of, fault_of, record_of}
 use Rattle.bench_report.specs.Numbers.{IsNumber, Each}
 use Rattle.trace_promises.specs.Numbers.{SectionFits, DefaultFits, ConfigFits}
@@ -212,17 +216,19 @@ serial_part (Some d) g h = serial_table_fits (as_table d) g h
 
 -- ---- the configuration
 
-modules_of : (a : Option McuConfig) (b : Option PortConfig) (c : Option GptConfig) (d : Option PwmConfig) (e : Option IcuConfig) (f : Option AdcConfig) (g : Option SpiConfig) (x : Config) →
-    (a >>= (λ mcu. b >>= (λ port. c >>= (λ gpt. d >>= (λ pwm. e >>= (λ icu. f >>= (λ adc. g >>= (λ spi. Some (record { mcu = mcu; port = port; gpt = gpt; pwm = pwm; icu = icu; adc = adc; spi = spi }))))))))) ≡ Some x → (a ≡ Some x.mcu) × (g ≡ Some x.spi)
-modules_of None b c d e f g x h = cc
-modules_of (Some m) None c d e f g x h = cc
-modules_of (Some m) (Some p) None d e f g x h = cc
-modules_of (Some m) (Some p) (Some t) None e f g x h = cc
-modules_of (Some m) (Some p) (Some t) (Some w) None f g x h = cc
-modules_of (Some m) (Some p) (Some t) (Some w) (Some i) None g x h = cc
-modules_of (Some m) (Some p) (Some t) (Some w) (Some i) (Some a) None x h = cc
-modules_of (Some m) (Some p) (Some t) (Some w) (Some i) (Some a) (Some s) x h =
-    let e : record { mcu = m; port = p; gpt = t; pwm = w; icu = i; adc = a; spi = s } ≡ x = cc in
+modules_of : (a : Option McuConfig) (b : Option PortConfig) (c : Option GptConfig) (d : Option PwmConfig) (e : Option IcuConfig) (f : Option AdcConfig) (g : Option SpiConfig) (h : Option DioConfig) (i : Option WdgConfig) (x : Config) →
+    (a >>= (λ mcu. b >>= (λ port. c >>= (λ gpt. d >>= (λ pwm. e >>= (λ icu. f >>= (λ adc. g >>= (λ spi. h >>= (λ dio. i >>= (λ wdg. Some (record { mcu = mcu; port = port; gpt = gpt; pwm = pwm; icu = icu; adc = adc; spi = spi; dio = dio; wdg = wdg }))))))))))) ≡ Some x → (a ≡ Some x.mcu) × (g ≡ Some x.spi)
+modules_of None b c d e f g h i x is = cc
+modules_of (Some m) None c d e f g h i x is = cc
+modules_of (Some m) (Some p) None d e f g h i x is = cc
+modules_of (Some m) (Some p) (Some t) None e f g h i x is = cc
+modules_of (Some m) (Some p) (Some t) (Some w) None f g h i x is = cc
+modules_of (Some m) (Some p) (Some t) (Some w) (Some n) None g h i x is = cc
+modules_of (Some m) (Some p) (Some t) (Some w) (Some n) (Some a) None h i x is = cc
+modules_of (Some m) (Some p) (Some t) (Some w) (Some n) (Some a) (Some s) None i x is = cc
+modules_of (Some m) (Some p) (Some t) (Some w) (Some n) (Some a) (Some s) (Some k) None x is = cc
+modules_of (Some m) (Some p) (Some t) (Some w) (Some n) (Some a) (Some s) (Some k) (Some v) x is =
+    let e : record { mcu = m; port = p; gpt = t; pwm = w; icu = n; adc = a; spi = s; dio = k; wdg = v } ≡ x = cc in
     (ap (λ (y : Config). Some y.mcu) e, ap (λ (y : Config). Some y.spi) e)
 
 -- the checks of the modules behind the first
@@ -234,13 +240,16 @@ others_checks ms =
     ⨾ parts.module_checks icu_table.part ms
     ⨾ parts.module_checks adc_table.part ms
     ⨾ parts.module_checks spi_table.part ms
+    ⨾ parts.module_checks dio_table.part ms
+    ⨾ parts.given (parts.module_value port_table.part ms) (λ port. parts.given (parts.module_value dio_table.part ms) (dio_table.across port))
+    ⨾ parts.module_checks wdg_table.part ms
 
 members_fit : (ms : Members) (c : Config) → first (modules_checks ms) ≡ None → modules_value ms ≡ Some c → ConfigFits c
 unfolding modules_checks modules_value
 members_fit ms c p h =
     let found =
     modules_of (parts.module_value table.part ms) (parts.module_value port_table.part ms) (parts.module_value gpt_table.part ms) (parts.module_value pwm_table.part ms) (parts.module_value icu_table.part ms) (parts.module_value adc_table.part ms)
-    (parts.module_value spi_table.part ms) c h in
+    (parts.module_value spi_table.part ms) (parts.module_value dio_table.part ms) (parts.module_value wdg_table.part ms) c h in
     let sections = part_fits (parts.entry table.part.name ms) c.mcu (front_passes (parts.module_checks table.part ms) (others_checks ms) p) found.0 in
     record { few = sections.few; small = sections.small; defaults = serial_part (parts.entry spi_table.part.name ms) c.spi found.1 }
 

@@ -3,9 +3,9 @@ use Rattle.std.proofs.Common.{◌≡◌, ℕ, ◌+◌, ◌-◌, ◌==◌, ◌≤
 use Rattle.std.specs.Prelude.{codes, bytes_eq, nat_lt, option_map, Ok, if◌then◌else◌}
 use Rattle.std.specs.List.{join_with_byte}
 use Rattle.std.specs.Str.Lines.{lines_of_parts, strip_carriage_return}
-use Rattle.std.proofs.lemmas.Bool.Decides.{nat_tests}
 use Rattle.std.proofs.lemmas.List.Splits.{join_with_byte-slice_split}
 use Rattle.std.proofs.lemmas.Slice.Eq.{bytes_eq-Decides}
+use Rattle.plain_facts.specs.Numbers.{lt_since}
 use Rattle.mcal_base.specs.declared.directive.Directive.{Directive}
 use Rattle.mcal_base.specs.declared.directive.Order.{Order}
 use Rattle.mcal_base.specs.declared.directive.Order.TheVariants.{Call, Do, Enter, Serve, Run, Upto, Finish, Tick, Level, Analog, Trigger, Miso, SpiFault, Detach, Fill, Reset, Show}
@@ -226,9 +226,6 @@ size_is bytes behind text back report e f =
     let b : length behind ≡ length back + length (codes "===\n" ++ report) = ap length f ∙ length-append back (codes "===\n" ++ report) in
     omega (arith, a, b)
 
-not_above : (m n : ℕ) → n ≤ m → nat_lt m n ≡ false
-not_above m n h = grind (arith, nat_tests)
-
 drawn_text : (form : Form) (before : ℕ) (ds : List Directive) (report text : List ℕ) → text_under form ds report ≡ Ok text → drawn form before ds report ≡ record { status = 0; text = text }
 drawn_text form before ds report text h = rw h refl
 
@@ -241,5 +238,5 @@ input_drawn form text front back report drawing ds f none s few most h =
     let same : bytes ≡ (text ++ 10 ∷ []) ++ (codes "===\n" ++ report) = sym (append_assoc text (10 ∷ []) (codes "===\n" ++ report)) in
     let size = size_is bytes i.behind (text ++ 10 ∷ []) back report same i.whole in
     let before = lines_in (take (length bytes - length report) bytes) in
-    let in_size : nat_lt 1048576 (file_size bytes i.behind back) ≡ false = rw size (not_above 1048576 (length (text ++ 10 ∷ [])) few) in
-    rw (not_above 268435456 (length bytes) most, i.parted, i.split, in_size, none, s) (drawn_text form before ds report drawing h)
+    let in_size : nat_lt 1048576 (file_size bytes i.behind back) ≡ false = rw size (lt_since 1048576 (length (text ++ 10 ∷ [])) few) in
+    rw (lt_since 268435456 (length bytes) most, i.parted, i.split, in_size, none, s) (drawn_text form before ds report drawing h)

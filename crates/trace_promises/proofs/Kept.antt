@@ -11,7 +11,7 @@ use Rattle.mcal_base.specs.declared.moves.Event.TheVariants as events
 use Rattle.run_model.specs.Entry as entry
 use Rattle.run_model.specs.Frame.{Open, Origin, Called, Entered, Brought, state_by, outcome_of, happening_at, brought_by}
 use Rattle.run_model.specs.Machine.{Happening, Acts, Serves, Starts, Aborts, Moves, Restarts, Outcome}
-use Rattle.run_model.specs.Moment.{Setting, Moment, Deed, Begins, Enters, Steps, Happens, Resets, after, after_all}
+use Rattle.run_model.specs.Moment.{Setting, Moment, Transition, Begins, Enters, Steps, Happens, Resets, after, after_all}
 use Rattle.run_model.specs.Script.{order_at, beginnings_of, moved_by, deed_of}
 use Rattle.run_model.specs.World.{World, world_after}
 use Rattle.run_model.specs.declared.item.Stepped.{Stepped}
@@ -86,7 +86,7 @@ event_fits (Entered l) b (Some (events.Abort u)) k = tt
 event_fits (Called c) b (Some (events.Start u)) k = k
 event_fits (Entered l) b (Some (events.Start u)) k = k
 
-abbrev DeedFits : {Call : Type 0} → Deed Call → Type 0
+abbrev DeedFits : {Call : Type 0} → Transition Call → Type 0
 DeedFits (Steps s) = IsNumber s.received
 DeedFits (Happens order) = OrderBrings order
 DeedFits _ = Unit {0}
@@ -132,14 +132,14 @@ module _ {State Call : Type 0} (g : Setting State Call) (P : State → Type 0) (
       let brought = brought_by m.world o.committed s.made s.received in
       (k.0, by_happening m.world m.state (happening_at o.origin brought s.event) k.0 (event_fits o.origin brought s.event f) k.1)
 
-  kept_after : (m : Moment State Call) (d : Deed Call) → DeedFits d → MomentFits m → MomentFits (after g m d)
+  kept_after : (m : Moment State Call) (d : Transition Call) → DeedFits d → MomentFits m → MomentFits (after g m d)
   kept_after m (Begins c level) f k = k
   kept_after m (Enters l) f k = k
   kept_after m (Steps s) f k = kept_step m m.opens s f k
   kept_after m (Happens order) f k = (world_fits m.world (g.machine.rate m.state) order f k.0, keeps.stays m.world m.state (Moves order) k.0 f k.1)
   kept_after m (Resets reason) f k = (k.0, keeps.stays m.world m.state (Restarts reason) k.0 tt k.1)
 
-  kept_all : (m : Moment State Call) (ds : List (Deed Call)) → Each DeedFits ds → MomentFits m → MomentFits (after_all g m ds)
+  kept_all : (m : Moment State Call) (ds : List (Transition Call)) → Each DeedFits ds → MomentFits m → MomentFits (after_all g m ds)
   kept_all m [] f k = k
   kept_all m (d ∷ ds) f k = kept_all (after g m d) ds f.1 (kept_after m d f.0 k)
 

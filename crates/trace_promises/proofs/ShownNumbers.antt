@@ -27,7 +27,7 @@ use Rattle.bench_report.specs.Rows.{Row}
 use Rattle.bench_report.specs.declared.rows.RowName.{RowName}
 use Rattle.bench_report.specs.declared.rows.RowName.TheVariants as names
 use Rattle.bench_report.specs.declared.rows.Value.TheVariants as values
-use Rattle.mcal_system.specs.Setting.{SystemState, clock_setting, pin_setting, timer_setting, pulse_setting, capture_setting, converter_setting, serial_setting, joined, system_setting, call_of}
+use Rattle.mcal_system.specs.Setting.{SystemState, clock_setting, watchdog_setting, pin_setting, timer_setting, pulse_setting, capture_setting, converter_setting, serial_setting, joined, system_setting, call_of}
 use Rattle.mcal_system.specs.Shows.{level_at, ram_at, size_at, stamp_at, buffer_of, result_at, results_at, serial_channel}
 use Rattle.bench_top.specs.Runs.{shows_of}
 use Rattle.bench_top.specs.Shows.{level_value, has_pin, level_row, pin_row, section_rows, stamps_row, stamps_rows, results_row, result_rows, channel_rows, serial_rows, wire_row, show_rows}
@@ -64,10 +64,10 @@ level_fits : (high : Bool) → IsNumber (level_value high)
 level_fits true = omega arith
 level_fits false = omega arith
 
-section_fits : (s : SystemState) (n : ℕ) (xs : List McuRamSection) → n + length xs ≤ 4294967296 → ClockFits s.0.0 → RowsFit (section_rows s n xs)
+section_fits : (s : SystemState) (n : ℕ) (xs : List McuRamSection) → n + length xs ≤ 4294967296 → ClockFits s.0.0.0 → RowsFit (section_rows s n xs)
 section_fits s n [] le h = tt
 section_fits s n (x ∷ xs) le h =
-    (row_fits (names.Ram n) (ram_at s) x.base_address x.size (omega (arith, le)) (λ k. ram_fits s.0.0 k h), section_fits s (n + 1) xs (omega (arith, le)) h)
+    (row_fits (names.Ram n) (ram_at s) x.base_address x.size (omega (arith, le)) (λ k. ram_fits s.0.0.0 k h), section_fits s (n + 1) xs (omega (arith, le)) h)
 
 capture_fits : (s : SystemState) (c : ℕ) (size : Option ℕ) → c < 8 → CapturesFit s.1.0.1 → RowsFit (stamps_row s c size)
 capture_fits s c None lt h = tt
@@ -129,12 +129,13 @@ state_keeps c v =
     let timed = joined (pin_setting c) (timer_setting c) in
     let pulsed = joined (pulse_setting c) (capture_setting c) in
     let carried = joined (converter_setting c) (serial_setting c) in
-    let firsts = keeps_two (clock_setting c) timed clock (keeps_nothing timed) in
+    let watched = joined (clock_setting c) (watchdog_setting c) in
+    let firsts = keeps_two watched timed (keeps_two (clock_setting c) (watchdog_setting c) clock (keeps_nothing (watchdog_setting c))) (keeps_nothing timed) in
     let seconds = keeps_two pulsed carried (keeps_two (pulse_setting c) (capture_setting c) (keeps_nothing (pulse_setting c)) captures) (keeps_two (converter_setting c) (serial_setting c) converter serial) in
-    let kept = keeps_two (joined (clock_setting c) timed) (joined pulsed carried) firsts seconds in
+    let kept = keeps_two (joined watched timed) (joined pulsed carried) firsts seconds in
     record {
-      first = (kept.first.0.0, kept.first.1.0.1, kept.first.1.1.0, kept.first.1.1.1);
-      stays = λ w s h v f k. let x = kept.stays w s h v f ((k.0, tt), ((tt, k.1), (k.2, k.3))) in (x.0.0, x.1.0.1, x.1.1.0, x.1.1.1);
+      first = (kept.first.0.0.0, kept.first.1.0.1, kept.first.1.1.0, kept.first.1.1.1);
+      stays = λ w s h v f k. let x = kept.stays w s h v f (((k.0, tt), tt), ((tt, k.1), (k.2, k.3))) in (x.0.0.0, x.1.0.1, x.1.1.0, x.1.1.1);
     }
 
 -- what is shown of a run has numbers of 32 bits

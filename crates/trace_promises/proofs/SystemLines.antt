@@ -2,10 +2,11 @@
 use Rattle.std.proofs.Common.{◌≡◌, ℕ, ◌+◌, ◌-◌, ◌<◌, Bool, true, false, cond, [], ◌∷◌, Option, Some, None, refl, arith}
 use Rattle.std.specs.Prelude.{◌==◌, ◌&&◌, is_some, nat_lt, slice_index_or, if◌then◌else◌}
 use Rattle.std.proofs.lemmas.Bool.Decides.{nat_tests}
+use Rattle.plain_facts.specs.Numbers.{lt_is}
 use Rattle.mcal_base.specs.declared.config.whole.Config.{Config}
 use Rattle.run_model.specs.Legal.{has_line}
 use Rattle.run_model.specs.Moment.{Setting}
-use Rattle.mcal_system.specs.Setting.{clock_setting, pin_setting, timer_setting, pulse_setting, capture_setting, converter_setting, serial_setting, joined, system_setting}
+use Rattle.mcal_system.specs.Setting.{clock_setting, watchdog_setting, pin_setting, timer_setting, pulse_setting, capture_setting, converter_setting, serial_setting, joined, system_setting}
 use Rattle.gpt_driver.specs.Table as timer_table
 use Rattle.pwm_driver.specs.Table as pulse_table
 use Rattle.icu_driver.specs.Table as capture_table
@@ -23,12 +24,9 @@ use Rattle.spi_machine.specs.declared.table.SpiTable.{SpiTable}
 use Rattle.trace_laws.specs.Lines.{HasLines}
 use Rattle.trace_laws.proofs.UnionLines.{union_lines}
 
-is_below : (l n : ℕ) → nat_lt l n ≡ true → l < n
-is_below l n e = grind (arith, nat_tests)
-
 -- there is one for small numbers alone
 below_by : {T : Type 0} (l n : ℕ) (o : Option T) (b : Bool) → nat_lt l n ≡ b → is_some (if b then o else None) ≡ true → l < n
-below_by l n o true e h = is_below l n e
+below_by l n o true e h = lt_is l n e
 below_by l n o false e h = cc
 
 below : {T : Type 0} (l n : ℕ) (o : Option T) → is_some (if nat_lt l n then o else None) ≡ true → l < n
@@ -42,10 +40,13 @@ from_by l first n o false h = below (l - first) n o h
 from : {T : Type 0} (l first n : ℕ) (o : Option T) → is_some (if nat_lt l first then None else if nat_lt (l - first) n then o else None) ≡ true → l < first + n
 from l first n o h = let lt = from_by l first n o (nat_lt l first) h in omega (arith, lt)
 
--- ---- the seven
+-- ---- the eight
 
 clock_lines : (c : Config) → HasLines (clock_setting c)
 clock_lines c = record { used = λ line e. cc; polled = λ w s call line e. cc }
+
+watchdog_lines : (c : Config) → HasLines (watchdog_setting c)
+watchdog_lines c = record { used = λ line e. cc; polled = λ w s call line e. cc }
 
 pin_lines : (c : Config) → HasLines (pin_setting c)
 pin_lines c = record { used = λ line e. cc; polled = λ w s call line e. cc }
@@ -122,6 +123,7 @@ system_lines c =
     let timed = joined (pin_setting c) (timer_setting c) in
     let pulsed = joined (pulse_setting c) (capture_setting c) in
     let carried = joined (converter_setting c) (serial_setting c) in
-    let firsts = both (clock_setting c) timed (clock_lines c) (both (pin_setting c) (timer_setting c) (pin_lines c) (timer_lines c)) in
+    let watched = joined (clock_setting c) (watchdog_setting c) in
+    let firsts = both watched timed (both (clock_setting c) (watchdog_setting c) (clock_lines c) (watchdog_lines c)) (both (pin_setting c) (timer_setting c) (pin_lines c) (timer_lines c)) in
     let seconds = both pulsed carried (both (pulse_setting c) (capture_setting c) (pulse_lines c) (capture_lines c)) (both (converter_setting c) (serial_setting c) (converter_lines c) (serial_lines c)) in
-    both (joined (clock_setting c) timed) (joined pulsed carried) firsts seconds
+    both (joined watched timed) (joined pulsed carried) firsts seconds

@@ -118,4 +118,4 @@ abbrev pub SerialFits : SpiState → Type 0
 SerialFits s = Each ChannelFits s.channels × Each RunFits s.units × Each WireFits s.wires
 
 abbrev pub StateFits : SystemState → Type 0
-StateFits s = ClockFits s.0.0 × CapturesFit s.1.0.1 × ConverterFits s.1.1.0 × SerialFits s.1.1.1
+StateFits s = ClockFits s.0.0.0 × CapturesFit s.1.0.1 × ConverterFits s.1.1.0 × SerialFits s.1.1.1

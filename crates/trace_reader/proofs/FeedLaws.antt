@@ -97,6 +97,8 @@ answer_feedless answers.SpiSeqOk = refl
 answer_feedless answers.SpiSeqPending = refl
 answer_feedless answers.SpiSeqFailed = refl
 answer_feedless answers.SpiSeqCanceled = refl
+answer_feedless answers.StdHigh = refl
+answer_feedless answers.StdLow = refl
 
 error_feedless : (x : ErrorName) → none nl (error_text x) ≡ true
 error_feedless errors.McuUninit = refl
@@ -144,6 +146,12 @@ error_feedless errors.SpiParamSeq = refl
 error_feedless errors.SpiSeqPending = refl
 error_feedless errors.SpiParamJob = refl
 error_feedless errors.SpiParamUnit = refl
+error_feedless errors.DioParamInvalidChannelId = refl
+error_feedless errors.DioParamInvalidPortId = refl
+error_feedless errors.DioParamInvalidGroup = refl
+error_feedless errors.WdgDriverState = refl
+error_feedless errors.WdgParamMode = refl
+error_feedless errors.WdgParamTimeout = refl
 
 service_feedless : (x : Service) → none nl (service_text x) ≡ true
 service_feedless services.McuInit = refl
@@ -222,6 +230,16 @@ service_feedless services.SpiGetSequenceResult = refl
 service_feedless services.SpiGetHwUnitStatus = refl
 service_feedless services.SpiSetAsyncMode = refl
 service_feedless services.SpiMainFunctionHandling = refl
+service_feedless services.DioReadChannel = refl
+service_feedless services.DioFlipChannel = refl
+service_feedless services.DioWriteChannel = refl
+service_feedless services.DioReadPort = refl
+service_feedless services.DioWritePort = refl
+service_feedless services.DioReadChannelGroup = refl
+service_feedless services.DioWriteChannelGroup = refl
+service_feedless services.WdgInit = refl
+service_feedless services.WdgSetMode = refl
+service_feedless services.WdgSetTriggerCondition = refl
 
 -- a number before letters
 before : (n : ℕ) (b : List ℕ) → IsNumber n → none nl b ≡ true → none nl (decimal n ++ b) ≡ true

@@ -1,13 +1,12 @@
 -- Each line of a report is read as what it tells: its words, what they may be, and what that prints.
 use Rattle.std.proofs.Common.{◌≡◌, ℕ, ◌<◌, ◌+◌, ◌-◌, length, drop, length-append, suc, add-one, List, [], ◌∷◌, ◌++◌, map, Option, Some, None, Bool, true, false, refl, ◌∙◌, ap, sym, arith, append_assoc}
 use Rattle.std.specs.Prelude.{codes, decimal, option_map, bytes_eq, ◌==◌, if◌then◌else◌}
-use Rattle.std.specs.Prelude.{nat_lt}
 use Rattle.std.specs.Char.{is_ascii_digit}
 use Rattle.std.specs.List.{position, position_or_len}
 use Rattle.std.specs.Str.{all_ascii_digits}
 use Rattle.std.proofs.lemmas.Bool.{and_parts}
-use Rattle.std.proofs.lemmas.Bool.Decides.{nat_tests}
 use Rattle.std.proofs.lemmas.List.{append-nil, take_at}
+use Rattle.plain_facts.specs.Numbers.{lt_from, lt_itself}
 use Rattle.det_errors.specs.Spelling.{error_text}
 use Rattle.irq_control.specs.Spelling.{held_text}
 use Rattle.mcal_base.specs.Names.{service_text, answer_text, notice_text}
@@ -49,12 +48,6 @@ pub record IsRead (words : List (List ℕ)) (line : Line) : Type 0 where
   pub tells : told read ≡ told line
 
 -- ---- places in a text
-
-not_below : (n : ℕ) → nat_lt n n ≡ false
-not_below n = grind (arith, nat_tests)
-
-below_more : (m n : ℕ) → m < n → nat_lt m n ≡ true
-below_more m n h = grind (arith, nat_tests)
 
 length_more : (xs : List ℕ) (y : ℕ) (ys : List ℕ) → length xs < length (xs ++ y ∷ ys)
 length_more [] y ys = omega arith
@@ -471,10 +464,10 @@ values_split (values.Pair sent received ∷ vs) h =
     ∙ ap (λ (ws : List (List ℕ)). (decimal sent ++ (codes "/" ++ decimal received)) ∷ ws) (values_split vs h.1)
 
 no_place : (p : ℕ → Bool) (xs : List ℕ) → none p xs ≡ true → position p xs ≡ None
-no_place p xs h = let e : position_or_len p xs ≡ length xs = ap (position_or_len p) (sym (append-nil xs)) ∙ place_at p xs [] h refl in rw e (rw (not_below (length xs)) refl)
+no_place p xs h = let e : position_or_len p xs ≡ length xs = ap (position_or_len p) (sym (append-nil xs)) ∙ place_at p xs [] h refl in rw e (rw (lt_itself (length xs)) refl)
 
 one_place : (p : ℕ → Bool) (xs : List ℕ) (y : ℕ) (ys : List ℕ) → none p xs ≡ true → p y ≡ true → position p (xs ++ y ∷ ys) ≡ Some (length xs)
-one_place p xs y ys h k = rw (place_at p xs (y ∷ ys) h k) (rw (below_more (length xs) (length (xs ++ y ∷ ys)) (length_more xs y ys)) refl)
+one_place p xs y ys h k = rw (place_at p xs (y ∷ ys) h k) (rw (lt_from (length xs) (length (xs ++ y ∷ ys)) (length_more xs y ys)) refl)
 
 value_again : (v : Value) → HasValueNumbers v → value (value_word v) ≡ Some v
 value_again (values.One n) h = rw (no_place (λ b. b == 47) (decimal n) (no_stroke n h)) (rw (number_again n h) refl)

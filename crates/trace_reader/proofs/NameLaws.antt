@@ -108,6 +108,8 @@ answer_again answers.SpiSeqOk = refl
 answer_again answers.SpiSeqPending = refl
 answer_again answers.SpiSeqFailed = refl
 answer_again answers.SpiSeqCanceled = refl
+answer_again answers.StdHigh = refl
+answer_again answers.StdLow = refl
 
 pub answer_plain : (x : AnswerName) → none sp (answer_text x) ≡ true
 answer_plain answers.EOk = refl
@@ -138,6 +140,8 @@ answer_plain answers.SpiSeqOk = refl
 answer_plain answers.SpiSeqPending = refl
 answer_plain answers.SpiSeqFailed = refl
 answer_plain answers.SpiSeqCanceled = refl
+answer_plain answers.StdHigh = refl
+answer_plain answers.StdLow = refl
 
 pub error_again : (x : ErrorName) → named error_text all_errors (error_text x) ≡ Some x
 error_again errors.McuUninit = refl
@@ -185,6 +189,12 @@ error_again errors.SpiParamSeq = refl
 error_again errors.SpiSeqPending = refl
 error_again errors.SpiParamJob = refl
 error_again errors.SpiParamUnit = refl
+error_again errors.DioParamInvalidChannelId = refl
+error_again errors.DioParamInvalidPortId = refl
+error_again errors.DioParamInvalidGroup = refl
+error_again errors.WdgDriverState = refl
+error_again errors.WdgParamMode = refl
+error_again errors.WdgParamTimeout = refl
 
 pub error_plain : (x : ErrorName) → none sp (error_text x) ≡ true
 error_plain errors.McuUninit = refl
@@ -232,6 +242,12 @@ error_plain errors.SpiParamSeq = refl
 error_plain errors.SpiSeqPending = refl
 error_plain errors.SpiParamJob = refl
 error_plain errors.SpiParamUnit = refl
+error_plain errors.DioParamInvalidChannelId = refl
+error_plain errors.DioParamInvalidPortId = refl
+error_plain errors.DioParamInvalidGroup = refl
+error_plain errors.WdgDriverState = refl
+error_plain errors.WdgParamMode = refl
+error_plain errors.WdgParamTimeout = refl
 
 known_some : (o : Option Service) (x : Service) → known o ≡ Ok x → o ≡ Some x
 known_some None x e = cc
@@ -317,6 +333,16 @@ service_plain services.SpiGetSequenceResult = refl
 service_plain services.SpiGetHwUnitStatus = refl
 service_plain services.SpiSetAsyncMode = refl
 service_plain services.SpiMainFunctionHandling = refl
+service_plain services.DioReadChannel = refl
+service_plain services.DioFlipChannel = refl
+service_plain services.DioWriteChannel = refl
+service_plain services.DioReadPort = refl
+service_plain services.DioWritePort = refl
+service_plain services.DioReadChannelGroup = refl
+service_plain services.DioWriteChannelGroup = refl
+service_plain services.WdgInit = refl
+service_plain services.WdgSetMode = refl
+service_plain services.WdgSetTriggerCondition = refl
 
 -- no name of an answer begins with a digit
 pub answer_letter : (x : AnswerName) → is_numeral (answer_text x) ≡ false
@@ -348,6 +374,8 @@ answer_letter answers.SpiSeqOk = refl
 answer_letter answers.SpiSeqPending = refl
 answer_letter answers.SpiSeqFailed = refl
 answer_letter answers.SpiSeqCanceled = refl
+answer_letter answers.StdHigh = refl
+answer_letter answers.StdLow = refl
 
 -- no two services are spelled alike
 pub service_injective : (x y : Service) → service_text x ≡ service_text y → x ≡ y

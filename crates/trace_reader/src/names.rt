@@ -40,7 +40,7 @@ const NOTICES: [NoticeKind; 9] = [
 ];
 
 /// The names that answers begin with.
-const ANSWERS: [AnswerName; 28] = [
+const ANSWERS: [AnswerName; 30] = [
     AnswerName::EOk,
     AnswerName::ENotOk,
     AnswerName::McuPllLocked,
@@ -69,10 +69,12 @@ const ANSWERS: [AnswerName; 28] = [
     AnswerName::SpiSeqPending,
     AnswerName::SpiSeqFailed,
     AnswerName::SpiSeqCanceled,
+    AnswerName::StdHigh,
+    AnswerName::StdLow,
 ];
 
 /// The errors, module by module.
-const ERRORS: [ErrorName; 45] = [
+const ERRORS: [ErrorName; 51] = [
     ErrorName::McuUninit,
     ErrorName::McuParamRamsection,
     ErrorName::McuParamClock,
@@ -118,6 +120,12 @@ const ERRORS: [ErrorName; 45] = [
     ErrorName::SpiSeqPending,
     ErrorName::SpiParamJob,
     ErrorName::SpiParamUnit,
+    ErrorName::DioParamInvalidChannelId,
+    ErrorName::DioParamInvalidPortId,
+    ErrorName::DioParamInvalidGroup,
+    ErrorName::WdgDriverState,
+    ErrorName::WdgParamMode,
+    ErrorName::WdgParamTimeout,
 ];
 
 /// What a report prints as one word.

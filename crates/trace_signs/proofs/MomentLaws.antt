@@ -1,9 +1,9 @@
 -- The lines of a trace that belong to directives are all its lines, and each directive has a first one.
-use Rattle.std.proofs.Common.{◌≡◌, ℕ, ◌+◌, List, [], ◌∷◌, ◌++◌, length, map, Bool, true, false, refl, ◌∙◌, ap, sym, append_assoc, arith}
+use Rattle.std.proofs.Common.{◌≡◌, ℕ, ◌+◌, List, [], ◌∷◌, ◌++◌, length, map, Bool, true, false, refl, ◌∙◌, ap, sym, append_assoc}
 use Rattle.std.specs.Prelude.{Ok, Err, ◌==◌, flat_map, if◌then◌else◌}
-use Rattle.std.proofs.lemmas.Bool.Decides.{nat_tests}
 use Rattle.std.proofs.lemmas.Grind.{flat_map-append}
 use Rattle.std.proofs.lemmas.List.{append-nil, map-append}
+use Rattle.plain_facts.specs.Numbers.{eq_is}
 use Rattle.mcal_base.specs.declared.directive.Directive.{Directive}
 use Rattle.trace_reader.specs.declared.told.TraceLine.{TraceLine}
 use Rattle.trace_signs.specs.Moments.{first_of, later_of, own_lines, lines_behind, moments_from, moments_of}
@@ -32,9 +32,6 @@ record IsSplit (before : List Moment) (script : List Directive) (lines : List Tr
   lines_are : map line_at ms ≡ map line_at before ++ lines
   turns_are : flat_map turn_at ms ≡ flat_map turn_at before ++ map (λ (d : Directive). d.line) script
 
-same_line : (m n : ℕ) → (m == n) ≡ true → m ≡ n
-same_line m n h = grind (arith, nat_tests)
-
 more_lines : (before own : List Moment) (d : Directive) (line : TraceLine) (lines behind : List TraceLine) → map line_at own ++ behind ≡ lines →
     map line_at (before ++ first_of d line ∷ own) ++ behind ≡ map line_at before ++ line ∷ lines
 more_lines before own d line lines behind e =
@@ -55,7 +52,7 @@ split_case before d script line lines ms true e later h =
     let split : IsSplit (before ++ first_of d line ∷ own_lines d.line lines) script (lines_behind d.line lines) ms = later h in
     record {
       lines_are = split.lines_are ∙ more_lines before (own_lines d.line lines) d line lines (lines_behind d.line lines) (own_and_behind d.line lines);
-      turns_are = split.turns_are ∙ more_turns before (own_lines d.line lines) d line (map (λ (x : Directive). x.line) script) (no_turns d.line lines) (same_line line.number d.line e);
+      turns_are = split.turns_are ∙ more_turns before (own_lines d.line lines) d line (map (λ (x : Directive). x.line) script) (no_turns d.line lines) (eq_is line.number d.line e);
     }
 split_case before d script line lines ms false e later h = absurd (cc)
 

@@ -1,10 +1,10 @@
 -- What a trace's signs show line by line.
-use Rattle.std.proofs.Common.{◌≡◌, ℕ, ◌+◌, List, [], ◌∷◌, ◌++◌, length, map, Bool, true, false, Option, Some, None, refl, ◌∙◌, ap, sym, subst, append_assoc, arith}
+use Rattle.std.proofs.Common.{◌≡◌, ℕ, ◌+◌, List, [], ◌∷◌, ◌++◌, length, map, Bool, true, false, Option, Some, None, refl, ◌∙◌, ap, sym, subst, append_assoc}
 use Rattle.std.specs.Prelude.{max, Ok, Err, ◌==◌, nat_lt, nat_le, flat_map, if◌then◌else◌}
 use Rattle.std.proofs.lemmas.Bool.{false≢true, and_parts}
-use Rattle.std.proofs.lemmas.Bool.Decides.{nat_tests}
 use Rattle.std.proofs.lemmas.List.{append-nil}
 use Rattle.std.proofs.lemmas.Slice.Eq.{bytes_eq-Decides}
+use Rattle.plain_facts.specs.Numbers.{eq_is}
 use Rattle.mcal_base.specs.Names.{service_text}
 use Rattle.mcal_base.specs.declared.service.Service.{Service}
 use Rattle.bench_report.specs.declared.frames.Purpose.{Purpose}
@@ -78,16 +78,13 @@ top_case : (p : Purpose → Bool) (purpose : Purpose) (b : Bool) → is_of p (if
 top_case p purpose true h = h
 top_case p purpose false h = absurd (false≢true h)
 
-same_number : (m n : ℕ) → (m == n) ≡ true → m ≡ n
-same_number m n h = grind (arith, nat_tests)
-
 call_end : (service : Service) (purpose : Purpose) → is_call_of service purpose ≡ true → end_of purpose ≡ tells.Returned service
 call_end service (purposes.Call own) h = ap (λ s. tells.Returned s) (service_injective own service ((bytes_eq-Decides (service_text own) (service_text service)).0 h))
 call_end service (purposes.Handler line) h = absurd (false≢true h)
 
 handler_end : (line : ℕ) (purpose : Purpose) → is_handler_of line purpose ≡ true → end_of purpose ≡ tells.Left line
 handler_end line (purposes.Call own) h = absurd (false≢true h)
-handler_end line (purposes.Handler own) h = ap (λ n. tells.Left n) (same_number own line h)
+handler_end line (purposes.Handler own) h = ap (λ n. tells.Left n) (eq_is own line h)
 
 ended_line : (p : Purpose → Bool) (t : Told) → ((purpose : Purpose) → p purpose ≡ true → end_of purpose ≡ t) → (d : Drawing) (number : ℕ) (frames : List Frame) → is_of p (top_of d.steps frames) ≡ true →
     seen line_of (ended_of d number endings.Ended frames).signs ≡ seen line_of d.signs ++ record { number = number; told = t } ∷ []

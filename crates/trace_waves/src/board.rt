@@ -18,13 +18,25 @@ pub struct Change {
     pub value: Value,
 }
 
-/// Whether two values are written alike.
-fn same(alloc: Global, value: Value, other: Value) -> Result<bool, AllocError>
+/// Whether two values are written alike, as their texts tell.
+fn same_text(alloc: Global, value: Value, other: Value) -> Result<bool, AllocError>
     ensures { IfOk result (λ b. b ≡ bytes_eq (value_text value) (value_text other)) }
 {
     let value = format!(in alloc; "{value}")?;
     let other = format!(in alloc; "{other}")?;
     Ok(value.as_bytes() == other.as_bytes())
+}
+
+/// Whether two values are written alike. Of levels, and of no words, no text is made: most of what a step sets is of these.
+fn same(alloc: Global, value: Value, other: Value) -> Result<bool, AllocError>
+    ensures { IfOk result (λ b. b ≡ bytes_eq (value_text value) (value_text other)) }
+{
+    match (value, other) {
+        (Value::Bit(true), Value::Bit(true)) => Ok(true),
+        (Value::Bit(false), Value::Bit(false)) => Ok(true),
+        (Value::Nothing, Value::Nothing) => Ok(true),
+        _ => same_text(alloc, value, other),
+    }
 }
 
 /// The changes so far, the value that each signal has where it changed, and the signals that did, in the order of their

@@ -3,6 +3,8 @@ use Rattle.std.proofs.Common.{◌≡◌, ℕ, ◌+◌, ◌<◌, ◌≤◌, ◌�
 use Rattle.std.specs.Prelude.{slice_index}
 use Rattle.std.proofs.lemmas.Bool.Decides.{nat_tests}
 use Rattle.std.proofs.lemmas.List.{get_or-set_same, get_or_append_left, get_or-take, length-append, length-take-le}
+use Rattle.plain_facts.specs.Options.{some_same}
+use Rattle.plain_facts.specs.Numbers.{eq_is, eq_other, eq_self}
 use Rattle.chip_model.specs.Chip.{Chip, chip_after, value_of, word_of, happened, is_masked, overwritten, source_length}
 use Rattle.chip_model.specs.Histories.{Made, Hardware, WasReset, HasAll, FillsThere, LeavesWord}
 use Rattle.chip_model.proofs.HistoryLaws.{word-left}
@@ -28,15 +30,6 @@ use Rattle.union_example.specs.declared.cell.CellCall.{CellCall}
 use Rattle.union_example.specs.declared.cell.CellCall.TheVariants.{Get, Put}
 use Rattle.union_example.specs.declared.cell.CellFrame.{CellFrame}
 use Rattle.union_example.specs.Cell.{cell_move, call_move, cell_gave, answer_of, names, cell_setting, AllNew, No_frame, New_frame, CellRelates, cell}
-
-same : (k : ℕ) → (k == k) ≡ true
-same k = grind (arith, nat_tests)
-
-is_same : (j k : ℕ) → (j == k) ≡ true → j ≡ k
-is_same j k e = grind (arith, nat_tests)
-
-unlike : (j k : ℕ) → j ≢ k → (j == k) ≡ false
-unlike j k e = grind (arith, nat_tests)
 
 differs : (j k : ℕ) → (j == k) ≡ false → k ≢ j
 differs j k e = λ i. absurd (grind (arith, nat_tests))
@@ -85,9 +78,6 @@ names_plain word _ h = cc
 
 -- ---- the laws
 
-given : {A : Type 0} {x y : A} → Some x ≡ Some y → x ≡ y
-given e = cc
-
 call_rate : (chip : Chip) (word : ℕ) (c : CellCall) (received : ℕ) → (chip_after chip (call_move word c) received).clock.rate ≡ chip.clock.rate
 call_rate chip word Get received = refl
 call_rate chip word (Put v) received = refl
@@ -97,8 +87,8 @@ call_there word Get h = omega (arith, h)
 call_there word (Put v) h = omega (arith, h)
 
 call_own : (word : ℕ) (c : CellCall) → is_shared (call_move word c) || names word (call_move word c) ≡ true
-call_own word Get = same word
-call_own word (Put v) = same word
+call_own word Get = eq_self word
+call_own word (Put v) = eq_self word
 
 module _ (word : ℕ) (fits : word < SOURCES) where
   step_of : (chip : Chip) (w : World) (c : CellCall) (tag : Tag) (ps : List (CellFrame × Open CellCall)) (s received : ℕ) → HasAll chip → word_of chip word ≡ s → AllNew word ps → let f : CellFrame = record { word = word; call = c } in let made = cell_move f in let value = value_of chip made in KeepsStep (cell word) (record { chip = chip; world = w; state = s; opens = []; steps = 0 }) f (opened (Called c) tag) f (stepped made value received (cell_gave f value)) (λ s1 o1. CellRelates word (chip_after chip made received) w ps s1)
@@ -113,7 +103,7 @@ module _ (word : ℕ) (fits : word < SOURCES) where
     ends = ((ap (λ x. Some (answer_of Get x)) (sym is), refl), refl, refl, refl, refl);
     writes = refl;
     starts = refl;
-    own = same word;
+    own = eq_self word;
     reset = refl;
     stays = λ e. cc;
     fuel = omega arith;
@@ -131,7 +121,7 @@ module _ (word : ℕ) (fits : word < SOURCES) where
     ends = ((refl, refl), refl, refl, refl, refl);
     writes = refl;
     starts = refl;
-    own = same word;
+    own = eq_self word;
     reset = refl;
     stays = λ e. cc;
     fuel = omega arith;
@@ -179,7 +169,7 @@ module _ (word : ℕ) (fits : word < SOURCES) where
     unmasked = λ chip w ps s shut out h. h.value;
     rest = λ chip w s h. h.value;
     waits = λ chip w s u h. refl;
-    error_leaves = λ w s c times out e. subst (λ o. ErrorLeaves s o) (given e) (λ some. absurd (cc));
+    error_leaves = λ w s c times out e. subst (λ o. ErrorLeaves s o) (some_same e) (λ some. absurd (cc));
     count_first = refl;
     count_happens = λ w s h out e. omega arith;
     count_moves = λ w s order out e. omega arith;
@@ -196,8 +186,8 @@ module _ (word : ℕ) (fits : word < SOURCES) where
 -- ---- three cells
 
 names_apart : (j k : ℕ) (made : Move) → j ≢ k → names j made ≡ true → names k made ≡ false
-names_apart j k (Load i) apart h = unlike i k (subst (λ x. x ≢ k) (sym (is_same i j h)) apart)
-names_apart j k (Store i v) apart h = unlike i k (subst (λ x. x ≢ k) (sym (is_same i j h)) apart)
+names_apart j k (Load i) apart h = eq_other i k (subst (λ x. x ≢ k) (sym (eq_is i j h)) apart)
+names_apart j k (Store i v) apart h = eq_other i k (subst (λ x. x ≢ k) (sym (eq_is i j h)) apart)
 names_apart j k _ apart h = cc
 
 pub cells_apart : (j k : ℕ) → j ≢ k → AreApart (cell j) (cell k)

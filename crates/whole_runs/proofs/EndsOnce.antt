@@ -2,9 +2,11 @@
 use Rattle.std.proofs.Common.{◌≡◌, ◌≢◌, ℕ, zero, suc, ◌+◌, ◌≤◌, ◌==◌, Bool, true, false, cond, ◌&&◌, ◌||◌, not, List, [], ◌∷◌, ◌++◌, Option, Some, None, refl, sym, ◌∙◌, ap, subst, ◌⊎◌, inl, inr, arith}
 use Rattle.std.specs.Prelude.{Contains, count_by, IsSome}
 use Rattle.std.specs.List.{list_any}
-use Rattle.std.proofs.lemmas.Bool.Decides.{nat_tests}
 use Rattle.std.proofs.lemmas.List.Folds.{list_any-append}
 use Rattle.std.proofs.lemmas.List.Sums.{sum_by-cons}
+use Rattle.std.proofs.lemmas.Bool.{or_parts}
+use Rattle.plain_facts.specs.Truths.{or_false, or_true}
+use Rattle.plain_facts.specs.Numbers.{eq_is, eq_self, eq_turned, same_or_other}
 use Rattle.mcal_base.specs.declared.answer_name.AnswerName.{AnswerName}
 use Rattle.mcal_base.specs.declared.answer_name.AnswerName.TheVariants.{SpiSeqOk, SpiSeqPending}
 use Rattle.mcal_base.specs.declared.error_name.ErrorName.{ErrorName}
@@ -13,7 +15,7 @@ use Rattle.run_model.specs.Machine.{Happening, Acts, Serves, Starts, Aborts, Mov
 use Rattle.spi_machine.specs.Machine.{spi_machine}
 use Rattle.spi_machine.specs.Numbered.{with_item}
 use Rattle.spi_machine.specs.Pending as lists
-use Rattle.spi_machine.specs.Pending.{Pending, is_of as is_entry, changed, without, starts, goes_to_next, cancels, sequence_result, requested}
+use Rattle.spi_machine.specs.Pending.{Pending, is_of as is_entry, without, starts, goes_to_next, cancels, sequence_result, requested}
 use Rattle.spi_machine.specs.Runs.{Occurrence, after_all}
 use Rattle.spi_machine.specs.Runs as runs
 use Rattle.spi_machine.specs.State.{SpiState, first_state, is_off}
@@ -23,7 +25,7 @@ use Rattle.spi_machine.specs.declared.call.Call.TheVariants.{Init, DeInit, SetAs
 use Rattle.spi_machine.specs.declared.call.SequenceCall.TheVariants.{AsyncTransmit, Cancel}
 use Rattle.spi_machine.specs.declared.table.SpiTable.{SpiTable}
 use Rattle.spi_machine.proofs.Idle.{idle-run}
-use Rattle.spi_machine.proofs.Numbers.{same_or_other, item-same, item-other}
+use Rattle.spi_machine.proofs.Numbers.{item-same, item-other}
 use Rattle.spi_machine.proofs.Turns.{pending-changed, pending-without}
 use Rattle.whole_runs.specs.Runs.{Event, state_after, AreAllowed, NoneOf, told_by, is_restart, is_of}
 use Rattle.whole_runs.specs.SequenceRuns.{Seen, seen_between, seen_of, begins_by, is_accepted, accepts, is_begun, initialises, is_reset, is_pending, is_end, starts_job, ends_job, is_starting, is_serving}
@@ -32,32 +34,15 @@ use Rattle.whole_runs.proofs.SequenceSteps.{seen, ends_told, end_results, Goes, 
 
 -- ---- the pending list
 
-eq_self : (n : ℕ) → (n == n) ≡ true
-eq_self n = grind (arith, nat_tests)
-
-eq_other : (n k : ℕ) → n ≢ k → (k == n) ≡ false
-eq_other n k ne = grind (arith, nat_tests)
-
-eq_is : (n k : ℕ) → (n == k) ≡ true → n ≡ k
-eq_is n k h = grind (arith, nat_tests)
-
-or_true : (b : Bool) → (b || true) ≡ true
-or_true true = refl
-or_true false = refl
-
-or_false : (b : Bool) → (b || false) ≡ b
-or_false true = refl
-or_false false = refl
-
 joined_own : (k : ℕ) (ps : List Pending) (x : Pending) → x.sequence ≡ k → lists.is_pending k (ps ++ x ∷ []) ≡ true
 joined_own k ps x e = list_any-append (is_entry k) ps (x ∷ []) ∙ rw (e, eq_self k) (or_true (lists.is_pending k ps))
 
 joined_other : (q k : ℕ) (ps : List Pending) (x : Pending) → x.sequence ≡ k → q ≢ k → lists.is_pending q (ps ++ x ∷ []) ≡ lists.is_pending q ps
-joined_other q k ps x e ne = list_any-append (is_entry q) ps (x ∷ []) ∙ rw (e, eq_other q k ne) (or_false (lists.is_pending q ps))
+joined_other q k ps x e ne = list_any-append (is_entry q) ps (x ∷ []) ∙ rw (e, eq_turned q k ne) (or_false (lists.is_pending q ps))
 
 without_by : (q k : ℕ) (p : Pending) (ps rest : List Pending) (b : Bool) → q ≢ k → (p.sequence == k) ≡ b → lists.is_pending q rest ≡ lists.is_pending q ps
     → lists.is_pending q (cond (not b) (p ∷ rest) rest) ≡ lists.is_pending q (p ∷ ps)
-without_by q k p ps rest true ne e h = let g : p.sequence ≡ k = eq_is p.sequence k e in rw (g, eq_other q k ne) h
+without_by q k p ps rest true ne e h = let g : p.sequence ≡ k = eq_is p.sequence k e in rw (g, eq_turned q k ne) h
 without_by q k p ps rest false ne e h = rw h refl
 
 without_other : (q k : ℕ) (ps : List Pending) → q ≢ k → lists.is_pending q (without k ps) ≡ lists.is_pending q ps
@@ -123,7 +108,7 @@ accepted d q k e s t x views accept free own pending results told agrees (inl at
     none true b c h = refl
     none false b c h = rw h refl
 accepted d q k e s t x views accept free own pending results told agrees (inr ne) =
-    stays d q e s t (accept ∙ eq_other q k ne) views.0 views.1 (ap (λ rs. sequence_result rs q) results ∙ item-other SpiSeqOk s.sequence_results k q SpiSeqPending ne)
+    stays d q e s t (accept ∙ eq_turned q k ne) views.0 views.1 (ap (λ rs. sequence_result rs q) results ∙ item-other SpiSeqOk s.sequence_results k q SpiSeqPending ne)
     (ap (λ ps. lists.is_pending q ps) pending ∙ joined_other q k s.pending x own ne) told agrees
 
 -- the result of an end isn't pending
@@ -158,7 +143,7 @@ ended d q k e s t x views accept calm there one pending results told agrees (inl
     same_told at = rw (at, eq_self k) (ap once (sym (and_true (notifies_sequence (sequence_of d k)))))
 ended d q k e s t x views accept calm there one pending results told agrees (inr ne) =
     stays d q e s t accept views.0 views.1 (ap (λ rs. sequence_result rs q) results ∙ item-other SpiSeqOk s.sequence_results k q x ne)
-    (ap (λ ps. lists.is_pending q ps) pending ∙ without_other q k s.pending ne) (told ∙ rw (eq_other q k ne) (ap once (and_false (notifies_sequence (sequence_of d k))))) agrees
+    (ap (λ ps. lists.is_pending q ps) pending ∙ without_other q k s.pending ne) (told ∙ rw (eq_turned q k ne) (ap once (and_false (notifies_sequence (sequence_of d k))))) agrees
   where
     and_false : (b : Bool) → (b && false) ≡ false
     and_false true = refl
@@ -307,10 +292,6 @@ pub record Counts (q count : ℕ) (now : AnswerName) (between : List Seen) : Typ
   pub most : (count ≡ 0) ⊎ ((count ≡ 1) × (is_pending now ≡ false))
   pub open_yet : NoneOf is_reset between → count ≡ 0 → is_pending now ≡ true
 
-neither : (a b : Bool) → (a || b) ≡ false → (a ≡ false) × (b ≡ false)
-neither true b h = absurd (cc h)
-neither false b h = (refl, h)
-
 counted_more : (q : ℕ) (e : Seen) (between : List Seen) (b : Bool) → is_end q e ≡ b → count_by (is_end q) (e ∷ between) ≡ once b + count_by (is_end q) between
 counted_more q e between b at = sum_by-cons (λ x. once (is_end q x)) e between ∙ ap (λ c. once c + count_by (is_end q) between) at
 
@@ -335,7 +316,7 @@ more : (q : ℕ) (e : Seen) (between : List Seen) (was : AnswerName) → e.had q
 more q e between was had accept (Stays none same) c =
     let count : count_by (is_end q) (e ∷ between) ≡ count_by (is_end q) between = quiet q _ _ (counted_more q e between false (no_end q e same)) in
     let now : e.has q ≡ was = same ∙ had in
-    record { most = by_most c.most count now; open_yet = λ calm none. ap (λ r. is_pending r) now ∙ c.open_yet (neither (is_reset e) (list_any is_reset between) calm).1 (sym count ∙ none) }
+    record { most = by_most c.most count now; open_yet = λ calm none. ap (λ r. is_pending r) now ∙ c.open_yet (or_parts (is_reset e) (list_any is_reset between) calm).1 (sym count ∙ none) }
   where
     by_most : (count_by (is_end q) between ≡ 0) ⊎ ((count_by (is_end q) between ≡ 1) × (is_pending was ≡ false)) → count_by (is_end q) (e ∷ between) ≡ count_by (is_end q) between → e.has q ≡ was
         → (count_by (is_end q) (e ∷ between) ≡ 0) ⊎ ((count_by (is_end q) (e ∷ between) ≡ 1) × (is_pending (e.has q) ≡ false))
@@ -358,7 +339,7 @@ more q e between was had accept (Begins begin free has) c =
     let count : count_by (is_end q) (e ∷ between) ≡ count_by (is_end q) between = quiet q _ _ (counted_more q e between false none) in
     record {
       most = by_most c.most count over;
-      open_yet = λ calm zero_is. absurd (not_both was (c.open_yet (neither (is_reset e) (list_any is_reset between) calm).1 (sym count ∙ zero_is)) (ap (λ r. is_pending r) (sym had) ∙ free));
+      open_yet = λ calm zero_is. absurd (not_both was (c.open_yet (or_parts (is_reset e) (list_any is_reset between) calm).1 (sym count ∙ zero_is)) (ap (λ r. is_pending r) (sym had) ∙ free));
     }
   where
     none_of : (a : Bool) → (not a && false) ≡ false
@@ -373,7 +354,7 @@ more q e between was had accept (Reset reset has) c =
     let over : is_pending (e.has q) ≡ false = ap (λ r. is_pending r) has in
     let none : is_end q e ≡ false = rw reset refl in
     let count : count_by (is_end q) (e ∷ between) ≡ count_by (is_end q) between = quiet q _ _ (counted_more q e between false none) in
-    record { most = by_most c.most count over; open_yet = λ calm zero_is. absurd (cc (reset, (neither (is_reset e) (list_any is_reset between) calm).0)) }
+    record { most = by_most c.most count over; open_yet = λ calm zero_is. absurd (cc (reset, (or_parts (is_reset e) (list_any is_reset between) calm).0)) }
   where
     by_most : (count_by (is_end q) between ≡ 0) ⊎ ((count_by (is_end q) between ≡ 1) × (is_pending was ≡ false)) → count_by (is_end q) (e ∷ between) ≡ count_by (is_end q) between → is_pending (e.has q) ≡ false
         → (count_by (is_end q) (e ∷ between) ≡ 0) ⊎ ((count_by (is_end q) (e ∷ between) ≡ 1) × (is_pending (e.has q) ≡ false))
@@ -386,7 +367,7 @@ counts q [] before first links request none =
     let found = taken q first request links.1 in
     record { most = inl refl; open_yet = λ calm zero_is. found.1 }
 counts q (e ∷ between) before first links request none =
-    let parts = neither (accepts q e) (list_any (accepts q) between) none in
+    let parts = or_parts (accepts q e) (list_any (accepts q) between) none in
     more q e between (result_now q (between ++ first ∷ before)) links.0 parts.0 links.1 (counts q between before first links.2 request parts.1)
 
 at_most : (n : ℕ) (now : AnswerName) → (n ≡ 0) ⊎ ((n ≡ 1) × (is_pending now ≡ false)) → n ≤ 1

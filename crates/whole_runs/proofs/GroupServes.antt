@@ -2,6 +2,7 @@
 use Rattle.std.proofs.Common.{◌≡◌, ◌≢◌, ℕ, zero, suc, ◌+◌, ◌-◌, ◌<◌, ◌==◌, Bool, true, false, cond, ◌&&◌, List, [], ◌∷◌, ◌++◌, length, Option, Some, None, refl, sym, ◌∙◌, ap, subst, ◌⊎◌, inl, inr, arith}
 use Rattle.std.specs.Prelude.{is_some, nat_lt, if◌then◌else◌, slice_index_or}
 use Rattle.std.proofs.lemmas.Bool.Decides.{nat_tests}
+use Rattle.std.proofs.lemmas.Bool.{and_parts}
 use Rattle.mcal_base.specs.declared.directive.Order.{Order}
 use Rattle.mcal_base.specs.declared.directive.Order.TheVariants as orders
 use Rattle.mcal_base.specs.declared.moves.Unit as units
@@ -186,10 +187,6 @@ pub next_of : (q : Option Round) (o : Option ℕ) (g : ℕ) → starts_by q o �
 next_of None o g e = e
 next_of (Some r) o g e = absurd (cc e)
 
-pub both : (a b : Bool) → (a && b) ≡ true → (a ≡ true) × (b ≡ true)
-both true b e = (refl, e)
-both false b e = absurd (cc e)
-
 known_below : (d : AdcTable) (u g : ℕ) → is_on u (group_of d g) ≡ true → g < 16
 known_below d u g on = by_test (nat_lt g 16) refl on
   where
@@ -234,7 +231,7 @@ starting_goes : (d : AdcTable) (w : World) (s : AdcState) (unit : units.Unit) (m
     → starting w s u o ≡ Some out → Goes d w (Starts unit made_by received) s out
 starting_goes d w s unit made_by received u None out num at e = absurd (cc e)
 starting_goes d w s unit made_by received u (Some h) out num at e =
-    let waits = both (is_on u (group_of d h)) (is_some (group_at s h).waiting) (next_is d s u h (next_of (round_at s u) (next_group d s u) h at)).waits in
+    let waits = and_parts (is_on u (group_of d h)) (is_some (group_at s h).waiting) (next_is d s u h (next_of (round_at s u) (next_group d s u) h at)).waits in
     went (Goes d w (Starts unit made_by received) s) (outcome (started w s u h) tells_nothing) out e (record {
       groups = λ g lt. start_group d w s unit made_by received u h g num at lt (same_or_other h g);
       units = λ v. start_unit w _ s u v h (λ ne. rw (num, other_number u v (λ k. ne (sym k))) refl) (λ g. refl) waits.1 (known_below d u h waits.0) (rw (num, at, same_number u, same_number h) refl) refl;

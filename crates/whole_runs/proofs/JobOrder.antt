@@ -4,6 +4,7 @@ use Rattle.std.specs.Prelude.{Contains, IsSome, if◌then◌else◌, filter, sli
 use Rattle.std.specs.List.{AllByRecursion}
 use Rattle.std.proofs.lemmas.Bool.Decides.{nat_tests}
 use Rattle.std.proofs.lemmas.List.Elements.{Contains-push_cases}
+use Rattle.std.proofs.lemmas.Bool.{false_from_ne_true}
 use Rattle.mcal_base.specs.declared.answer_name.AnswerName.{AnswerName}
 use Rattle.mcal_base.specs.declared.answer_name.AnswerName.TheVariants.{SpiSeqPending}
 use Rattle.mcal_base.specs.declared.moves.Unit as units
@@ -13,7 +14,7 @@ use Rattle.run_model.specs.Machine.{Happening, Acts, Serves, Starts, Aborts, Mov
 use Rattle.spi_machine.specs.Promised.{HasPriorities, IsNext, Yields, ToStarted, ToPriority, ToEarlier}
 use Rattle.spi_machine.specs.Machine.{spi_machine, start_by, next_at, number_of}
 use Rattle.spi_machine.specs.Pending as lists
-use Rattle.spi_machine.specs.Pending.{Pending, is_of as is_entry, is_for, changed, without, starts, goes_to_next, cancels, next_job, keeps_unit, priority_of, requested, sequence_result}
+use Rattle.spi_machine.specs.Pending.{Pending, is_of as is_entry, is_for, changed, starts, goes_to_next, cancels, next_job, keeps_unit, priority_of, requested, sequence_result}
 use Rattle.spi_machine.specs.State.{SpiState, first_state}
 use Rattle.spi_machine.specs.Table.{jobs_of, job_of, sequence_of, priority_by, is_interruptible, is_on_unit}
 use Rattle.spi_machine.specs.declared.call.Call.{Call}
@@ -133,10 +134,6 @@ changed_entry e s k f p x true there at is seq req accept next started other = O
 changed_entry e s k f p x false there at is seq req accept next started other =
     subst (λ y. EntryGoes e s y) is (same_entry e s p there accept (other refl).0 (other refl).1)
 
-not_true : (b : Bool) → (b ≡ true → ⊥) → b ≡ false
-not_true true h = absurd (h refl)
-not_true false h = refl
-
 entries_go : (d : SpiTable) (e : Seen) (s t : SpiState) → Goes d e s t → (x : Pending) → Contains t.pending x → EntryGoes e s x
 entries_go d e s t (Leaves calm reset pending results requests told) x has =
     let there : Contains s.pending x = subst (λ ps. Contains ps x) pending has in
@@ -150,7 +147,7 @@ entries_go d e s t (Accepts k had accept reset free pending results requests tol
     job_calm q h = accepts_no_job k q e h
 
     other : Contains s.pending x → (k == x.sequence) ≡ false
-    other there = not_true (k == x.sequence) (λ same. clash (is_there s.pending x there) (subst (λ n. lists.is_pending n s.pending ≡ false) (grind (arith, nat_tests, same)) free))
+    other there = false_from_ne_true (k == x.sequence) (λ same. clash (is_there s.pending x there) (subst (λ n. lists.is_pending n s.pending ≡ false) (grind (arith, nat_tests, same)) free))
       where
         clash : {b : Bool} → b ≡ true → b ≡ false → ⊥
         clash a b = absurd (cc (a, b))

@@ -12,7 +12,7 @@ use Rattle.run_model.specs.declared.item.Stepped.{Stepped}
 use Rattle.run_model.specs.Frame.{Origin, Called, Entered, Owing, Open, brought_by, happening_at, outcome_of, outcome_at, state_by, acted_by, is_serving, owing, owed_by, owed_after, rest_of, open_after, top_after}
 use Rattle.run_model.specs.Legal.{EventRight, IsLegalStep, LegalStep, IsLegalDeed, IsLegal, MoveRight, Owes, MayEnd, EndRight}
 use Rattle.run_model.specs.Machine.{Happening, Moves, Restarts, Outcome}
-use Rattle.run_model.specs.Moment.{Setting, Moment, Deed, Begins, Enters, Steps, Happens, Resets, after, after_step, after_all}
+use Rattle.run_model.specs.Moment.{Setting, Moment, Transition, Begins, Enters, Steps, Happens, Resets, after, after_step, after_all}
 use Rattle.run_model.specs.World.{World}
 use Rattle.whole_runs.specs.Runs.{Event, state_after, AreAllowed, told_by}
 use Rattle.whole_runs.specs.Journals.{event_of_step, event_of, with_event, events_of, Said, notices_in, answer_told, said_after, top_said, all_said_after_step, all_said_after, Answered, EndsSaid, StepSaid, DeedSaid, AllSaid}
@@ -41,14 +41,14 @@ module _ {State Call : Type 0} (g : Setting State Call) where
   by_step m [] st first past legal ran = absurd legal
   by_step m (o ∷ os) st first past legal ran = by_event m o st first past st.event legal.event ran
 
-  by_deed : (m : Moment State Call) (d : Deed Call) (first : State) (past : List (Event Call)) → IsLegalDeed g m d → Ran first m.state past → Ran first (after g m d).state (with_event m.world (event_of m d) past)
+  by_deed : (m : Moment State Call) (d : Transition Call) (first : State) (past : List (Event Call)) → IsLegalDeed g m d → Ran first m.state past → Ran first (after g m d).state (with_event m.world (event_of m d) past)
   by_deed m (Begins c level) first past legal ran = ran
   by_deed m (Enters l) first past legal ran = ran
   by_deed m (Steps st) first past legal ran = by_step m m.opens st first past legal ran
   by_deed m (Happens order) first past legal ran = one_more first m.state m.world past (Moves order) legal.1 ran
   by_deed m (Resets reason) first past legal ran = one_more first m.state m.world past (Restarts reason) legal ran
 
-  pub events_run : (first : State) (m : Moment State Call) (past : List (Event Call)) (ds : List (Deed Call)) → IsLegal g m ds → Ran first m.state past → Ran first (after_all g m ds).state (events_of g m past ds)
+  pub events_run : (first : State) (m : Moment State Call) (past : List (Event Call)) (ds : List (Transition Call)) → IsLegal g m ds → Ran first m.state past → Ran first (after_all g m ds).state (events_of g m past ds)
   events_run first m past [] legal ran = ran
   events_run first m past (d ∷ ds) legal ran = events_run first (after g m d) (with_event m.world (event_of m d) past) ds legal.3 (by_deed m d first past legal.2 ran)
 
@@ -161,23 +161,23 @@ module _ {State Call : Type 0} (g : Setting State Call) where
       subst (λ ks. AreSaid (top_said (said_after g m ks st x) st.ended xs) (after_step g m (o ∷ os) st).opens) (sym same)
       (rest_said (said_after g m (o ∷ os) st x) (open_after g.machine m.world m.state o st.made st.received st.event) st.ended xs os (top_after_step m o os st x legal said.0) said.1)
 
-  said_deed : (m : Moment State Call) (d : Deed Call) (xs : List Said) → IsLegalDeed g m d → AreSaid xs m.opens → AreSaid (all_said_after g m d xs) (after g m d).opens
+  said_deed : (m : Moment State Call) (d : Transition Call) (xs : List Said) → IsLegalDeed g m d → AreSaid xs m.opens → AreSaid (all_said_after g m d xs) (after g m d).opens
   said_deed m (Begins c level) xs legal said = (record { answer = refl; told = refl }, said)
   said_deed m (Enters l) xs legal said = (record { answer = refl; told = refl }, said)
   said_deed m (Steps st) xs legal said = said_step m m.opens st xs refl legal said
   said_deed m (Happens order) xs legal said = said
   said_deed m (Resets reason) xs legal said = tt
 
-  deed_said : (m : Moment State Call) (d : Deed Call) (xs : List Said) → IsLegalDeed g m d → AreSaid xs m.opens → DeedSaid g m d xs
+  deed_said : (m : Moment State Call) (d : Transition Call) (xs : List Said) → IsLegalDeed g m d → AreSaid xs m.opens → DeedSaid g m d xs
   deed_said m (Begins c level) xs legal said = tt
   deed_said m (Enters l) xs legal said = tt
   deed_said m (Steps st) xs legal said = step_said m m.opens st xs legal said
   deed_said m (Happens order) xs legal said = tt
   deed_said m (Resets reason) xs legal said = tt
 
-  all_said : (m : Moment State Call) (xs : List Said) (ds : List (Deed Call)) → IsLegal g m ds → AreSaid xs m.opens → AllSaid g m xs ds
+  all_said : (m : Moment State Call) (xs : List Said) (ds : List (Transition Call)) → IsLegal g m ds → AreSaid xs m.opens → AllSaid g m xs ds
   all_said m xs [] legal said = tt
   all_said m xs (d ∷ ds) legal said = (deed_said m d xs legal.2 said, all_said (after g m d) (all_said_after g m d xs) ds legal.3 (said_deed m d xs legal.2 said))
 
-  pub frames_say : (m : Moment State Call) (ds : List (Deed Call)) → m.opens ≡ [] → IsLegal g m ds → AllSaid g m [] ds
+  pub frames_say : (m : Moment State Call) (ds : List (Transition Call)) → m.opens ≡ [] → IsLegal g m ds → AllSaid g m [] ds
   frames_say m ds none legal = all_said m [] ds legal (subst (λ os. AreSaid [] os) (sym none) tt)

@@ -1,6 +1,7 @@
 -- A run of a larger machine has a run of each part in it.
 use Rattle.std.proofs.Common.{◌≡◌, ℕ, Bool, true, false, cond, List, [], ◌∷◌, Option, Some, None, refl, sym, ◌∙◌, ap, subst}
 use Rattle.std.specs.Prelude.{is_some, IsSome}
+use Rattle.plain_facts.specs.Options.{some_same}
 use Rattle.run_model.specs.Frame.{state_by}
 use Rattle.run_model.specs.World.{World}
 use Rattle.run_model.specs.Machine.{Happening, Acts, Serves, Starts, Aborts, Moves, Restarts, Outcome, Machine, outcome, outcome_with, tells_nothing}
@@ -9,9 +10,6 @@ use Rattle.step_runner.specs.declared.either.Either.{Either}
 use Rattle.step_runner.specs.declared.either.Either.TheVariants.{Left, Right}
 use Rattle.whole_runs.specs.Runs.{Event, state_after, AreAllowed}
 use Rattle.whole_runs.specs.Members.{Place, IsPart, own_event, joined, own_events, whole_place, own_through, within, first_own, second_own, first_place, second_place, IsMute}
-
-some_same : {A : Type 0} {x y : A} → Some x ≡ Some y → x ≡ y
-some_same h = cc h
 
 module _ {S C U E : Type 0} (small : Machine S C) (big : Machine U E) (first : U) (p : Place S C U E) (is : IsPart small big p) where
   -- the part's state and events after one more event

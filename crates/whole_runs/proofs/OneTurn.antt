@@ -2,6 +2,7 @@
 use Rattle.std.proofs.Common.{◌≡◌, ◌≢◌, ℕ, zero, suc, ◌+◌, ◌-◌, ◌<◌, ◌==◌, Bool, true, false, cond, ◌&&◌, ◌||◌, [], Option, Some, None, refl, sym, ◌∙◌, ap, subst, ◌⊎◌, inl, inr, arith}
 use Rattle.std.specs.Prelude.{is_some}
 use Rattle.std.proofs.lemmas.Bool.Decides.{nat_tests}
+use Rattle.std.proofs.lemmas.Bool.{and_parts}
 use Rattle.mcal_base.specs.declared.directive.Order.{Order}
 use Rattle.mcal_base.specs.declared.directive.Order.TheVariants as orders
 use Rattle.mcal_base.specs.declared.moves.Unit as units
@@ -21,7 +22,7 @@ use Rattle.adc_machine.proofs.Next.{next_is}
 use Rattle.adc_machine.proofs.Parts.{group_same, group_other}
 use Rattle.whole_runs.specs.Runs.{is_of}
 use Rattle.whole_runs.specs.GroupRuns.{Seen, requests, starts_on as starts_of, aborts_on as aborts_of, serves_on, is_on as on_unit, touches, call_by, is_start, is_triggering, unit_started, unit_aborted, unit_served, started_group}
-use Rattle.whole_runs.proofs.GroupServes.{next_of, both, served_other}
+use Rattle.whole_runs.proofs.GroupServes.{next_of, served_other}
 use Rattle.whole_runs.proofs.GroupSteps.{WaitGoes, Stands, Over, Made, Again, Back, Dropped, UnitGoes, Remains, Begun, Freed, seen, Goes, went, same_number, same_or_other}
 use Rattle.whole_runs.proofs.TurnSteps.{is_quiet, IsDeaf, Single, MadeFree, made_free, QuietGoes, Carries, Loud, Settles, Emptied, left_quiet, kept_quiet, act_quiet, served_quiet}
 
@@ -125,11 +126,11 @@ of_is n (Some m) h = ap (λ k. Some k) (grind (arith, nat_tests, h))
 
 start_on : (d : AdcTable) (w : World) (s : AdcState) (unit : units.Unit) (made_by : Option Call) (received : ℕ) (out : Outcome AdcState) (u g : ℕ) → starts_of u g (seen d w (Starts unit made_by received) s out) ≡ true → StartsOn d u g
 start_on d w s unit made_by received out u g h =
-    let parts = both (is_of u (number_of unit)) (is_of g (started_group d s (number_of unit))) h in
+    let parts = and_parts (is_of u (number_of unit)) (is_of g (started_group d s (number_of unit))) h in
     let num : number_of unit ≡ Some u = of_is u (number_of unit) parts.0 in
     let begins : starts d s u ≡ Some g = of_is g (starts d s u) (subst (λ k. is_of g (started_group d s k) ≡ true) num parts.1) in
     record {
-      on = (both (is_on_unit u (group_of d g)) (is_some (group_at s g).waiting) (next_is d s u g (next_of (round_at s u) (next_group d s u) g begins)).waits).0;
+      on = (and_parts (is_on_unit u (group_of d g)) (is_some (group_at s g).waiting) (next_is d s u g (next_of (round_at s u) (next_group d s u) g begins)).waits).0;
       few = unit_few unit u num;
     }
 
@@ -161,14 +162,14 @@ start_alone u g e h = record {
     or_true false = refl
 
     starts : is_some (unit_started e.what) ≡ true
-    starts = some_of u (unit_started e.what) (both (is_of u (unit_started e.what)) (is_of g e.group) h).0
+    starts = some_of u (unit_started e.what) (and_parts (is_of u (unit_started e.what)) (is_of g e.group) h).0
       where
         some_of : (n : ℕ) (o : Option ℕ) → is_of n o ≡ true → is_some o ≡ true
         some_of n None f = absurd (cc f)
         some_of n (Some m) f = refl
 
     own : is_of g e.group ≡ true
-    own = (both (is_of u (unit_started e.what)) (is_of g e.group) h).1
+    own = (and_parts (is_of u (unit_started e.what)) (is_of g e.group) h).1
 
     none_served : (v : ℕ) (k : Happening Call) (b : Bool) → is_some (unit_started k) ≡ true → (is_of v (unit_served k) && b) ≡ false
     none_served v (Starts unit made_by received) b f = refl
@@ -199,7 +200,7 @@ clash x y = absurd (cc (x, y))
 
 -- what is served or aborted on a unit is on it
 serve_is_on : (u g : ℕ) (e : Seen) → serves_on u g e ≡ true → on_unit u e ≡ true
-serve_is_on u g e h = let own = (both (is_of u (unit_served e.what)) (is_of g e.group) h).0 in rw own (third (is_of u (unit_started e.what)) (is_of u (unit_aborted e.what)))
+serve_is_on u g e h = let own = (and_parts (is_of u (unit_served e.what)) (is_of g e.group) h).0 in rw own (third (is_of u (unit_started e.what)) (is_of u (unit_aborted e.what)))
   where
     third : (a b : Bool) → (a || (b || true)) ≡ true
     third true b = refl
@@ -207,7 +208,7 @@ serve_is_on u g e h = let own = (both (is_of u (unit_served e.what)) (is_of g e.
     third false false = refl
 
 abort_is_on : (u g : ℕ) (e : Seen) → aborts_of u g e ≡ true → on_unit u e ≡ true
-abort_is_on u g e h = let own = (both (is_of u (unit_aborted e.what)) (is_of g e.group) h).0 in rw own (second (is_of u (unit_started e.what)) (is_of u (unit_served e.what)))
+abort_is_on u g e h = let own = (and_parts (is_of u (unit_aborted e.what)) (is_of g e.group) h).0 in rw own (second (is_of u (unit_started e.what)) (is_of u (unit_served e.what)))
   where
     second : (a c : Bool) → (a || (true || c)) ≡ true
     second true c = refl

@@ -3,7 +3,7 @@ use Rattle.std.proofs.Common.{◌≡◌, ℕ, Bool, List, [], Some, None, refl, 
 use Rattle.chip_model.specs.Chip.{Chip}
 use Rattle.run_model.specs.Legal.{IsLegal}
 use Rattle.run_model.specs.Machine.{Machine, Outcome, outcome, outcome_with, tells_nothing}
-use Rattle.run_model.specs.Moment.{Setting, Deed, start_moment}
+use Rattle.run_model.specs.Moment.{Setting, Transition, start_moment}
 use Rattle.step_runner.specs.Union.{union_setting}
 use Rattle.step_runner.specs.declared.either.Either.{Either}
 use Rattle.adc_machine.specs.Bounds.{adc_setting}
@@ -37,32 +37,32 @@ sequences_run d past allowed = record { results = all_end d past allowed; ends =
 
 -- ---- journals
 
-journal_allowed : {State Call : Type 0} (g : Setting State Call) (chip : Chip) (ds : List (Deed Call)) → IsLegal g (start_moment g chip) ds → AreAllowed g.machine g.first (journal_events g chip ds)
+journal_allowed : {State Call : Type 0} (g : Setting State Call) (chip : Chip) (ds : List (Transition Call)) → IsLegal g (start_moment g chip) ds → AreAllowed g.machine g.first (journal_events g chip ds)
 journal_allowed g chip ds legal = (events_run g g.first (start_moment g chip) [] ds legal (refl, tt)).1
 
-pub journal_says : {State Call : Type 0} (g : Setting State Call) (chip : Chip) (ds : List (Deed Call)) → IsLegal g (start_moment g chip) ds → FramesSay g chip ds
+pub journal_says : {State Call : Type 0} (g : Setting State Call) (chip : Chip) (ds : List (Transition Call)) → IsLegal g (start_moment g chip) ds → FramesSay g chip ds
 journal_says g chip ds legal = frames_say g (start_moment g chip) ds refl legal
 
 -- the part of a journal is a run of the part
-part_allowed : {S C U E : Type 0} (small : Machine S C) (first : S) (g : Setting U E) (p : Place S C U E) → IsPart small g.machine p → p.part g.first ≡ first → (chip : Chip) (ds : List (Deed E))
+part_allowed : {S C U E : Type 0} (small : Machine S C) (first : S) (g : Setting U E) (p : Place S C U E) → IsPart small g.machine p → p.part g.first ≡ first → (chip : Chip) (ds : List (Transition E))
     → IsLegal g (start_moment g chip) ds → AreAllowed small first (part_events g p chip ds)
 part_allowed small first g p is same chip ds legal =
     subst (λ s. AreAllowed small s (part_events g p chip ds)) same (part_runs small g.machine g.first p is (journal_events g chip ds) (journal_allowed g chip ds legal)).1
 
-pub groups_keep : {U E : Type 0} (d : AdcTable) (g : Setting U E) (p : Place AdcState converter.Call U E) → IsPart (adc_machine d) g.machine p → p.part g.first ≡ groups.first_state → (chip : Chip) (ds : List (Deed E))
+pub groups_keep : {U E : Type 0} (d : AdcTable) (g : Setting U E) (p : Place AdcState converter.Call U E) → IsPart (adc_machine d) g.machine p → p.part g.first ≡ groups.first_state → (chip : Chip) (ds : List (Transition E))
     → IsLegal g (start_moment g chip) ds → GroupsKeep d (part_events g p chip ds)
 groups_keep d g p is same chip ds legal = groups_run d (part_events g p chip ds) (part_allowed (adc_machine d) groups.first_state g p is same chip ds legal)
 
-pub sequences_keep : {U E : Type 0} (d : SpiTable) (g : Setting U E) (p : Place SpiState serial.Call U E) → IsPart (spi_machine d) g.machine p → p.part g.first ≡ sequences.first_state → (chip : Chip) (ds : List (Deed E))
+pub sequences_keep : {U E : Type 0} (d : SpiTable) (g : Setting U E) (p : Place SpiState serial.Call U E) → IsPart (spi_machine d) g.machine p → p.part g.first ≡ sequences.first_state → (chip : Chip) (ds : List (Transition E))
     → IsLegal g (start_moment g chip) ds → SequencesKeep d (part_events g p chip ds)
 sequences_keep d g p is same chip ds legal = sequences_run d (part_events g p chip ds) (part_allowed (spi_machine d) sequences.first_state g p is same chip ds legal)
 
 -- ---- alone
 
-pub converter_keeps : (d : AdcTable) (chip : Chip) (ds : List (Deed converter.Call)) → IsLegal (adc_setting d) (start_moment (adc_setting d) chip) ds → GroupsKeep d (journal_events (adc_setting d) chip ds)
+pub converter_keeps : (d : AdcTable) (chip : Chip) (ds : List (Transition converter.Call)) → IsLegal (adc_setting d) (start_moment (adc_setting d) chip) ds → GroupsKeep d (journal_events (adc_setting d) chip ds)
 converter_keeps d chip ds legal = groups_run d (journal_events (adc_setting d) chip ds) (journal_allowed (adc_setting d) chip ds legal)
 
-pub serial_keeps : (d : SpiTable) (chip : Chip) (ds : List (Deed serial.Call)) → IsLegal (spi_setting d) (start_moment (spi_setting d) chip) ds → SequencesKeep d (journal_events (spi_setting d) chip ds)
+pub serial_keeps : (d : SpiTable) (chip : Chip) (ds : List (Transition serial.Call)) → IsLegal (spi_setting d) (start_moment (spi_setting d) chip) ds → SequencesKeep d (journal_events (spi_setting d) chip ds)
 serial_keeps d chip ds legal = sequences_run d (journal_events (spi_setting d) chip ds) (journal_allowed (spi_setting d) chip ds legal)
 
 -- ---- together
@@ -79,7 +79,7 @@ converter_mute d = record { moves = λ w s order out e. mute_by (pulses d s orde
 pub serial_mute : (d : SpiTable) → IsMute (spi_machine d)
 serial_mute d = record { moves = λ w s order out e. mute_by (meets d w s order) out e; restarts = λ w s reason out e. mute_by sequences.first_state out e }
 
-pub both_keep : (ours : ℕ → Bool) (d : AdcTable) (k : SpiTable) (chip : Chip) (ds : List (Deed (Either converter.Call serial.Call)))
+pub both_keep : (ours : ℕ → Bool) (d : AdcTable) (k : SpiTable) (chip : Chip) (ds : List (Transition (Either converter.Call serial.Call)))
     → IsLegal (union_setting ours (adc_setting d) (spi_setting k)) (start_moment (union_setting ours (adc_setting d) (spi_setting k)) chip) ds
     → GroupsKeep d (part_events (union_setting ours (adc_setting d) (spi_setting k)) (first_place ours (adc_machine d)) chip ds)
     × SequencesKeep k (part_events (union_setting ours (adc_setting d) (spi_setting k)) (second_place ours (adc_machine d)) chip ds)

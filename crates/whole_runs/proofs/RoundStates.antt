@@ -2,6 +2,8 @@
 use Rattle.std.proofs.Common.{◌≡◌, ℕ, ◌-◌, ◌<◌, ◌/◌, Bool, true, false, cond, ◌&&◌, ◌||◌, List, [], ◌∷◌, ◌++◌, length, take, drop, Option, Some, None, refl, sym, ◌∙◌, ap, subst, append_assoc, length-append, arith}
 use Rattle.std.specs.Prelude.{is_some, slice_index_or}
 use Rattle.std.proofs.lemmas.List.Folds.{list_any-append}
+use Rattle.std.proofs.lemmas.Bool.{or_left}
+use Rattle.plain_facts.specs.Options.{some_same}
 use Rattle.mcal_base.specs.declared.error_name.ErrorName.{ErrorName}
 use Rattle.run_model.specs.World.{World}
 use Rattle.run_model.specs.Machine.{Happening, Acts, Serves, Starts, Aborts, Moves, Restarts, Outcome}
@@ -17,9 +19,6 @@ use Rattle.whole_runs.specs.Rounds.{inputs_after, Stretch, values_since, Keeps, 
 use Rattle.whole_runs.proofs.OneTurn.{single_after}
 use Rattle.whole_runs.proofs.TurnSteps.{Single}
 use Rattle.whole_runs.proofs.GroupSteps.{is_completed, WaitGoes, Stands, Over, Made, Again, Back, Dropped, RoundsGo, Same, Added, Cleared, UnitGoes, Remains, Begun, Freed, seen, Goes}
-
-some_same : {A : Type 0} {x y : A} → Some x ≡ Some y → x ≡ y
-some_same h = cc h
 
 -- ---- what the state says
 
@@ -80,9 +79,6 @@ second : (a b c : Bool) → b ≡ true → (a || (b || c)) ≡ true
 second true b c h = refl
 second false b c h = rw h refl
 
-first : (a b : Bool) → a ≡ true → (a || b) ≡ true
-first a b h = rw h refl
-
 serving_calm : (u g : ℕ) (e : Seen) → serves_on u g e ≡ true → stops g e ≡ false
 serving_calm u g e h = unit_calm e g (third _ _ _ (of_some u (unit_served e.what) (is_of g e.group) h))
 
@@ -90,7 +86,7 @@ abort_calm : (u g : ℕ) (e : Seen) → aborts_on u g e ≡ true → stops g e �
 abort_calm u g e h = unit_calm e g (second _ _ _ (of_some u (unit_aborted e.what) (is_of g e.group) h))
 
 start_calm : (u g : ℕ) (e : Seen) → starts_on u g e ≡ true → stops g e ≡ false
-start_calm u g e h = unit_calm e g (first _ _ (of_some u (unit_started e.what) (is_of g e.group) h))
+start_calm u g e h = unit_calm e g (or_left _ _ (of_some u (unit_started e.what) (is_of g e.group) h))
 
 none_more : (p : Seen → Bool) (e : Seen) (es : List Seen) → p e ≡ false → NoneOf p es → NoneOf p (e ∷ es)
 none_more p e es h none = rw (h, none) refl

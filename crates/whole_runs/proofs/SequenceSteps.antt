@@ -3,6 +3,8 @@ use Rattle.std.proofs.Common.{◌≡◌, ℕ, zero, suc, ◌+◌, ◌==◌, Bool
 use Rattle.std.specs.Prelude.{is_some, Contains, count_by, find}
 use Rattle.std.proofs.lemmas.Bool.Decides.{nat_tests}
 use Rattle.std.proofs.lemmas.List.Sums.{sum_by-append}
+use Rattle.plain_facts.specs.Truths.{and_false, and_true}
+use Rattle.plain_facts.specs.Options.{some_is}
 use Rattle.det_errors.specs.Rows.{first_error}
 use Rattle.mcal_base.specs.declared.answer_name.AnswerName.{AnswerName}
 use Rattle.mcal_base.specs.declared.answer_name.AnswerName.TheVariants.{SpiSeqOk, SpiSeqPending, SpiSeqFailed, SpiSeqCanceled}
@@ -27,7 +29,7 @@ use Rattle.spi_machine.specs.declared.call.Call.TheVariants.{Init, DeInit, SetAs
 use Rattle.spi_machine.specs.declared.call.ChannelCall.TheVariants.{WriteIb, ReadIb, SetupEb}
 use Rattle.spi_machine.specs.declared.call.SequenceCall.TheVariants.{AsyncTransmit, Cancel}
 use Rattle.spi_machine.specs.declared.table.SpiTable.{SpiTable}
-use Rattle.spi_machine.proofs.Runs.{stored-seen, after_last-seen, serve_by, some_same}
+use Rattle.spi_machine.proofs.Runs.{stored-seen, after_last-seen, serve_by}
 use Rattle.spi_machine.proofs.Turns.{found}
 use Rattle.whole_runs.specs.Runs.{is_of}
 use Rattle.whole_runs.specs.SequenceRuns.{Seen, seen_between, is_accepted, accepts, initialises, is_reset, starts_job, ends_job, sequence_seen}
@@ -45,21 +47,21 @@ abbrev pub end_results : List AnswerName
 end_results = SpiSeqOk ∷ SpiSeqFailed ∷ SpiSeqCanceled ∷ []
 
 -- no request is accepted, no job starts, and none ends
-pub record IsCalm (e : Seen) (ps : List Pending) : Type 0 where
+pub record IsSilentMove (e : Seen) (ps : List Pending) : Type 0 where
   pub accepts : (q : ℕ) → accepts q e ≡ false
   pub starts : (q : ℕ) → starts_job q e ≡ false
   pub ends : (p : Pending) → Contains ps p → ends_job p.sequence e ≡ false
 
 -- What an event does to the pending sequences and to the results.
 pub data Goes (d : SpiTable) (e : Seen) (s t : SpiState) : Type 0 where
-  Leaves : IsCalm e s.pending → is_reset e ≡ false → t.pending ≡ s.pending → t.sequence_results ≡ s.sequence_results → t.requests ≡ s.requests → ((q : ℕ) → ends_told q e ≡ 0) → Goes d e s t
+  Leaves : IsSilentMove e s.pending → is_reset e ≡ false → t.pending ≡ s.pending → t.sequence_results ≡ s.sequence_results → t.requests ≡ s.requests → ((q : ℕ) → ends_told q e ≡ 0) → Goes d e s t
   Accepts : (k : ℕ) (had : List AnswerName) → ((q : ℕ) → accepts q e ≡ (k == q)) → is_reset e ≡ false → lists.is_pending k s.pending ≡ false → t.pending ≡ s.pending ++ requested k (s.requests + 1) had ∷ []
       → t.sequence_results ≡ with_item SpiSeqOk s.sequence_results k SpiSeqPending → t.requests ≡ s.requests + 1 → ((q : ℕ) → ends_told q e ≡ 0) → Goes d e s t
   Starting : (k : ℕ) → ((q : ℕ) → accepts q e ≡ false) → is_reset e ≡ false → ((q : ℕ) → starts_job q e ≡ (k == q)) → ((q : ℕ) → ends_job q e ≡ false) → t.pending ≡ changed k starts s.pending
       → t.sequence_results ≡ s.sequence_results → t.requests ≡ s.requests → ((q : ℕ) → ends_told q e ≡ 0) → Goes d e s t
   Advances : (k : ℕ) → ((q : ℕ) → accepts q e ≡ false) → is_reset e ≡ false → ((q : ℕ) → starts_job q e ≡ false) → ((q : ℕ) → ends_job q e ≡ (k == q)) → t.pending ≡ changed k goes_to_next s.pending
       → t.sequence_results ≡ s.sequence_results → t.requests ≡ s.requests → ((q : ℕ) → ends_told q e ≡ 0) → Goes d e s t
-  Marks : (k : ℕ) → IsCalm e s.pending → is_reset e ≡ false → t.pending ≡ changed k cancels s.pending → t.sequence_results ≡ s.sequence_results → t.requests ≡ s.requests → ((q : ℕ) → ends_told q e ≡ 0) → Goes d e s t
+  Marks : (k : ℕ) → IsSilentMove e s.pending → is_reset e ≡ false → t.pending ≡ changed k cancels s.pending → t.sequence_results ≡ s.sequence_results → t.requests ≡ s.requests → ((q : ℕ) → ends_told q e ≡ 0) → Goes d e s t
   Ending : (k : ℕ) (x : AnswerName) → ((q : ℕ) → accepts q e ≡ false) → is_reset e ≡ false → ((q : ℕ) → starts_job q e ≡ false) → ((q : ℕ) → (k == q) ≡ false → ends_job q e ≡ false) → lists.is_pending k s.pending ≡ true
       → Contains end_results x → t.pending ≡ without k s.pending → t.sequence_results ≡ with_item SpiSeqOk s.sequence_results k x → t.requests ≡ s.requests
       → ((q : ℕ) → ends_told q e ≡ cond (notifies_sequence (sequence_of d k) && (k == q)) 1 0) → Goes d e s t
@@ -167,14 +169,6 @@ act_by d s (Get query) times None at = Leaves (record { accepts = λ q. refl; st
 abbrev ServeGoes : SpiTable → SpiState → (line received : ℕ) → Outcome SpiState → Type 0
 ServeGoes d s l received out = Goes d (seen d (Serves l received) s out) s out.state
 
-and_false : (b : Bool) → (b && false) ≡ false
-and_false true = refl
-and_false false = refl
-
-and_true : (b : Bool) → (b && true) ≡ b
-and_true true = refl
-and_true false = refl
-
 -- an entry isn't of a sequence that isn't found
 not_found : (k : ℕ) (ps : List Pending) (p : Pending) → find (is_entry k) ps ≡ None → Contains ps p → (k == p.sequence) ≡ false
 not_found k [] p none (n, within, is) = absurd (omega (arith, within))
@@ -191,10 +185,10 @@ not_found k (x ∷ ps) p none (suc n, within, is) = not_found k ps p (none_by (x
 
 -- the result that a sequence ends with is one of the three
 end_is : (c f g : Bool) (x : AnswerName) → end_by c f g ≡ Some x → Contains end_results x
-end_is true f g x e = subst (λ y. Contains end_results y) (some_same SpiSeqCanceled x e) (2, omega arith, refl)
-end_is false true g x e = subst (λ y. Contains end_results y) (some_same SpiSeqFailed x e) (1, omega arith, refl)
+end_is true f g x e = subst (λ y. Contains end_results y) (some_is SpiSeqCanceled x e) (2, omega arith, refl)
+end_is false true g x e = subst (λ y. Contains end_results y) (some_is SpiSeqFailed x e) (1, omega arith, refl)
 end_is false false true x e = absurd (cc e)
-end_is false false false x e = subst (λ y. Contains end_results y) (some_same SpiSeqOk x e) (0, omega arith, refl)
+end_is false false false x e = subst (λ y. Contains end_results y) (some_is SpiSeqOk x e) (0, omega arith, refl)
 
 -- a job's end, by what comes of its sequence
 after_goes : (d : SpiTable) (s t : SpiState) (l received : ℕ) (r : Run) (p : Pending) (x : Option AnswerName) → run_of s (unit_of l) ≡ Some r → p.sequence ≡ r.sequence → lists.is_pending p.sequence s.pending ≡ true
@@ -239,7 +233,7 @@ start_goes : (d : SpiTable) (w : World) (s : SpiState) (unit : units.Unit) (made
 start_goes d w s unit made_by None received o out at e = absurd (cc e)
 start_goes d w s unit made_by (Some u) received None out at e = absurd (cc e)
 start_goes d w s unit made_by (Some u) received (Some p) out at e =
-    subst (λ (x : Outcome SpiState). Goes d (seen d (Starts unit made_by received) s x) s x.state) (some_same (started d w s u received p) out e)
+    subst (λ (x : Outcome SpiState). Goes d (seen d (Starts unit made_by received) s x) s x.state) (some_is (started d w s u received p) out e)
     (Starting p.sequence (λ q. refl) refl (λ q. rw at refl) (λ q. refl) refl refl refl (λ q. refl))
 
 calm_move : (d : SpiTable) (w : World) (s : SpiState) (order : Order) → (moved d w s order).pending ≡ s.pending → (moved d w s order).sequence_results ≡ s.sequence_results → (moved d w s order).requests ≡ s.requests
@@ -253,13 +247,13 @@ move_goes d w s order = calm_move d w s order refl refl refl
 
 pub happens_goes : (d : SpiTable) (w : World) (s : SpiState) (h : Happening Call) (out : Outcome SpiState) → (spi_machine d).happens w s h ≡ Some out → Goes d (seen d h s out) s out.state
 happens_goes d w s (Acts call times) out e =
-    subst (λ (x : Outcome SpiState). Goes d (seen d (Acts call times) s x) s x.state) (some_same (acts d s call) out e) (act_by d s call times (error_by d call (is_off s.mode) (finds_held d s call)) refl)
+    subst (λ (x : Outcome SpiState). Goes d (seen d (Acts call times) s x) s x.state) (some_is (acts d s call) out e) (act_by d s call times (error_by d call (is_off s.mode) (finds_held d s call)) refl)
 happens_goes d w s (Serves l received) out e =
     subst (λ (x : Outcome SpiState). Goes d (seen d (Serves l received) s x) s x.state) (serve_by (ready w s l) (served d w s (unit_of l) received (run_of s (unit_of l))) out e)
     (served_goes d w s l received (unit_of l) (run_of s (unit_of l)) refl refl)
 happens_goes d w s (Starts unit made_by received) out e = start_goes d w s unit made_by (number_of unit) received (next_at d s (number_of unit)) out refl e
 happens_goes d w s (Aborts u) out e = absurd (cc e)
 happens_goes d w s (Moves order) out e =
-    subst (λ (x : Outcome SpiState). Goes d (seen d (Moves order) s x) s x.state) (some_same (outcome (moved d w s order) tells_nothing) out e) (move_goes d w s order)
+    subst (λ (x : Outcome SpiState). Goes d (seen d (Moves order) s x) s x.state) (some_is (outcome (moved d w s order) tells_nothing) out e) (move_goes d w s order)
 happens_goes d w s (Restarts reason) out e =
-    subst (λ (x : Outcome SpiState). Goes d (seen d (Restarts reason) s x) s x.state) (some_same (outcome first_state tells_nothing) out e) (Resetting refl (λ q. refl) refl refl (λ q. refl))
+    subst (λ (x : Outcome SpiState). Goes d (seen d (Restarts reason) s x) s x.state) (some_is (outcome first_state tells_nothing) out e) (Resetting refl (λ q. refl) refl refl (λ q. refl))

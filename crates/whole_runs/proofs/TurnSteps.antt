@@ -2,6 +2,7 @@
 use Rattle.std.proofs.Common.{◌≡◌, ◌≢◌, ℕ, zero, suc, ◌+◌, ◌-◌, ◌%◌, ◌<◌, ◌==◌, Bool, true, false, cond, ◌&&◌, ◌||◌, not, List, [], ◌∷◌, length, Option, Some, None, refl, sym, ◌∙◌, ap, subst, ◌⊎◌, inl, inr, arith}
 use Rattle.std.specs.Prelude.{is_some, nat_le}
 use Rattle.std.proofs.lemmas.Bool.Decides.{nat_tests}
+use Rattle.std.proofs.lemmas.Bool.{and_parts}
 use Rattle.det_errors.specs.Rows.{first_error}
 use Rattle.mcal_base.specs.declared.error_name.ErrorName.{ErrorName}
 use Rattle.mcal_base.specs.declared.service.Service.TheVariants.{AdcStartGroupConversion}
@@ -24,7 +25,7 @@ use Rattle.adc_machine.proofs.Parts.{group_same}
 use Rattle.adc_machine.proofs.Stopped.{unmarked_group, unmarked_round, off}
 use Rattle.whole_runs.specs.Runs.{is_of}
 use Rattle.whole_runs.specs.GroupRuns.{Seen, requests, serves_on, call_by, is_start, round_group, requesting_group}
-use Rattle.whole_runs.proofs.GroupServes.{both, stored}
+use Rattle.whole_runs.proofs.GroupServes.{stored}
 use Rattle.whole_runs.proofs.GroupSteps.{seen, went, same_or_other, read_group, begun_group, stopped_is, closed_group}
 
 -- ---- what holds
@@ -125,10 +126,6 @@ input_there : (i : ℕ) (o : Option ℕ) → is_input i o ≡ true → is_some o
 input_there i None h = absurd (cc h)
 input_there i (Some j) h = refl
 
-and_right : (a b : Bool) → (a && b) ≡ true → b ≡ true
-and_right true b h = h
-and_right false b h = absurd (cc h)
-
 -- a trigger's request
 trigger_free : (d : AdcTable) (s : AdcState) (l g : ℕ) (y : GroupState) (o : Option ℕ) → listener d s (l - 28) ≡ o → is_of g (requesting_group s o) ≡ true → MadeFree d g s y
 trigger_free d s l g y None at h = absurd (cc h)
@@ -138,7 +135,7 @@ trigger_free d s l g y (Some k) at h = by_turn (has_turn s k) refl h
     by_turn true turn f = absurd (cc f)
     by_turn false turn f =
         let same : k ≡ g = grind (arith, nat_tests, f) in
-        let hears = both (has_input (l - 28) (group_of d k)) (group_at s k).trigger (listener_hears d s (l - 28) all_groups k at) in
+        let hears = and_parts (has_input (l - 28) (group_of d k)) (group_at s k).trigger (listener_hears d s (l - 28) all_groups k at) in
         subst (λ n. MadeFree d n s y) same (record { free = inl turn; heard = inl (hears.1, input_there (l - 28) (trigger_input (group_of d k)) hears.0) })
 
 serve_free : (d : AdcTable) (s : AdcState) (l g : ℕ) (y : GroupState) (b : Bool) → is_unit_line l ≡ b → (not b && is_of g (cond b (round_group (round_at s (l - 24))) (requesting_group s (listener d s (l - 28))))) ≡ true → MadeFree d g s y
@@ -331,4 +328,4 @@ served_quiet d e s u r values lt serve at =
         → ((group_at (served_values d s u r values) r.group).waiting ≡ (group_at s r.group).waiting) × IsDeaf d r.group (group_at (served_values d s u r values) r.group))
         → (is_quiet d r.group (group_at s r.group).status ≡ true) ⊎ (((group_at (served_values d s u r values) r.group).waiting ≡ (group_at s r.group).waiting) × IsDeaf d r.group (group_at (served_values d s u r values) r.group))
     by_quiet n (inl was) done = inl was
-    by_quiet n (inr both) done = inr (done (ended_stream (group_of d r.group) n both.0 both.1))
+    by_quiet n (inr and_parts) done = inr (done (ended_stream (group_of d r.group) n and_parts.0 and_parts.1))

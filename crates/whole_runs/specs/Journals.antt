@@ -10,7 +10,7 @@ use Rattle.run_model.specs.declared.item.Stepped.{Stepped}
 use Rattle.run_model.specs.World.{World}
 use Rattle.run_model.specs.Machine.{Happening, Moves, Restarts, Outcome}
 use Rattle.run_model.specs.Frame.{Origin, Called, Entered, Open, brought_by, happening_at, outcome_of}
-use Rattle.run_model.specs.Moment.{Setting, Moment, Deed, Begins, Enters, Steps, Happens, Resets, after}
+use Rattle.run_model.specs.Moment.{Setting, Moment, Transition, Begins, Enters, Steps, Happens, Resets, after}
 use Rattle.whole_runs.specs.Runs.{Event, told_by}
 
 -- ---- events
@@ -21,7 +21,7 @@ event_of_step m [] s = None
 event_of_step m (o ∷ os) s = happening_at o.origin (brought_by m.world o.committed s.made s.received) s.event
 
 -- the event of a deed: what stands at a step, what the hardware does, and a reset; a beginning is none
-abbrev pub event_of : {State Call : Type 0} → Moment State Call → Deed Call → Option (Happening Call)
+abbrev pub event_of : {State Call : Type 0} → Moment State Call → Transition Call → Option (Happening Call)
 event_of m (Begins c level) = None
 event_of m (Enters l) = None
 event_of m (Steps s) = event_of_step m m.opens s
@@ -34,7 +34,7 @@ with_event w None past = past
 with_event w (Some h) past = record { world = w; what = h } ∷ past
 
 -- the events of deeds from a moment on, behind them those before it
-abbrev pub events_of : {State Call : Type 0} → Setting State Call → Moment State Call → List (Event Call) → List (Deed Call) → List (Event Call)
+abbrev pub events_of : {State Call : Type 0} → Setting State Call → Moment State Call → List (Event Call) → List (Transition Call) → List (Event Call)
 events_of g m past [] = past
 events_of g m past (d ∷ ds) = events_of g (after g m d) (with_event m.world (event_of m d) past) ds
 
@@ -74,7 +74,7 @@ abbrev pub all_said_after_step : {State Call : Type 0} → Setting State Call �
 all_said_after_step g m s [] = []
 all_said_after_step g m s (x ∷ xs) = top_said (said_after g m m.opens s x) s.ended xs
 
-abbrev pub all_said_after : {State Call : Type 0} → Setting State Call → Moment State Call → Deed Call → List Said → List Said
+abbrev pub all_said_after : {State Call : Type 0} → Setting State Call → Moment State Call → Transition Call → List Said → List Said
 all_said_after g m (Begins c level) xs = said_nothing ∷ xs
 all_said_after g m (Enters l) xs = said_nothing ∷ xs
 all_said_after g m (Steps s) xs = all_said_after_step g m s xs
@@ -96,11 +96,11 @@ StepSaid g m [] s xs = Unit {0}
 StepSaid g m (o ∷ os) s [] = ⊥
 StepSaid g m (o ∷ os) s (x ∷ xs) = EndsSaid o.origin s.ended (said_after g m (o ∷ os) s x)
 
-abbrev pub DeedSaid : {State Call : Type 0} → Setting State Call → Moment State Call → Deed Call → List Said → Type 0
+abbrev pub DeedSaid : {State Call : Type 0} → Setting State Call → Moment State Call → Transition Call → List Said → Type 0
 DeedSaid g m (Steps s) xs = StepSaid g m m.opens s xs
 DeedSaid g m _ xs = Unit {0}
 
 -- each frame that ends has said what its events told
-abbrev pub AllSaid : {State Call : Type 0} → Setting State Call → Moment State Call → List Said → List (Deed Call) → Type 0
+abbrev pub AllSaid : {State Call : Type 0} → Setting State Call → Moment State Call → List Said → List (Transition Call) → Type 0
 AllSaid g m xs [] = Unit {0}
 AllSaid g m xs (d ∷ ds) = DeedSaid g m d xs × AllSaid g (after g m d) (all_said_after g m d xs) ds

@@ -1,7 +1,7 @@
 -- The promises over legal journals of a setting in which the machines of converter and serial driver have their places.
 use Rattle.std.specs.Prelude.{ℕ, List, []}
 use Rattle.chip_model.specs.Chip.{Chip}
-use Rattle.run_model.specs.Moment.{Setting, Deed, start_moment}
+use Rattle.run_model.specs.Moment.{Setting, Transition, start_moment}
 use Rattle.adc_machine.specs.declared.call.Call as converter
 use Rattle.adc_machine.specs.declared.table.AdcTable.{AdcTable}
 use Rattle.spi_machine.specs.Promised.{HasPriorities}
@@ -17,11 +17,11 @@ use Rattle.whole_runs.specs.Runs.{Event}
 use Rattle.whole_runs.specs.SequenceRuns as sequences
 
 -- all events of a journal from power on, the newest first
-abbrev pub journal_events : {State Call : Type 0} → Setting State Call → Chip → List (Deed Call) → List (Event Call)
+abbrev pub journal_events : {State Call : Type 0} → Setting State Call → Chip → List (Transition Call) → List (Event Call)
 journal_events g chip ds = events_of g (start_moment g chip) [] ds
 
 -- those that are a part's
-abbrev pub part_events : {S C U E : Type 0} → Setting U E → Place S C U E → Chip → List (Deed E) → List (Event C)
+abbrev pub part_events : {S C U E : Type 0} → Setting U E → Place S C U E → Chip → List (Transition E) → List (Event C)
 part_events g p chip ds = own_events g.machine g.first p (journal_events g chip ds)
 
 -- What is promised of the converter groups' part of a journal.
@@ -35,5 +35,5 @@ pub record SequencesKeep (d : SpiTable) (past : List (Event serial.Call)) : Type
   pub order : HasPriorities d → AreInOrder d (sequences.seen_of d past)
 
 -- Each frame of a journal that ends has said what its events told.
-abbrev pub FramesSay : {State Call : Type 0} → Setting State Call → Chip → List (Deed Call) → Type 0
+abbrev pub FramesSay : {State Call : Type 0} → Setting State Call → Chip → List (Transition Call) → Type 0
 FramesSay g chip ds = AllSaid g (start_moment g chip) [] ds

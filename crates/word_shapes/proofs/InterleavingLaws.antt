@@ -5,10 +5,10 @@ use Rattle.std.specs.Prelude.{slice_index}
 use Rattle.mcal_base.specs.declared.answer.Answer.{Answer}
 use Rattle.word_shapes.specs.Playing.{Memory, Play, given, after, Either, Ends}
 use Rattle.word_shapes.specs.Banks.{Putting, Taking, Banks}
-use Rattle.word_shapes.specs.Trio.{Fits, Stands, TakeStands, TakeIn}
-use Rattle.word_shapes.specs.Interleaving.{Deed, Chooses, Fills, Commits, Abandons, Pins, Reads, Releases, Stores, Told, told_first, told_after, told_all, May, AllMay, played, step_on, Live, live_first, live_read, live_after, live_all, AreFilled, AreTaken, put_of, take_of, Matches, AllStay, indexes, read_all, LeavesOut, AllLeaveOut}
-use Rattle.word_shapes.specs.declared.trio.Trio.{Trio}
-use Rattle.word_shapes.proofs.TrioLaws.{bank-word, newest-in, stands-other, chooses, fills, commits, pins, releases, abandons}
+use Rattle.word_shapes.specs.TripleBuffer.{Fits, Stands, TakeStands, TakeIn}
+use Rattle.word_shapes.specs.Interleaving.{Action, Chooses, Fills, Commits, Abandons, Pins, Reads, Releases, Stores, Told, told_first, told_after, told_all, May, AllMay, played, step_on, Live, live_first, live_read, live_after, live_all, AreFilled, AreTaken, put_of, take_of, Matches, AllStay, indexes, read_all, LeavesOut, AllLeaveOut}
+use Rattle.word_shapes.specs.declared.triple_buffer.TripleBuffer.{TripleBuffer}
+use Rattle.word_shapes.proofs.TripleBufferLaws.{bank-word, newest-in, stands-other, chooses, fills, commits, pins, releases, abandons}
 
 -- ---- a routine that runs to its end does what it ends with
 
@@ -49,7 +49,7 @@ taken-none (Some b) h = absurd h
 abbrev banks_of : ℕ → Live → Told → Banks
 banks_of b l w = record { bank = b; newest = w.newest; put = put_of l.put w.put; take = take_of l.take w.kept }
 
-fills-step : (t : Trio) (l : Live) (w : Told) (v : ℕ) (p : ℕ × ℕ) (xs : List ℕ) → Fits t → Matches t l w → l.put ≡ Some p → w.put ≡ Some xs → p.1 ≡ length xs → length xs < t.len
+fills-step : (t : TripleBuffer) (l : Live) (w : Told) (v : ℕ) (p : ℕ × ℕ) (xs : List ℕ) → Fits t → Matches t l w → l.put ≡ Some p → w.put ≡ Some xs → p.1 ≡ length xs → length xs < t.len
     → Matches t (live_after t l (Fills v)) (told_after w (Fills v))
 fills-step t l w v p xs fits h ep ew at lt =
     let q : Putting = record { bank = p.0; filled = xs } in
@@ -61,7 +61,7 @@ fills-step t l w v p xs fits h ep ew at lt =
       stands = rw (ep, ew, at) (fills t l.words (banks_of h.bank l w) q v fits lt open_put h.stands);
     }
 
-commits-step : (t : Trio) (l : Live) (w : Told) (p : ℕ × ℕ) (xs : List ℕ) → Fits t → Matches t l w → l.put ≡ Some p → w.put ≡ Some xs → length xs ≡ t.len
+commits-step : (t : TripleBuffer) (l : Live) (w : Told) (p : ℕ × ℕ) (xs : List ℕ) → Fits t → Matches t l w → l.put ≡ Some p → w.put ≡ Some xs → length xs ≡ t.len
     → Matches t (live_after t l Commits) (told_after w Commits)
 commits-step t l w p xs fits h ep ew whole =
     let q : Putting = record { bank = p.0; filled = xs } in
@@ -81,7 +81,7 @@ no_take : (o : Option ℕ) → take_of o None ≡ None
 no_take None = refl
 no_take (Some b) = refl
 
-pins-step : (t : Trio) (l : Live) (w : Told) → Fits t → Matches t l w → w.kept ≡ None → Matches t (live_after t l Pins) (told_after w Pins)
+pins-step : (t : TripleBuffer) (l : Live) (w : Told) → Fits t → Matches t l w → w.kept ≡ None → Matches t (live_after t l Pins) (told_after w Pins)
 pins-step t l w fits h e =
     let none : take_of l.take w.kept ≡ None = rw e (no_take l.take) in
     record {
@@ -94,11 +94,11 @@ pins-step t l w fits h e =
           (pins t l.words (banks_of h.bank l w) fits none h.stands);
     }
 
-reads-words : (t : Trio) (l : Live) (i : ℕ) (o : Option ℕ) → (live_read t i l o).0 ≡ l.words
+reads-words : (t : TripleBuffer) (l : Live) (i : ℕ) (o : Option ℕ) → (live_read t i l o).0 ≡ l.words
 reads-words t l i None = refl
 reads-words t l i (Some b) = refl
 
-step : (t : Trio) (l : Live) (w : Told) (d : Deed) → Fits t → Matches t l w → May t w d → Matches t (live_after t l d) (told_after w d)
+step : (t : TripleBuffer) (l : Live) (w : Told) (d : Action) → Fits t → Matches t l w → May t w d → Matches t (live_after t l d) (told_after w d)
 step t l w Chooses fits h may = record { bank = h.bank; put = refl; take = h.take; stands = chooses t l.words (banks_of h.bank l w) h.stands }
 step t l w (Fills v) fits h may =
     let p = filled-some l.put may.0 (subst (AreFilled l.put) may.1 h.put) in
@@ -115,28 +115,28 @@ step t l w (Stores k v) fits h may =
 
 -- ---- all parts
 
-pub matches-all : (t : Trio) (l : Live) (w : Told) (ds : List Deed) → Fits t → Matches t l w → AllMay t w ds → Matches t (live_all t l ds) (told_all w ds)
+pub matches-all : (t : TripleBuffer) (l : Live) (w : Told) (ds : List Action) → Fits t → Matches t l w → AllMay t w ds → Matches t (live_all t l ds) (told_all w ds)
 matches-all t l w [] fits h may = h
 matches-all t l w (d ∷ ds) fits h may = matches-all t (live_after t l d) (told_after w d) ds fits (step t l w d fits h may.0) may.1
 
-pub matches-first : (t : Trio) (m : Memory) (b : ℕ) (xs : List ℕ) → Stands t m (record { bank = b; newest = xs; put = None; take = None }) → Matches t (live_first m) (told_first xs)
+pub matches-first : (t : TripleBuffer) (m : Memory) (b : ℕ) (xs : List ℕ) → Stands t m (record { bank = b; newest = xs; put = None; take = None }) → Matches t (live_first m) (told_first xs)
 matches-first t m b xs h = record { bank = b; put = tt; take = tt; stands = h }
 
 -- ---- what a take reads
 
-reads-at : (t : Trio) (l : Live) (w : Told) (i b : ℕ) (xs : List ℕ) → Matches t l w → i < t.len → l.take ≡ Some b → w.kept ≡ Some xs → (live_read t i l l.take).1 ≡ slice_index xs i ∷ []
+reads-at : (t : TripleBuffer) (l : Live) (w : Told) (i b : ℕ) (xs : List ℕ) → Matches t l w → i < t.len → l.take ≡ Some b → w.kept ≡ Some xs → (live_read t i l l.take).1 ≡ slice_index xs i ∷ []
 reads-at t l w i b xs h lt eb ew =
     let x : Taking = record { bank = b; kept = xs } in
     let open_take : take_of l.take w.kept ≡ Some x = rw (eb, ew) refl in
     let held : TakeStands t l.words x = subst (TakeIn t l.words) open_take h.stands.take in
     rw eb (ap (λ v. v ∷ []) (bank-word t l.words b i xs lt held.kept))
 
-pub reads-kept : (t : Trio) (l : Live) (w : Told) (i : ℕ) (xs : List ℕ) → Matches t l w → i < t.len → w.kept ≡ Some xs → (live_read t i l l.take).1 ≡ slice_index xs i ∷ []
+pub reads-kept : (t : TripleBuffer) (l : Live) (w : Told) (i : ℕ) (xs : List ℕ) → Matches t l w → i < t.len → w.kept ≡ Some xs → (live_read t i l l.take).1 ≡ slice_index xs i ∷ []
 reads-kept t l w i xs h lt e =
     let b = taken-some l.take xs (subst (AreTaken l.take) e h.take) in
     reads-at t l w i b.0 xs h lt b.1 e
 
-pub reads-all : (t : Trio) (l : Live) (w : Told) (ds : List Deed) (xs : List ℕ) → Fits t → Matches t l w → AllMay t w ds → AllStay ds → w.kept ≡ Some xs
+pub reads-all : (t : TripleBuffer) (l : Live) (w : Told) (ds : List Action) (xs : List ℕ) → Fits t → Matches t l w → AllMay t w ds → AllStay ds → w.kept ≡ Some xs
     → read_all t l ds ≡ map (slice_index xs) (indexes ds)
 reads-all t l w [] xs fits h may stay e = refl
 reads-all t l w (Chooses ∷ ds) xs fits h may stay e = reads-all t (live_after t l Chooses) (told_after w Chooses) ds xs fits (step t l w Chooses fits h may.0) may.1 stay.1 e
@@ -160,17 +160,17 @@ ranged-take [] (suc n) le = absurd (omega arith)
 ranged-take (x ∷ xs) (suc n) le = ap (λ ys. x ∷ ys) (ranged-more x xs 0 n ∙ ranged-take xs n (omega arith))
 
 -- a take that has read the first words has read the front of one list
-pub reads-front : (t : Trio) (l : Live) (w : Told) (ds : List Deed) (xs : List ℕ) (n : ℕ) → Fits t → Matches t l w → AllMay t w ds → AllStay ds → w.kept ≡ Some xs
+pub reads-front : (t : TripleBuffer) (l : Live) (w : Told) (ds : List Action) (xs : List ℕ) (n : ℕ) → Fits t → Matches t l w → AllMay t w ds → AllStay ds → w.kept ≡ Some xs
     → indexes ds ≡ range_with_len 0 n → n ≤ length xs → read_all t l ds ≡ take n xs
 reads-front t l w ds xs n fits h may stay e at le = reads-all t l w ds xs fits h may stay e ∙ ap (map (slice_index xs)) at ∙ ranged-take xs n le
 
 -- ---- a take among all parts
 
-may-split : (t : Trio) (w : Told) (ds es : List Deed) → AllMay t w (ds ++ es) → AllMay t w ds × AllMay t (told_all w ds) es
+may-split : (t : TripleBuffer) (w : Told) (ds es : List Action) → AllMay t w (ds ++ es) → AllMay t w ds × AllMay t (told_all w ds) es
 may-split t w [] es h = (tt, h)
 may-split t w (d ∷ ds) es h = let rest = may-split t (told_after w d) ds es h.1 in ((h.0, rest.0), rest.1)
 
-pub reads-pinned : (t : Trio) (m : Memory) (b : ℕ) (xs : List ℕ) (ds es : List Deed) (n : ℕ) → Fits t → Stands t m (record { bank = b; newest = xs; put = None; take = None })
+pub reads-pinned : (t : TripleBuffer) (m : Memory) (b : ℕ) (xs : List ℕ) (ds es : List Action) (n : ℕ) → Fits t → Stands t m (record { bank = b; newest = xs; put = None; take = None })
     → AllMay t (told_first xs) (ds ++ Pins ∷ es) → AllStay es → indexes es ≡ range_with_len 0 n → n ≤ t.len
     → read_all t (live_after t (live_all t (live_first m) ds) Pins) es ≡ take n (told_all (told_first xs) ds).newest
 reads-pinned t m b xs ds es n fits stands may stay at le =
@@ -183,7 +183,7 @@ reads-pinned t m b xs ds es n fits stands may stay at le =
 
 -- ---- a put that isn't committed
 
-left-out : (w : Told) (d : Deed) → LeavesOut d → (told_after w d).newest ≡ w.newest
+left-out : (w : Told) (d : Action) → LeavesOut d → (told_after w d).newest ≡ w.newest
 left-out w Chooses h = refl
 left-out w (Fills v) h = refl
 left-out w Commits h = absurd h
@@ -193,6 +193,6 @@ left-out w (Reads i) h = refl
 left-out w Releases h = refl
 left-out w (Stores k v) h = refl
 
-pub all-left-out : (w : Told) (ds : List Deed) → AllLeaveOut ds → (told_all w ds).newest ≡ w.newest
+pub all-left-out : (w : Told) (ds : List Action) → AllLeaveOut ds → (told_all w ds).newest ≡ w.newest
 all-left-out w [] h = refl
 all-left-out w (d ∷ ds) h = all-left-out (told_after w d) ds h.1 ∙ left-out w d h.0

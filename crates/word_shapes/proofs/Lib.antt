@@ -3,6 +3,6 @@ pub mod InterleavingLaws
 pub mod OrderLaws
 pub mod PackingLaws
 pub mod PlayingLaws
-pub mod RankedLaws
+pub mod PriorityQueueLaws
 pub mod RoomLaws
-pub mod TrioLaws
+pub mod TripleBufferLaws

@@ -5,8 +5,8 @@ use Rattle.std.proofs.lemmas.Bool.{cases_Bool}
 use Rattle.word_shapes.specs.Order.{none}
 use Rattle.word_shapes.specs.Packing.{count_in}
 use Rattle.word_shapes.specs.Room.{Lowers, add_room, again_room, front_room, next_room, drop_room, put_room, take_room}
-use Rattle.word_shapes.specs.Ranked.{choice_in, adding, waiting_again, choosing_front, choosing_next, dropping}
-use Rattle.word_shapes.specs.Trio.{putting, taking}
+use Rattle.word_shapes.specs.PriorityQueue.{choice_in, adding, waiting_again, choosing_front, choosing_next, dropping}
+use Rattle.word_shapes.specs.TripleBuffer.{putting, taking}
 use Rattle.word_shapes.specs.declared.packed.Packed.{Packed}
 use Rattle.word_shapes.specs.declared.search.Search.TheVariants as search
 use Rattle.word_shapes.specs.declared.add.Add.{Add}

@@ -3,22 +3,22 @@ use Rattle.std.specs.Prelude.{◌≡◌, ℕ, zero, suc, ◌+◌, ◌<◌, false
 use Rattle.mcal_base.specs.declared.answer.Answer.{Answer}
 use Rattle.word_shapes.specs.Playing.{Memory, Play, stored, given, after}
 use Rattle.word_shapes.specs.Banks.{Putting, Taking}
-use Rattle.word_shapes.specs.Trio.{own_of, Stands, putting, taking, put_start, take_start}
+use Rattle.word_shapes.specs.TripleBuffer.{own_of, Stands, putting, taking, put_start, take_start}
 use Rattle.word_shapes.specs.declared.put.PutPart.TheVariants as puts
 use Rattle.word_shapes.specs.declared.take.TakePart.TheVariants as takes
-use Rattle.word_shapes.specs.declared.trio.Trio.{Trio}
+use Rattle.word_shapes.specs.declared.triple_buffer.TripleBuffer.{TripleBuffer}
 
 -- A part of the put or of the take, made whole, or a store to a word that isn't theirs. A put that is left without a
 -- commit is abandoned.
-pub data Deed : Type 0 where
-  Chooses : Deed
-  Fills : ℕ → Deed
-  Commits : Deed
-  Abandons : Deed
-  Pins : Deed
-  Reads : ℕ → Deed
-  Releases : Deed
-  Stores : ℕ → ℕ → Deed
+pub data Action : Type 0 where
+  Chooses : Action
+  Fills : ℕ → Action
+  Commits : Action
+  Abandons : Action
+  Pins : Action
+  Reads : ℕ → Action
+  Releases : Action
+  Stores : ℕ → ℕ → Action
 
 -- ---- by lists alone
 
@@ -40,7 +40,7 @@ abbrev pub told_newest : List ℕ → Option (List ℕ) → List ℕ
 told_newest newest None = newest
 told_newest newest (Some xs) = xs
 
-abbrev pub told_after : Told → Deed → Told
+abbrev pub told_after : Told → Action → Told
 told_after w Chooses = record w { put = Some [] }
 told_after w (Fills value) = record w { put = told_filled value w.put }
 told_after w Commits = record w { newest = told_newest w.newest w.put; put = None }
@@ -50,12 +50,12 @@ told_after w (Reads index) = w
 told_after w Releases = record w { kept = None }
 told_after w (Stores k value) = w
 
-abbrev pub told_all : Told → List Deed → Told
+abbrev pub told_all : Told → List Action → Told
 told_all w [] = w
 told_all w (d ∷ ds) = told_all (told_after w d) ds
 
 -- at most one put and one take are open, a put is committed once it is whole, and other stores fall elsewhere
-abbrev pub May : Trio → Told → Deed → Type 0
+abbrev pub May : TripleBuffer → Told → Action → Type 0
 May t w Chooses = w.put ≡ None
 May t w (Fills value) = (xs : List ℕ) × (w.put ≡ Some xs) × (length xs < t.len)
 May t w Commits = (xs : List ℕ) × (w.put ≡ Some xs) × (length xs ≡ t.len)
@@ -65,7 +65,7 @@ May t w (Reads index) = (index < t.len) × ((xs : List ℕ) × (w.kept ≡ Some 
 May t w Releases = (xs : List ℕ) × (w.kept ≡ Some xs)
 May t w (Stores k value) = own_of t k ≡ false
 
-abbrev pub AllMay : Trio → Told → List Deed → Type 0
+abbrev pub AllMay : TripleBuffer → Told → List Action → Type 0
 AllMay t w [] = Unit {0}
 AllMay t w (d ∷ ds) = May t w d × AllMay t (told_after w d) ds
 
@@ -96,19 +96,19 @@ pub record Live : Type 0 where
 abbrev pub live_first : Memory → Live
 live_first m = record { words = m; put = None; take = None }
 
-abbrev pub live_filled : Trio → ℕ → Live → Option (ℕ × ℕ) → Live
+abbrev pub live_filled : TripleBuffer → ℕ → Live → Option (ℕ × ℕ) → Live
 live_filled t value l None = l
 live_filled t value l (Some p) = record l { words = (played putting 1 (put_start t (puts.Fill p.0 p.1 value)) l.words).0; put = Some (p.0, p.1 + 1) }
 
-abbrev pub live_committed : Trio → Live → Option (ℕ × ℕ) → Live
+abbrev pub live_committed : TripleBuffer → Live → Option (ℕ × ℕ) → Live
 live_committed t l None = l
 live_committed t l (Some p) = record l { words = (played putting 2 (put_start t (puts.Commit p.0)) l.words).0; put = None }
 
-abbrev pub live_read : Trio → ℕ → Live → Option ℕ → Memory × List ℕ
+abbrev pub live_read : TripleBuffer → ℕ → Live → Option ℕ → Memory × List ℕ
 live_read t index l None = (l.words, [])
 live_read t index l (Some b) = played taking 1 (take_start t (takes.Word b index)) l.words
 
-abbrev pub live_after : Trio → Live → Deed → Live
+abbrev pub live_after : TripleBuffer → Live → Action → Live
 live_after t l Chooses = let o = played putting 1 (put_start t puts.Choose) l.words in record l { words = o.0; put = Some (first o.1, 0) }
 live_after t l (Fills value) = live_filled t value l l.put
 live_after t l Commits = live_committed t l l.put
@@ -118,7 +118,7 @@ live_after t l (Reads index) = record l { words = (live_read t index l l.take).0
 live_after t l Releases = record l { words = (played taking 2 (take_start t takes.Release) l.words).0; take = None }
 live_after t l (Stores k value) = record l { words = stored l.words k value }
 
-abbrev pub live_all : Trio → Live → List Deed → Live
+abbrev pub live_all : TripleBuffer → Live → List Action → Live
 live_all t l [] = l
 live_all t l (d ∷ ds) = live_all t (live_after t l d) ds
 
@@ -145,7 +145,7 @@ take_of (Some b) (Some xs) = Some (record { bank = b; kept = xs })
 take_of _ _ = None
 
 -- the words stand for what is told by lists, with some bank as the newest
-pub record Matches (t : Trio) (l : Live) (w : Told) : Type 0 where
+pub record Matches (t : TripleBuffer) (l : Live) (w : Told) : Type 0 where
   pub bank : ℕ
   pub put : AreFilled l.put w.put
   pub take : AreTaken l.take w.kept
@@ -154,33 +154,33 @@ pub record Matches (t : Trio) (l : Live) (w : Told) : Type 0 where
 -- ---- what a take reads
 
 -- the take isn't released
-abbrev pub Stays : Deed → Type 0
+abbrev pub Stays : Action → Type 0
 Stays Releases = ⊥
 Stays _ = Unit {0}
 
-abbrev pub AllStay : List Deed → Type 0
+abbrev pub AllStay : List Action → Type 0
 AllStay [] = Unit {0}
 AllStay (d ∷ ds) = Stays d × AllStay ds
 
 -- the indexes that are read, in their order, and the words that the reads give
-abbrev pub indexes : List Deed → List ℕ
+abbrev pub indexes : List Action → List ℕ
 indexes [] = []
 indexes (Reads index ∷ ds) = index ∷ indexes ds
 indexes (d ∷ ds) = indexes ds
 
-abbrev pub read_by : Trio → Live → Deed → List ℕ
+abbrev pub read_by : TripleBuffer → Live → Action → List ℕ
 read_by t l (Reads index) = (live_read t index l l.take).1
 read_by t l _ = []
 
-abbrev pub read_all : Trio → Live → List Deed → List ℕ
+abbrev pub read_all : TripleBuffer → Live → List Action → List ℕ
 read_all t l [] = []
 read_all t l (d ∷ ds) = read_by t l d ++ read_all t (live_after t l d) ds
 
 -- no put is committed
-abbrev pub LeavesOut : Deed → Type 0
+abbrev pub LeavesOut : Action → Type 0
 LeavesOut Commits = ⊥
 LeavesOut _ = Unit {0}
 
-abbrev pub AllLeaveOut : List Deed → Type 0
+abbrev pub AllLeaveOut : List Action → Type 0
 AllLeaveOut [] = Unit {0}
 AllLeaveOut (d ∷ ds) = LeavesOut d × AllLeaveOut ds

@@ -3,6 +3,6 @@ pub mod Interleaving
 pub mod Order
 pub mod Packing
 pub mod Playing
-pub mod Ranked
+pub mod PriorityQueue
 pub mod Room
-pub mod Trio
+pub mod TripleBuffer

@@ -1,5 +1,5 @@
 ghost use Rattle.std.specs.Prelude.{◌≡◌, ◌<◌};
-ghost use Rattle.word_shapes.specs.Ranked as spec;
+ghost use Rattle.word_shapes.specs.PriorityQueue as spec;
 
 use crate::packed::{Places, appended, count, tally_added};
 use crate::part::{gives_nothing, goes};
@@ -26,7 +26,7 @@ fn word(at: Places, tally: u32) -> u32
 }
 
 impl Routine for Add {
-    ghost use Rattle.word_shapes.specs.Ranked.{add_move, add_left, add_gave};
+    ghost use Rattle.word_shapes.specs.PriorityQueue.{add_move, add_left, add_gave};
 
     ghost move_of = { add_move };
 

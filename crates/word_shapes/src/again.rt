@@ -14,7 +14,7 @@ pub enum Again {
 }
 
 impl Routine for Again {
-    ghost use Rattle.word_shapes.specs.Ranked.{again_move, again_left, again_gave};
+    ghost use Rattle.word_shapes.specs.PriorityQueue.{again_move, again_left, again_gave};
 
     ghost move_of = { again_move };
 

@@ -15,7 +15,7 @@ pub struct Front {
 }
 
 impl Routine for Front {
-    ghost use Rattle.word_shapes.specs.Ranked.{front_move, front_left, front_gave};
+    ghost use Rattle.word_shapes.specs.PriorityQueue.{front_move, front_left, front_gave};
 
     ghost move_of = { front_move };
 
@@ -48,7 +48,7 @@ pub enum Next {
 }
 
 impl Routine for Next {
-    ghost use Rattle.word_shapes.specs.Ranked.{next_move, next_left, next_gave};
+    ghost use Rattle.word_shapes.specs.PriorityQueue.{next_move, next_left, next_gave};
 
     ghost move_of = { next_move };
 

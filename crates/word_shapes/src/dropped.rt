@@ -1,5 +1,5 @@
 ghost use Rattle.std.specs.Prelude.{◌≡◌, ◌/◌, ◌%◌, ◌^◌};
-ghost use Rattle.word_shapes.specs.Ranked as spec;
+ghost use Rattle.word_shapes.specs.PriorityQueue as spec;
 
 use crate::packed::{Packed, Places, SPAN, count, tally_less};
 use crate::part::{gives_nothing, goes};
@@ -32,7 +32,7 @@ fn left_of(packed: &Packed, entry: u32) -> Packed
 }
 
 impl Routine for Dropped {
-    ghost use Rattle.word_shapes.specs.Ranked.{drop_move, drop_left, drop_gave};
+    ghost use Rattle.word_shapes.specs.PriorityQueue.{drop_move, drop_left, drop_gave};
 
     ghost move_of = { drop_move };
 

@@ -1,5 +1,5 @@
 ghost use Rattle.std.specs.Prelude.{◌≡◌};
-ghost use Rattle.word_shapes.specs.Trio as spec;
+ghost use Rattle.word_shapes.specs.TripleBuffer as spec;
 
 use crate::part::{gives, gives_nothing, goes};
 use mcal_base::{Move, Routine, Taken};
@@ -49,7 +49,7 @@ fn used(control: u32, bank: u32) -> bool
 }
 
 impl Routine for Put {
-    ghost use Rattle.word_shapes.specs.Trio.{put_move, put_left, put_gave};
+    ghost use Rattle.word_shapes.specs.TripleBuffer.{put_move, put_left, put_gave};
 
     ghost move_of = { put_move };
 

@@ -1,5 +1,5 @@
 ghost use Rattle.std.specs.Prelude.{◌≡◌};
-ghost use Rattle.word_shapes.specs.Ranked as spec;
+ghost use Rattle.word_shapes.specs.PriorityQueue as spec;
 
 use crate::packed::{Packed, Places, count};
 use mcal_base::Move;

@@ -30,7 +30,7 @@ pub enum Take {
 }
 
 impl Routine for Take {
-    ghost use Rattle.word_shapes.specs.Trio.{take_move, take_left, take_gave};
+    ghost use Rattle.word_shapes.specs.TripleBuffer.{take_move, take_left, take_gave};
 
     ghost move_of = { take_move };
 

@@ -10,7 +10,7 @@ use Rattle.run_model.specs.World.{World, world_start, world_after}
 use Rattle.run_model.specs.Machine.{Happening, Acts, Serves, Moves, Told, Outcome, no_answer, tells_nothing}
 use Rattle.run_model.specs.Frame.{state_by}
 use Rattle.service_outline.specs.Done.{number}
-use Rattle.gpt_driver.specs.Ground.{gpt_setting}
+use Rattle.gpt_driver.specs.Refinement.{gpt_setting}
 use Rattle.gpt_driver.specs.Machine.{GptState, gpt_machine, first_state}
 use Rattle.gpt_driver.specs.Table.{driver_of}
 use Rattle.gpt_driver.specs.declared.call.Call.{Call}

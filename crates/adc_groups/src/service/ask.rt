@@ -1,23 +1,23 @@
 ghost use Rattle.std.specs.Prelude.{◌≡◌, ◌<◌};
 ghost use Rattle.adc_machine.specs.Words.{buffer_number};
-ghost use Rattle.adc_groups.specs.laws.Deciding as spec;
+ghost use Rattle.adc_groups.specs.laws.services.Decisions as spec;
 
 use crate::body::{Decided, Place};
-use crate::making::{Deed, Deeds, Then, moves_of};
+use crate::making::{Continuation, WindowWrite, WindowWrites, moves_of};
 use crate::service::{acts_and_ends, done, makes};
 use crate::words::{Phase, Word, flag};
 use adc_machine::{AdcTable, ResultBuffer};
 use adc_stream::preceding;
 use mcal_base::{AnswerName, ErrorName, Event, Service};
-use service_outline::{Owed, Reply, named, nothing, numbers, zero_null};
+use service_outline::{Epilogue, Reply, named, nothing, numbers, zero_null};
 
 /// One deed, at which a call acts, and with which it is done.
-pub fn change(deed: Deed, answer: Reply) -> Place
+pub fn change(deed: WindowWrite, answer: Reply) -> Place
     ensures { result ≡ spec.change deed answer }
 {
-    let mut deeds = Deeds::new();
+    let mut deeds = WindowWrites::new();
     deeds.push(deed);
-    Place::Makes(moves_of(Some(Event::Act), deeds, Then::Ends(done(answer))))
+    Place::Makes(moves_of(Some(Event::Act), deeds, Continuation::Ends(done(answer))))
 }
 
 /// `Adc_SetupResultBuffer`
@@ -25,7 +25,7 @@ pub fn set_up(table: &AdcTable, group: u8, buffer: ResultBuffer, phase: u32) -> 
     ensures { result ≡ spec.set_up table.now group buffer phase }
 {
     if phase == 0 {
-        let deed = Deed::Set(Word::Chosen(group), 1 + buffer_number(buffer));
+        let deed = WindowWrite::Set(Word::Chosen(group), 1 + buffer_number(buffer));
         Decided::Goes(change(deed, named(AnswerName::EOk)))
     } else {
         let owed = table.owed(Service::AdcSetupResultBuffer, ErrorName::AdcBusy);
@@ -48,7 +48,7 @@ fn buffer_number(buffer: ResultBuffer) -> u32
 pub fn notify(group: u8, on: bool) -> Place
     ensures { result ≡ spec.notify group on }
 {
-    change(Deed::Set(Word::Notified(group), flag(on)), nothing())
+    change(WindowWrite::Set(Word::Notified(group), flag(on)), nothing())
 }
 
 /// `Adc_GetGroupStatus`
@@ -61,7 +61,7 @@ pub fn status(phase: u32) -> Decided
         Phase::Completed => AnswerName::AdcCompleted,
         Phase::Streaming | Phase::Ended => AnswerName::AdcStreamCompleted,
     };
-    acts_and_ends(named(name), Owed::Nothing)
+    acts_and_ends(named(name), Epilogue::Nothing)
 }
 
 /// `Adc_GetStreamLastPointer`
@@ -73,10 +73,10 @@ pub fn point(table: &AdcTable, group: u8, phase: u32, count: u32, place: u32) ->
             let owed = table.owed(Service::AdcGetStreamLastPointer, ErrorName::AdcIdle);
             acts_and_ends(zero_null(), owed)
         }
-        Phase::Busy => acts_and_ends(zero_null(), Owed::Nothing),
+        Phase::Busy => acts_and_ends(zero_null(), Epilogue::Nothing),
         found => {
             let newest = preceding(place, table.samples_of(group));
-            let deed = Deed::Set(Word::Phase(group), found.read().number());
+            let deed = WindowWrite::Set(Word::Phase(group), found.read().number());
             Decided::Goes(change(deed, numbers(count, newest)))
         }
     }

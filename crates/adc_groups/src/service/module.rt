@@ -1,10 +1,10 @@
 ghost use Rattle.std.specs.Prelude.{◌≡◌};
-ghost use Rattle.adc_groups.specs.laws.Setup as spec;
+ghost use Rattle.adc_groups.specs.laws.services.InitSteps as spec;
 
 use crate::words::{LINES, STATE, Word, order_of, word_number};
 use adc_machine::AdcTable;
 use mcal_base::{Move, Reg};
-use service_outline::{Body, BodyTaken, Objects, Owed, acts_with, goes, nothing};
+use service_outline::{Body, BodyTaken, Epilogue, Objects, acts_with, goes, nothing};
 
 /// The words that `Adc_Init` clears, with the mask open: three of each unit, and where groups are configured four of each.
 #[derive(Drop)]
@@ -16,7 +16,7 @@ pub struct Setup {
 impl Objects for Setup {
     type After = InitBody;
 
-    ghost use Rattle.adc_groups.specs.laws.Setup.{setup_count, setup_move, setup_after};
+    ghost use Rattle.adc_groups.specs.laws.services.InitSteps.{setup_count, setup_move, setup_after};
 
     ghost count_of = { setup_count };
 
@@ -94,7 +94,7 @@ pub enum InitBody {
 }
 
 impl Body for InitBody {
-    ghost use Rattle.adc_groups.specs.laws.Setup.{init_work, init_takes};
+    ghost use Rattle.adc_groups.specs.laws.services.InitSteps.{init_work, init_takes};
 
     ghost work_of = { init_work };
 
@@ -113,7 +113,7 @@ impl Body for InitBody {
                 *self = InitBody::Store;
                 goes()
             }
-            InitBody::Store => acts_with(nothing(), Owed::Nothing),
+            InitBody::Store => acts_with(nothing(), Epilogue::Nothing),
         }
     }
 }

@@ -1,16 +1,16 @@
 ghost use Rattle.std.specs.Prelude.{◌≡◌, None};
-ghost use Rattle.adc_groups.specs.laws.Reading.{newest_move, newest_left, newest_taken, newest_answer, stage_released};
-ghost use Rattle.adc_groups.specs.laws.Deciding as spec;
+ghost use Rattle.adc_groups.specs.laws.services.ReadSteps.{newest_move, newest_left, newest_taken, newest_answer, stage_released};
+ghost use Rattle.adc_groups.specs.laws.services.Decisions as spec;
 
 use crate::body::{Decided, Place};
-use crate::making::{Deed, Deeds, Making, Shape, Then, moves_of};
+use crate::making::{Continuation, StructureOp, WindowWrite, WindowWrites, WriteBatch, moves_of};
 use crate::outside::Outside;
 use crate::service::acts_and_ends;
 use crate::words::{Phase, STATE, Word, rounds_of};
 use adc_machine::AdcTable;
 use adc_stream::{Bank, Reading};
 use mcal_base::{Answer, AnswerName, ErrorName, Event, Head, Move, Routine, Service, Short};
-use service_outline::{BodyTaken, Owed, copied, ends, goes, named, nothing};
+use service_outline::{BodyTaken, Epilogue, copied, ends, goes, named, nothing};
 use word_shapes::{Take, TakePart};
 
 /// `Adc_ReadGroup` of a group in this phase: unless it is idle or busy, the newest bank is to be pinned.
@@ -22,7 +22,7 @@ pub fn read(table: &AdcTable, group: u8, phase: u32) -> Decided
             let owed = table.owed(Service::AdcReadGroup, ErrorName::AdcIdle);
             acts_and_ends(named(AnswerName::ENotOk), owed)
         }
-        Phase::Busy => acts_and_ends(named(AnswerName::ENotOk), Owed::Nothing),
+        Phase::Busy => acts_and_ends(named(AnswerName::ENotOk), Epilogue::Nothing),
         found => Decided::Goes(Place::Pins(group, found.read())),
     }
 }
@@ -31,14 +31,14 @@ pub fn read(table: &AdcTable, group: u8, phase: u32) -> Decided
 pub fn pin(group: u8, phase: Phase, take: Take, bank: Bank) -> Place
     ensures { result ≡ spec.pin group phase take bank }
 {
-    let mut deeds = Deeds::new();
-    deeds.push(Deed::Set(Word::Phase(group), phase.number()));
-    Place::Makes(Making {
-        banks: Some(Shape::Take(take)),
+    let mut deeds = WindowWrites::new();
+    deeds.push(WindowWrite::Set(Word::Phase(group), phase.number()));
+    Place::Makes(WriteBatch {
+        banks: Some(StructureOp::Take(take)),
         ..moves_of(
             Some(Event::Act),
             deeds,
-            Then::Goes(Outside::Reads(group, bank)),
+            Continuation::Goes(Outside::Reads(group, bank)),
         )
     })
 }
@@ -122,7 +122,7 @@ impl Newest {
                 self.stage = Stage::Over;
                 goes()
             }
-            Stage::Over => ends(None, nothing(), Owed::Nothing),
+            Stage::Over => ends(None, nothing(), Epilogue::Nothing),
         }
     }
 

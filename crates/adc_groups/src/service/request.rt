@@ -1,8 +1,8 @@
 ghost use Rattle.std.specs.Prelude.{◌≡◌};
-ghost use Rattle.adc_groups.specs.laws.Deciding as spec;
+ghost use Rattle.adc_groups.specs.laws.services.Decisions as spec;
 
 use crate::body::{Decided, Place};
-use crate::making::{Deed, Deeds, Making, Shape, Then, moves_of};
+use crate::making::{Continuation, StructureOp, WindowWrite, WindowWrites, WriteBatch, moves_of};
 use crate::service::{acts_and_ends, done, makes, turn};
 use crate::window::Window;
 use crate::words::{Phase, Word, bit, entry, order_of};
@@ -90,32 +90,32 @@ fn begin(table: &AdcTable, window: Window) -> Place
 }
 
 /// A group begins a stream, and makes a request.
-fn start(table: &AdcTable, group: u8) -> Making
+fn start(table: &AdcTable, group: u8) -> WriteBatch
     ensures { result ≡ spec.start table.now group }
 {
     let unit = table.unit_of(group);
-    let mut deeds = Deeds::new();
-    deeds.push(Deed::Set(Word::Phase(group), Phase::Busy.number()));
-    deeds.push(Deed::Set(Word::Count(group), 0));
-    deeds.push(Deed::Set(Word::Place(group), 0));
-    deeds.push(Deed::Set(Word::Kept(group), 0));
-    deeds.push(Deed::Set(Word::Turn(group), 1));
-    Making {
-        order: Some(Shape::Add(order_of(unit).add(entry(group)))),
+    let mut deeds = WindowWrites::new();
+    deeds.push(WindowWrite::Set(Word::Phase(group), Phase::Busy.number()));
+    deeds.push(WindowWrite::Set(Word::Count(group), 0));
+    deeds.push(WindowWrite::Set(Word::Place(group), 0));
+    deeds.push(WindowWrite::Set(Word::Kept(group), 0));
+    deeds.push(WindowWrite::Set(Word::Turn(group), 1));
+    WriteBatch {
+        order: Some(StructureOp::Add(order_of(unit).add(entry(group)))),
         ..moves_of(Some(Event::Act), deeds, turn::after_request(table, unit))
     }
 }
 
 /// A group begins a stream, and its trigger is switched on.
-fn enable(table: &AdcTable, group: u8) -> Making
+fn enable(table: &AdcTable, group: u8) -> WriteBatch
     ensures { result ≡ spec.enable table.now group }
 {
-    let mut deeds = Deeds::new();
-    deeds.push(Deed::Write(Reg::TriggerSet, trigger_bit(table, group)));
-    deeds.push(Deed::Set(Word::Phase(group), Phase::Busy.number()));
-    deeds.push(Deed::Set(Word::Count(group), 0));
-    deeds.push(Deed::Set(Word::Place(group), 0));
-    moves_of(Some(Event::Act), deeds, Then::Ends(done(nothing())))
+    let mut deeds = WindowWrites::new();
+    deeds.push(WindowWrite::Write(Reg::TriggerSet, trigger_bit(table, group)));
+    deeds.push(WindowWrite::Set(Word::Phase(group), Phase::Busy.number()));
+    deeds.push(WindowWrite::Set(Word::Count(group), 0));
+    deeds.push(WindowWrite::Set(Word::Place(group), 0));
+    moves_of(Some(Event::Act), deeds, Continuation::Ends(done(nothing())))
 }
 
 /// The bit of a group's trigger input.
@@ -129,13 +129,13 @@ pub fn trigger_bit(table: &AdcTable, group: u8) -> u32
 }
 
 /// The module is uninitialised, and its lines are disabled.
-fn close() -> Making
+fn close() -> WriteBatch
     ensures { result ≡ spec.close }
 {
-    let mut deeds = Deeds::new();
-    deeds.push(Deed::Set(Word::State, 0));
-    deeds.push(Deed::Disable);
-    moves_of(Some(Event::Act), deeds, Then::Ends(done(nothing())))
+    let mut deeds = WindowWrites::new();
+    deeds.push(WindowWrite::Set(Word::State, 0));
+    deeds.push(WindowWrite::Disable);
+    moves_of(Some(Event::Act), deeds, Continuation::Ends(done(nothing())))
 }
 
 /// The handler of a trigger's line: the pulse is served, and the group makes a request unless it has a turn.
@@ -144,15 +144,15 @@ pub fn pulse(table: &AdcTable, input: u8, group: u8, has_turn: u32) -> Decided
 {
     let unit = table.unit_of(group);
     let serves = Some(Event::Serve(28 + u32::from(input)));
-    let mut deeds = Deeds::new();
-    deeds.push(Deed::Write(Reg::TriggerFlags, bit(input)));
+    let mut deeds = WindowWrites::new();
+    deeds.push(WindowWrite::Write(Reg::TriggerFlags, bit(input)));
     if has_turn == 1 {
-        return makes(moves_of(serves, deeds, Then::Ends(done(nothing()))));
+        return makes(moves_of(serves, deeds, Continuation::Ends(done(nothing()))));
     }
-    deeds.push(Deed::Set(Word::Kept(group), 0));
-    deeds.push(Deed::Set(Word::Turn(group), 1));
-    makes(Making {
-        order: Some(Shape::Add(order_of(unit).add(entry(group)))),
+    deeds.push(WindowWrite::Set(Word::Kept(group), 0));
+    deeds.push(WindowWrite::Set(Word::Turn(group), 1));
+    makes(WriteBatch {
+        order: Some(StructureOp::Add(order_of(unit).add(entry(group)))),
         ..moves_of(serves, deeds, turn::after_request(table, unit))
     })
 }

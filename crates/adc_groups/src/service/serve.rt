@@ -1,8 +1,8 @@
 ghost use Rattle.std.specs.Prelude.{◌≡◌};
-ghost use Rattle.adc_groups.specs.laws.Deciding as spec;
+ghost use Rattle.adc_groups.specs.laws.services.Decisions as spec;
 
 use crate::body::{Decided, Place};
-use crate::making::{Deed, Deeds, Making, Shape, Then, moves_of};
+use crate::making::{Continuation, StructureOp, WindowWrite, WindowWrites, WriteBatch, moves_of};
 use crate::outside::{Copied, Outside, Taken};
 use crate::service::request::trigger_bit;
 use crate::service::stop::trigger_off;
@@ -55,15 +55,15 @@ pub fn chosen(unit: u8, group: u8, bank: Bank) -> Decided
 pub fn claim(table: &AdcTable, taken: Taken, kept: u32) -> Decided
     ensures { result ≡ spec.claim table.now taken kept }
 {
-    let mut deeds = Deeds::new();
-    deeds.push(Deed::Set(Word::Claim(taken.unit), 1));
+    let mut deeds = WindowWrites::new();
+    deeds.push(WindowWrite::Set(Word::Claim(taken.unit), 1));
     let rounds = rounds_of(table, taken.group);
     let what = adc_stream::Copied::Round(rounds, taken.unit, limited(kept, 32), taken.bank);
     let after = match Copying::of(what) {
         Some(copying) => Outside::Copies(copying, Copied::Serves(taken)),
         None => Outside::Closes(Window::Serve(taken)),
     };
-    makes(moves_of(None, deeds, Then::Goes(after)))
+    makes(moves_of(None, deeds, Continuation::Goes(after)))
 }
 
 /// The round is served, unless the group was stopped meanwhile.
@@ -79,34 +79,34 @@ pub fn serve(table: &AdcTable, taken: Taken, seen: RoundSeen) -> Decided
     let full = table.is_full(group, count);
     let again = table.is_continuous(group) && !full;
     let phase = phase_after(table, group, &seen, full);
-    let mut deeds = Deeds::new();
-    deeds.push(Deed::Write(Reg::ConverterAck(u32::from(unit)), 1));
-    deeds.push(Deed::Set(Word::Running(unit), 0));
-    deeds.push(Deed::Set(Word::Count(group), count));
-    deeds.push(Deed::Set(Word::Place(group), following(seen.place, samples)));
-    deeds.push(Deed::Set(Word::Phase(group), phase.number()));
+    let mut deeds = WindowWrites::new();
+    deeds.push(WindowWrite::Write(Reg::ConverterAck(u32::from(unit)), 1));
+    deeds.push(WindowWrite::Set(Word::Running(unit), 0));
+    deeds.push(WindowWrite::Set(Word::Count(group), count));
+    deeds.push(WindowWrite::Set(Word::Place(group), following(seen.place, samples)));
+    deeds.push(WindowWrite::Set(Word::Phase(group), phase.number()));
     let order = order_of(unit);
     let shape = if again {
-        deeds.push(Deed::Set(Word::Kept(group), 0));
-        Shape::Again(order.again(entry(group)))
+        deeds.push(WindowWrite::Set(Word::Kept(group), 0));
+        StructureOp::Again(order.again(entry(group)))
     } else {
-        deeds.push(Deed::Set(Word::Turn(group), 0));
-        Shape::Drop(order.drop(entry(group)))
+        deeds.push(WindowWrite::Set(Word::Turn(group), 0));
+        StructureOp::Drop(order.drop(entry(group)))
     };
     if full && table.trigger_of(group).is_some() {
         trigger_off(&mut deeds, trigger_bit(table, group));
     }
-    deeds.push(Deed::Set(Word::Claim(unit), 0));
+    deeds.push(WindowWrite::Set(Word::Claim(unit), 0));
     let put = rounds_of(table, group)
         .trio()
         .put(PutPart::Commit(bank.number()));
-    makes(Making {
+    makes(WriteBatch {
         order: Some(shape),
-        banks: Some(Shape::Put(put)),
+        banks: Some(StructureOp::Put(put)),
         ..moves_of(
             Some(Event::Serve(24 + u32::from(unit))),
             deeds,
-            Then::Goes(stores(table, taken, &seen)),
+            Continuation::Goes(stores(table, taken, &seen)),
         )
     })
 }

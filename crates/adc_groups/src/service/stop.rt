@@ -1,10 +1,10 @@
 ghost use Rattle.std.specs.Prelude.{◌≡◌, ◌++◌, ◌+◌, ◌≤◌, length, is_some};
 ghost use Rattle.adc_machine.specs.Groups.{trigger_input};
 ghost use Rattle.adc_machine.specs.Table.{group_of};
-ghost use Rattle.adc_groups.specs.laws.Deciding as spec;
+ghost use Rattle.adc_groups.specs.laws.services.Decisions as spec;
 
 use crate::body::Decided;
-use crate::making::{Deed, Deeds, Making, Shape, Then, moves_of};
+use crate::making::{Continuation, StructureOp, WindowWrite, WindowWrites, WriteBatch, moves_of};
 use crate::outside::Outside;
 use crate::service::request::trigger_bit;
 use crate::service::{acts_and_ends, done, makes};
@@ -37,30 +37,30 @@ pub fn stop(table: &AdcTable, unit: u8, group: u8, seen: StopSeen) -> Decided
             table.owed(service(table, group), ErrorName::AdcIdle),
         );
     }
-    let mut deeds = Deeds::new();
-    deeds.push(Deed::Set(Word::Phase(group), Phase::Idle.number()));
-    deeds.push(Deed::Set(Word::Notified(group), 0));
+    let mut deeds = WindowWrites::new();
+    deeds.push(WindowWrite::Set(Word::Phase(group), Phase::Idle.number()));
+    deeds.push(WindowWrite::Set(Word::Notified(group), 0));
     if table.trigger_of(group).is_some() {
         trigger_off(&mut deeds, trigger_bit(table, group));
     }
     if seen.turn == 0 {
-        return makes(moves_of(Some(Event::Act), deeds, Then::Ends(done(nothing()))));
+        return makes(moves_of(Some(Event::Act), deeds, Continuation::Ends(done(nothing()))));
     }
     if seen.running == 1 + u32::from(group) {
-        deeds.push(Deed::Abort(unit));
-        deeds.push(Deed::Write(Reg::ConverterAck(u32::from(unit)), 1));
-        deeds.push(Deed::Set(Word::Running(unit), 0));
+        deeds.push(WindowWrite::Abort(unit));
+        deeds.push(WindowWrite::Write(Reg::ConverterAck(u32::from(unit)), 1));
+        deeds.push(WindowWrite::Set(Word::Running(unit), 0));
     }
     if seen.claim == 2 + u32::from(group) {
-        deeds.push(Deed::Set(Word::Claim(unit), 1));
+        deeds.push(WindowWrite::Set(Word::Claim(unit), 1));
     }
-    deeds.push(Deed::Set(Word::Turn(group), 0));
-    makes(Making {
-        order: Some(Shape::Drop(order_of(unit).drop(entry(group)))),
+    deeds.push(WindowWrite::Set(Word::Turn(group), 0));
+    makes(WriteBatch {
+        order: Some(StructureOp::Drop(order_of(unit).drop(entry(group)))),
         ..moves_of(
             Some(Event::Act),
             deeds,
-            Then::Goes(Outside::Closes(Window::Begin(unit))),
+            Continuation::Goes(Outside::Closes(Window::Begin(unit))),
         )
     })
 }
@@ -77,10 +77,10 @@ fn service(table: &AdcTable, group: u8) -> Service
 }
 
 /// A trigger is switched off: first its gate, and then what flag it has left.
-pub fn trigger_off(deeds: &mut Deeds, bit: u32)
+pub fn trigger_off(deeds: &mut WindowWrites, bit: u32)
     requires { length deeds.old ≤ 8 }
     ensures { deeds.new ≡ deeds.old ++ spec.trigger_off bit }
 {
-    deeds.push(Deed::Write(Reg::TriggerClear, bit));
-    deeds.push(Deed::Write(Reg::TriggerFlags, bit));
+    deeds.push(WindowWrite::Write(Reg::TriggerClear, bit));
+    deeds.push(WindowWrite::Write(Reg::TriggerFlags, bit));
 }

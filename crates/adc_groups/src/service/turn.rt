@@ -1,9 +1,9 @@
 ghost use Rattle.std.specs.Prelude.{◌≡◌, ◌+◌, ◌≤◌, map, length};
 ghost use Rattle.std.specs.List.{range_with_len};
-ghost use Rattle.adc_groups.specs.laws.Deciding as spec;
+ghost use Rattle.adc_groups.specs.laws.services.Decisions as spec;
 
 use crate::body::{Decided, Place};
-use crate::making::{Deed, Deeds, Making, Shape, Then, moves_of};
+use crate::making::{Continuation, StructureOp, WindowWrite, WindowWrites, WriteBatch, moves_of};
 use crate::outside::{Outside, Suspended};
 use crate::service::{done, looking, makes, over};
 use crate::window::Window;
@@ -15,13 +15,13 @@ use service_outline::nothing;
 
 /// What follows a new request on a unit: where priorities count, a round of lower priority yields, and then the first
 /// request starts.
-pub fn after_request(table: &AdcTable, unit: u8) -> Then
+pub fn after_request(table: &AdcTable, unit: u8) -> Continuation
     ensures { result ≡ spec.after_request table.now unit }
 {
     if table.priorities {
-        Then::Goes(Outside::Closes(Window::Yield(unit)))
+        Continuation::Goes(Outside::Closes(Window::Yield(unit)))
     } else {
-        Then::Goes(Outside::Closes(Window::Begin(unit)))
+        Continuation::Goes(Outside::Closes(Window::Begin(unit)))
     }
 }
 
@@ -103,16 +103,16 @@ pub fn aborted(table: &AdcTable, round: Suspended, value: u32) -> (Option<Event>
     if value != 1 {
         return (None, begins_next(unit));
     }
-    let mut deeds = Deeds::new();
-    deeds.push(Deed::Set(Word::Running(unit), 0));
+    let mut deeds = WindowWrites::new();
+    deeds.push(WindowWrite::Set(Word::Running(unit), 0));
     let after = if table.suspends(group) {
-        deeds.push(Deed::Set(Word::Claim(unit), 2 + u32::from(group)));
-        Then::Goes(Outside::Counts(round))
+        deeds.push(WindowWrite::Set(Word::Claim(unit), 2 + u32::from(group)));
+        Continuation::Goes(Outside::Counts(round))
     } else {
-        Then::Goes(Outside::Closes(Window::Begin(unit)))
+        Continuation::Goes(Outside::Closes(Window::Begin(unit)))
     };
-    let making = Making {
-        order: Some(Shape::Again(order_of(unit).again(entry(group)))),
+    let making = WriteBatch {
+        order: Some(StructureOp::Again(order_of(unit).again(entry(group)))),
         ..moves_of(None, deeds, after)
     };
     (Some(Event::Abort(named(unit))), Place::Makes(making))
@@ -122,12 +122,12 @@ pub fn aborted(table: &AdcTable, round: Suspended, value: u32) -> (Option<Event>
 pub fn keep(round: Suspended, claim: u32) -> Decided
     ensures { result ≡ spec.keep round claim }
 {
-    let mut deeds = Deeds::new();
+    let mut deeds = WindowWrites::new();
     if claim == 2 + u32::from(round.group) {
-        deeds.push(Deed::Set(Word::Kept(round.group), u32::from(round.kept)));
+        deeds.push(WindowWrite::Set(Word::Kept(round.group), u32::from(round.kept)));
     }
-    deeds.push(Deed::Set(Word::Claim(round.unit), 0));
-    let after = Then::Goes(Outside::Closes(Window::Begin(round.unit)));
+    deeds.push(WindowWrite::Set(Word::Claim(round.unit), 0));
+    let after = Continuation::Goes(Outside::Closes(Window::Begin(round.unit)));
     makes(moves_of(None, deeds, after))
 }
 
@@ -145,13 +145,13 @@ pub fn convert(table: &AdcTable, unit: u8, group: u8, claimed: bool, kept: u32) 
 {
     let kept = limited(kept, table.input_count(group));
     let left = table.input_count(group) - kept;
-    makes(Making {
+    makes(WriteBatch {
         ahead: moves_ahead(left, claimed),
-        order: Some(Shape::Next(order_of(unit).next(table.ranks()))),
+        order: Some(StructureOp::Next(order_of(unit).next(table.ranks()))),
         ..moves_of(
             Some(Event::Start(named(unit))),
             start_deeds(table, unit, group, kept, left, claimed),
-            Then::Ends(done(nothing())),
+            Continuation::Ends(done(nothing())),
         )
     })
 }
@@ -169,29 +169,36 @@ fn moves_ahead(left: u8, claimed: bool) -> u8
 }
 
 /// The moves of a start, but for those of the order.
-fn start_deeds(table: &AdcTable, unit: u8, group: u8, kept: u8, left: u8, claimed: bool) -> Deeds
+fn start_deeds(
+    table: &AdcTable,
+    unit: u8,
+    group: u8,
+    kept: u8,
+    left: u8,
+    claimed: bool,
+) -> WindowWrites
     requires few { kept + left ≤ 32 }
     ensures { result ≡ spec.start_deeds table.now unit group kept left claimed }
 {
     let mut deeds = lists(table, unit, group, kept, left);
-    deeds.push(Deed::Set(Word::Running(unit), 1 + u32::from(group)));
+    deeds.push(WindowWrite::Set(Word::Running(unit), 1 + u32::from(group)));
     if claimed {
-        deeds.push(Deed::Set(Word::Claim(unit), 0));
+        deeds.push(WindowWrite::Set(Word::Claim(unit), 0));
     }
-    deeds.push(Deed::Write(Reg::ConverterGo(u32::from(unit)), u32::from(left)));
+    deeds.push(WindowWrite::Write(Reg::ConverterGo(u32::from(unit)), u32::from(left)));
     deeds
 }
 
 /// The list registers take the inputs that are left, four each.
-fn lists(table: &AdcTable, unit: u8, group: u8, kept: u8, left: u8) -> Deeds
+fn lists(table: &AdcTable, unit: u8, group: u8, kept: u8, left: u8) -> WindowWrites
     requires few { kept + left ≤ 32 }
     ensures is { result ≡ map (spec.list_deed table.now unit group kept) (range_with_len 0 (spec.lists_for left)) }
     ensures most { length result ≤ 8 }
 {
-    let mut deeds = Deeds::new();
+    let mut deeds = WindowWrites::new();
     for at in 0..(left + 3) / 4 {
         let inputs = table.listed(group, kept + 4 * at);
-        deeds.push(Deed::Write(Reg::ConverterList(unit, at), inputs));
+        deeds.push(WindowWrite::Write(Reg::ConverterList(unit, at), inputs));
     }
     deeds
 }

@@ -1,4 +1,6 @@
 -- What all laws speak of, passed on, and what a family of bodies owes.
+-- From service_outline: Acts, service_outline: Reports, service_outline: Sweep.
+-- Used by DeInit, Start, Mode, Switch, Count and 5 more.
 use Rattle.std.proofs.Common.{◌≡◌, ℕ, ◌<◌, ◌≤◌, Bool, true, false, [], Option, Some, None, refl, sym, ◌∙◌, ap, subst, arith}
 use Rattle.std.specs.Prelude.{if◌then◌else◌}
 pub use Rattle.std.proofs.lemmas.Bool.{eq-eqb, ne_eqb, eqb-true, lt-ltb, ltb-true, ltb-false, or_right, true_from_ne_false, false_from_ne_true, le-ltb}
@@ -26,8 +28,8 @@ pub use Rattle.run_model.specs.Machine.{Told, no_answer, tells_nothing, outcome}
 pub use Rattle.run_model.specs.Frame.{Origin, Called, Entered, missed_after}
 pub use Rattle.run_model.specs.Outside.{StandsIn}
 pub use Rattle.run_model.proofs.OutsideLaws.{stands-move, stands-event, stands-reset}
-pub use Rattle.service_outline.specs.declared.done.Owed.{Owed}
-pub use Rattle.service_outline.specs.declared.done.Owed.TheVariants.{Nothing, One}
+pub use Rattle.service_outline.specs.declared.done.Epilogue.{Epilogue}
+pub use Rattle.service_outline.specs.declared.done.Epilogue.TheVariants.{Nothing, One}
 pub use Rattle.service_outline.specs.declared.done.BodyTaken.{BodyTaken}
 pub use Rattle.service_outline.specs.declared.done.Done.{Done}
 pub use Rattle.service_outline.specs.Acts.{Cleans}
@@ -38,7 +40,7 @@ pub use Rattle.service_outline.specs.laws.Sweep.{each_but}
 pub use Rattle.service_outline.specs.Fuel.{Shortens}
 pub use Rattle.service_outline.specs.Outline.{Bodies, At, Happens, AreRight, StepsTo, RightAt, TellsAs, error_in, notices_in, Before, Is_before, After, Is_after, Serving, Is_serving, Served, Is_served}
 pub use Rattle.gpt_driver.specs.Checks.{error_by, service_of, allows, takes, answer_refused, has_value}
-pub use Rattle.gpt_driver.specs.Ground.{Gap, settled, none, only, open_at, behind, IsSet, TimerAgrees, BlockAgrees, Word, TheState, TargetOf, SwitchesOf, number_of, IsWord, state_word, value_in, WordsAgree, LinesAgree, GptAgrees, gpt_ground, gpt_setting, gpt_may, gpt_owns, is_own_word, has_lines, is_for_lines, is_timer, may_name, may_write, owns_written}
+pub use Rattle.gpt_driver.specs.Refinement.{Lag, settled, none, only, open_at, behind, IsSet, TimerAgrees, BlockAgrees, Word, TheState, TargetOf, SwitchesOf, number_of, IsWord, state_word, value_in, WordsAgree, LinesAgree, GptRepresents, gpt_ground, gpt_setting, gpt_may, gpt_owns, is_own_word, has_lines, is_for_lines, is_timer, may_name, may_write, owns_written}
 pub use Rattle.gpt_driver.specs.Machine.{GptState, channel_at, table, fresh_state, first_state, Timing, Course, Never, Running, Stopped, Mode, Off, Normal, Sleep, untouched, is_off, is_asleep, elapsed, remaining, target_of, prescaler_of, runs, runs_at, is_busy, is_marked, started, stopped, unmarked, slept, slept_all, changed, with_channel, with_switches, all_channels, answers_number, notes, acts_by, ready, served, served_by, wakes, notifies, reporting, gpt_machine, switches}
 pub use Rattle.gpt_driver.specs.Table.{channel_of, one_shot_of, is_one_shot, FitsGpt}
 pub use Rattle.gpt_driver.specs.Words.{bit, target_word, switches_word, word_of as packed, switches_of}
@@ -57,7 +59,7 @@ pub use Rattle.gpt_driver.specs.declared.call.Change.TheVariants.{Check, Notific
 pub use Rattle.gpt_driver.specs.declared.call.GptMode.TheVariants.{Normal as ToNormal, Sleep as ToSleep}
 pub use Rattle.mcal_base.specs.declared.moves.Move.TheVariants.{Load, Read, Store, Write}
 pub use Rattle.mcal_base.specs.declared.register.Reg.{Reg}
-pub use Rattle.service_outline.specs.Seen.{Plain, Seen, SeesTo, Starts}
+pub use Rattle.service_outline.specs.WindowHistory.{Plain, WindowHistory, SeesTo, Starts}
 pub use Rattle.service_outline.specs.ShortServices.{driver_of}
 pub use Rattle.service_outline.specs.There.{names_there}
 pub use Rattle.service_outline.specs.declared.body.Looked.{Looked}
@@ -101,10 +103,10 @@ on_later now time le h = (h.0, λ n more. h.1 n (omega (arith, le, more)))
 
 module _ (d : GptDriver) where
   -- bodies at whose places only what holds of timers and state counts, and bodies with something more that holds at every time from now on
-  abbrev pub steady : {Body : Type 0} → (Body → Move) → (Body → ℕ → Body × BodyTaken) → (Body → ℕ) → (Body → Gap) → (Timers → GptState → Body → Origin Call → Option Told → Type 0) → Bodies (gpt_ground d) Body
+  abbrev pub steady : {Body : Type 0} → (Body → Move) → (Body → ℕ → Body × BodyTaken) → (Body → ℕ) → (Body → Lag) → (Timers → GptState → Body → Origin Call → Option Told → Type 0) → Bodies (gpt_ground d) Body
   steady work takes fuel gap holds = record { work_of = work; takes = takes; fuel = fuel; gap_of = gap; clean = λ k. false; place = λ f w s k o t. holds f s k o t }
 
-  abbrev pub timed : {Body : Type 0} → (Body → Move) → (Body → ℕ → Body × BodyTaken) → (Body → ℕ) → (Body → Gap) → (Body → Bool) → (Timers → GptState → Body → Origin Call → Option Told → Type 0) → (Timers → GptState → Body → ℕ → Type 0) → Bodies (gpt_ground d) Body
+  abbrev pub timed : {Body : Type 0} → (Body → Move) → (Body → ℕ → Body × BodyTaken) → (Body → ℕ) → (Body → Lag) → (Body → Bool) → (Timers → GptState → Body → Origin Call → Option Told → Type 0) → (Timers → GptState → Body → ℕ → Type 0) → Bodies (gpt_ground d) Body
   timed work takes fuel gap clean holds stays = record { work_of = work; takes = takes; fuel = fuel; gap_of = gap; clean = clean; place = λ f w s k o t. holds f s k o t × ((time : ℕ) → w.now ≤ time → stays f s k time) }
 
   -- at each place a move that its frame may make, and a right step
@@ -128,5 +130,5 @@ module _ (d : GptDriver) where
   acts_so w s call {s1 = s1} {t = t} first is acts next = record { own = tt; state = s1; told = t; is = λ times. ap (λ e. Some (acts_by d w s call e)) first ∙ ap (λ o. Some o) is; acts = acts; next = next }
 
   -- one that looked at the timers acts where it finds one busy
-  pub finds_busy : {Body : Type 0} (b : Bodies (gpt_ground d) Body) (chip : Chip) (w : World) (s : GptState) (call : Call) (m : ℕ → Bool) (k : Body) (r : Owed) → answer_refused call ≡ no_answer → error_by d call (is_off s.mode) (is_asleep s.mode) (is_busy d w s call) ≡ Some GptBusy → r ≡ owed_error (reporting d) (service_of call) GptBusy → GptAgrees d settled chip w s → StepsTo (gpt_ground d) b chip w s (Called call) (Read TimerRun) true None m (k, ends (Some Act) no_answer r)
+  pub finds_busy : {Body : Type 0} (b : Bodies (gpt_ground d) Body) (chip : Chip) (w : World) (s : GptState) (call : Call) (m : ℕ → Bool) (k : Body) (r : Epilogue) → answer_refused call ≡ no_answer → error_by d call (is_off s.mode) (is_asleep s.mode) (is_busy d w s call) ≡ Some GptBusy → r ≡ owed_error (reporting d) (service_of call) GptBusy → GptRepresents d settled chip w s → StepsTo (gpt_ground d) b chip w s (Called call) (Read TimerRun) true None m (k, ends (Some Act) no_answer r)
   finds_busy b chip w s call m k r none first is h = acts_so w s call first (ap (λ a. outcome s (record { answer = a; error = Some GptBusy; notices = [] })) none) (refl, refl) (h, subst (λ x. TellsAs (gpt_machine d) (Called call) (tells_error no_answer GptBusy) (record { answer = no_answer; owed = x })) (sym is) (error_told (gpt_machine d) call no_answer GptBusy))

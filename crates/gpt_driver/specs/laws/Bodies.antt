@@ -1,4 +1,5 @@
 -- The bodies of all services, as one.
+-- Used by Look, Lawful, mcal_drivers: Frames.
 use Rattle.service_outline.specs.declared.body.Or.{Or}
 use Rattle.gpt_driver.specs.declared.service.count.CountBody.{CountBody}
 use Rattle.gpt_driver.specs.declared.service.deinit.DeInitBody.{DeInitBody}

@@ -1,13 +1,15 @@
 -- Gpt_GetTimeElapsed and Gpt_GetTimeRemaining: their steps, what holds at each, and that they are right.
+-- From Base, service_outline: Acts, service_outline: Seen, Courses, RefinementRight and 1 more.
+-- Used by Lawful, service/count/rt.
 use Rattle.std.proofs.Common.{◌≡◌, ℕ, ◌+◌, ◌*◌, ◌-◌, ◌/◌, ◌%◌, ◌<◌, ◌^◌, true, Option, None, refl, sym, ◌∙◌, ap, subst, arith}
 use Rattle.service_outline.specs.Done.{number}
-use Rattle.gpt_driver.specs.laws.Base.{OfChannel as Channel, lt-ltb, Chip, chip_after, Timers, timer_at, counter, Move, TimerLow, TimerHigh, World, Told, outcome, Origin, stands-move, Nothing, BodyTaken, goes, acts_on, ends, never_clean, Shortens, Bodies, AreRight, Before, Is_before, After, Is_after, Gap, settled, TargetOf, GptAgrees, gpt_ground, GptState, channel_at, elapsed, remaining, target_of, runs_at, answers_number, channel_of, target_word, Call, GetTimeElapsed, GetTimeRemaining, GptDriver, Load, Read, Plain, Seen, SeesTo, Starts, MayRun, steady, AllGood, all_right, acts_so}
-use Rattle.service_outline.specs.Seen.{HasRead}
+use Rattle.gpt_driver.specs.laws.Base.{OfChannel as Channel, lt-ltb, Chip, chip_after, Timers, timer_at, counter, Move, TimerLow, TimerHigh, World, Told, outcome, Origin, stands-move, Nothing, BodyTaken, goes, acts_on, ends, never_clean, Shortens, Bodies, AreRight, Before, Is_before, After, Is_after, Lag, settled, TargetOf, GptRepresents, gpt_ground, GptState, channel_at, elapsed, remaining, target_of, runs_at, answers_number, channel_of, target_word, Call, GetTimeElapsed, GetTimeRemaining, GptDriver, Load, Read, Plain, WindowHistory, SeesTo, Starts, MayRun, steady, AllGood, all_right, acts_so}
+use Rattle.service_outline.specs.WindowHistory.{HasRead}
 use Rattle.service_outline.specs.laws.Seen.{never_after}
 use Rattle.gpt_driver.specs.declared.service.count.CountBody.{CountBody}
 use Rattle.gpt_driver.specs.declared.service.count.CountBody.TheVariants.{ElapsedLow, ElapsedHigh, RemainingTarget, RemainingLow, RemainingHigh}
 use Rattle.gpt_driver.specs.laws.Courses.{elapsed_small}
-use Rattle.gpt_driver.specs.laws.Ground.{may_words}
+use Rattle.gpt_driver.specs.laws.RefinementRight.{may_words}
 use Rattle.gpt_driver.specs.laws.Parts.{elapsed_here}
 
 -- ---- its steps
@@ -46,7 +48,7 @@ count_shortens _ x = omega arith
 
 -- ---- what holds at each; after the act the latch has the high half
 
-abbrev pub count_gap : CountBody → Gap
+abbrev pub count_gap : CountBody → Lag
 count_gap k = settled
 
 abbrev pub elapsed_call : ℕ → Call
@@ -70,14 +72,14 @@ halves : (n : ℕ) → n < 2 ^ 32 → joined (n % 65536) (n / 65536) ≡ n
 halves n lt = let a : n < 4294967296 = lt in omega arith
 
 module _ (d : GptDriver) where
-  read_is : (chip : Chip) (w : World) (s : GptState) (c : ℕ) → c < 8 → GptAgrees d settled chip w s → let n = counter (timer_at chip.timers c) chip.timers.time in joined (n % 65536) (n / 65536) ≡ elapsed (channel_of d c) w.now (channel_at s c).course
+  read_is : (chip : Chip) (w : World) (s : GptState) (c : ℕ) → c < 8 → GptRepresents d settled chip w s → let n = counter (timer_at chip.timers c) chip.timers.time in joined (n % 65536) (n / 65536) ≡ elapsed (channel_of d c) w.now (channel_at s c).course
   read_is chip w s c lt h =
       let e = elapsed_here d chip w s settled h c lt refl in
       let n = counter (timer_at chip.timers c) chip.timers.time in
       let small : n < 2 ^ 32 = subst (λ x. x < 2 ^ 32) (sym e) (elapsed_small (channel_of d c) _ (channel_at s c).course w.now (h.block c lt refl).set) in
       halves n small ∙ e
 
-  latched : (chip : Chip) (w : World) (s : GptState) (c : ℕ) → GptAgrees d settled chip w s → GptAgrees d settled (chip_after chip (Read (TimerLow c)) 0) w s
+  latched : (chip : Chip) (w : World) (s : GptState) (c : ℕ) → GptRepresents d settled chip w s → GptRepresents d settled (chip_after chip (Read (TimerLow c)) 0) w s
   latched chip w s c h = record { outside = stands-move chip w (Read (TimerLow c)) 0 h.outside; block = h.block; words = h.words; lines = h.lines; clean = h.clean }
 
   steps : AllGood d (count_bodies d)
@@ -96,7 +98,7 @@ module _ (d : GptDriver) where
 
 -- ---- its window: before it reads a high half it has read the low one, and where it begins it has read nothing
 
-abbrev pub count_seen : CountBody → Seen
+abbrev pub count_seen : CountBody → WindowHistory
 count_seen (ElapsedHigh c low) = HasRead (TimerLow c)
 count_seen (RemainingHigh c v low) = HasRead (TimerLow c)
 count_seen _ = Plain

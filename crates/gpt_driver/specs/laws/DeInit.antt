@@ -1,15 +1,17 @@
 -- Gpt_DeInit: its steps, what holds at each, and that they are right.
+-- From Base, Parts, Courses, RefinementRight, Init.
+-- Used by service/deinit/rt, Lawful.
 use Rattle.std.proofs.Common.{◌≡◌, ℕ, zero, suc, add-one, ◌+◌, ◌-◌, ◌<◌, ◌≤◌, ◌≢◌, Bool, true, false, ◌&&◌, ◌==◌, not, nat_lt, Option, Some, None, cond, refl, sym, ◌∙◌, ap, arith}
 use Rattle.std.specs.Prelude.{if◌then◌else◌}
 use Rattle.std.specs.List.{list_any}
-use Rattle.gpt_driver.specs.laws.Base.{Store as Stores, eq-eqb, eqb-true, lt-ltb, true_from_ne_false, nat_tests, Chip, chip_after, Timers, timer_at, counts_on, is_running, expired_between, flag_clear, zero_count, running_of, Still, Since, Timer, timer_at-acted_on, has_bit-running_of, has_bit, bits_of, has_bit-zero, has_bit-without, GptBusy, Act, Move, EnableClear, TimerFlags, TimerZero, TimerRun, World, Told, no_answer, tells_nothing, Origin, Called, missed_after, Owed, Nothing, BodyTaken, Cleans, goes, acts_on, ends, owed_error, Shortens, Bodies, AreRight, StepsTo, Before, Is_before, After, Is_after, error_by, Gap, settled, none, TimerAgrees, Word, TheState, number_of, IsWord, GptAgrees, gpt_ground, GptState, channel_at, first_state, untouched, is_off, is_asleep, runs, runs_at, all_channels, reporting, gpt_machine, channel_of, bit, Call, DeInit, Channel, GptDriver, STATE, TARGETS, LAST_WORD, LINES, Unflags, Zeroes, Read, Write, either_way, on_later, timed, AllGood, all_right, acts_so, finds_busy}
+use Rattle.gpt_driver.specs.laws.Base.{Store as Stores, eq-eqb, eqb-true, lt-ltb, true_from_ne_false, nat_tests, Chip, chip_after, Timers, timer_at, counts_on, is_running, expired_between, flag_clear, zero_count, running_of, Still, Since, Timer, timer_at-acted_on, has_bit-running_of, has_bit, bits_of, has_bit-zero, has_bit-without, GptBusy, Act, Move, EnableClear, TimerFlags, TimerZero, TimerRun, World, Told, no_answer, tells_nothing, Origin, Called, missed_after, Epilogue, Nothing, BodyTaken, Cleans, goes, acts_on, ends, owed_error, Shortens, Bodies, AreRight, StepsTo, Before, Is_before, After, Is_after, error_by, Lag, settled, none, TimerAgrees, Word, TheState, number_of, IsWord, GptRepresents, gpt_ground, GptState, channel_at, first_state, untouched, is_off, is_asleep, runs, runs_at, all_channels, reporting, gpt_machine, channel_of, bit, Call, DeInit, Channel, GptDriver, STATE, TARGETS, LAST_WORD, LINES, Unflags, Zeroes, Read, Write, either_way, on_later, timed, AllGood, all_right, acts_so, finds_busy}
 use Rattle.chip_timers.specs.declared.timer.Count.{Count}
 use Rattle.mcal_base.proofs.BitLaws.{bits_of-zero, bits_of-clear}
 use Rattle.mcal_base.specs.declared.service.Service.TheVariants.{GptDeInit}
 use Rattle.gpt_driver.specs.declared.service.deinit.DeInitBody.{DeInitBody}
 use Rattle.gpt_driver.specs.declared.service.deinit.DeInitBody.TheVariants as places
 use Rattle.gpt_driver.specs.laws.Courses.{running_is, rests_later}
-use Rattle.gpt_driver.specs.laws.Ground.{may_word}
+use Rattle.gpt_driver.specs.laws.RefinementRight.{may_word}
 use Rattle.gpt_driver.specs.laws.Init.{all_lines}
 use Rattle.gpt_driver.specs.laws.Parts.{by_eight, word_at, first_value, block_acted, words_stored, moved, runs_here}
 
@@ -61,7 +63,7 @@ abbrev pub from : ℕ → ℕ → Bool
 from j k = not (nat_lt k j)
 
 -- the channels' words are still to be forgotten, and before it the lines to be disabled and the timers to be cleaned up
-abbrev pub deinit_gap : DeInitBody → Gap
+abbrev pub deinit_gap : DeInitBody → Lag
 deinit_gap (places.Look busy) = settled
 deinit_gap places.Store = settled
 deinit_gap places.Disable = record { block = none; words = from TARGETS; lines = Some true }
@@ -126,25 +128,25 @@ off_by : (b c : Bool) → c ≡ true → b && not c ≡ false
 off_by b c e = grind arith
 
 module _ (d : GptDriver) where
-  some_runs : (chip : Chip) (w : World) (s : GptState) → GptAgrees d settled chip w s → (running_of chip.timers == 0) ≡ false → list_any (λ c. runs_at d w s c) all_channels ≡ true
+  some_runs : (chip : Chip) (w : World) (s : GptState) → GptRepresents d settled chip w s → (running_of chip.timers == 0) ≡ false → list_any (λ c. runs_at d w s c) all_channels ≡ true
   some_runs chip w s h i = true_from_ne_false _ (λ e. let no : (running_of chip.timers == 0) ≡ true = eq-eqb (running_of chip.timers) 0 (bits_none (λ c. is_running (timer_at chip.timers c) chip.timers.time) 8 (λ c lt. runs_here d chip w s settled h c lt refl ∙ none_any (λ c. runs_at d w s c) e c lt)) in cc)
 
-  look_by : (chip : Chip) (w : World) (s : GptState) (m : ℕ → Bool) (busy : Owed) → ((b : Bool) → error_by d DeInit (is_off s.mode) (is_asleep s.mode) b ≡ cond b (Some GptBusy) None) → is_off s.mode ≡ false → busy ≡ owed_error (reporting d) GptDeInit GptBusy → GptAgrees d settled chip w s → (q : Bool) → (running_of chip.timers == 0) ≡ q → StepsTo (gpt_ground d) (deinit_bodies d) chip w s (Called DeInit) (Read TimerRun) true None m (if q then (places.Store, goes) else (places.Look busy, ends (Some Act) no_answer busy))
+  look_by : (chip : Chip) (w : World) (s : GptState) (m : ℕ → Bool) (busy : Epilogue) → ((b : Bool) → error_by d DeInit (is_off s.mode) (is_asleep s.mode) b ≡ cond b (Some GptBusy) None) → is_off s.mode ≡ false → busy ≡ owed_error (reporting d) GptDeInit GptBusy → GptRepresents d settled chip w s → (q : Bool) → (running_of chip.timers == 0) ≡ q → StepsTo (gpt_ground d) (deinit_bodies d) chip w s (Called DeInit) (Read TimerRun) true None m (if q then (places.Store, goes) else (places.Look busy, ends (Some Act) no_answer busy))
   look_by chip w s m busy u on e h true i =
       (h, ((Is_before, u, on), λ time le c lt. rests_later (channel_of d c) (channel_at s c).course w.now time le (sym (runs_here d chip w s settled h c lt refl) ∙ (sym (has_bit-running_of chip.timers c lt) ∙ (ap (λ x. has_bit x c) (eqb-true (running_of chip.timers) 0 i) ∙ has_bit-zero c)))))
   look_by chip w s m busy u on e h false i = finds_busy d (deinit_bodies d) chip w s DeInit m (places.Look busy) busy refl (ap (λ b. error_by d DeInit (is_off s.mode) (is_asleep s.mode) b) (some_runs chip w s h i) ∙ u true) e h
 
   -- the state word says that the module is off
-  switched_off : (chip : Chip) (w : World) (s : GptState) → is_off s.mode ≡ false → GptAgrees d settled chip w s → GptAgrees d (deinit_gap places.Zero) (chip_after chip (Stores STATE 0) 0) w first_state
+  switched_off : (chip : Chip) (w : World) (s : GptState) → is_off s.mode ≡ false → GptRepresents d settled chip w s → GptRepresents d (deinit_gap places.Zero) (chip_after chip (Stores STATE 0) 0) w first_state
   switched_off chip w s on h = moved d (Stores STATE 0) chip w s first_state settled (deinit_gap places.Zero) h (λ c lt closed. absurd (cc)) (words_stored d chip first_state (λ k. true) (from TARGETS) STATE 0 (omega arith) h.outside.all (λ x there closed. absurd (cc)) (λ x there e. first_value x) not_behind) (λ c lt. h.lines c lt ∙ ap (λ q. not q) on) (λ off c. refl)
 
-  forgotten : (chip : Chip) (w : World) (j : ℕ) → TARGETS ≤ j → j ≤ LAST_WORD → GptAgrees d (deinit_gap (places.Forget j)) chip w first_state → GptAgrees d (deinit_gap (places.Forget (j + 1))) (chip_after chip (Stores j 0) 0) w first_state
+  forgotten : (chip : Chip) (w : World) (j : ℕ) → TARGETS ≤ j → j ≤ LAST_WORD → GptRepresents d (deinit_gap (places.Forget j)) chip w first_state → GptRepresents d (deinit_gap (places.Forget (j + 1))) (chip_after chip (Stores j 0) 0) w first_state
   forgotten chip w j a b h = moved d (Stores j 0) chip w first_state first_state (deinit_gap (places.Forget j)) (deinit_gap (places.Forget (j + 1))) h h.block (words_stored d chip first_state (from j) (from (j + 1)) j 0 (omega (arith, b)) h.outside.all h.words (λ x there e. first_value x) (λ x there ne g. not_from j (number_of x) ne g)) h.lines h.clean
 
-  all_forgotten : (chip : Chip) (w : World) (j : ℕ) → j ≡ LAST_WORD + 1 → GptAgrees d (deinit_gap (places.Forget j)) chip w first_state → GptAgrees d settled chip w first_state
+  all_forgotten : (chip : Chip) (w : World) (j : ℕ) → j ≡ LAST_WORD + 1 → GptRepresents d (deinit_gap (places.Forget j)) chip w first_state → GptRepresents d settled chip w first_state
   all_forgotten chip w j e h = record { outside = h.outside; block = h.block; words = λ x there g. h.words x there (ap (λ i. from i (number_of x)) e ∙ past x there); lines = h.lines; clean = h.clean }
 
-  forget_by : (chip : Chip) (w : World) (m : ℕ → Bool) (j : ℕ) → TARGETS ≤ j → j ≤ LAST_WORD → GptAgrees d (deinit_gap (places.Forget (j + 1))) chip w first_state → (q : Bool) → nat_lt j LAST_WORD ≡ q → StepsTo (gpt_ground d) (deinit_bodies d) chip w first_state (Called DeInit) (Stores j 0) false (Some tells_nothing) m (if q then (places.Forget (j + 1), goes) else (places.Forget j, ends None no_answer Nothing))
+  forget_by : (chip : Chip) (w : World) (m : ℕ → Bool) (j : ℕ) → TARGETS ≤ j → j ≤ LAST_WORD → GptRepresents d (deinit_gap (places.Forget (j + 1))) chip w first_state → (q : Bool) → nat_lt j LAST_WORD ≡ q → StepsTo (gpt_ground d) (deinit_bodies d) chip w first_state (Called DeInit) (Stores j 0) false (Some tells_nothing) m (if q then (places.Forget (j + 1), goes) else (places.Forget j, ends None no_answer Nothing))
   forget_by chip w m j a b h true i = let more : j + 1 ≤ LAST_WORD = grind (arith, nat_tests) in (h, ((Is_after, Is_first, omega (arith, a), more), λ time le. tt))
   forget_by chip w m j a b h false i = let last : j + 1 ≡ LAST_WORD + 1 = grind (arith, nat_tests) in (all_forgotten chip w (j + 1) last h, (refl, refl, refl))
 

@@ -1,7 +1,9 @@
 -- Gpt_Init: its steps, what holds at each, and that they are right.
+-- From Base, Parts, service_outline: Acts.
+-- Used by service/init/rt, Lawful, DeInit.
 use Rattle.std.proofs.Common.{◌≡◌, ℕ, ◌<◌, true, false, Option, Some, None, refl, ◌∙◌, ap, subst, arith}
 use Rattle.std.proofs.lemmas.Bool.{agree_below_at, or_right}
-use Rattle.gpt_driver.specs.laws.Base.{Store as Stores, Chip, word_of, Timers, timer_at, has_bit, has_bit-or, Act, Move, EnableSet, World, Told, no_answer, Origin, Nothing, BodyTaken, goes, ends, never_clean, Shortens, Bodies, AreRight, Before, Is_before, error_by, Gap, settled, behind, TimerAgrees, Word, TheState, TargetOf, SwitchesOf, number_of, IsWord, value_in, GptAgrees, gpt_ground, GptState, fresh_state, Normal, is_off, is_asleep, target_of, is_busy, channel_of, packed, Call, Init, GptDriver, STATE, LINES, Write, steady, AllGood, all_right, acts_so}
+use Rattle.gpt_driver.specs.laws.Base.{Store as Stores, Chip, word_of, Timers, timer_at, has_bit, has_bit-or, Act, Move, EnableSet, World, Told, no_answer, Origin, Nothing, BodyTaken, goes, ends, never_clean, Shortens, Bodies, AreRight, Before, Is_before, error_by, Lag, settled, behind, TimerAgrees, Word, TheState, TargetOf, SwitchesOf, number_of, IsWord, value_in, GptRepresents, gpt_ground, GptState, fresh_state, Normal, is_off, is_asleep, target_of, is_busy, channel_of, packed, Call, Init, GptDriver, STATE, LINES, Write, steady, AllGood, all_right, acts_so}
 use Rattle.gpt_driver.specs.declared.service.init.InitBody.{InitBody}
 use Rattle.gpt_driver.specs.declared.service.init.InitBody.TheVariants.{Enable, Store}
 use Rattle.gpt_driver.specs.laws.Parts.{caught_up, moved, never_off}
@@ -23,10 +25,10 @@ init_shortens Enable x = omega arith
 init_shortens _ x = omega arith
 
 -- the lines are enabled already
-abbrev pub armed : Gap
+abbrev pub armed : Lag
 armed = record settled { lines = Some true }
 
-abbrev pub init_gap : InitBody → Gap
+abbrev pub init_gap : InitBody → Lag
 init_gap Enable = settled
 init_gap Store = armed
 
@@ -40,7 +42,7 @@ pub all_lines : (c : ℕ) → c < 8 → has_bit LINES c ≡ true
 all_lines c lt = agree_below_at (λ i. has_bit LINES i) (λ i. true) 8 c refl lt
 
 module _ (d : GptDriver) where
-  turned_on : (chip : Chip) (w : World) (s : GptState) → is_off s.mode ≡ true → GptAgrees d armed chip w s → GptAgrees d (behind STATE) chip w (fresh_state Normal)
+  turned_on : (chip : Chip) (w : World) (s : GptState) → is_off s.mode ≡ true → GptRepresents d armed chip w s → GptRepresents d (behind STATE) chip w (fresh_state Normal)
   turned_on chip w s off h = record {
     outside = h.outside;
     block = λ c lt closed. subst (λ x. TimerAgrees (channel_of d c) (has_bit chip.timers.one_shot c) (timer_at chip.timers c) x) (h.clean off c) (h.block c lt refl);

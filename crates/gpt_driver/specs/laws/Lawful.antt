@@ -1,20 +1,22 @@
 -- The timer driver, as the outline and the runner see it, and that it owes nothing.
+-- From Look, Count, Mode, Base, DeInit and 10 more.
+-- Used by frames/rt, Keeps, mcal_drivers: Laws, request/rt, mcal_system: proofs/Resting and 3 more.
 use Rattle.std.proofs.Common.{List, ◌≡◌, ℕ, ◌+◌, ◌<◌, ◌≤◌, ◌^◌, Bool, true, false, ◌&&◌, ◌==◌, not, nat_lt, Option, Some, None, refl, sym, ◌∙◌, ap, subst, arith}
 use Rattle.std.specs.Prelude.{is_some, if◌then◌else◌}
 use Rattle.run_model.specs.Frame.{Open}
 use Rattle.service_outline.specs.declared.short.Short.{Short}
 use Rattle.service_outline.specs.Both.{either}
 use Rattle.service_outline.specs.Outline.{Outlined, IsOutlined, LooksRight, CanEnter}
-use Rattle.service_outline.specs.Seen.{is_windowed}
+use Rattle.service_outline.specs.WindowHistory.{is_windowed}
 use Rattle.service_outline.specs.laws.Seen.{plain_sees}
 use Rattle.service_outline.specs.laws.Either.{either_right}
-use Rattle.gpt_driver.specs.laws.Base.{nat_tests, Chip, word_of, bits_of-zero, ErrorName, World, tells_nothing, Called, Entered, tells_error, error_told, Bodies, At, AreRight, Is_before, Is_serving, error_by, allows, answer_refused, has_value, settled, TheState, GptAgrees, gpt_ground, GptState, is_off, is_asleep, prescaler_of, is_busy, acts_by, gpt_machine, switches, channel_of, one_shot_of, FitsGpt, Call, Init, DeInit, SetMode, OfChannel, ChannelCall, GetTimeElapsed, GetTimeRemaining, StartTimer, StopTimer, Changes, Channel, GptDriver, STATE, Asked, Check, ToNormal, ToSleep, Plain, Seen, SeesTo, Starts, driver_of, Looked, Goes, First, Second, Passed, MayRun}
-use Rattle.gpt_driver.specs.Ground.{gpt_steps}
+use Rattle.gpt_driver.specs.laws.Base.{nat_tests, Chip, word_of, bits_of-zero, ErrorName, World, tells_nothing, Called, Entered, tells_error, error_told, Bodies, At, AreRight, Is_before, Is_serving, error_by, allows, answer_refused, has_value, settled, TheState, GptRepresents, gpt_ground, GptState, is_off, is_asleep, prescaler_of, is_busy, acts_by, gpt_machine, switches, channel_of, one_shot_of, FitsGpt, Call, Init, DeInit, SetMode, OfChannel, ChannelCall, GetTimeElapsed, GetTimeRemaining, StartTimer, StopTimer, Changes, Channel, GptDriver, STATE, Asked, Check, ToNormal, ToSleep, Plain, WindowHistory, SeesTo, Starts, driver_of, Looked, Goes, First, Second, Passed, MayRun}
+use Rattle.gpt_driver.specs.Refinement.{gpt_steps}
 use Rattle.gpt_driver.specs.declared.service.serve.ServeBody.TheVariants.{Look}
 use Rattle.gpt_driver.specs.laws.Bodies.{GptBody}
 use Rattle.gpt_driver.specs.laws.Count.{count_bodies, count_right, count_seen, count_sees, count_unseen}
 use Rattle.gpt_driver.specs.laws.DeInit.{deinit_bodies, deinit_right}
-use Rattle.gpt_driver.specs.laws.Ground.{ground_right, within}
+use Rattle.gpt_driver.specs.laws.RefinementRight.{ground_right, within}
 use Rattle.gpt_driver.specs.laws.Init.{init_bodies, init_right}
 use Rattle.gpt_driver.specs.laws.Look.{ElapsedLow, DeInitLook, Enable, Wake, StartLook, OneShot, Continuous, SwitchLoad, gpt_looked, looked_by, begins, begun_on, off_of, on_of, mode_of, allowed, value_of, deinit_busy, start_busy, change_unhindered, early, asked_word}
 use Rattle.gpt_driver.specs.laws.Mode.{mode_bodies, mode_right, sleeps}
@@ -27,7 +29,7 @@ abbrev pub gpt_bodies : (d : GptDriver) → Bodies (gpt_ground d) GptBody
 gpt_bodies d = either (either (init_bodies d) (either (deinit_bodies d) (mode_bodies d))) (either (either (either (count_bodies d) (start_bodies d)) (either (stop_bodies d) (switch_bodies d))) (serve_bodies d))
 
 -- no family but one reads a high half
-abbrev pub gpt_seen : GptBody → Seen
+abbrev pub gpt_seen : GptBody → WindowHistory
 gpt_seen (Second (First (First (First k)))) = count_seen k
 gpt_seen k = Plain
 
@@ -78,7 +80,7 @@ unseen d chip w s _ call h = tt
 has_parts : (m v : ℕ) → not (v == 0) && not (nat_lt m v) ≡ true → (0 < v) × (v ≤ m)
 has_parts m v e = (grind (arith, nat_tests), grind (arith, nat_tests))
 
-module _ (d : GptDriver) (fits : FitsGpt d) (chip : Chip) (w : World) (s : GptState) (h : GptAgrees d settled chip w s) where
+module _ (d : GptDriver) (fits : FitsGpt d) (chip : Chip) (w : World) (s : GptState) (h : GptRepresents d settled chip w s) where
   abbrev Looks : Call → Looked GptBody → Type 0
   Looks call l = LooksRight (gpt d) chip w s call l
 

@@ -1,7 +1,10 @@
 -- The load of the state word: what it decides for each call, and that this is what the machine says.
+-- From Bodies, Base.
+-- Used by Lawful, asked/rt.
 use Rattle.std.proofs.Common.{◌≡◌, ℕ, ◌<◌, Bool, true, false, ◌==◌, not, length, cond, List, [], ◌∷◌, Option, Some, None, refl, ◌∙◌, ap, arith}
 use Rattle.std.specs.Prelude.{if◌then◌else◌, is_some, slice_index_or}
 use Rattle.std.specs.Option.{option_or}
+use Rattle.std.proofs.lemmas.Bool.{not-false}
 use Rattle.gpt_driver.specs.laws.Base.{bits_of, ErrorName, GptBusy, no_answer, Nothing, Done, owed_error, error_by, service_of, allows, answer_refused, has_value, state_word, GptState, Mode, Off, is_off, is_asleep, reporting, channel_of, is_one_shot, Call, Init, DeInit, SetMode, OfChannel, ChannelCall, GetTimeElapsed, GetTimeRemaining, StartTimer, StopTimer, Changes, Channel, GptDriver, Asked, Change, Check, Notification, Wakeup, ToNormal, ToSleep, Looked, Goes, First, Second, Passed}
 use Rattle.det_errors.proofs.RowLaws.{none_holds, last_at}
 use Rattle.det_errors.specs.Rows.{errors_of}
@@ -65,11 +68,8 @@ gpt_looked q word = looked_by q (error_by q.driver q.call (word == 0) (word == 2
 no_error : (d : GptDriver) (s : GptState) (call : Call) → Passed d s call → (k : ℕ) → k < length (errors_of (service_of call)) → slice_index_or (facts_by d call (is_off s.mode) (is_asleep s.mode) false) k false ≡ false
 no_error d s call pass k lt = none_holds (errors_of (service_of call)) (facts_by d call (is_off s.mode) (is_asleep s.mode) false) pass k lt
 
-pub yes : (b : Bool) → not b ≡ false → b ≡ true
-yes b e = grind arith
-
 pub off_of : (d : GptDriver) (s : GptState) → Passed d s Init → is_off s.mode ≡ true
-off_of d s pass = yes (is_off s.mode) (no_error d s Init pass 0 (omega arith))
+off_of d s pass = not-false (is_off s.mode) (no_error d s Init pass 0 (omega arith))
 
 pub on_of : (d : GptDriver) (s : GptState) (call : Call) → (call ≡ Init → ⊥) → Passed d s call → is_off s.mode ≡ false
 on_of d s Init n pass = absurd (n refl)
@@ -82,12 +82,12 @@ mode_of d s pass = let e = no_error d s (SetMode None) pass 1 (omega arith) in c
 
 pub allowed : (d : GptDriver) (s : GptState) (c : ℕ) (call : ChannelCall) → Passed d s (OfChannel c call) → allows call (channel_of d c) ≡ true
 allowed d s c (Changes Check) pass = refl
-allowed d s c (Changes (Notification true)) pass = yes _ (no_error d s (OfChannel c (Changes (Notification true))) pass 1 (omega arith))
-allowed d s c (Changes (Wakeup true)) pass = yes _ (no_error d s (OfChannel c (Changes (Wakeup true))) pass 1 (omega arith))
-allowed d s c call pass = yes (allows call (channel_of d c)) (no_error d s (OfChannel c call) pass 1 (omega arith))
+allowed d s c (Changes (Notification true)) pass = not-false _ (no_error d s (OfChannel c (Changes (Notification true))) pass 1 (omega arith))
+allowed d s c (Changes (Wakeup true)) pass = not-false _ (no_error d s (OfChannel c (Changes (Wakeup true))) pass 1 (omega arith))
+allowed d s c call pass = not-false (allows call (channel_of d c)) (no_error d s (OfChannel c call) pass 1 (omega arith))
 
 pub value_of : (d : GptDriver) (s : GptState) (c v : ℕ) → Passed d s (OfChannel c (StartTimer v)) → has_value v (channel_of d c) ≡ true
-value_of d s c v pass = yes (has_value v (channel_of d c)) (no_error d s (OfChannel c (StartTimer v)) pass 2 (omega arith))
+value_of d s c v pass = not-false (has_value v (channel_of d c)) (no_error d s (OfChannel c (StartTimer v)) pass 2 (omega arith))
 
 -- ---- what is busy counts only where nothing stands before it
 

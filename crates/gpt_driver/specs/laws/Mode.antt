@@ -1,12 +1,14 @@
 -- Gpt_SetMode: its steps, what holds at each, and that they are right.
+-- From Parts, Base, Stop, Courses, service_outline: Acts and 1 more.
+-- Used by service/mode/rt, Lawful.
 use Rattle.std.proofs.Common.{◌≡◌, ℕ, ◌+◌, ◌-◌, ◌<◌, ◌≤◌, Bool, true, false, not, nat_lt, Option, Some, None, refl, sym, ◌∙◌, ap, subst, arith}
 use Rattle.std.specs.Prelude.{if◌then◌else◌, bit_or}
-use Rattle.gpt_driver.specs.laws.Base.{ltb-true, ltb-false, nat_tests, Chip, word_of, Timers, timer_at, acted, flag_clear, timer_at-acted_on, has_bit, bits_of, has_bit-bits_of, Act, Move, TimerGateClear, TimerFlags, World, Told, no_answer, tells_nothing, Origin, Called, missed_after, Nothing, BodyTaken, goes, acts_on, ends, never_clean, Shortens, Bodies, AreRight, StepsTo, Before, Is_before, After, Is_after, Gap, settled, behind, TimerAgrees, Word, TheState, TargetOf, SwitchesOf, number_of, IsWord, state_word, value_in, GptAgrees, gpt_ground, GptState, channel_at, Timing, Normal, Sleep, is_off, target_of, runs, stopped, unmarked, slept, slept_all, gpt_machine, channel_of, bit, switches_word, packed, switches_of, Call, SetMode, Channel, GptDriver, STATE, Unflags, Shuts, ToNormal, ToSleep, Load, Store, Write, Passed, on_later, timed, AllGood, all_right, acts_so}
+use Rattle.gpt_driver.specs.laws.Base.{ltb-true, ltb-false, nat_tests, Chip, word_of, Timers, timer_at, acted, flag_clear, timer_at-acted_on, has_bit, bits_of, has_bit-bits_of, Act, Move, TimerGateClear, TimerFlags, World, Told, no_answer, tells_nothing, Origin, Called, missed_after, Nothing, BodyTaken, goes, acts_on, ends, never_clean, Shortens, Bodies, AreRight, StepsTo, Before, Is_before, After, Is_after, Lag, settled, behind, TimerAgrees, Word, TheState, TargetOf, SwitchesOf, number_of, IsWord, state_word, value_in, GptRepresents, gpt_ground, GptState, channel_at, Timing, Normal, Sleep, is_off, target_of, runs, stopped, unmarked, slept, slept_all, gpt_machine, channel_of, bit, switches_word, packed, switches_of, Call, SetMode, Channel, GptDriver, STATE, Unflags, Shuts, ToNormal, ToSleep, Load, Store, Write, Passed, on_later, timed, AllGood, all_right, acts_so}
 use Rattle.mcal_base.proofs.BitLaws.{bits_of-left, bits_of-marked}
 use Rattle.gpt_driver.specs.declared.service.mode.ModeBody.{ModeBody}
 use Rattle.gpt_driver.specs.declared.service.mode.ModeBody.TheVariants as places
 use Rattle.gpt_driver.specs.laws.Courses.{expired_is, quiet}
-use Rattle.gpt_driver.specs.laws.Ground.{may_words}
+use Rattle.gpt_driver.specs.laws.RefinementRight.{may_words}
 use Rattle.gpt_driver.specs.laws.Parts.{stands_acted, block_acted, caught_up, never_off, bit_shifted, table_at, runs_here, elapsed_here, unpacked}
 use Rattle.gpt_driver.specs.laws.Stop.{halted, ended_keeps, stop_cleared}
 
@@ -44,7 +46,7 @@ mode_shortens (places.Gather c bits) x = mode_next c bits _ (nat_lt c 7) refl
 mode_shortens _ x = omega arith
 
 -- the flags of these channels are still to be cleared
-abbrev pub mode_gap : ModeBody → Gap
+abbrev pub mode_gap : ModeBody → Lag
 mode_gap (places.Flags bits) = record (behind STATE) { block = has_bit bits }
 mode_gap places.Sleep = behind STATE
 mode_gap _ = settled
@@ -83,7 +85,7 @@ gathered s c bits true lt e h = bits_of-left (sleeps s) c bits (sym (ap not e)) 
 gathered s c bits false lt e h = ap (λ x. bit_or bits x) (bit_shifted c lt) ∙ bits_of-marked (sleeps s) c bits (omega (arith, lt)) (sym (ap not e)) h
 
 module _ (d : GptDriver) where
-  woke : (chip : Chip) (w : World) (s : GptState) → is_off s.mode ≡ false → GptAgrees d settled chip w s → GptAgrees d (behind STATE) chip w (record s { mode = Normal })
+  woke : (chip : Chip) (w : World) (s : GptState) → is_off s.mode ≡ false → GptRepresents d settled chip w s → GptRepresents d (behind STATE) chip w (record s { mode = Normal })
   woke chip w s on h = record { outside = h.outside; block = h.block; words = words; lines = λ c lt. h.lines c lt ∙ ap (λ q. not q) on; clean = never_off Normal refl }
     where
       words : (x : Word) → IsWord x → (behind STATE).words (number_of x) ≡ false → word_of chip (number_of x) ≡ value_in (record s { mode = Normal }) x
@@ -93,7 +95,7 @@ module _ (d : GptDriver) where
 
   -- ---- asleep
 
-  gather_by : (chip : Chip) (w : World) (s : GptState) (m : ℕ → Bool) (c bits x : ℕ) → Passed d s to_sleep → is_off s.mode ≡ false → c < 8 → with_sleeper bits c x ≡ bits_of (sleeps s) (c + 1) → GptAgrees d settled chip w s → (q : Bool) → nat_lt c 7 ≡ q → StepsTo (gpt_ground d) (mode_bodies d) chip w s (Called to_sleep) (Load (switches_word c)) false None m (if q then (places.Gather (c + 1) (with_sleeper bits c x), goes) else (places.Gate (with_sleeper bits c x), goes))
+  gather_by : (chip : Chip) (w : World) (s : GptState) (m : ℕ → Bool) (c bits x : ℕ) → Passed d s to_sleep → is_off s.mode ≡ false → c < 8 → with_sleeper bits c x ≡ bits_of (sleeps s) (c + 1) → GptRepresents d settled chip w s → (q : Bool) → nat_lt c 7 ≡ q → StepsTo (gpt_ground d) (mode_bodies d) chip w s (Called to_sleep) (Load (switches_word c)) false None m (if q then (places.Gather (c + 1) (with_sleeper bits c x), goes) else (places.Gate (with_sleeper bits c x), goes))
   gather_by chip w s m c bits x pass on lt are h true i = let more = ltb-true c 7 i in (h, ((Is_before, pass, on, omega (arith, more), are), λ time le. tt))
   gather_by chip w s m c bits x pass on lt are h false i = let last : c + 1 ≡ 8 = (let past = ltb-false c 7 i in omega (arith, lt, past)) in (h, ((Is_before, pass, on, are ∙ ap (λ n. bits_of (sleeps s) n) last), λ time le. tt))
 
@@ -101,13 +103,13 @@ module _ (d : GptDriver) where
   slept_keeps k x now true = (refl, refl)
   slept_keeps k x now false = ended_keeps k x now (runs k now x.course)
 
-  slept_words : (chip : Chip) (w : World) (s : GptState) (bits : ℕ) → GptAgrees d settled chip w s → (x : Word) → IsWord x → (behind STATE).words (number_of x) ≡ false → word_of chip (number_of x) ≡ value_in (slept_all d w s) x
+  slept_words : (chip : Chip) (w : World) (s : GptState) (bits : ℕ) → GptRepresents d settled chip w s → (x : Word) → IsWord x → (behind STATE).words (number_of x) ≡ false → word_of chip (number_of x) ≡ value_in (slept_all d w s) x
   slept_words chip w s bits h TheState there closed = absurd (cc)
   slept_words chip w s bits h (TargetOf c) there closed = h.words (TargetOf c) there refl ∙ (sym (slept_keeps (channel_of d c) (channel_at s c) w.now (channel_at s c).switches.wakeup).0 ∙ ap (λ y. target_of y.course) (sym (table_at (λ c. slept (channel_of d c) w.now (channel_at s c)) c there)))
   slept_words chip w s bits h (SwitchesOf c) there closed = h.words (SwitchesOf c) there refl ∙ (sym (ap (λ y. packed y) (slept_keeps (channel_of d c) (channel_at s c) w.now (channel_at s c).switches.wakeup).1) ∙ ap (λ y. packed y.switches) (sym (table_at (λ c. slept (channel_of d c) w.now (channel_at s c)) c there)))
 
   -- a channel whose gate was closed, once its flag is cleared
-  slept_cleared : (chip : Chip) (w : World) (s : GptState) (bits k time : ℕ) → k < 8 → w.now ≤ time → GptAgrees d settled chip w s → has_bit bits k ≡ true → (channel_at s k).switches.wakeup ≡ false → TimerAgrees (channel_of d k) (has_bit chip.timers.one_shot k) (flag_clear time (timer_at (acted Shuts chip.timers bits) k)) (slept (channel_of d k) w.now (channel_at s k))
+  slept_cleared : (chip : Chip) (w : World) (s : GptState) (bits k time : ℕ) → k < 8 → w.now ≤ time → GptRepresents d settled chip w s → has_bit bits k ≡ true → (channel_at s k).switches.wakeup ≡ false → TimerAgrees (channel_of d k) (has_bit chip.timers.one_shot k) (flag_clear time (timer_at (acted Shuts chip.timers bits) k)) (slept (channel_of d k) w.now (channel_at s k))
   slept_cleared chip w s bits k time lt le h one off =
       let c = channel_of d k in
       let shot = has_bit chip.timers.one_shot k in
@@ -126,7 +128,7 @@ module _ (d : GptDriver) where
       twice : (a b : Bool) → b ≡ not a → a ≡ not b
       twice a b e = grind arith
 
-  gated : (chip : Chip) (w : World) (s : GptState) (bits : ℕ) → is_off s.mode ≡ false → bits ≡ bits_of (sleeps s) 8 → GptAgrees d settled chip w s → GptAgrees d (mode_gap (places.Flags bits)) (record chip { timers = acted Shuts chip.timers bits }) w (slept_all d w s)
+  gated : (chip : Chip) (w : World) (s : GptState) (bits : ℕ) → is_off s.mode ≡ false → bits ≡ bits_of (sleeps s) 8 → GptRepresents d settled chip w s → GptRepresents d (mode_gap (places.Flags bits)) (record chip { timers = acted Shuts chip.timers bits }) w (slept_all d w s)
   gated chip w s bits on are h = record {
     outside = stands_acted d Shuts chip w bits h.outside;
     block = block_acted d Shuts chip.timers bits (has_bit bits) (slept_all d w s) h.outside.all.timers (λ k lt closed one. absurd (let no = sym closed ∙ one in cc)) (λ k lt closed none. subst (λ x. TimerAgrees (channel_of d k) (has_bit chip.timers.one_shot k) (timer_at chip.timers k) x) (sym (table_at (λ c. slept (channel_of d c) w.now (channel_at s c)) k lt ∙ ap (λ b. if b then channel_at s k else unmarked w.now (stopped (channel_of d k) w.now (channel_at s k))) (wakes s bits k are lt ∙ ap not none))) (h.block k lt refl));
@@ -135,7 +137,7 @@ module _ (d : GptDriver) where
     clean = never_off Sleep refl;
   }
 
-  unflagged : (chip : Chip) (w : World) (s : GptState) (bits : ℕ) → ((k : ℕ) → k < 8 → has_bit bits k ≡ true → TimerAgrees (channel_of d k) (has_bit chip.timers.one_shot k) (flag_clear w.now (timer_at chip.timers k)) (channel_at s k)) → GptAgrees d (mode_gap (places.Flags bits)) chip w s → GptAgrees d (behind STATE) (record chip { timers = acted Unflags chip.timers bits }) w s
+  unflagged : (chip : Chip) (w : World) (s : GptState) (bits : ℕ) → ((k : ℕ) → k < 8 → has_bit bits k ≡ true → TimerAgrees (channel_of d k) (has_bit chip.timers.one_shot k) (flag_clear w.now (timer_at chip.timers k)) (channel_at s k)) → GptRepresents d (mode_gap (places.Flags bits)) chip w s → GptRepresents d (behind STATE) (record chip { timers = acted Unflags chip.timers bits }) w s
   unflagged chip w s bits a h = record {
     outside = stands_acted d Unflags chip w bits h.outside;
     block = block_acted d Unflags chip.timers bits (λ k. false) s h.outside.all.timers (λ k lt closed one. subst (λ n. TimerAgrees (channel_of d k) (has_bit chip.timers.one_shot k) (flag_clear n (timer_at chip.timers k)) (channel_at s k)) (sym h.outside.now) (a k lt one)) (λ k lt closed none. h.block k lt none);

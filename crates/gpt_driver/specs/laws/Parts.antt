@@ -1,17 +1,17 @@
 -- The agreement by its parts: what a move leaves of the block, the words and the lines.
+-- From Courses, service_outline: Sweep.
+-- Used by Mode, Start, DeInit, Stop, Switch and 8 more.
 use Rattle.std.proofs.Common.{◌≡◌, ℕ, zero, suc, ◌*◌, ◌%◌, ◌<◌, ◌≤◌, ◌≢◌, ◌^◌, Bool, true, false, ◌==◌, [], length, refl, sym, ◌∙◌, ap, subst, arith}
 use Rattle.std.specs.Prelude.{if◌then◌else◌, slice_index_or}
-use Rattle.gpt_driver.specs.laws.Base.{lt-ltb, Chip, chip_after, word_of, HasAll, Made, word-left, word-stored, Timers, timer_at, with_timer, acted, acting, counter, is_running, is_flagged, Timer, timer_at-acted_on, timer_at-acted_off, timer_at-with_timer_same, timer_at-with_timer_other, has_bit, Move, TimerGateSet, TimerGateClear, TimerFlags, TimerZero, World, StandsIn, stands-move, each_but, Gap, settled, none, only, behind, TimerAgrees, BlockAgrees, Word, TheState, TargetOf, SwitchesOf, number_of, IsWord, value_in, WordsAgree, LinesAgree, GptAgrees, GptState, channel_at, table, first_state, Timing, Mode, untouched, is_off, elapsed, target_of, runs, is_marked, with_channel, switches, channel_of, bit, target_word, switches_word, packed, switches_of, GptDriver, Switches, STATE, LAST_WORD, Unflags, Opens, Shuts, Zeroes, Store, Write}
-use Rattle.std.proofs.lemmas.Bool.{eq-eqb, ne_eqb}
+use Rattle.gpt_driver.specs.laws.Base.{lt-ltb, Chip, chip_after, word_of, HasAll, Made, word-left, word-stored, Timers, timer_at, with_timer, acted, acting, counter, is_running, is_flagged, Timer, timer_at-acted_on, timer_at-acted_off, timer_at-with_timer_same, timer_at-with_timer_other, has_bit, Move, TimerGateSet, TimerGateClear, TimerFlags, TimerZero, World, StandsIn, stands-move, each_but, Lag, settled, none, only, behind, TimerAgrees, BlockAgrees, Word, TheState, TargetOf, SwitchesOf, number_of, IsWord, value_in, WordsAgree, LinesAgree, GptRepresents, GptState, channel_at, table, first_state, Timing, Mode, untouched, is_off, elapsed, target_of, runs, is_marked, with_channel, switches, channel_of, bit, target_word, switches_word, packed, switches_of, GptDriver, Switches, STATE, LAST_WORD, Unflags, Opens, Shuts, Zeroes, Store, Write}
+use Rattle.std.proofs.lemmas.Bool.{ne_eqb}
+use Rattle.plain_facts.specs.Numbers.{eq_self}
 use Rattle.chip_timers.specs.declared.timer.Act.{Act}
 use Rattle.mcal_base.proofs.BitLaws.{has_bit-pow_same, has_bit-pow_other, one_shifted}
 use Rattle.mcal_base.specs.declared.TheConstants.{WORDS}
 use Rattle.gpt_driver.specs.laws.Courses.{running_is, counter_is, flagged_is}
 
 -- ---- numbers
-
-pub same_yes : (c : ℕ) → (c == c) ≡ true
-same_yes c = eq-eqb c c refl
 
 -- the bit of a channel is its alone
 bit_is : (c : ℕ) → c < 8 → bit c ≡ 2 ^ c
@@ -43,7 +43,7 @@ pub table_at : (f : ℕ → Timing) (c : ℕ) → c < 8 → slice_index_or (tabl
 table_at f c lt = by_eight (λ i. slice_index_or (table f) i untouched ≡ f i) refl refl refl refl refl refl refl refl c lt
 
 pub channel_same : (s : GptState) (c : ℕ) (x : Timing) → c < 8 → channel_at (with_channel s c x) c ≡ x
-channel_same s c x lt = table_at (λ k. if k == c then x else channel_at s k) c lt ∙ ap (λ q. if q then x else channel_at s c) (same_yes c)
+channel_same s c x lt = table_at (λ k. if k == c then x else channel_at s k) c lt ∙ ap (λ q. if q then x else channel_at s c) (eq_self c)
 
 pub channel_other : (s : GptState) (c k : ℕ) (x : Timing) → k < 8 → k ≢ c → channel_at (with_channel s c x) k ≡ channel_at s k
 channel_other s c k x lt ne = table_at (λ i. if i == c then x else channel_at s i) k lt ∙ ap (λ q. if q then x else channel_at s k) (ne_eqb k c ne)
@@ -84,7 +84,7 @@ never_off m on off = absurd (cc)
 module _ (d : GptDriver) where
   -- ---- a channel of the block, at this time
 
-  module _ (chip : Chip) (w : World) (s : GptState) (gap : Gap) (h : GptAgrees d gap chip w s) (c : ℕ) (lt : c < 8) (closed : gap.block c ≡ false) where
+  module _ (chip : Chip) (w : World) (s : GptState) (gap : Lag) (h : GptRepresents d gap chip w s) (c : ℕ) (lt : c < 8) (closed : gap.block c ≡ false) where
     pub runs_here : is_running (timer_at chip.timers c) chip.timers.time ≡ runs (channel_of d c) w.now (channel_at s c).course
     runs_here = running_is (channel_of d c) _ _ _ (h.block c lt closed) chip.timers.time ∙ ap (λ n. runs (channel_of d c) n (channel_at s c).course) h.outside.now
 
@@ -104,7 +104,7 @@ module _ (d : GptDriver) where
       by_bit false e = subst (λ t. TimerAgrees (channel_of d c) (has_bit b.one_shot c) t (channel_at s1 c)) (sym (timer_at-acted_off act b bits c (record { all = size; within = lt }) e)) (off c lt closed e)
 
   -- an act on one channel, which the others don't feel
-  pub one_acted : (act : Act) (chip : Chip) (w : World) (s s1 : GptState) (gap : Gap) (open1 : ℕ → Bool) (c : ℕ) → c < 8 → GptAgrees d gap chip w s → (open1 c ≡ false → TimerAgrees (channel_of d c) (has_bit chip.timers.one_shot c) (acting act (has_bit chip.timers.one_shot c) chip.timers.time (timer_at chip.timers c)) (channel_at s1 c)) → ((k : ℕ) → k < 8 → k ≢ c → open1 k ≡ false → (gap.block k ≡ false) × (channel_at s1 k ≡ channel_at s k)) → BlockAgrees d open1 (acted act chip.timers (bit c)) s1
+  pub one_acted : (act : Act) (chip : Chip) (w : World) (s s1 : GptState) (gap : Lag) (open1 : ℕ → Bool) (c : ℕ) → c < 8 → GptRepresents d gap chip w s → (open1 c ≡ false → TimerAgrees (channel_of d c) (has_bit chip.timers.one_shot c) (acting act (has_bit chip.timers.one_shot c) chip.timers.time (timer_at chip.timers c)) (channel_at s1 c)) → ((k : ℕ) → k < 8 → k ≢ c → open1 k ≡ false → (gap.block k ≡ false) × (channel_at s1 k ≡ channel_at s k)) → BlockAgrees d open1 (acted act chip.timers (bit c)) s1
   one_acted act chip w s s1 gap open1 c lt h new same = block_acted act chip.timers (bit c) open1 s1 h.outside.all.timers (λ k below closed e. subst (λ i. TimerAgrees (channel_of d i) (has_bit chip.timers.one_shot i) (acting act (has_bit chip.timers.one_shot i) chip.timers.time (timer_at chip.timers i)) (channel_at s1 i)) (sym (hits k e)) (new (subst (λ i. open1 i ≡ false) (hits k e) closed))) (λ k below closed e. let o = same k below (misses k e) closed in subst (λ x. TimerAgrees (channel_of d k) (has_bit chip.timers.one_shot k) (timer_at chip.timers k) x) (sym o.1) (h.block k below o.0))
     where
       hits : (k : ℕ) → has_bit (bit c) k ≡ true → k ≡ c
@@ -114,7 +114,7 @@ module _ (d : GptDriver) where
       misses k e i = let f : has_bit (bit c) k ≡ true = subst (λ j. has_bit (bit c) j ≡ true) (sym i) (has_one c lt) in cc
 
   -- a register of a channel that counts for its next start alone
-  pub block_set : (chip : Chip) (w : World) (s : GptState) (c : ℕ) (t : Timer) → c < 8 → GptAgrees d settled chip w s → (TimerAgrees (channel_of d c) (has_bit chip.timers.one_shot c) (timer_at chip.timers c) (channel_at s c) → TimerAgrees (channel_of d c) (has_bit chip.timers.one_shot c) t (channel_at s c)) → BlockAgrees d none (with_timer chip.timers c t) s
+  pub block_set : (chip : Chip) (w : World) (s : GptState) (c : ℕ) (t : Timer) → c < 8 → GptRepresents d settled chip w s → (TimerAgrees (channel_of d c) (has_bit chip.timers.one_shot c) (timer_at chip.timers c) (channel_at s c) → TimerAgrees (channel_of d c) (has_bit chip.timers.one_shot c) t (channel_at s c)) → BlockAgrees d none (with_timer chip.timers c t) s
   block_set chip w s c t lt h new k below closed =
       each_but (λ i. TimerAgrees (channel_of d i) (has_bit chip.timers.one_shot i) (timer_at (with_timer chip.timers c t) i) (channel_at s i)) c
       (subst (λ x. TimerAgrees (channel_of d c) (has_bit chip.timers.one_shot c) x (channel_at s c)) (sym (timer_at-with_timer_same chip.timers c t (record { all = h.outside.all.timers; within = lt }))) (new (h.block c lt refl))) k
@@ -129,7 +129,7 @@ module _ (d : GptDriver) where
       (λ ne e. word-left (number_of x) chip (Made (Store j v) 0) (λ i. ne (sym i)) ∙ h x there (miss x there ne closed)) refl
 
   -- the one word that is behind is stored
-  pub caught_up : (chip : Chip) (w : World) (s : GptState) (x : Word) (v : ℕ) → IsWord x → v ≡ value_in s x → GptAgrees d (behind (number_of x)) chip w s → GptAgrees d settled (chip_after chip (Store (number_of x) v) 0) w s
+  pub caught_up : (chip : Chip) (w : World) (s : GptState) (x : Word) (v : ℕ) → IsWord x → v ≡ value_in s x → GptRepresents d (behind (number_of x)) chip w s → GptRepresents d settled (chip_after chip (Store (number_of x) v) 0) w s
   caught_up chip w s x v there is h = record {
     outside = stands-move chip w (Store (number_of x) v) 0 h.outside;
     block = h.block;
@@ -159,7 +159,7 @@ module _ (d : GptDriver) where
   stands_acted Zeroes chip w bits h = stands-move chip w (Write TimerZero bits) 0 h
   stands_acted Unflags chip w bits h = stands-move chip w (Write TimerFlags bits) 0 h
 
-  pub acted_with : (act : Act) (chip : Chip) (w : World) (s : GptState) (c : ℕ) (x : Timing) (before open1 after : ℕ → Bool) → c < 8 → is_off s.mode ≡ false → GptAgrees d (record settled { block = before }) chip w s → (open1 c ≡ false → TimerAgrees (channel_of d c) (has_bit chip.timers.one_shot c) (acting act (has_bit chip.timers.one_shot c) chip.timers.time (timer_at chip.timers c)) x) → ((k : ℕ) → k ≢ c → open1 k ≡ false → before k ≡ false) → (after (target_word c) ≡ false → target_of x.course ≡ target_of (channel_at s c).course) → (after (switches_word c) ≡ false → x.switches ≡ (channel_at s c).switches) → GptAgrees d (record settled { block = open1; words = after }) (record chip { timers = acted act chip.timers (bit c) }) w (with_channel s c x)
+  pub acted_with : (act : Act) (chip : Chip) (w : World) (s : GptState) (c : ℕ) (x : Timing) (before open1 after : ℕ → Bool) → c < 8 → is_off s.mode ≡ false → GptRepresents d (record settled { block = before }) chip w s → (open1 c ≡ false → TimerAgrees (channel_of d c) (has_bit chip.timers.one_shot c) (acting act (has_bit chip.timers.one_shot c) chip.timers.time (timer_at chip.timers c)) x) → ((k : ℕ) → k ≢ c → open1 k ≡ false → before k ≡ false) → (after (target_word c) ≡ false → target_of x.course ≡ target_of (channel_at s c).course) → (after (switches_word c) ≡ false → x.switches ≡ (channel_at s c).switches) → GptRepresents d (record settled { block = open1; words = after }) (record chip { timers = acted act chip.timers (bit c) }) w (with_channel s c x)
   acted_with act chip w s c x before open1 after lt on h new rest target switches = record {
     outside = stands_acted act chip w (bit c) h.outside;
     block = one_acted act chip w s (with_channel s c x) (record settled { block = before }) open1 c lt h (λ g. subst (λ y. TimerAgrees (channel_of d c) (has_bit chip.timers.one_shot c) (acting act (has_bit chip.timers.one_shot c) chip.timers.time (timer_at chip.timers c)) y) (sym (channel_same s c x lt)) (new g)) (λ k below ne g. (rest k ne g, channel_other s c k x below ne));
@@ -168,7 +168,7 @@ module _ (d : GptDriver) where
     clean = never_off s.mode on;
   }
 
-  pub acted_here : (act : Act) (chip : Chip) (w : World) (s : GptState) (c : ℕ) (before open1 : ℕ → Bool) → c < 8 → GptAgrees d (record settled { block = before }) chip w s → (open1 c ≡ false → TimerAgrees (channel_of d c) (has_bit chip.timers.one_shot c) (acting act (has_bit chip.timers.one_shot c) chip.timers.time (timer_at chip.timers c)) (channel_at s c)) → ((k : ℕ) → k ≢ c → open1 k ≡ false → before k ≡ false) → GptAgrees d (record settled { block = open1 }) (record chip { timers = acted act chip.timers (bit c) }) w s
+  pub acted_here : (act : Act) (chip : Chip) (w : World) (s : GptState) (c : ℕ) (before open1 : ℕ → Bool) → c < 8 → GptRepresents d (record settled { block = before }) chip w s → (open1 c ≡ false → TimerAgrees (channel_of d c) (has_bit chip.timers.one_shot c) (acting act (has_bit chip.timers.one_shot c) chip.timers.time (timer_at chip.timers c)) (channel_at s c)) → ((k : ℕ) → k ≢ c → open1 k ≡ false → before k ≡ false) → GptRepresents d (record settled { block = open1 }) (record chip { timers = acted act chip.timers (bit c) }) w s
   acted_here act chip w s c before open1 lt h new rest = record {
     outside = stands_acted act chip w (bit c) h.outside;
     block = one_acted act chip w s s (record settled { block = before }) open1 c lt h new (λ k below ne g. (rest k ne g, refl));
@@ -178,5 +178,5 @@ module _ (d : GptDriver) where
   }
 
   -- after a move, by its parts
-  pub moved : (made : Move) (chip : Chip) (w : World) (s s1 : GptState) (gap gap1 : Gap) → GptAgrees d gap chip w s → BlockAgrees d gap1.block (chip_after chip made 0).timers s1 → WordsAgree gap1.words (chip_after chip made 0) s1 → LinesAgree gap1.lines s1.mode (chip_after chip made 0).control.enabled → (is_off s1.mode ≡ true → (c : ℕ) → channel_at s1 c ≡ untouched) → GptAgrees d gap1 (chip_after chip made 0) w s1
+  pub moved : (made : Move) (chip : Chip) (w : World) (s s1 : GptState) (gap gap1 : Lag) → GptRepresents d gap chip w s → BlockAgrees d gap1.block (chip_after chip made 0).timers s1 → WordsAgree gap1.words (chip_after chip made 0) s1 → LinesAgree gap1.lines s1.mode (chip_after chip made 0).control.enabled → (is_off s1.mode ≡ true → (c : ℕ) → channel_at s1 c ≡ untouched) → GptRepresents d gap1 (chip_after chip made 0) w s1
   moved made chip w s s1 gap gap1 h block words lines clean = record { outside = stands-move chip w made 0 h.outside; block = block; words = words; lines = lines; clean = clean }

@@ -1,14 +1,17 @@
 -- The handler of a channel's line: its steps, what holds at each, and that they are right.
+-- From Base, Parts, RefinementRight, Switch, service_outline: Acts and 1 more.
+-- Used by service/serve/rt, Lawful.
 use Rattle.std.proofs.Common.{◌≡◌, ℕ, ◌<◌, Bool, true, false, ◌&&◌, ◌==◌, not, nat_lt, Option, Some, None, refl, sym, ◌∙◌, ap, subst, arith}
 use Rattle.std.specs.Prelude.{if◌then◌else◌}
-use Rattle.gpt_driver.specs.laws.Base.{lt-ltb, or_right, false_from_ne_true, Chip, Timers, timer_at, acted, expired_between, flags_of, has_bit, Serve, Move, Notice, TimerFlags, World, Told, no_answer, outcome, Origin, Entered, missed_after, Owed, Nothing, One, BodyTaken, Done, goes, ends, never_clean, Shortens, Bodies, Happens, AreRight, StepsTo, Serving, Is_serving, Served, Is_served, Gap, settled, none, only, behind, TheState, SwitchesOf, state_word, GptAgrees, gpt_ground, gpt_setting, GptState, channel_at, Mode, Off, is_off, is_asleep, is_marked, with_channel, notes, served, served_by, wakes, notifies, gpt_machine, channel_of, bit, switches_word, packed, switches_of, Call, GptDriver, Switches, STATE, Unflags, Load, Read, Store, Write, either_way, on_later, timed, AllGood, all_right}
+use Rattle.plain_facts.specs.Numbers.{eq_self}
+use Rattle.gpt_driver.specs.laws.Base.{lt-ltb, or_right, false_from_ne_true, Chip, Timers, timer_at, acted, expired_between, flags_of, has_bit, Serve, Move, Notice, TimerFlags, World, Told, no_answer, outcome, Origin, Entered, missed_after, Epilogue, Nothing, One, BodyTaken, Done, goes, ends, never_clean, Shortens, Bodies, Happens, AreRight, StepsTo, Serving, Is_serving, Served, Is_served, Lag, settled, none, only, behind, TheState, SwitchesOf, state_word, GptRepresents, gpt_ground, gpt_setting, GptState, channel_at, Mode, Off, is_off, is_asleep, is_marked, with_channel, notes, served, served_by, wakes, notifies, gpt_machine, channel_of, bit, switches_word, packed, switches_of, Call, GptDriver, Switches, STATE, Unflags, Load, Read, Store, Write, either_way, on_later, timed, AllGood, all_right}
 use Rattle.mcal_base.specs.declared.notice.NoticeKind.{NoticeKind}
 use Rattle.mcal_base.specs.declared.notice.NoticeKind.TheVariants.{GptNotification, EcuMCheckWakeup}
 use Rattle.gpt_driver.specs.declared.service.serve.ServeBody.{ServeBody}
 use Rattle.gpt_driver.specs.declared.service.serve.ServeBody.TheVariants as places
 use Rattle.gpt_driver.specs.laws.Courses.{marked_later}
-use Rattle.gpt_driver.specs.laws.Ground.{may_words, flag_bit}
-use Rattle.gpt_driver.specs.laws.Parts.{acted_with, caught_up, channel_same, same_yes, unpacked}
+use Rattle.gpt_driver.specs.laws.RefinementRight.{may_words, flag_bit}
+use Rattle.gpt_driver.specs.laws.Parts.{acted_with, caught_up, channel_same, unpacked}
 use Rattle.gpt_driver.specs.laws.Switch.{owed_if, owes_if}
 
 abbrev pub woken : Switches → Switches
@@ -17,7 +20,7 @@ woken x = record x { woken = true }
 abbrev pub notification : ℕ → Notice
 notification c = record { kind = GptNotification; id = c }
 
-abbrev pub told : NoticeKind → ℕ → Owed
+abbrev pub told : NoticeKind → ℕ → Epilogue
 told kind c = One (record { kind = kind; id = c })
 
 abbrev pub serve_work : ServeBody → Move
@@ -53,7 +56,7 @@ serve_shortens (places.Look c) v = either_way (λ p. Shortens serve_left (places
 serve_shortens (places.Clear c asleep x) v = either_way (λ p. Shortens serve_left (places.Clear c asleep x) p) (asleep && x.wakeup) _ _ (omega arith) (omega arith)
 serve_shortens _ v = omega arith
 
-abbrev pub serve_gap : ServeBody → Gap
+abbrev pub serve_gap : ServeBody → Lag
 serve_gap (places.Mark c x) = behind (switches_word c)
 serve_gap _ = settled
 
@@ -84,15 +87,15 @@ not_ready a b e = grind arith
 
 module _ (d : GptDriver) where
   -- a marked channel is one of an initialised module
-  ready_on : (chip : Chip) (w : World) (s : GptState) (c : ℕ) → GptAgrees d settled chip w s → is_marked (channel_of d c) w.now (channel_at s c) ≡ true → is_off s.mode ≡ false
+  ready_on : (chip : Chip) (w : World) (s : GptState) (c : ℕ) → GptRepresents d settled chip w s → is_marked (channel_of d c) w.now (channel_at s c) ≡ true → is_off s.mode ≡ false
   ready_on chip w s c h r = false_from_ne_true _ (λ e. let f : is_marked (channel_of d c) w.now (channel_at s c) ≡ false = ap (λ x. is_marked (channel_of d c) w.now x) (h.clean e c) in cc)
 
-  look_by : (chip : Chip) (w : World) (s : GptState) (m : ℕ → Bool) (c : ℕ) → c < 8 → GptAgrees d settled chip w s → (q : Bool) → q ≡ is_marked (channel_of d c) w.now (channel_at s c) → StepsTo (gpt_ground d) (serve_bodies d) chip w s (Entered c) (Read TimerFlags) false None (missed_after (gpt_machine d) w s m) (if q then (places.Mode c, goes) else (places.Look c, ends None no_answer Nothing))
+  look_by : (chip : Chip) (w : World) (s : GptState) (m : ℕ → Bool) (c : ℕ) → c < 8 → GptRepresents d settled chip w s → (q : Bool) → q ≡ is_marked (channel_of d c) w.now (channel_at s c) → StepsTo (gpt_ground d) (serve_bodies d) chip w s (Entered c) (Read TimerFlags) false None (missed_after (gpt_machine d) w s m) (if q then (places.Mode c, goes) else (places.Look c, ends None no_answer Nothing))
   look_by chip w s m c lt h true e = (h, ((Is_serving, lt), λ time le. marked_later (channel_of d c) (channel_at s c) w.now time le (sym e)))
   look_by chip w s m c lt h false e = (h, or_right (m c) _ (not_ready (nat_lt c 8) (is_marked (channel_of d c) w.now (channel_at s c)) (sym e)), refl)
 
   -- the flag is cleared, and the machine serves
-  unflagged : (chip : Chip) (w : World) (s : GptState) (c : ℕ) (x : Switches) (after : ℕ → Bool) → c < 8 → is_off s.mode ≡ false → (after (switches_word c) ≡ false → x ≡ (channel_at s c).switches) → GptAgrees d settled chip w s → GptAgrees d (record settled { words = after }) (record chip { timers = acted Unflags chip.timers (bit c) }) w (with_channel s c (record (channel_at s c) { dropped = w.now; switches = x }))
+  unflagged : (chip : Chip) (w : World) (s : GptState) (c : ℕ) (x : Switches) (after : ℕ → Bool) → c < 8 → is_off s.mode ≡ false → (after (switches_word c) ≡ false → x ≡ (channel_at s c).switches) → GptRepresents d settled chip w s → GptRepresents d (record settled { words = after }) (record chip { timers = acted Unflags chip.timers (bit c) }) w (with_channel s c (record (channel_at s c) { dropped = w.now; switches = x }))
   unflagged chip w s c x after lt on same h =
       let a = h.block c lt refl in
       acted_with d Unflags chip w s c (record (channel_at s c) { dropped = w.now; switches = x }) none none after lt on h (λ g. record { count = a.count; kept = refl; flag = λ n. ap (λ m. expired_between (timer_at chip.timers c).count m n) h.outside.now; set = a.set }) (λ k ne g. refl) (λ g. refl) same
@@ -111,11 +114,11 @@ module _ (d : GptDriver) where
     next = next;
   }
 
-  clear_by : (chip : Chip) (w : World) (s : GptState) (m : ℕ → Bool) (c : ℕ) → c < 8 → is_marked (channel_of d c) w.now (channel_at s c) ≡ true → GptAgrees d settled chip w s → (q : Bool) → wakes s.mode (channel_at s c).switches ≡ q → Clears chip w s m c (if q then (places.Mark c (channel_at s c).switches, record { event = Some (Serve c); done = None }) else (places.Clear c (is_asleep s.mode) (channel_at s c).switches, ends (Some (Serve c)) no_answer (owed_if (notifies s.mode (channel_at s c).switches) (notification c))))
+  clear_by : (chip : Chip) (w : World) (s : GptState) (m : ℕ → Bool) (c : ℕ) → c < 8 → is_marked (channel_of d c) w.now (channel_at s c) ≡ true → GptRepresents d settled chip w s → (q : Bool) → wakes s.mode (channel_at s c).switches ≡ q → Clears chip w s m c (if q then (places.Mark c (channel_at s c).switches, record { event = Some (Serve c); done = None }) else (places.Clear c (is_asleep s.mode) (channel_at s c).switches, ends (Some (Serve c)) no_answer (owed_if (notifies s.mode (channel_at s c).switches) (notification c))))
   clear_by chip w s m c lt r h true e =
       let x = channel_at s c in
       let y = record x { dropped = w.now; switches = woken x.switches } in
-      let after = unflagged chip w s c (woken x.switches) (only (switches_word c)) lt (ready_on chip w s c h r) (λ g. let f = same_yes (switches_word c) in absurd (cc)) h in
+      let after = unflagged chip w s c (woken x.switches) (only (switches_word c)) lt (ready_on chip w s c h r) (λ g. let f = eq_self (switches_word c) in absurd (cc)) h in
       serves_so w s c true lt r e refl (after, ((Is_served, lt, sym (ap (λ z. z.switches) (channel_same s c y lt))), λ time le. tt))
   clear_by chip w s m c lt r h false e =
       let q = notifies s.mode (channel_at s c).switches in

@@ -1,14 +1,17 @@
 -- Gpt_StartTimer: its steps, what holds at each, and that they are right.
+-- From Parts, Base, Courses, RefinementRight.
+-- Used by service/start/rt, Lawful.
 use Rattle.std.proofs.Common.{◌≡◌, ℕ, ◌<◌, ◌≤◌, ◌^◌, Bool, true, false, ◌||◌, ◌==◌, Option, Some, None, cond, refl, sym, ◌∙◌, ap, subst, arith}
 use Rattle.std.specs.Prelude.{if◌then◌else◌}
-use Rattle.gpt_driver.specs.laws.Base.{ne_eqb, lt-ltb, Chip, Timers, timer_at, is_flagged, expired_between, gate_set, running_of, Since, Timer, timer_at-acted_on, timer_at-with_timer_same, has_bit-running_of, has_bit, bits_of, has_bit-bits_of, GptBusy, Act, Move, TimerTarget, TimerPrescaler, TimerOneShot, TimerGateSet, TimerFlags, TimerRun, World, Told, no_answer, tells_nothing, Origin, Called, missed_after, Nothing, BodyTaken, Cleans, goes, acts_on, ends, owed_error, Shortens, Bodies, AreRight, StepsTo, Before, Is_before, After, Is_after, error_by, Gap, settled, none, only, open_at, behind, IsSet, TimerAgrees, TargetOf, GptAgrees, gpt_ground, GptState, channel_at, Timing, Course, Running, is_off, is_asleep, target_of, prescaler_of, runs, started, reporting, gpt_machine, channel_of, one_shot_of, is_one_shot, bit, target_word, Call, OfChannel, StartTimer, Channel, GptDriver, Unflags, Opens, Read, Store, Write, either_way, on_later, timed, AllGood, all_right, acts_so, finds_busy}
+use Rattle.plain_facts.specs.Numbers.{eq_self}
+use Rattle.gpt_driver.specs.laws.Base.{ne_eqb, lt-ltb, Chip, Timers, timer_at, is_flagged, expired_between, gate_set, running_of, Since, Timer, timer_at-acted_on, timer_at-with_timer_same, has_bit-running_of, has_bit, bits_of, has_bit-bits_of, GptBusy, Act, Move, TimerTarget, TimerPrescaler, TimerOneShot, TimerGateSet, TimerFlags, TimerRun, World, Told, no_answer, tells_nothing, Origin, Called, missed_after, Nothing, BodyTaken, Cleans, goes, acts_on, ends, owed_error, Shortens, Bodies, AreRight, StepsTo, Before, Is_before, After, Is_after, error_by, Lag, settled, none, only, open_at, behind, IsSet, TimerAgrees, TargetOf, GptRepresents, gpt_ground, GptState, channel_at, Timing, Course, Running, is_off, is_asleep, target_of, prescaler_of, runs, started, reporting, gpt_machine, channel_of, one_shot_of, is_one_shot, bit, target_word, Call, OfChannel, StartTimer, Channel, GptDriver, Unflags, Opens, Read, Store, Write, either_way, on_later, timed, AllGood, all_right, acts_so, finds_busy}
 use Rattle.mcal_base.specs.declared.service.Service.TheVariants.{GptStartTimer}
 use Rattle.gpt_driver.specs.declared.service.start.Start.{Start}
 use Rattle.gpt_driver.specs.declared.service.start.StartBody.{StartBody}
 use Rattle.gpt_driver.specs.declared.service.start.StartBody.TheVariants.{Look, Target, Prescaler, OneShot, Clear, Gate, Keep}
 use Rattle.gpt_driver.specs.laws.Courses.{expired_is, quiet, rests_later}
-use Rattle.gpt_driver.specs.laws.Ground.{may_words}
-use Rattle.gpt_driver.specs.laws.Parts.{acted_with, acted_here, block_set, caught_up, moved, channel_same, has_one, same_yes, runs_here}
+use Rattle.gpt_driver.specs.laws.RefinementRight.{may_words}
+use Rattle.gpt_driver.specs.laws.Parts.{acted_with, acted_here, block_set, caught_up, moved, channel_same, has_one, runs_here}
 
 abbrev pub start_work : StartBody → Move
 start_work (Look r) = Read TimerRun
@@ -41,7 +44,7 @@ start_shortens : (k : StartBody) (x : ℕ) → Shortens start_left k (start_take
 start_shortens (Look r) x = either_way (λ p. Shortens start_left (Look r) p) (has_bit x r.channel) _ _ (omega arith) (omega arith)
 start_shortens _ x = omega arith
 
-abbrev pub start_gap : StartBody → Gap
+abbrev pub start_gap : StartBody → Lag
 start_gap (Gate r) = open_at r.channel
 start_gap (Keep r) = behind (target_word r.channel)
 start_gap _ = settled
@@ -110,7 +113,7 @@ rebit k a b (Running s v) e h = (h.0, h.1, h.2, e)
 rebit k a b _ e h = h
 
 module _ (d : GptDriver) where
-  start_by : (chip : Chip) (w : World) (s : GptState) (m : ℕ → Bool) (r : Start) → IsStart d s r → GptAgrees d settled chip w s → (q : Bool) → q ≡ runs (channel_of d r.channel) w.now (channel_at s r.channel).course → StepsTo (gpt_ground d) (start_bodies d) chip w s (Called (start_call r)) (Read TimerRun) true None m (if q then (Look r, ends (Some Act) no_answer r.busy) else (Target r, goes))
+  start_by : (chip : Chip) (w : World) (s : GptState) (m : ℕ → Bool) (r : Start) → IsStart d s r → GptRepresents d settled chip w s → (q : Bool) → q ≡ runs (channel_of d r.channel) w.now (channel_at s r.channel).course → StepsTo (gpt_ground d) (start_bodies d) chip w s (Called (start_call r)) (Read TimerRun) true None m (if q then (Look r, ends (Some Act) no_answer r.busy) else (Target r, goes))
   start_by chip w s m r i h true e = finds_busy d (start_bodies d) chip w s (start_call r) m (Look r) r.busy refl (ap (λ b. error_by d (start_call r) (is_off s.mode) (is_asleep s.mode) b) (sym e) ∙ i.checks true) i.busy h
   start_by chip w s m r i h false e = (h, ((Is_before, i), λ time le. rests_later (channel_of d r.channel) (channel_at s r.channel).course w.now time le (sym e)))
 
@@ -130,7 +133,7 @@ module _ (d : GptDriver) where
       let c = r.channel in
       let e = timer_at-acted_on Unflags chip.timers (bit c) c (record { all = h.outside.all.timers; within = i.lt }) (has_one c i.lt) in
       let a = h.block c i.lt refl in
-      (refl, (acted_here d Unflags chip w s c none (only c) i.lt h (λ g. let f = same_yes c in absurd (cc)) (λ k ne g. refl), ((Is_before, i, ap (λ y. y.target) e ∙ ev, ap (λ y. y.prescaler) e ∙ ep, eb), λ time le. (stays time le, ap (λ y. is_flagged y time) e ∙ (expired_is (channel_of d c) _ _ (channel_at s c) a chip.timers.time time ∙ quiet (channel_of d c) _ (channel_at s c).course w.now chip.timers.time time a.set (same_time chip w h.outside.now) (stays w.now (omega arith)))))))
+      (refl, (acted_here d Unflags chip w s c none (only c) i.lt h (λ g. let f = eq_self c in absurd (cc)) (λ k ne g. refl), ((Is_before, i, ap (λ y. y.target) e ∙ ev, ap (λ y. y.prescaler) e ∙ ep, eb), λ time le. (stays time le, ap (λ y. is_flagged y time) e ∙ (expired_is (channel_of d c) _ _ (channel_at s c) a chip.timers.time time ∙ quiet (channel_of d c) _ (channel_at s c).course w.now chip.timers.time time a.set (same_time chip w h.outside.now) (stays w.now (omega arith)))))))
     where
       same_time : (chip : Chip) (w : World) → chip.timers.time ≡ w.now → w.now ≤ chip.timers.time
       same_time chip w e = omega (arith, e)
@@ -140,7 +143,7 @@ module _ (d : GptDriver) where
       let still = stays w.now (omega arith) in
       let one = ap (λ y. has_bit y c) (eb ∙ i.bits) ∙ has_bit-bits_of (is_one_shot d) 8 c i.lt in
       let opened = gate_opens (channel_of d c) _ chip.timers.time w.now r.value (timer_at chip.timers c) (channel_at s c) h.outside.now one ev (ep ∙ i.prescaler) i.positive i.small (subst (λ n. 0 < n) i.prescaler i.divides) (ap (λ n. is_flagged (timer_at chip.timers c) n) h.outside.now ∙ still.1) in
-      let after = acted_with d Opens chip w s c x (only c) none (only (target_word c)) i.lt i.on h (λ g. opened) (λ k ne g. ne_eqb k c ne) (λ g. let f = same_yes (target_word c) in absurd (cc)) (λ g. refl) in
+      let after = acted_with d Opens chip w s c x (only c) none (only (target_word c)) i.lt i.on h (λ g. opened) (λ k ne g. ne_eqb k c ne) (λ g. let f = eq_self (target_word c) in absurd (cc)) (λ g. refl) in
       let first = ap (λ b. error_by d (start_call r) (is_off s.mode) (is_asleep s.mode) b) still.0 ∙ i.checks false in
       (refl, acts_so d w s (start_call r) first refl tt (after, ((Is_after, i.lt, sym (ap (λ y. target_of y.course) (channel_same s c x i.lt))), λ time le. tt)))
   steps chip w s (Keep r) o t m (h, ((Is_after, lt, is), stays)) = (may_words (TargetOf r.channel) lt, (caught_up d chip w s (TargetOf r.channel) r.value lt is h, (refl, refl, refl)))

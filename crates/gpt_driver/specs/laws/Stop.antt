@@ -1,11 +1,14 @@
 -- Gpt_StopTimer: its steps, what holds at each, and that they are right.
+-- From Parts, Base, Courses, service_outline: Acts.
+-- Used by Mode, service/stop/rt, Lawful.
 use Rattle.std.proofs.Common.{◌≡◌, ℕ, ◌<◌, Bool, true, false, Option, Some, None, refl, sym, ◌∙◌, ap, subst, arith}
 use Rattle.std.specs.Prelude.{if◌then◌else◌}
-use Rattle.gpt_driver.specs.laws.Base.{ne_eqb, Chip, Timers, timer_at, acted, acting, counter, is_flagged, expired_between, flag_clear, Still, Timer, timer_at-acted_on, has_bit, Act, Move, TimerGateClear, TimerFlags, World, Told, no_answer, tells_nothing, Origin, Nothing, BodyTaken, acts_on, ends, never_clean, Shortens, Bodies, AreRight, Before, Is_before, After, Is_after, Gap, settled, none, only, open_at, TimerAgrees, GptAgrees, gpt_ground, GptState, channel_at, Timing, Stopped, elapsed, target_of, runs, runs_at, is_marked, stopped, with_channel, channel_of, one_shot_of, bit, Call, OfChannel, StopTimer, Channel, GptDriver, Unflags, Shuts, Write, MayRun, steady, AllGood, all_right, acts_so}
+use Rattle.plain_facts.specs.Numbers.{eq_self}
+use Rattle.gpt_driver.specs.laws.Base.{ne_eqb, Chip, Timers, timer_at, acted, acting, counter, is_flagged, expired_between, flag_clear, Still, Timer, timer_at-acted_on, has_bit, Act, Move, TimerGateClear, TimerFlags, World, Told, no_answer, tells_nothing, Origin, Nothing, BodyTaken, acts_on, ends, never_clean, Shortens, Bodies, AreRight, Before, Is_before, After, Is_after, Lag, settled, none, only, open_at, TimerAgrees, GptRepresents, gpt_ground, GptState, channel_at, Timing, Stopped, elapsed, target_of, runs, runs_at, is_marked, stopped, with_channel, channel_of, one_shot_of, bit, Call, OfChannel, StopTimer, Channel, GptDriver, Unflags, Shuts, Write, MayRun, steady, AllGood, all_right, acts_so}
 use Rattle.gpt_driver.specs.declared.service.stop.StopBody.{StopBody}
 use Rattle.gpt_driver.specs.declared.service.stop.StopBody.TheVariants.{OneShot, Continuous, Flag}
 use Rattle.gpt_driver.specs.laws.Courses.{elapsed_small, unexpired, no_expiries, expired_is}
-use Rattle.gpt_driver.specs.laws.Parts.{acted_with, acted_here, channel_same, has_one, same_yes, runs_here, elapsed_here, marked_here}
+use Rattle.gpt_driver.specs.laws.Parts.{acted_with, acted_here, channel_same, has_one, runs_here, elapsed_here, marked_here}
 
 abbrev pub stop_work : StopBody → Move
 stop_work (OneShot c) = Write TimerGateClear (bit c)
@@ -26,7 +29,7 @@ stop_shortens : (k : StopBody) (x : ℕ) → Shortens stop_left k (stop_takes k 
 stop_shortens (OneShot c) x = omega arith
 stop_shortens _ x = omega arith
 
-abbrev pub stop_gap : StopBody → Gap
+abbrev pub stop_gap : StopBody → Lag
 stop_gap (OneShot c) = settled
 stop_gap (Continuous c) = settled
 stop_gap (Flag c) = open_at c
@@ -65,7 +68,7 @@ ended_keeps k x now false = (refl, refl)
 
 module _ (d : GptDriver) where
   -- the gate is closed
-  closed : (chip : Chip) (w : World) (s : GptState) (c : ℕ) (open1 : ℕ → Bool) → MayRun d s c StopTimer → GptAgrees d settled chip w s → (open1 c ≡ false → TimerAgrees (channel_of d c) (has_bit chip.timers.one_shot c) (acting Shuts (has_bit chip.timers.one_shot c) chip.timers.time (timer_at chip.timers c)) (stopped (channel_of d c) w.now (channel_at s c))) → GptAgrees d (record settled { block = open1 }) (record chip { timers = acted Shuts chip.timers (bit c) }) w (with_channel s c (stopped (channel_of d c) w.now (channel_at s c)))
+  closed : (chip : Chip) (w : World) (s : GptState) (c : ℕ) (open1 : ℕ → Bool) → MayRun d s c StopTimer → GptRepresents d settled chip w s → (open1 c ≡ false → TimerAgrees (channel_of d c) (has_bit chip.timers.one_shot c) (acting Shuts (has_bit chip.timers.one_shot c) chip.timers.time (timer_at chip.timers c)) (stopped (channel_of d c) w.now (channel_at s c))) → GptRepresents d (record settled { block = open1 }) (record chip { timers = acted Shuts chip.timers (bit c) }) w (with_channel s c (stopped (channel_of d c) w.now (channel_at s c)))
   closed chip w s c open1 i h new =
       let k = channel_of d c in
       let x = channel_at s c in
@@ -73,7 +76,7 @@ module _ (d : GptDriver) where
       acted_with d Shuts chip w s c (stopped k w.now x) none open1 none i.lt i.on h new (λ j ne g. refl) (λ g. (ended_keeps k x w.now q).0) (λ g. (ended_keeps k x w.now q).1)
 
   -- after a continuous channel's gate is closed only its flag may stand too much
-  cleared : (chip : Chip) (w : World) (s : GptState) (c time : ℕ) → c < 8 → one_shot_of (channel_of d c) ≡ false → GptAgrees d settled chip w s → TimerAgrees (channel_of d c) (has_bit chip.timers.one_shot c) (flag_clear time (timer_at (acted Shuts chip.timers (bit c)) c)) (channel_at (with_channel s c (stopped (channel_of d c) w.now (channel_at s c))) c)
+  cleared : (chip : Chip) (w : World) (s : GptState) (c time : ℕ) → c < 8 → one_shot_of (channel_of d c) ≡ false → GptRepresents d settled chip w s → TimerAgrees (channel_of d c) (has_bit chip.timers.one_shot c) (flag_clear time (timer_at (acted Shuts chip.timers (bit c)) c)) (channel_at (with_channel s c (stopped (channel_of d c) w.now (channel_at s c))) c)
   cleared chip w s c time lt os h =
       let k = channel_of d c in
       let one = has_bit chip.timers.one_shot c in
@@ -95,7 +98,7 @@ module _ (d : GptDriver) where
       let a = stop_one_shot k bit y x chip.timers.time w.now q (h.block c i.lt refl) (elapsed_here d chip w s settled h c i.lt refl) (marked_here d chip w s settled h c i.lt refl) os refl in
       let next = closed chip w s c none i h (λ g. subst (λ r. TimerAgrees k bit (halted y chip.timers.time r) (stopped k w.now x)) (sym (runs_here d chip w s settled h c i.lt refl)) a) in
       (refl, acts_so d w s (stop_call c) (i.pass (runs_at d w s c)) refl tt (next, (refl, refl, refl)))
-  steps chip w s (Continuous c) o t m (h, (Is_before, i, os)) = (refl, acts_so d w s (stop_call c) (i.pass (runs_at d w s c)) refl tt (closed chip w s c (only c) i h (λ g. let e = same_yes c in absurd (cc)), (Is_after, i.lt, λ time. cleared chip w s c time i.lt os h)))
+  steps chip w s (Continuous c) o t m (h, (Is_before, i, os)) = (refl, acts_so d w s (stop_call c) (i.pass (runs_at d w s c)) refl tt (closed chip w s c (only c) i h (λ g. let e = eq_self c in absurd (cc)), (Is_after, i.lt, λ time. cleared chip w s c time i.lt os h)))
   steps chip w s (Flag c) o t m (h, (Is_after, lt, a)) = (refl, (acted_here d Unflags chip w s c (only c) none lt h (λ g. a chip.timers.time) (λ k ne g. ne_eqb k c ne), (refl, refl, refl)))
 
   pub stop_right : AreRight (gpt_ground d) (stop_bodies d)

@@ -1,19 +1,22 @@
 -- The services that change a channel's switches: their steps, what holds at each, and that they are right.
+-- From Parts, Base, service_outline: Acts, service_outline: Sweep, RefinementRight.
+-- Used by service/switch/rt, Lawful, Serve.
 use Rattle.std.proofs.Common.{◌≡◌, ℕ, ◌<◌, Bool, true, false, List, [], ◌∷◌, Option, Some, None, refl, sym, ◌∙◌, ap, subst, arith}
 use Rattle.std.specs.Prelude.{if◌then◌else◌}
-use Rattle.gpt_driver.specs.laws.Base.{Load as Loads, Store as Stores, Chip, Timers, timer_at, has_bit, DevError, Act, Move, Notice, World, Told, no_answer, Origin, Owed, Nothing, One, BodyTaken, goes, ends, never_clean, each_but, Shortens, Bodies, AreRight, error_in, notices_in, Before, Is_before, Gap, settled, only, behind, TimerAgrees, SwitchesOf, GptAgrees, gpt_ground, GptState, channel_at, is_off, runs_at, changed, with_switches, switches, channel_of, switches_word, packed, switches_of, Call, OfChannel, Changes, GptDriver, Switches, Change, MayRun, steady, AllGood, all_right, acts_so}
+use Rattle.plain_facts.specs.Numbers.{eq_self}
+use Rattle.gpt_driver.specs.laws.Base.{Load as Loads, Store as Stores, Chip, Timers, timer_at, has_bit, DevError, Act, Move, Notice, World, Told, no_answer, Origin, Epilogue, Nothing, One, BodyTaken, goes, ends, never_clean, each_but, Shortens, Bodies, AreRight, error_in, notices_in, Before, Is_before, Lag, settled, only, behind, TimerAgrees, SwitchesOf, GptRepresents, gpt_ground, GptState, channel_at, is_off, runs_at, changed, with_switches, switches, channel_of, switches_word, packed, switches_of, Call, OfChannel, Changes, GptDriver, Switches, Change, MayRun, steady, AllGood, all_right, acts_so}
 use Rattle.mcal_base.specs.declared.notice.NoticeKind.TheVariants.{EcuMSetWakeupEvent}
 use Rattle.gpt_driver.specs.Machine.{tells_event}
 use Rattle.gpt_driver.specs.declared.service.switch.SwitchBody.{SwitchBody}
 use Rattle.gpt_driver.specs.declared.service.switch.SwitchBody.TheVariants.{Load, Store}
-use Rattle.gpt_driver.specs.laws.Ground.{may_words}
-use Rattle.gpt_driver.specs.laws.Parts.{caught_up, words_with, channel_same, channel_other, same_yes, never_off, unpacked}
+use Rattle.gpt_driver.specs.laws.RefinementRight.{may_words}
+use Rattle.gpt_driver.specs.laws.Parts.{caught_up, words_with, channel_same, channel_other, never_off, unpacked}
 
 -- what is owed where something is told
-abbrev pub owed_if : Bool → Notice → Owed
+abbrev pub owed_if : Bool → Notice → Epilogue
 owed_if b n = if b then One n else Nothing
 
-abbrev pub event_owed : Change → ℕ → Switches → Owed
+abbrev pub event_owed : Change → ℕ → Switches → Epilogue
 event_owed by c x = owed_if (tells_event by x) (record { kind = EcuMSetWakeupEvent; id = c })
 
 abbrev pub switch_work : SwitchBody → Move
@@ -32,7 +35,7 @@ switch_shortens : (k : SwitchBody) (x : ℕ) → Shortens switch_left k (switch_
 switch_shortens (Load c by) x = omega arith
 switch_shortens _ x = omega arith
 
-abbrev pub switch_gap : SwitchBody → Gap
+abbrev pub switch_gap : SwitchBody → Lag
 switch_gap k = settled
 
 abbrev pub switch_holds : GptDriver → Timers → GptState → SwitchBody → Origin Call → Option Told → Type 0
@@ -48,14 +51,14 @@ owes_if false n = (refl, refl)
 
 module _ (d : GptDriver) where
   -- a channel's switches changed in the machine, before its word is stored
-  reswitched : (chip : Chip) (w : World) (s : GptState) (c : ℕ) (x : Switches) → c < 8 → is_off s.mode ≡ false → GptAgrees d settled chip w s → GptAgrees d (behind (switches_word c)) chip w (with_switches s c x)
+  reswitched : (chip : Chip) (w : World) (s : GptState) (c : ℕ) (x : Switches) → c < 8 → is_off s.mode ≡ false → GptRepresents d settled chip w s → GptRepresents d (behind (switches_word c)) chip w (with_switches s c x)
   reswitched chip w s c x lt on h = record {
     outside = h.outside;
     block = λ k below closed.
         each_but (λ i. TimerAgrees (channel_of d i) (has_bit chip.timers.one_shot i) (timer_at chip.timers i) (channel_at (with_switches s c x) i)) c
         (subst (λ z. TimerAgrees (channel_of d c) (has_bit chip.timers.one_shot c) (timer_at chip.timers c) z) (sym (channel_same s c (record (channel_at s c) { switches = x }) lt)) (let a = h.block c lt refl in record { count = a.count; kept = a.kept; flag = a.flag; set = a.set })) k
         (λ ne. subst (λ z. TimerAgrees (channel_of d k) (has_bit chip.timers.one_shot k) (timer_at chip.timers k) z) (sym (channel_other s c k (record (channel_at s c) { switches = x }) below ne)) (h.block k below refl));
-    words = words_with d chip s (only (switches_word c)) c (record (channel_at s c) { switches = x }) lt h.words (λ g. refl) (λ g. let e = same_yes (switches_word c) in absurd (cc));
+    words = words_with d chip s (only (switches_word c)) c (record (channel_at s c) { switches = x }) lt h.words (λ g. refl) (λ g. let e = eq_self (switches_word c) in absurd (cc));
     lines = h.lines;
     clean = never_off s.mode on;
   }

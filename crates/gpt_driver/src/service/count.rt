@@ -3,7 +3,7 @@ ghost use Rattle.gpt_driver.specs.laws.Count as spec;
 
 use crate::words::target_word;
 use mcal_base::{Move, Reg};
-use service_outline::{Body, BodyTaken, Owed, acts, ends, goes, number};
+use service_outline::{Body, BodyTaken, Epilogue, acts, ends, goes, number};
 
 /// `Gpt_GetTimeElapsed` and `Gpt_GetTimeRemaining`, from the load of the state word on. The counter is read in halves.
 #[derive(Clone, Copy)]
@@ -68,5 +68,5 @@ fn joined(low: u32, high: u32) -> u32
 fn answers(count: u32) -> BodyTaken
     ensures { result ≡ spec.ends_with count }
 {
-    ends(None, number(count), Owed::Nothing)
+    ends(None, number(count), Epilogue::Nothing)
 }

@@ -1,12 +1,12 @@
 use crate::words::{LAST_WORD, LINES, STATE, TARGETS};
 use mcal_base::{Move, Reg};
-use service_outline::{Body, BodyTaken, Owed, acts, acts_with, ends, goes, nothing};
+use service_outline::{Body, BodyTaken, Epilogue, acts, acts_with, ends, goes, nothing};
 
 /// `Gpt_DeInit`, from the load of the state word on.
 #[derive(Clone, Copy)]
 pub enum DeInitBody {
     /// It looks whether a channel runs. Where one does, it owes this.
-    Look(Owed),
+    Look(Epilogue),
     /// It acts, and the module is uninitialised.
     Store,
     /// It makes the counters 0.
@@ -48,7 +48,7 @@ impl Body for DeInitBody {
             DeInitBody::Forget(word) if word < LAST_WORD => {
                 (DeInitBody::Forget(word + 1), goes())
             }
-            DeInitBody::Forget(_) => (*self, ends(None, nothing(), Owed::Nothing)),
+            DeInitBody::Forget(_) => (*self, ends(None, nothing(), Epilogue::Nothing)),
         };
         *self = after;
         taken

@@ -1,6 +1,6 @@
 use crate::words::{LINES, STATE};
 use mcal_base::{Move, Reg};
-use service_outline::{Body, BodyTaken, Owed, acts_with, goes, nothing};
+use service_outline::{Body, BodyTaken, Epilogue, acts_with, goes, nothing};
 
 /// `Gpt_Init`, from the load of the state word on.
 #[derive(Clone, Copy)]
@@ -31,7 +31,7 @@ impl Body for InitBody {
                 *self = InitBody::Store;
                 goes()
             }
-            InitBody::Store => acts_with(nothing(), Owed::Nothing),
+            InitBody::Store => acts_with(nothing(), Epilogue::Nothing),
         }
     }
 }

@@ -4,7 +4,7 @@ ghost use Rattle.gpt_driver.specs.laws.Mode as spec;
 use crate::switches::Switches;
 use crate::words::{STATE, bit, switches_word};
 use mcal_base::{Move, Reg};
-use service_outline::{Body, BodyTaken, Owed, acts, acts_with, ends, goes, nothing};
+use service_outline::{Body, BodyTaken, Epilogue, acts, acts_with, ends, goes, nothing};
 
 /// `Gpt_SetMode`, from the load of the state word on.
 #[derive(Clone, Copy)]
@@ -40,7 +40,7 @@ impl Body for ModeBody {
 
     fn took(&mut self, value: u32) -> BodyTaken {
         let (after, taken) = match *self {
-            ModeBody::Wake => (*self, acts_with(nothing(), Owed::Nothing)),
+            ModeBody::Wake => (*self, acts_with(nothing(), Epilogue::Nothing)),
             ModeBody::Gather(channel, bits) if channel < 7 => {
                 (
                     ModeBody::Gather(channel + 1, with(bits, channel, value)),
@@ -52,7 +52,7 @@ impl Body for ModeBody {
             }
             ModeBody::Gate(bits) => (ModeBody::Flags(bits), acts()),
             ModeBody::Flags(_) => (ModeBody::Sleep, goes()),
-            ModeBody::Sleep => (*self, ends(None, nothing(), Owed::Nothing)),
+            ModeBody::Sleep => (*self, ends(None, nothing(), Epilogue::Nothing)),
         };
         *self = after;
         taken

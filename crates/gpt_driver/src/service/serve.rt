@@ -4,7 +4,7 @@ ghost use Rattle.gpt_driver.specs.laws.Serve as spec;
 use crate::switches::Switches;
 use crate::words::{STATE, bit, has, switches_word};
 use mcal_base::{Event, Move, Notice, NoticeKind, Reg};
-use service_outline::{Body, BodyTaken, Owed, ends, goes, nothing};
+use service_outline::{Body, BodyTaken, Epilogue, ends, goes, nothing};
 
 /// The handler of a channel's line, in its window.
 #[derive(Clone, Copy)]
@@ -47,7 +47,7 @@ impl Body for ServeBody {
     fn took(&mut self, value: u32) -> BodyTaken {
         let (after, taken) = match *self {
             ServeBody::Look(channel) if has(value, channel) => (ServeBody::Mode(channel), goes()),
-            ServeBody::Look(_) => (*self, ends(None, nothing(), Owed::Nothing)),
+            ServeBody::Look(_) => (*self, ends(None, nothing(), Epilogue::Nothing)),
             ServeBody::Mode(channel) => (ServeBody::Switches(channel, value == 2), goes()),
             ServeBody::Switches(channel, asleep) => (
                 ServeBody::Clear(channel, asleep, Switches::of(value)),
@@ -77,15 +77,15 @@ fn served(channel: u8, asleep: bool, switches: Switches) -> (ServeBody, BodyTake
         let owed = if !asleep && switches.notification {
             told(NoticeKind::GptNotification, channel)
         } else {
-            Owed::Nothing
+            Epilogue::Nothing
         };
         (here, ends(event, nothing(), owed))
     }
 }
 
-fn told(kind: NoticeKind, channel: u8) -> Owed
+fn told(kind: NoticeKind, channel: u8) -> Epilogue
     ensures { result ≡ spec.told kind channel }
 {
     let id = u32::from(channel);
-    Owed::One(Notice { kind, id })
+    Epilogue::One(Notice { kind, id })
 }

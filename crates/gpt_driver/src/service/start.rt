@@ -1,6 +1,6 @@
 use crate::words::{bit, has, target_word};
 use mcal_base::{Move, Reg};
-use service_outline::{Body, BodyTaken, Owed, acts, acts_with, ends, goes, nothing};
+use service_outline::{Body, BodyTaken, Epilogue, acts, acts_with, ends, goes, nothing};
 
 /// What is to be started.
 #[derive(Clone, Copy)]
@@ -14,7 +14,7 @@ pub struct Start {
     /// The bits of the one-shot channels.
     pub one_shot_bits: u32,
     /// What it owes where it finds the channel busy.
-    pub busy: Owed,
+    pub busy: Epilogue,
 }
 
 /// `Gpt_StartTimer`, from the load of the state word on.
@@ -72,7 +72,7 @@ impl Body for StartBody {
             StartBody::OneShot(start) => (StartBody::Clear(start), goes()),
             StartBody::Clear(start) => (StartBody::Gate(start), goes()),
             StartBody::Gate(start) => (StartBody::Keep(start), acts()),
-            StartBody::Keep(_) => (*self, ends(None, nothing(), Owed::Nothing)),
+            StartBody::Keep(_) => (*self, ends(None, nothing(), Epilogue::Nothing)),
         };
         *self = after;
         taken

@@ -1,6 +1,6 @@
 use crate::words::bit;
 use mcal_base::{Move, Reg};
-use service_outline::{Body, BodyTaken, Owed, acts, acts_with, ends, nothing};
+use service_outline::{Body, BodyTaken, Epilogue, acts, acts_with, ends, nothing};
 
 /// `Gpt_StopTimer`, from the load of the state word on.
 #[derive(Clone, Copy)]
@@ -31,12 +31,12 @@ impl Body for StopBody {
 
     fn took(&mut self, _value: u32) -> BodyTaken {
         match *self {
-            StopBody::OneShot(_) => acts_with(nothing(), Owed::Nothing),
+            StopBody::OneShot(_) => acts_with(nothing(), Epilogue::Nothing),
             StopBody::Continuous(channel) => {
                 *self = StopBody::Flag(channel);
                 acts()
             }
-            StopBody::Flag(_) => ends(None, nothing(), Owed::Nothing),
+            StopBody::Flag(_) => ends(None, nothing(), Epilogue::Nothing),
         }
     }
 }

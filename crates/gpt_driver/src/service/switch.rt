@@ -6,7 +6,7 @@ use crate::call::Change;
 use crate::switches::Switches;
 use crate::words::switches_word;
 use mcal_base::{Move, Notice, NoticeKind};
-use service_outline::{Body, BodyTaken, Owed, acts_with, goes, nothing};
+use service_outline::{Body, BodyTaken, Epilogue, acts_with, goes, nothing};
 
 /// The services that change the switches of a channel, from the load of the state word on.
 #[derive(Clone, Copy)]
@@ -61,15 +61,15 @@ impl Change {
     }
 
     /// What is told of the switches as they were.
-    fn told(self, channel: u8, switches: Switches) -> Owed
+    fn told(self, channel: u8, switches: Switches) -> Epilogue
         ensures { result ≡ spec.event_owed self channel switches }
     {
         match self {
-            Change::Check if switches.woken => Owed::One(Notice {
+            Change::Check if switches.woken => Epilogue::One(Notice {
                 kind: NoticeKind::EcuMSetWakeupEvent,
                 id: u32::from(channel),
             }),
-            _ => Owed::Nothing,
+            _ => Epilogue::Nothing,
         }
     }
 }

@@ -1,11 +1,15 @@
 -- What all laws speak of, passed on.
+-- Used by Sample, Stamp, Keep, Detect.
+use Rattle.std.proofs.Common.{if◌then◌else◌}
+use Rattle.icu_driver.specs.Terms
+use Terms.{Bool, false, true, ℕ}
 pub use Rattle.std.proofs.lemmas.Bool.Decides.{nat_tests}
 pub use Rattle.mcal_base.specs.Bits.{has_bit}
 pub use Rattle.mcal_base.specs.declared.moves.Event.TheVariants.{Act, Serve}
 pub use Rattle.mcal_base.specs.declared.moves.Move.{Move}
 pub use Rattle.run_model.specs.Machine.{Told, no_answer, tells_nothing, outcome}
-pub use Rattle.service_outline.specs.declared.done.Owed.{Owed}
-pub use Rattle.service_outline.specs.declared.done.Owed.TheVariants.{Nothing, One}
+pub use Rattle.service_outline.specs.declared.done.Epilogue.{Epilogue}
+pub use Rattle.service_outline.specs.declared.done.Epilogue.TheVariants.{Nothing, One}
 pub use Rattle.service_outline.specs.declared.done.BodyTaken.{BodyTaken}
 pub use Rattle.service_outline.specs.Done.{goes, acts as acts_on, ends, number, numbers, named}
 pub use Rattle.service_outline.specs.Fuel.{Shortens}
@@ -13,8 +17,6 @@ pub use Rattle.icu_driver.specs.Words.{word, line, bit, joined, condition_of, fi
 pub use Rattle.icu_driver.specs.declared.driver.Channel.{Channel}
 pub use Rattle.icu_driver.specs.declared.driver.IcuDriver.{IcuDriver}
 pub use Rattle.icu_driver.specs.declared.words.TheConstants.{STATE, SWITCHES, MARKS, SIZES, INTERVALS, PLACES, VALUES, TIMES, LINES, CHANNELS}
-use Rattle.std.proofs.Common.{ℕ, Bool, true, false}
-use Rattle.std.specs.Prelude.{if◌then◌else◌}
 
 -- ---- families of bodies
 

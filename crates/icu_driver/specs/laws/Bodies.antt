@@ -1,17 +1,8 @@
 -- Each body as one of the driver's bodies.
-use Rattle.service_outline.specs.declared.body.Or.{Or}
-use Rattle.service_outline.specs.declared.body.Or.TheVariants.{First, Second}
-use Rattle.icu_driver.specs.declared.service.change.ChangeBody.{ChangeBody}
-use Rattle.icu_driver.specs.declared.service.count.CountBody.{CountBody}
-use Rattle.icu_driver.specs.declared.service.deinit.DeInitBody.{DeInitBody}
-use Rattle.icu_driver.specs.declared.service.detect.DetectBody.{DetectBody}
-use Rattle.icu_driver.specs.declared.service.duty.DutyBody.{DutyBody}
-use Rattle.icu_driver.specs.declared.service.gate.GateBody.{GateBody}
-use Rattle.icu_driver.specs.declared.service.init.InitBody.{InitBody}
-use Rattle.icu_driver.specs.declared.service.keep.KeepBody.{KeepBody}
-use Rattle.icu_driver.specs.declared.service.measure.MeasureBody.{MeasureBody}
-use Rattle.icu_driver.specs.declared.service.sample.SampleBody.{SampleBody}
-use Rattle.icu_driver.specs.declared.service.stamp.StampBody.{StampBody}
+-- Used by Look, Handler, service/rt, Lawful, Windows and 1 more.
+use Rattle.icu_driver.specs.Terms
+use Terms.{ChangeBody, CountBody, DeInitBody, DetectBody, DutyBody, First, GateBody, InitBody, KeepBody, MeasureBody}
+use Terms.{Or, SampleBody, Second, StampBody}
 
 -- a place in any body of the driver
 abbrev pub IcuBody : Type 0

@@ -1,31 +1,17 @@
 -- What holds of a call about a channel before it acts, and what an act does to the channel.
-use Rattle.std.proofs.Common.{◌≡◌, ℕ, ◌<◌, Bool, true, false, ◌&&◌, ◌||◌, not, nat_lt, length, Option, Some, None, refl, sym, ◌∙◌, ap, subst, arith}
-use Rattle.std.specs.Prelude.{is_some}
-use Rattle.std.proofs.lemmas.List.{get_or-map}
-use Rattle.chip_captures.specs.Captures.{Captures, capture_at as chip_capture, closed}
-use Rattle.mcal_base.specs.declared.config.icu.IcuMeasurementMode.{IcuMeasurementMode}
-use Rattle.mcal_base.specs.declared.config.icu.IcuMeasurementMode.TheVariants.{SignalEdgeDetect, EdgeCounter, Timestamp, SignalMeasurement}
-use Rattle.run_model.specs.Machine.{Acts, outcome}
-use Rattle.run_model.specs.World.{World}
-use Rattle.service_outline.specs.Done.{answers}
-use Rattle.std.proofs.lemmas.Bool.Decides.{nat_tests}
-use Rattle.icu_driver.specs.Bounds.{is_own_word, is_stamp}
-use Rattle.icu_driver.specs.Checks.{error_by, suits}
-use Rattle.icu_driver.specs.Ground.{opening, emptying, behind, bare, bare_block, counts_edges, ChannelWords, ModeWords, IsCourse, HasPlace, HasTurns}
-use Rattle.icu_driver.specs.Machine.{IcuState, Capture, capture_at, with_capture, channel_work, channel_answer, asked, acts_by, happens, switched}
-use Rattle.icu_driver.specs.Table.{channel_of, is_detection, is_counter, is_timestamp, is_measurement}
-use Rattle.icu_driver.specs.Words.{word}
+-- From One, Steady.
+-- Used by Gate, Stamp, Measure, Count, Keeping and 9 more.
+use Rattle.std.proofs.Common.{◌≡◌, ◌<◌, ◌&&◌, ◌||◌, ◌∙◌}
+use Rattle.icu_driver.specs.Terms
+use Terms.{Acts, acts_by, answers, ap, arith, asked, bare, bare_block, behind, Bool, Capture, capture_at, Captures}
+use Terms.{Channel, channel_answer, channel_of, channel_work, ChannelCall, ChannelWords, chip_capture, closed}
+use Terms.{counts_edges, EdgeCounter, emptying, eq_other, error_by, false, get_or-map, happens, HasPlace, HasTurns}
+use Terms.{IcuDriver, IcuMeasurementMode, IcuState, is_counter, is_detection, is_measurement, is_own_word, is_some}
+use Terms.{is_stamp, is_timestamp, IsCourse, length, ModeWords, nat_lt, nat_tests, None, not, off_on, opening, Option}
+use Terms.{outcome, own_word, refl, SignalEdgeDetect, SignalMeasurement, Some, STATE, subst, suits, switched, sym}
+use Terms.{Timestamp, true, with_capture, word, World, ℕ}
+use Rattle.icu_driver.specs.laws.{One.{IsAt, IsRow, apart_words}, Steady.{without_edges, calm_at}}
 use Rattle.icu_driver.specs.declared.call.Call.TheVariants as calls
-use Rattle.icu_driver.specs.declared.call.ChannelCall.{ChannelCall}
-use Rattle.icu_driver.specs.declared.driver.Channel.{Channel}
-use Rattle.icu_driver.specs.declared.driver.IcuDriver.{IcuDriver}
-use Rattle.icu_driver.specs.declared.words.TheConstants.{STATE}
-use Rattle.icu_driver.specs.laws.Ground.{own_word}
-use Rattle.icu_driver.specs.laws.One.{IsAt, IsRow, other_no, apart_words}
-use Rattle.icu_driver.specs.laws.Steady.{calm, calm_at}
-
-pub never : {A : Type 0} → false ≡ true → A
-never e = absurd (cc)
 
 -- the call names a channel that is for it, and shows no error while the module is on
 pub record MayCall (d : IcuDriver) (c : ℕ) (call : ChannelCall) : Type 0 where
@@ -43,26 +29,26 @@ acts_is d w s c call times i on = ap (λ u. Some (acts_by d s (calls.Channel c c
 
 pub detects : (m : IcuMeasurementMode) → is_detection m ≡ true → m ≡ SignalEdgeDetect
 detects SignalEdgeDetect e = refl
-detects EdgeCounter e = never e
-detects Timestamp e = never e
-detects SignalMeasurement e = never e
+detects EdgeCounter e = off_on e
+detects Timestamp e = off_on e
+detects SignalMeasurement e = off_on e
 
 pub counts : (m : IcuMeasurementMode) → is_counter m ≡ true → m ≡ EdgeCounter
-counts SignalEdgeDetect e = never e
+counts SignalEdgeDetect e = off_on e
 counts EdgeCounter e = refl
-counts Timestamp e = never e
-counts SignalMeasurement e = never e
+counts Timestamp e = off_on e
+counts SignalMeasurement e = off_on e
 
 pub stamps : (m : IcuMeasurementMode) → is_timestamp m ≡ true → m ≡ Timestamp
-stamps SignalEdgeDetect e = never e
-stamps EdgeCounter e = never e
+stamps SignalEdgeDetect e = off_on e
+stamps EdgeCounter e = off_on e
 stamps Timestamp e = refl
-stamps SignalMeasurement e = never e
+stamps SignalMeasurement e = off_on e
 
 pub measures : (m : IcuMeasurementMode) → is_measurement m ≡ true → m ≡ SignalMeasurement
-measures SignalEdgeDetect e = never e
-measures EdgeCounter e = never e
-measures Timestamp e = never e
+measures SignalEdgeDetect e = off_on e
+measures EdgeCounter e = off_on e
+measures Timestamp e = off_on e
 measures SignalMeasurement e = refl
 
 -- ---- a channel by its mode
@@ -83,10 +69,10 @@ module _ (d : IcuDriver) (c : ℕ) (k : Channel) (known : channel_of d c ≡ Som
 
   -- one that stamps nothing has its place, and one that measures nothing its turns
   pub place_by : (x : Capture) → is_timestamp k.mode ≡ false → HasPlace (channel_of d c) x
-  place_by x e = subst (λ z. HasPlace z x) (sym known) (λ m on. never (sym e ∙ ap (λ z. is_timestamp z) m))
+  place_by x e = subst (λ z. HasPlace z x) (sym known) (λ m on. off_on (sym e ∙ ap (λ z. is_timestamp z) m))
 
   pub turns_by : (w : World) (x : Capture) → is_measurement k.mode ≡ false → HasTurns (channel_of d c) w x
-  turns_by w x e = subst (λ z. HasTurns z w x) (sym known) (λ m on. never (sym e ∙ m))
+  turns_by w x e = subst (λ z. HasTurns z w x) (sym known) (λ m on. off_on (sym e ∙ m))
 
 -- ---- a channel that is switched
 
@@ -95,29 +81,29 @@ switched_course k q x h = record { room = omega arith; times = tt; counter = λ 
 
 pub off_place : (k : Option Channel) (x : Capture) → x.on ≡ false → HasPlace k x
 off_place None x e = tt
-off_place (Some k) x e = λ m on. never (sym e ∙ on)
+off_place (Some k) x e = λ m on. off_on (sym e ∙ on)
 
 pub off_turns : (k : Option Channel) (w : World) (x : Capture) → x.on ≡ false → HasTurns k w x
 off_turns None w x e = tt
-off_turns (Some k) w x e = λ m on. never (sym e ∙ on)
+off_turns (Some k) w x e = λ m on. off_on (sym e ∙ on)
 
 -- ---- what is under work at a channel
 
 pub opening_at : (c : ℕ) → IsAt c (opening c)
-opening_at c = record { gates = λ k ne. other_no k c ne; queues = λ k ne. other_no k c ne; counts = λ k ne. refl; words = λ first k r lt ne. refl; state = refl; stamps = λ k i ne. refl; moded = refl; lines = refl }
+opening_at c = record { gates = λ k ne. eq_other k c ne; queues = λ k ne. eq_other k c ne; counts = λ k ne. refl; words = λ first k r lt ne. refl; state = refl; stamps = λ k i ne. refl; moded = refl; lines = refl }
 
 pub emptying_at : (c : ℕ) → IsAt c (emptying c)
-emptying_at c = record { gates = λ k ne. refl; queues = λ k ne. other_no k c ne; counts = λ k ne. refl; words = λ first k r lt ne. refl; state = refl; stamps = λ k i ne. refl; moded = refl; lines = refl }
+emptying_at c = record { gates = λ k ne. refl; queues = λ k ne. eq_other k c ne; counts = λ k ne. refl; words = λ first k r lt ne. refl; state = refl; stamps = λ k i ne. refl; moded = refl; lines = refl }
 
 pub behind_at : (first c : ℕ) → IsRow first → c < 8 → IsAt c (behind (word first c))
-behind_at first c row lt = record { gates = λ k ne. refl; queues = λ k ne. refl; counts = λ k ne. refl; words = λ other k r few ne. other_no (word other k) (word first c) (apart_words other first k c r row few lt ne); state = let a = row.1 in other_no STATE (word first c) (λ e. absurd (omega (arith, a, e))); stamps = λ k i ne. refl; moded = refl; lines = refl }
+behind_at first c row lt = record { gates = λ k ne. refl; queues = λ k ne. refl; counts = λ k ne. refl; words = λ other k r few ne. eq_other (word other k) (word first c) (apart_words other first k c r row few lt ne); state = let a = row.1 in eq_other STATE (word first c) (λ e. absurd (omega (arith, a, e))); stamps = λ k i ne. refl; moded = refl; lines = refl }
 
 -- ---- what stays of block and state
 
 pub bare_at : (b : Captures) (c : ℕ) → length b.captures ≡ 8 → c < 8 → chip_capture (bare_block b) c ≡ bare (chip_capture b c)
 bare_at b c size lt = get_or-map bare b.captures c closed closed (omega (arith, size, lt))
 
-pub calm_on : (s : IcuState) (c : ℕ) → c < 8 → (capture_at (calm s) c).on ≡ (capture_at s c).on
+pub calm_on : (s : IcuState) (c : ℕ) → c < 8 → (capture_at (without_edges s) c).on ≡ (capture_at s c).on
 calm_on s c lt = ap (λ x. x.on) (calm_at s c lt)
 
 -- a word of a row may be named

@@ -1,47 +1,31 @@
 -- The services that set or ask for what a channel keeps: their steps, what holds at each, and that they are right.
-use Rattle.std.proofs.Common.{◌≡◌, ◌≢◌, ℕ, ◌<◌, ◌≤◌, ◌^◌, Bool, true, false, ◌&&◌, ◌||◌, ◌==◌, not, length, Option, Some, None, refl, sym, ◌∙◌, ap, subst, arith}
-use Rattle.std.specs.Prelude.{if◌then◌else◌}
-use Rattle.std.specs.List.{AllByRecursion}
-use Rattle.chip_captures.specs.Captures.{Captures, capture_at as chip_capture, with_condition}
+-- From One, Calls, Steady, Channels.
+-- Used by Detecting, service/change/rt, Lawful, Windows, Sampling and 2 more.
+use Rattle.std.proofs.Common.{◌≡◌, ◌≢◌, ◌<◌, ◌≤◌, ◌^◌, ◌&&◌, ◌||◌, ◌==◌, ◌∙◌, if◌then◌else◌}
+use Rattle.icu_driver.specs.Terms
+use Terms.{ActiveIs, After, AllByRecursion, answers, ap, AreRight, arith, Before, behind, below_test, bit_of, Bodies}
+use Terms.{Bool, Both, Call, Called, Capture, capture_at, CaptureAgrees, CaptureCondition, Captures, ChangeBody}
+use Terms.{channel_answer, channel_of, channel_work, ChannelCall, Chip, chip_after, chip_capture, Choose, ChoosesAs}
+use Terms.{condition_by, DisableNotification, Edge, EdgeCounter, EnableNotification, eq_other, eq_self, Falling, false}
+use Terms.{GetInputState, halves, has_notification, HasPlace, HasTurns, icu_ground, IcuDriver, IcuMeasurementMode}
+use Terms.{IcuRepresents, IcuStartEdge, IcuState, input_answer, Is_after, Is_before, is_detection, Is_fresh}
+use Terms.{is_measurement, Is_on, Is_stopped, is_timestamp, IsCourse, IsStart, Lag, length, Load, ModeWords, None, none}
+use Terms.{not-true, Notify, off_on, only, OppositeIs, Option, Origin, outcome, owes_nothing, place_of, refl, Rising}
+use Terms.{seen_by, SetActivationCondition, settled, SignalEdgeDetect, SignalMeasurement, Some, stamp_in, Stamped}
+use Terms.{Stamps, stands-move, StandsLow, StartIs, Store, subst, suits, sym, Take, Timestamp, Told, true, ValueIs}
+use Terms.{waiting_value, with_capture, with_condition, word_of, World, Write, ℕ}
+use Rattle.icu_driver.specs.declared.call.Call.TheVariants.{Channel}
+use Rattle.icu_driver.specs.declared.service.change.ChangeBody.TheVariants.{Drop, Ask}
+use Rattle.icu_driver.specs.laws.{Base.{Move, Act, no_answer, BodyTaken, acts_on, ends, Nothing, Shortens, word}}
+use Rattle.icu_driver.specs.laws.{Base.{condition_of, SWITCHES, MARKS, SIZES, INTERVALS, PLACES, VALUES, TIMES}}
+use Rattle.icu_driver.specs.laws.{Calls.{MayCall, acts_is, to_mode, from_mode, is_there, behind_at, may_row}}
+use Rattle.icu_driver.specs.laws.{Channels.{block_as}, One.{IsAt, IsRow, ChipLeft, ChannelAgrees, channel_agrees}}
+use Rattle.icu_driver.specs.laws.{One.{one_agrees, settled_at, apart_rows, same_state, with_same, with_state}}
+use Rattle.icu_driver.specs.laws.{One.{left_same, left_channel, left_word, channel_new, word_new, word_old, stamps_old}}
+use Rattle.icu_driver.specs.laws.{Steady.{without_edges, calm_at, Good, AllGood, steady, steady_right}}
 use Rattle.chip_captures.specs.declared.capture.Capture as chips
 use Rattle.chip_captures.specs.declared.capture.Condition.TheVariants as conditions
-use Rattle.chip_model.specs.Chip.{Chip, chip_after, word_of}
-use Rattle.mcal_base.specs.Bits.{bit_of}
-use Rattle.mcal_base.specs.Layout.{place_of}
-use Rattle.mcal_base.specs.declared.config.icu.IcuMeasurementMode.{IcuMeasurementMode}
-use Rattle.mcal_base.specs.declared.config.icu.IcuMeasurementMode.TheVariants.{SignalEdgeDetect, EdgeCounter, Timestamp, SignalMeasurement}
-use Rattle.mcal_base.specs.declared.config.icu.IcuStartEdge.{IcuStartEdge}
-use Rattle.mcal_base.specs.declared.config.icu.IcuStartEdge.TheVariants.{Rising, Falling, Both}
-use Rattle.mcal_base.specs.declared.layout.Array.TheVariants.{Stamps}
-use Rattle.mcal_base.specs.declared.moves.Move.TheVariants.{Write, Load, Store}
-use Rattle.mcal_base.specs.declared.register.Reg.TheVariants.{CaptureCondition}
-use Rattle.run_model.specs.Frame.{Origin, Called}
-use Rattle.run_model.specs.Machine.{Told, outcome}
-use Rattle.run_model.specs.World.{World}
-use Rattle.run_model.proofs.OutsideLaws.{stands-move}
-use Rattle.service_outline.specs.Acts.{StandsLow}
-use Rattle.service_outline.specs.Done.{answers}
-use Rattle.service_outline.specs.Outline.{Bodies, AreRight, Before, Is_before, After, Is_after, owes_nothing}
-use Rattle.icu_driver.specs.Bounds.{halves}
-use Rattle.icu_driver.specs.Checks.{input_answer, suits, has_notification}
-use Rattle.icu_driver.specs.Edges.{Edge}
-use Rattle.icu_driver.specs.Ground.{Gap, none, only, settled, behind, CaptureAgrees, ChoosesAs, condition_by, ModeWords, Stamped, Is_on, Is_stopped, Is_fresh, StartIs, OppositeIs, ValueIs, ActiveIs, waiting_value, seen_by, IsCourse, IsStart, HasPlace, HasTurns, IcuAgrees, icu_ground}
-use Rattle.icu_driver.specs.Machine.{IcuState, Capture, capture_at, with_capture, channel_work, channel_answer, stamp_in}
-use Rattle.icu_driver.specs.Table.{channel_of, is_detection, is_timestamp, is_measurement}
-use Rattle.icu_driver.specs.declared.call.Call.{Call}
-use Rattle.icu_driver.specs.declared.call.Call.TheVariants.{Channel}
-use Rattle.icu_driver.specs.declared.call.ChannelCall.{ChannelCall}
-use Rattle.icu_driver.specs.declared.call.ChannelCall.TheVariants.{SetActivationCondition, EnableNotification, DisableNotification, GetInputState}
 use Rattle.icu_driver.specs.declared.driver.Channel as configured
-use Rattle.icu_driver.specs.declared.driver.IcuDriver.{IcuDriver}
-use Rattle.icu_driver.specs.laws.Base.{Move, Act, no_answer, BodyTaken, acts_on, ends, Nothing, Shortens, word, condition_of, SWITCHES, MARKS, SIZES, INTERVALS, PLACES, VALUES, TIMES}
-use Rattle.icu_driver.specs.laws.Calls.{never, MayCall, acts_is, to_mode, from_mode, is_there, behind_at, may_row}
-use Rattle.icu_driver.specs.laws.Channels.{block_as}
-use Rattle.icu_driver.specs.laws.Ground.{below_test}
-use Rattle.icu_driver.specs.laws.One.{IsAt, IsRow, ChipLeft, ChannelAgrees, channel_agrees, one_agrees, settled_at, same_yes, other_no, apart_rows, same_state, with_same, with_state, left_same, left_channel, left_word, channel_new, word_new, word_old, stamps_old}
-use Rattle.icu_driver.specs.laws.Steady.{calm, calm_at, Good, AllGood, steady, steady_right}
-use Rattle.icu_driver.specs.declared.service.change.ChangeBody.{ChangeBody}
-use Rattle.icu_driver.specs.declared.service.change.ChangeBody.TheVariants.{Notify, Choose, Drop, Ask, Take}
 
 abbrev pub change_work : ChangeBody → Move
 change_work (Notify c on) = Store (word SWITCHES c) (bit_of on)
@@ -75,7 +59,7 @@ change_shortens (Take c m) x = omega arith
 
 -- ---- what holds at each; the active mark is behind from the act on
 
-abbrev pub change_gap : ChangeBody → Gap
+abbrev pub change_gap : ChangeBody → Lag
 change_gap (Notify c on) = settled
 change_gap (Choose c e q) = settled
 change_gap (Drop c) = behind (word MARKS c)
@@ -128,13 +112,9 @@ notify_suits false k = refl
 -- the modes of a channel with a notification, of one that is chosen by edges, and of one that is marked
 notified_mode : (m : IcuMeasurementMode) (a b : Bool) → (is_detection m && a) || (is_timestamp m && b) ≡ true → is_detection m || is_timestamp m ≡ true
 notified_mode SignalEdgeDetect a b e = refl
-notified_mode EdgeCounter a b e = never e
+notified_mode EdgeCounter a b e = off_on e
 notified_mode Timestamp a b e = refl
-notified_mode SignalMeasurement a b e = never e
-
-not_true : (q : Bool) → not q ≡ true → q ≡ false
-not_true true e = never e
-not_true false e = refl
+notified_mode SignalMeasurement a b e = off_on e
 
 mark_is : (q : Bool) → (bit_of q == 1) ≡ q
 mark_is true = refl
@@ -167,9 +147,9 @@ block_chosen k a on moded b x m known e h = record {
   mode = h.mode;
   starts = h.starts;
   known = h.known;
-  free_known = λ i. never i;
-  free_queue = λ i. never i;
-  free_count = λ i. never i;
+  free_known = λ i. off_on i;
+  free_queue = λ i. off_on i;
+  free_count = λ i. off_on i;
 }
 
 pub as_course : (k : Option configured.Channel) (x x1 : Capture) → x1.on ≡ x.on → x1.waiting ≡ x.waiting → x1.lost ≡ x.lost → x1.count ≡ x.count → x1.start ≡ x.start → IsCourse k x → IsCourse k x1
@@ -215,14 +195,14 @@ words_notified Timestamp at at1 c k on x new old e h = record {
   place = λ f ne. old PLACES (omega arith) ∙ h.place f (λ b i. ne b (old MARKS (omega arith) ∙ i));
   left = λ f g. old VALUES (omega arith) ∙ h.left f g;
 }
-words_notified SignalMeasurement at at1 c k on x new old e h = never e
+words_notified SignalMeasurement at at1 c k on x new old e h = off_on e
 
 -- the words where others are chosen; a detection's mark is behind
 words_chosen : (m : IcuMeasurementMode) (at : ℕ → ℕ) (behind : ℕ → Bool) (c : ℕ) (k : configured.Channel) (a : IcuStartEdge) (x : Capture) → is_measurement m ≡ false → (is_detection m ≡ true → behind (word MARKS c) ≡ true) → (is_detection m ≡ false → behind (word MARKS c) ≡ false) → ModeWords m at none c k x → ModeWords m at behind c k (record x { activation = a; active = false })
-words_chosen SignalEdgeDetect at behind c k a x e b l h = record { switch = λ f. h.switch refl; mark = λ f. never (sym f ∙ b refl) }
+words_chosen SignalEdgeDetect at behind c k a x e b l h = record { switch = λ f. h.switch refl; mark = λ f. off_on (sym f ∙ b refl) }
 words_chosen EdgeCounter at behind c k a x e b l h = tt
 words_chosen Timestamp at behind c k a x e b l h = record { switch = λ f. h.switch refl; mark = λ f. stamped_chosen a x _ (h.mark refl); size = λ f. h.size refl; interval = λ f g. h.interval refl g; place = λ f ne. h.place refl (λ b. ne (l refl)); left = λ f g. h.left refl g }
-words_chosen SignalMeasurement at behind c k a x e b l h = never (sym e)
+words_chosen SignalMeasurement at behind c k a x e b l h = off_on (sym e)
 
 dropped_place : (k : Option configured.Channel) (x : Capture) → HasPlace k x → HasPlace k (record x { active = false })
 dropped_place None x h = tt
@@ -234,25 +214,25 @@ dropped_turns (Some k) w x h = λ m o. h m o
 
 marked_word : (m : IcuMeasurementMode) (at : ℕ → ℕ) (c : ℕ) (k : configured.Channel) (x : Capture) → is_detection m || is_measurement m ≡ true → ModeWords m at none c k x → at (word MARKS c) ≡ bit_of x.active
 marked_word SignalEdgeDetect at c k x e h = h.mark refl
-marked_word EdgeCounter at c k x e h = never e
-marked_word Timestamp at c k x e h = never e
+marked_word EdgeCounter at c k x e h = off_on e
+marked_word Timestamp at c k x e h = off_on e
 marked_word SignalMeasurement at c k x e h = h.mark refl
 
 -- a word of another row isn't behind
 beside : (first c : ℕ) → first ≢ MARKS → only (word MARKS c) (word first c) ≡ false
-beside first c ne = other_no (word first c) (word MARKS c) (apart_rows first MARKS c ne)
+beside first c ne = eq_other (word first c) (word MARKS c) (apart_rows first MARKS c ne)
 
 -- the words where the mark is dropped, and behind; and where it is stored
 words_dropped : (m : IcuMeasurementMode) (at : ℕ → ℕ) (c : ℕ) (k : configured.Channel) (x : Capture) → is_detection m || is_measurement m ≡ true → ModeWords m at none c k x → ModeWords m at (only (word MARKS c)) c k (record x { active = false })
-words_dropped SignalEdgeDetect at c k x e h = record { switch = λ f. h.switch refl; mark = λ f. never (sym f ∙ same_yes (word MARKS c)) }
+words_dropped SignalEdgeDetect at c k x e h = record { switch = λ f. h.switch refl; mark = λ f. off_on (sym f ∙ eq_self (word MARKS c)) }
 words_dropped EdgeCounter at c k x e h = tt
-words_dropped Timestamp at c k x e h = never e
-words_dropped SignalMeasurement at c k x e h = record { waits = λ f. h.waits refl; mark = λ f. never (sym f ∙ same_yes (word MARKS c)); seen = λ f g. h.seen refl g; start = λ f g. h.start refl g; opposite = λ f g. h.opposite refl g; value = λ f. h.value refl; time = λ f. h.time refl }
+words_dropped Timestamp at c k x e h = off_on e
+words_dropped SignalMeasurement at c k x e h = record { waits = λ f. h.waits refl; mark = λ f. off_on (sym f ∙ eq_self (word MARKS c)); seen = λ f g. h.seen refl g; start = λ f g. h.start refl g; opposite = λ f g. h.opposite refl g; value = λ f. h.value refl; time = λ f. h.time refl }
 
 words_stored : (m : IcuMeasurementMode) (at at1 : ℕ → ℕ) (c : ℕ) (k : configured.Channel) (x : Capture) → at1 (word MARKS c) ≡ 0 → ((first : ℕ) → first ≢ MARKS → at1 (word first c) ≡ at (word first c)) → x.active ≡ false → is_detection m || is_measurement m ≡ true → ModeWords m at (only (word MARKS c)) c k x → ModeWords m at1 none c k x
 words_stored SignalEdgeDetect at at1 c k x new old off e h = record { switch = λ f. old SWITCHES (omega arith) ∙ h.switch (beside SWITCHES c (omega arith)); mark = λ f. new ∙ sym (ap (λ q. bit_of q) off) }
 words_stored EdgeCounter at at1 c k x new old off e h = tt
-words_stored Timestamp at at1 c k x new old off e h = never e
+words_stored Timestamp at at1 c k x new old off e h = off_on e
 words_stored SignalMeasurement at at1 c k x new old off e h = record {
   waits = λ f. old SWITCHES (omega arith) ∙ h.waits (beside SWITCHES c (omega arith));
   mark = λ f. new ∙ sym (ap (λ q. bit_of q) off);
@@ -265,8 +245,8 @@ words_stored SignalMeasurement at at1 c k x new old off e h = record {
 
 module _ (d : IcuDriver) where
   -- what a machine with another mark, notification or choice is behind with
-  module _ (gap1 : Gap) (chip chip1 : Chip) (w : World) (s : IcuState) (c : ℕ) (i : (k : configured.Channel) × (channel_of d c ≡ Some k)) (lt : c < 8) (on : s.initialised ≡ true) (h : IcuAgrees d settled chip w s) (at : IsAt c gap1) (left : ChipLeft c w chip chip1) where
-    other : (y : Capture) → CaptureAgrees (channel_of d c) (gap1.gates c) (gap1.queues c) (gap1.counts c) s.initialised (s.initialised || gap1.moded) (chip_capture chip1.captures c) y → ModeWords i.0.mode (λ j. word_of chip1 j) gap1.words c i.0 y → IsCourse (channel_of d c) y → HasPlace (channel_of d c) y → HasTurns (channel_of d c) w y → ((j : ℕ) → j < 64 → word_of chip1 (place_of (Stamps c) j) ≡ stamp_in y.stored j) → IcuAgrees d gap1 chip1 w (with_capture s c y)
+  module _ (gap1 : Lag) (chip chip1 : Chip) (w : World) (s : IcuState) (c : ℕ) (i : (k : configured.Channel) × (channel_of d c ≡ Some k)) (lt : c < 8) (on : s.initialised ≡ true) (h : IcuRepresents d settled chip w s) (at : IsAt c gap1) (left : ChipLeft c w chip chip1) where
+    other : (y : Capture) → CaptureAgrees (channel_of d c) (gap1.gates c) (gap1.queues c) (gap1.counts c) s.initialised (s.initialised || gap1.moded) (chip_capture chip1.captures c) y → ModeWords i.0.mode (λ j. word_of chip1 j) gap1.words c i.0 y → IsCourse (channel_of d c) y → HasPlace (channel_of d c) y → HasTurns (channel_of d c) w y → ((j : ℕ) → j < 64 → word_of chip1 (place_of (Stamps c) j) ≡ stamp_in y.stored j) → IcuRepresents d gap1 chip1 w (with_capture s c y)
     other y block words course place turns stamps = one_agrees d c lt settled gap1 (settled_at c) at chip chip1 w s (with_capture s c y) on h left (with_state s c y) (subst (λ z. ChannelAgrees d gap1 chip1 w s.initialised c z) (sym (with_same s c y lt)) (record {
       block = block;
       words = from_mode d c i.0 i.1 i.0.mode refl (λ j. word_of chip1 j) gap1.words y words;
@@ -277,7 +257,7 @@ module _ (d : IcuDriver) where
     }))
 
   -- the mark is stored
-  undropped : (chip : Chip) (w : World) (s : IcuState) (c : ℕ) → Dropped d (calm s) c → IcuAgrees d (behind (word MARKS c)) chip w s → IcuAgrees d settled (chip_after chip (Store (word MARKS c) 0) 0) w s
+  undropped : (chip : Chip) (w : World) (s : IcuState) (c : ℕ) → Dropped d (without_edges s) c → IcuRepresents d (behind (word MARKS c)) chip w s → IcuRepresents d settled (chip_after chip (Store (word MARKS c) 0) 0) w s
   undropped chip w s c (k, known, mode, lt, on, off) h =
       let a = channel_agrees d (behind (word MARKS c)) chip w s c lt h in
       let x = capture_at s c in
@@ -291,14 +271,14 @@ module _ (d : IcuDriver) where
       })
 
   -- the edges are chosen; the mark is behind where the channel has one
-  choice : (chip : Chip) (w : World) (s : IcuState) (c : ℕ) (e : IcuStartEdge) (gap1 : Gap) → IsAt c gap1 → ((i : configured.Channel) → is_detection i.mode ≡ false → channel_of d c ≡ Some i → gap1.words (word MARKS c) ≡ false) → gap1.gates c ≡ false → gap1.queues c ≡ false → gap1.counts c ≡ false → gap1.moded ≡ false → (i : MayCall d c (chosen_call e)) → (is_detection i.channel.mode ≡ true → gap1.words (word MARKS c) ≡ true) → s.initialised ≡ true → IcuAgrees d settled chip w s → IcuAgrees d gap1 (chip_after chip (Write (CaptureCondition c) (condition_of e)) 0) w (with_capture s c (record (capture_at s c) { activation = e; active = false }))
+  choice : (chip : Chip) (w : World) (s : IcuState) (c : ℕ) (e : IcuStartEdge) (gap1 : Lag) → IsAt c gap1 → ((i : configured.Channel) → is_detection i.mode ≡ false → channel_of d c ≡ Some i → gap1.words (word MARKS c) ≡ false) → gap1.gates c ≡ false → gap1.queues c ≡ false → gap1.counts c ≡ false → gap1.moded ≡ false → (i : MayCall d c (chosen_call e)) → (is_detection i.channel.mode ≡ true → gap1.words (word MARKS c) ≡ true) → s.initialised ≡ true → IcuRepresents d settled chip w s → IcuRepresents d gap1 (chip_after chip (Write (CaptureCondition c) (condition_of e)) 0) w (with_capture s c (record (capture_at s c) { activation = e; active = false }))
   choice chip w s c e gap1 at l g q n md i b on h =
       let a = channel_agrees d settled chip w s c i.lt h in
       let x = capture_at s c in
       let y = record x { activation = e; active = false } in
       let old = chip_capture chip.captures c in
       let new = record old { condition = condition_by e } in
-      let none_measured = not_true (is_measurement i.channel.mode) i.suited in
+      let none_measured = not-true (is_measurement i.channel.mode) i.suited in
       let here = block_chosen (channel_of d c) e s.initialised (s.initialised || false) old x i.channel i.known none_measured a.block in
       other gap1 chip (chip_after chip (Write (CaptureCondition c) (condition_of e)) 0) w s c (i.channel, i.known) i.lt on h at
       (left_channel c w chip (with_condition (condition_of e) old) (stands-move chip w (Write (CaptureCondition c) (condition_of e)) 0 h.outside)) y
@@ -306,7 +286,7 @@ module _ (d : IcuDriver) where
       (words_chosen i.channel.mode (λ j. word_of chip j) gap1.words c i.channel e x none_measured b (λ f. l i.channel f i.known) (to_mode d c i.channel i.known i.channel.mode refl (λ j. word_of chip j) none x a.words))
       (as_course (channel_of d c) x y refl refl refl refl refl a.course) (place_chosen (channel_of d c) e x a.place) (turns_chosen (channel_of d c) w e x a.turns) (λ j few. a.stamps (is_there d c i.channel i.known) j few refl)
 
-  choose_by : (chip : Chip) (w : World) (s : IcuState) (c : ℕ) (e : IcuStartEdge) (m : ℕ → Bool) (i : MayCall d c (chosen_call e)) → s.initialised ≡ true → IcuAgrees d settled chip w s → (q : Bool) → q ≡ is_detection i.channel.mode → Good d (change_bodies d) chip w s (Choose c e q) (Called (Channel c (chosen_call e))) None m
+  choose_by : (chip : Chip) (w : World) (s : IcuState) (c : ℕ) (e : IcuStartEdge) (m : ℕ → Bool) (i : MayCall d c (chosen_call e)) → s.initialised ≡ true → IcuRepresents d settled chip w s → (q : Bool) → q ≡ is_detection i.channel.mode → Good d (change_bodies d) chip w s (Choose c e q) (Called (Channel c (chosen_call e))) None m
   choose_by chip w s c e m i on h true f =
       let y = record (capture_at s c) { activation = e; active = false } in
       let s1 = with_capture s c y in (
@@ -317,7 +297,7 @@ module _ (d : IcuDriver) where
           told = answers no_answer;
           is = λ times. acts_is d w s c (chosen_call e) times.committed i on;
           acts = tt;
-          next = (choice chip w s c e (behind (word MARKS c)) (behind_at MARKS c row_marks i.lt) (λ j g known. never (sym g ∙ (ap (λ z. is_detection z.mode) (same_some j i.channel (sym known ∙ i.known)) ∙ sym f))) refl refl refl refl i (λ f. same_yes (word MARKS c)) on h, ((Channel c (chosen_call e), Is_after, (i.channel, i.known, ap (λ q. q || is_measurement i.channel.mode) (sym f), i.lt, on, ap (λ z. z.active) (calm_at s1 c i.lt) ∙ ap (λ z. z.active) (with_same s c y i.lt))), tt));
+          next = (choice chip w s c e (behind (word MARKS c)) (behind_at MARKS c row_marks i.lt) (λ j g known. off_on (sym g ∙ (ap (λ z. is_detection z.mode) (same_some j i.channel (sym known ∙ i.known)) ∙ sym f))) refl refl refl refl i (λ f. eq_self (word MARKS c)) on h, ((Channel c (chosen_call e), Is_after, (i.channel, i.known, ap (λ q. q || is_measurement i.channel.mode) (sym f), i.lt, on, ap (λ z. z.active) (calm_at s1 c i.lt) ∙ ap (λ z. z.active) (with_same s c y i.lt))), tt));
         },
       )
   choose_by chip w s c e m i on h false f = (
@@ -328,7 +308,7 @@ module _ (d : IcuDriver) where
       told = answers no_answer;
       is = λ times. acts_is d w s c (chosen_call e) times.committed i on;
       acts = tt;
-      next = (choice chip w s c e settled (settled_at c) (λ j g known. refl) refl refl refl refl i (λ g. never (f ∙ g)) on h, (refl, refl, refl));
+      next = (choice chip w s c e settled (settled_at c) (λ j g known. refl) refl refl refl refl i (λ g. off_on (f ∙ g)) on h, (refl, refl, refl));
     },
   )
 

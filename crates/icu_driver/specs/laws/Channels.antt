@@ -1,15 +1,10 @@
 -- One channel of the block: its gate, its pops, its emptying and its count, as calls and servings change them.
-use Rattle.std.proofs.Common.{◌≡◌, Bool, true, false, List, [], ◌∷◌, Option, Some, None, refl, sym, ◌∙◌, ap}
-use Rattle.std.specs.Prelude.{map, drop, is_some}
-use Rattle.chip_captures.specs.Captures.{popped, flushed, zeroed}
+-- Used by Keeping, Gate, Stamp, Detecting, Sampling and 3 more.
+use Rattle.std.proofs.Common.{◌≡◌, [], ◌∷◌, ◌∙◌}
+use Rattle.icu_driver.specs.Terms
+use Terms.{ap, Bool, Capture, CaptureAgrees, Channel, ChoosesAs, chosen, counts_edges, drop, Edge, false, flushed}
+use Terms.{is_some, kept, List, map, None, off_on, Option, popped, refl, Some, switched, sym, true, zeroed}
 use Rattle.chip_captures.specs.declared.capture.Capture as chips
-use Rattle.icu_driver.specs.Edges.{Edge}
-use Rattle.icu_driver.specs.Ground.{CaptureAgrees, ChoosesAs, chosen, counts_edges, kept}
-use Rattle.icu_driver.specs.Machine.{Capture, switched}
-use Rattle.icu_driver.specs.declared.driver.Channel.{Channel}
-
-never : {A : Type 0} → false ≡ true → A
-never e = absurd (cc)
 
 -- the condition is chosen by the activation alone
 pub chooses_left : (k : Option Channel) (b b1 : chips.Capture) (x x1 : Capture) → b1.condition ≡ b.condition → x1.activation ≡ x.activation → ChoosesAs k b x → ChoosesAs k b1 x1
@@ -28,24 +23,24 @@ module _ (k : Option Channel) (n on moded : Bool) (b : chips.Capture) (x : Captu
     mode = h.mode;
     starts = h.starts;
     known = h.known;
-    free_known = λ f. never f;
-    free_queue = λ f. never f;
-    free_count = λ f. never f;
+    free_known = λ f. off_on f;
+    free_queue = λ f. off_on f;
+    free_count = λ f. off_on f;
   }
 
   -- switching on: the gate is opened, and the channel is free; it is emptied, and on
   pub opened_agrees : on ≡ true → counts_edges k ≡ false → CaptureAgrees k false false n on moded b x → CaptureAgrees k true true n on moded (record b { gate = true }) x
   opened_agrees is c h = record {
-    gate = λ f. never (sym f);
-    queue = λ f. never (sym f);
-    lost = λ f. never (sym f);
+    gate = λ f. off_on (sym f);
+    queue = λ f. off_on (sym f);
+    lost = λ f. off_on (sym f);
     count = h.count;
     condition = λ f. chooses_left k b (record b { gate = true }) x x refl refl (h.condition f);
     mode = h.mode;
     starts = h.starts;
     known = h.known;
     free_known = λ f. h.known is;
-    free_queue = λ f g. never (sym g);
+    free_queue = λ f g. off_on (sym g);
     free_count = λ f g. c;
   }
 
@@ -59,25 +54,25 @@ module _ (k : Option Channel) (n on moded : Bool) (b : chips.Capture) (x : Captu
     mode = h.mode;
     starts = λ f. (is, some);
     known = h.known;
-    free_known = λ f. never f;
-    free_queue = λ f. never f;
-    free_count = λ f. never f;
+    free_known = λ f. off_on f;
+    free_queue = λ f. off_on f;
+    free_count = λ f. off_on f;
   }
 
   -- switching off: the gate is closed, and what waits is free; it is dropped
   pub closed_agrees : CaptureAgrees k false false n on moded b x → CaptureAgrees k false true n on moded (record b { gate = false }) (switched false x)
   closed_agrees h = record {
     gate = λ f. refl;
-    queue = λ f. never (sym f);
-    lost = λ f. never (sym f);
+    queue = λ f. off_on (sym f);
+    lost = λ f. off_on (sym f);
     count = h.count;
     condition = λ f. chooses_left k b (record b { gate = false }) x (switched false x) refl refl (h.condition f);
     mode = h.mode;
-    starts = λ f. never f;
+    starts = λ f. off_on f;
     known = h.known;
-    free_known = λ f. never f;
-    free_queue = λ f. never f;
-    free_count = λ f. never f;
+    free_known = λ f. off_on f;
+    free_queue = λ f. off_on f;
+    free_count = λ f. off_on f;
   }
 
   pub dropped_agrees : x.waiting ≡ [] → x.lost ≡ false → CaptureAgrees k false true n on moded b x → CaptureAgrees k false false n on moded (flushed b) x
@@ -90,9 +85,9 @@ module _ (k : Option Channel) (n on moded : Bool) (b : chips.Capture) (x : Captu
     mode = h.mode;
     starts = h.starts;
     known = h.known;
-    free_known = λ f. never f;
-    free_queue = λ f. never f;
-    free_count = λ f. never f;
+    free_known = λ f. off_on f;
+    free_queue = λ f. off_on f;
+    free_count = λ f. off_on f;
   }
 
   -- a counter, on which no edge waits, is switched by its gate alone
@@ -106,9 +101,9 @@ module _ (k : Option Channel) (n on moded : Bool) (b : chips.Capture) (x : Captu
     mode = h.mode;
     starts = λ f. (is, some);
     known = h.known;
-    free_known = λ f. never f;
-    free_queue = λ f. never f;
-    free_count = λ f. never f;
+    free_known = λ f. off_on f;
+    free_queue = λ f. off_on f;
+    free_count = λ f. off_on f;
   }
 
   -- the count is made 0, whatever it was

@@ -1,38 +1,26 @@
 -- The services of an edge counter: their steps, what holds at each, and that they are right.
-use Rattle.std.proofs.Common.{◌≡◌, ℕ, ◌/◌, ◌%◌, ◌<◌, ◌^◌, Bool, true, false, ◌||◌, Option, Some, None, refl, sym, ◌∙◌, ap, subst, arith}
-use Rattle.chip_captures.specs.Captures.{Captures, capture_at as chip_capture, acted, acting, zeroed}
-use Rattle.chip_captures.specs.declared.capture.Act.{Act as Turn}
+-- From One, Calls, Steady, Channels.
+-- Used by service/count/rt, Lawful, Windows, Sampling, Keeping.
+use Rattle.std.proofs.Common.{◌≡◌, ◌/◌, ◌%◌, ◌<◌, ◌^◌, ◌||◌, ◌∙◌}
+use Rattle.icu_driver.specs.Terms
+use Terms.{acted, acting, After, answers, ap, AreRight, arith, Before, below_test, Bodies, Bool, Call, Capture}
+use Terms.{capture_at, CaptureAgrees, CaptureCountHigh, CaptureCountLow, CaptureGateClear, CaptureGateSet, Captures}
+use Terms.{CaptureZero, channel_of, Chip, chip_after, chip_capture, CountBody, DisableEdgeCount, EdgeCounter}
+use Terms.{EnableEdgeCount, false, GetEdgeNumbers, icu_ground, IcuDriver, IcuRepresents, IcuState, Is_after, Is_before}
+use Terms.{is_counter, is_measurement, is_timestamp, IsCourse, Lag, None, none, off_on, Option, Origin, outcome}
+use Terms.{place_of, Read, refl, ResetEdgeCount, settled, Some, stamp_in, Stamps, stands-move, StandsIn, subst}
+use Terms.{switched, sym, Told, true, Turn, with_capture, word_of, World, Write, zeroed, ℕ}
+use Rattle.icu_driver.specs.declared.call.Call.TheVariants.{Channel}
+use Rattle.icu_driver.specs.declared.service.count.CountBody.TheVariants.{Open, Close, Zero, Low, High}
+use Rattle.icu_driver.specs.laws.{Base.{Move, Act, no_answer, BodyTaken, acts_on, ends, number, Nothing, Shortens, bit}}
+use Rattle.icu_driver.specs.laws.{Base.{joined}, Calls.{MayCall, acts_is, counts, from_mode, is_there, counting}}
+use Rattle.icu_driver.specs.laws.{Calls.{place_by, turns_by, switched_course}, Channels.{gated_agrees, zeroed_agrees}}
+use Rattle.icu_driver.specs.laws.{One.{ChipLeft, ChannelAgrees, channel_agrees, one_agrees, settled_at, with_same}}
+use Rattle.icu_driver.specs.laws.{One.{with_state, left_latched, left_channel, left_gate, channel_new, gate_new}}
+use Rattle.icu_driver.specs.laws.{Steady.{AllGood, steady, steady_right}}
 use Rattle.chip_captures.specs.declared.capture.Act.TheVariants as turns
 use Rattle.chip_captures.specs.declared.capture.Capture as chips
-use Rattle.chip_model.specs.Chip.{Chip, chip_after, word_of}
-use Rattle.mcal_base.specs.Layout.{place_of}
-use Rattle.mcal_base.specs.declared.config.icu.IcuMeasurementMode.TheVariants.{EdgeCounter}
-use Rattle.mcal_base.specs.declared.layout.Array.TheVariants.{Stamps}
-use Rattle.mcal_base.specs.declared.moves.Move.TheVariants.{Read, Write}
-use Rattle.mcal_base.specs.declared.register.Reg.TheVariants.{CaptureGateSet, CaptureGateClear, CaptureZero, CaptureCountLow, CaptureCountHigh}
-use Rattle.run_model.specs.Frame.{Origin}
-use Rattle.run_model.specs.Machine.{Told, outcome}
-use Rattle.run_model.specs.Outside.{StandsIn}
-use Rattle.run_model.specs.World.{World}
-use Rattle.run_model.proofs.OutsideLaws.{stands-move}
-use Rattle.service_outline.specs.Done.{answers}
-use Rattle.service_outline.specs.Outline.{Bodies, AreRight, Before, Is_before, After, Is_after}
-use Rattle.icu_driver.specs.Ground.{Gap, none, settled, CaptureAgrees, IsCourse, IcuAgrees, icu_ground}
-use Rattle.icu_driver.specs.Machine.{IcuState, Capture, capture_at, with_capture, switched, stamp_in}
-use Rattle.icu_driver.specs.Table.{channel_of, is_counter, is_timestamp, is_measurement}
-use Rattle.icu_driver.specs.declared.call.Call.{Call}
-use Rattle.icu_driver.specs.declared.call.Call.TheVariants.{Channel}
-use Rattle.icu_driver.specs.declared.call.ChannelCall.TheVariants.{ResetEdgeCount, EnableEdgeCount, DisableEdgeCount, GetEdgeNumbers}
 use Rattle.icu_driver.specs.declared.driver.Channel as configured
-use Rattle.icu_driver.specs.declared.driver.IcuDriver.{IcuDriver}
-use Rattle.icu_driver.specs.laws.Base.{Move, Act, no_answer, BodyTaken, acts_on, ends, number, Nothing, Shortens, bit, joined}
-use Rattle.icu_driver.specs.laws.Calls.{never, MayCall, acts_is, counts, from_mode, is_there, counting, place_by, turns_by, switched_course}
-use Rattle.icu_driver.specs.laws.Channels.{gated_agrees, zeroed_agrees}
-use Rattle.icu_driver.specs.laws.Ground.{below_test}
-use Rattle.icu_driver.specs.laws.One.{ChipLeft, ChannelAgrees, channel_agrees, one_agrees, settled_at, with_same, with_state, left_latched, left_channel, left_gate, channel_new, gate_new}
-use Rattle.icu_driver.specs.laws.Steady.{AllGood, steady, steady_right}
-use Rattle.icu_driver.specs.declared.service.count.CountBody.{CountBody}
-use Rattle.icu_driver.specs.declared.service.count.CountBody.TheVariants.{Open, Close, Zero, Low, High}
 
 abbrev pub count_work : CountBody → Move
 count_work (Open c) = Write CaptureGateSet (bit c)
@@ -64,7 +52,7 @@ count_shortens (High c low) x = omega arith
 
 -- ---- what holds at each; after the act the latch has the high half
 
-abbrev pub count_gap : CountBody → Gap
+abbrev pub count_gap : CountBody → Lag
 count_gap k = settled
 
 abbrev pub count_holds : IcuDriver → Captures → IcuState → CountBody → Origin Call → Option Told → Type 0
@@ -83,8 +71,8 @@ halves_join n lt = let a : n < 4294967296 = lt in omega arith
 
 module _ (d : IcuDriver) where
   -- a counter's state changes, and its gate or its count
-  module _ (chip : Chip) (w : World) (s : IcuState) (c : ℕ) (k : configured.Channel) (lt : c < 8) (known : channel_of d c ≡ Some k) (mode : k.mode ≡ EdgeCounter) (on : s.initialised ≡ true) (h : IcuAgrees d settled chip w s) where
-    counted : (chip1 : Chip) (y : Capture) → ChipLeft c w chip chip1 → CaptureAgrees (channel_of d c) false false false s.initialised (s.initialised || false) (chip_capture chip1.captures c) y → IsCourse (channel_of d c) y → ((i : ℕ) → i < 64 → word_of chip1 (place_of (Stamps c) i) ≡ stamp_in y.stored i) → IcuAgrees d settled chip1 w (with_capture s c y)
+  module _ (chip : Chip) (w : World) (s : IcuState) (c : ℕ) (k : configured.Channel) (lt : c < 8) (known : channel_of d c ≡ Some k) (mode : k.mode ≡ EdgeCounter) (on : s.initialised ≡ true) (h : IcuRepresents d settled chip w s) where
+    counted : (chip1 : Chip) (y : Capture) → ChipLeft c w chip chip1 → CaptureAgrees (channel_of d c) false false false s.initialised (s.initialised || false) (chip_capture chip1.captures c) y → IsCourse (channel_of d c) y → ((i : ℕ) → i < 64 → word_of chip1 (place_of (Stamps c) i) ≡ stamp_in y.stored i) → IcuRepresents d settled chip1 w (with_capture s c y)
     counted chip1 y left block course stamps = one_agrees d c lt settled settled (settled_at c) (settled_at c) chip chip1 w s (with_capture s c y) on h left (with_state s c y) (subst (λ z. ChannelAgrees d settled chip1 w s.initialised c z) (sym (with_same s c y lt)) (record {
       block = block;
       words = from_mode d c k known EdgeCounter mode (λ j. word_of chip1 j) none y tt;
@@ -94,7 +82,7 @@ module _ (d : IcuDriver) where
       stamps = λ some i few g. stamps i few;
     }))
 
-    gated : (act : Turn) (q : Bool) → ((now : ℕ) (b : chips.Capture) → acting act now b ≡ record b { gate = q }) → StandsIn (record chip { captures = acted act chip.captures (bit c) }) w → IcuAgrees d settled (record chip { captures = acted act chip.captures (bit c) }) w (with_capture s c (switched q (capture_at s c)))
+    gated : (act : Turn) (q : Bool) → ((now : ℕ) (b : chips.Capture) → acting act now b ≡ record b { gate = q }) → StandsIn (record chip { captures = acted act chip.captures (bit c) }) w → IcuRepresents d settled (record chip { captures = acted act chip.captures (bit c) }) w (with_capture s c (switched q (capture_at s c)))
     gated act q is stands =
         let a = channel_agrees d settled chip w s c lt h in
         let b = chip_capture chip.captures c in
@@ -139,7 +127,7 @@ module _ (d : IcuDriver) where
           told = answers no_answer;
           is = λ times. acts_is d w s c ResetEdgeCount times.committed i on;
           acts = tt;
-          next = (counted chip w s c i.channel i.lt i.known (counts i.channel.mode i.suited) on h (chip_after chip (Write (CaptureZero c) 0) 0) (record x { count = 0 }) (left_channel c w chip (zeroed b) (stands-move chip w (Write (CaptureZero c) 0) 0 h.outside)) (subst (λ z. CaptureAgrees (channel_of d c) false false false s.initialised m1 z (record x { count = 0 })) (sym (channel_new c chip.captures (zeroed b) h.size i.lt)) (zeroed_agrees (channel_of d c) false s.initialised m1 b x false false (λ f. never f) a.block)) (record { room = a.course.room; times = a.course.times; counter = a.course.counter; off = a.course.off; start = a.course.start; count = omega arith; unstarted = a.course.unstarted; uncounted = λ f. refl }) (λ j few. a.stamps (is_there d c i.channel i.known) j few refl), (refl, refl, refl));
+          next = (counted chip w s c i.channel i.lt i.known (counts i.channel.mode i.suited) on h (chip_after chip (Write (CaptureZero c) 0) 0) (record x { count = 0 }) (left_channel c w chip (zeroed b) (stands-move chip w (Write (CaptureZero c) 0) 0 h.outside)) (subst (λ z. CaptureAgrees (channel_of d c) false false false s.initialised m1 z (record x { count = 0 })) (sym (channel_new c chip.captures (zeroed b) h.size i.lt)) (zeroed_agrees (channel_of d c) false s.initialised m1 b x false false (λ f. off_on f) a.block)) (record { room = a.course.room; times = a.course.times; counter = a.course.counter; off = a.course.off; start = a.course.start; count = omega arith; unstarted = a.course.unstarted; uncounted = λ f. refl }) (λ j few. a.stamps (is_there d c i.channel i.known) j few refl), (refl, refl, refl));
         },
       )
   steps chip w s (Low c) o t m (h, ((Is_before, i, on), u)) =

@@ -1,4 +1,6 @@
 -- What an edge leaves of a channel beside its queue and count: its words, its course and its place for a stamp.
+-- From Parts, Tables.
+-- Used by Levels.
 use Rattle.std.proofs.Common.{◌≡◌, ℕ, ◌+◌, ◌%◌, ◌<◌, ◌≤◌, ◌^◌, Bool, true, false, ◌&&◌, ◌||◌, ◌==◌, not, nat_lt, [], ◌∷◌, ◌++◌, length, List, Option, Some, None, refl, sym, ◌∙◌, ap, subst, arith, length-append}
 use Rattle.std.specs.Prelude.{if◌then◌else◌}
 use Rattle.std.specs.List.{AllByRecursion}
@@ -6,7 +8,7 @@ use Rattle.std.proofs.lemmas.Bool.Decides.{nat_tests}
 use Rattle.mcal_base.specs.declared.config.icu.IcuMeasurementMode.{IcuMeasurementMode}
 use Rattle.mcal_base.specs.declared.config.icu.IcuMeasurementMode.TheVariants.{SignalEdgeDetect, EdgeCounter, Timestamp, SignalMeasurement}
 use Rattle.icu_driver.specs.Edges.{Edge}
-use Rattle.icu_driver.specs.Ground.{ChannelWords, ModeWords, IsCourse, IsStart, HasPlace, Stamped, Is_on, Is_stopped, Is_fresh}
+use Rattle.icu_driver.specs.Refinement.{ChannelWords, ModeWords, IsCourse, IsStart, HasPlace, Stamped, Is_on, Is_stopped, Is_fresh}
 use Rattle.icu_driver.specs.Machine.{Capture, edge_taken, edge_queued, is_taken, edge_at_pin}
 use Rattle.icu_driver.specs.Table.{is_counter, is_measurement, chooses}
 use Rattle.icu_driver.specs.declared.driver.Channel.{Channel}

@@ -1,42 +1,30 @@
 -- Icu_DeInit: its steps, what holds at each, and that they are right.
-use Rattle.std.proofs.Common.{◌≡◌, ◌≢◌, ℕ, ◌+◌, ◌-◌, ◌*◌, ◌%◌, ◌<◌, ◌≤◌, Bool, true, false, ◌&&◌, ◌||◌, ◌==◌, not, nat_lt, List, [], ◌∷◌, Option, Some, None, refl, sym, ◌∙◌, ap, subst, arith}
-use Rattle.std.specs.Prelude.{if◌then◌else◌, map, is_some}
-use Rattle.chip_captures.specs.Captures.{Captures, capture_at as chip_capture, acting, flushed, zeroed}
+-- From One, Rows, Calls, Init, Stamp and 2 more.
+-- Used by service/deinit/rt, Lawful, Windows.
+use Rattle.std.proofs.Common.{◌≡◌, ◌≢◌, ◌+◌, ◌-◌, ◌*◌, ◌%◌, ◌<◌, ◌≤◌, ◌&&◌, ◌||◌, ◌==◌, [], ◌∷◌, ◌∙◌, if◌then◌else◌}
+use Rattle.icu_driver.specs.Terms
+use Terms.{acting, ActiveIs, Acts, acts_by, After, and_false, and_true, ap, AreRight, arith, At, Before, below_test}
+use Terms.{bit_of, Bodies, Bool, by_channel_at, by_eight, Call, Called, Capture, capture_at, CaptureAgrees}
+use Terms.{CaptureFlush, CaptureGateClear, Captures, CaptureZero, channel_of, ChannelWords, Chip, chip_after}
+use Terms.{chip_capture, cleared, cleared_all, counts_edges, DeInit, DeInitBody, Disable, EdgeCounter, EnableClear}
+use Terms.{error_by, false, Flush, flushed, happens, has_bit, has_bit-without, HasPlace, HasTurns, icu_ground}
+use Terms.{icu_machine, IcuMeasurementMode, IcuRepresents, IcuState, Is_after, Is_before, is_counter, Is_fresh, is_some}
+use Terms.{IsClean, IsCourse, kept, Lag, length-at_bits, List, lt_from, lt_since, lt_zero, map, missed_after, ModeWords}
+use Terms.{nat_lt, None, none, not, not-false, off_on, Option, or_true, Origin, outcome, place_of, refl, settled}
+use Terms.{SignalEdgeDetect, SignalMeasurement, Some, stamp_in, Stamped, Stamps, stands-move, StepsTo, stored_other}
+use Terms.{stored_same, Stores, subst, sym, Timestamp, Told, true, ValueIs, word_of, World, Write, Zero, zeroed, ℕ}
+use Rattle.icu_driver.specs.laws.{Calls.{counts as counter_mode, off_place, off_turns, may_row}, Init.{cleared_course}}
+use Rattle.icu_driver.specs.laws.{Init.{cleared_stored, all_lines, may_state}, Measure.{none_served}, One.{IsRow}}
+use Rattle.icu_driver.specs.laws.{One.{GapLeft, channel_agrees, step_agrees, off_channel, same_state, left_channel}}
+use Rattle.icu_driver.specs.laws.{One.{left_word, channel_new, acted_at, word_new, word_old, stamps_old, words_left}}
+use Rattle.icu_driver.specs.laws.{Rows.{rows_behind, behind_row, grows, New_waits, measure_closed}}
+use Rattle.icu_driver.specs.laws.{Stamp.{row_switches, row_marks, row_places}, Steady.{AllGood, steady, steady_right}}
+use Rattle.icu_driver.specs.laws.{Base.{nat_tests, Move, tells_nothing, no_answer, BodyTaken, goes, acts_on, ends}}
+use Rattle.icu_driver.specs.laws.{Base.{Nothing, Shortens, word, Channel, IcuDriver, STATE, LINES, CHANNELS, SWITCHES}}
+use Rattle.icu_driver.specs.laws.{Base.{MARKS, SIZES, PLACES, VALUES, TIMES}}
+use Rattle.icu_driver.specs.declared.service.deinit.DeInitBody.TheVariants.{Store, Close, Switch, Mark}
 use Rattle.chip_captures.specs.declared.capture.Act.TheVariants as turns
 use Rattle.chip_captures.specs.declared.capture.Capture as chips
-use Rattle.chip_model.specs.Chip.{Chip, chip_after, word_of}
-use Rattle.mcal_base.proofs.BitLaws.{has_bit-without, length-at_bits}
-use Rattle.mcal_base.specs.Bits.{bit_of, has_bit}
-use Rattle.mcal_base.specs.Layout.{place_of}
-use Rattle.mcal_base.specs.declared.config.icu.IcuMeasurementMode.{IcuMeasurementMode}
-use Rattle.mcal_base.specs.declared.config.icu.IcuMeasurementMode.TheVariants.{SignalEdgeDetect, EdgeCounter, Timestamp, SignalMeasurement}
-use Rattle.mcal_base.specs.declared.layout.Array.TheVariants.{Stamps}
-use Rattle.run_model.specs.Frame.{Origin, Called, missed_after}
-use Rattle.run_model.specs.Machine.{Told, Acts, outcome}
-use Rattle.run_model.specs.World.{World}
-use Rattle.run_model.proofs.OutsideLaws.{stands-move}
-use Rattle.service_outline.specs.Outline.{Bodies, At, AreRight, StepsTo, Before, Is_before, After, Is_after}
-use Rattle.service_outline.specs.laws.Words.{stored_same, stored_other}
-use Rattle.icu_driver.specs.Ground.{Gap, none, settled, kept, counts_edges, CaptureAgrees, ChannelWords, ModeWords, Stamped, Is_fresh, ValueIs, ActiveIs, IsCourse, IsClean, HasPlace, HasTurns, IcuAgrees, icu_ground}
-use Rattle.icu_driver.specs.Machine.{IcuState, Capture, capture_at, cleared, cleared_all, stamp_in, acts_by, happens, icu_machine}
-use Rattle.icu_driver.specs.Checks.{error_by}
-use Rattle.icu_driver.specs.declared.call.Call.{Call}
-use Rattle.icu_driver.specs.declared.call.Call.TheVariants.{DeInit}
-use Rattle.icu_driver.specs.laws.Calls.{never, counts as counter_mode, off_place, off_turns, may_row}
-use Rattle.icu_driver.specs.laws.Ground.{below_test}
-use Rattle.icu_driver.specs.laws.Init.{cleared_course, cleared_stored, all_lines, may_state}
-use Rattle.icu_driver.specs.laws.Measure.{none_served}
-use Rattle.icu_driver.specs.laws.One.{IsRow, GapLeft, channel_agrees, step_agrees, off_channel, same_state, left_channel, left_word, channel_new, acted_at, word_new, word_old, stamps_old, words_left}
-use Rattle.icu_driver.specs.laws.Rows.{rows_behind, behind_row, grows, New_waits, measure_closed}
-use Rattle.icu_driver.specs.laws.Stamp.{row_switches, row_marks, row_places}
-use Rattle.icu_driver.specs.laws.Steady.{AllGood, steady, steady_right}
-use Rattle.icu_driver.specs.laws.Tables.{by_eight, by_channel_at}
-use Rattle.icu_driver.specs.laws.Base.{nat_tests, Move, tells_nothing, no_answer, BodyTaken, goes, acts_on, ends, Nothing, Shortens, word, Channel, IcuDriver, STATE, LINES, CHANNELS, SWITCHES, MARKS, SIZES, PLACES, VALUES, TIMES}
-use Rattle.mcal_base.specs.declared.moves.Move.TheVariants.{Write, Store as Stores}
-use Rattle.mcal_base.specs.declared.register.Reg.TheVariants.{EnableClear, CaptureGateClear, CaptureZero, CaptureFlush}
-use Rattle.icu_driver.specs.Table.{channel_of, is_counter}
-use Rattle.icu_driver.specs.declared.service.deinit.DeInitBody.{DeInitBody}
-use Rattle.icu_driver.specs.declared.service.deinit.DeInitBody.TheVariants.{Store, Disable, Close, Zero, Flush, Switch, Mark}
 
 -- the channel is an edge counter
 abbrev pub counts : IcuDriver → ℕ → Bool
@@ -107,7 +95,7 @@ abbrev pub behind_from : (switches marks : ℕ) → ℕ → Bool
 behind_from i m j = from SWITCHES i j || (from MARKS m j || from PLACES m j)
 
 -- what waits or was counted is still there from a channel on
-abbrev pub dropping : IcuDriver → (edges switches marks : ℕ) → Gap
+abbrev pub dropping : IcuDriver → (edges switches marks : ℕ) → Lag
 dropping d e i m = record settled {
   queues = λ c. not (nat_lt c e) && not (counts d c);
   counts = λ c. not (nat_lt c e) && counts d c;
@@ -115,10 +103,10 @@ dropping d e i m = record settled {
 }
 
 -- the gates are still as they were
-abbrev pub closing : IcuDriver → Option Bool → Gap
+abbrev pub closing : IcuDriver → Option Bool → Lag
 closing d lines = record (dropping d 0 0 0) { gates = λ c. true; moded = true; lines = lines }
 
-abbrev pub deinit_gap : IcuDriver → DeInitBody → Gap
+abbrev pub deinit_gap : IcuDriver → DeInitBody → Lag
 deinit_gap d (Store e) = settled
 deinit_gap d (Disable e) = closing d (Some true)
 deinit_gap d (Close e) = closing d None
@@ -141,25 +129,11 @@ deinit_bodies d = steady d deinit_work deinit_takes deinit_left (deinit_gap d) (
 
 -- ---- the words of rows from a channel on
 
-and_true : (q : Bool) → q && true ≡ q
-and_true true = refl
-and_true false = refl
-
-and_false : (q : Bool) → q && false ≡ false
-and_false true = refl
-and_false false = refl
-
 shifted : (row c i : ℕ) → nat_lt (row + c) (row + i) ≡ nat_lt c i
 shifted row c i = grind (arith, nat_tests)
 
-is_below : (i j : ℕ) → i < j → nat_lt i j ≡ true
-is_below i j lt = grind (arith, nat_tests)
-
-not_below : (i j : ℕ) → j ≤ i → nat_lt i j ≡ false
-not_below i j le = grind (arith, nat_tests)
-
 from_same : (row i c : ℕ) → c < 8 → from row i (word row c) ≡ not (nat_lt c i)
-from_same row i c lt = ap (λ q. not q && nat_lt (row + c) (row + 8)) (shifted row c i) ∙ (ap (λ q. not (nat_lt c i) && q) (is_below (row + c) (row + 8) (omega (arith, lt))) ∙ and_true (not (nat_lt c i)))
+from_same row i c lt = ap (λ q. not q && nat_lt (row + c) (row + 8)) (shifted row c i) ∙ (ap (λ q. not (nat_lt c i) && q) (lt_from (row + c) (row + 8) (omega (arith, lt))) ∙ and_true (not (nat_lt c i)))
 
 lower : (row r c i : ℕ) → row % 8 ≡ 0 → r % 8 ≡ 0 → c < 8 → r < row → r + c < row + i
 lower row r c i a b lt less = omega (arith, a, b, lt, less)
@@ -177,8 +151,8 @@ from_other row r i c a b ne lt = by (nat_lt r row) refl
     more e = grind (arith, nat_tests)
 
     by : (q : Bool) → nat_lt r row ≡ q → from row i (word r c) ≡ false
-    by true e = ap (λ q. not q && nat_lt (r + c) (row + 8)) (is_below (r + c) (row + i) (lower row r c i a.0 b.0 lt (less e)))
-    by false e = ap (λ q. not (nat_lt (r + c) (row + i)) && q) (not_below (r + c) (row + 8) (higher row r c a.0 b.0 (more e))) ∙ and_false (not (nat_lt (r + c) (row + i)))
+    by true e = ap (λ q. not q && nat_lt (r + c) (row + 8)) (lt_from (r + c) (row + i) (lower row r c i a.0 b.0 lt (less e)))
+    by false e = ap (λ q. not (nat_lt (r + c) (row + i)) && q) (lt_since (r + c) (row + 8) (higher row r c a.0 b.0 (more e))) ∙ and_false (not (nat_lt (r + c) (row + i)))
 
 from_at : (row r i c : ℕ) → IsRow row → IsRow r → c < 8 → from row i (word r c) ≡ (r == row) && not (nat_lt c i)
 from_at row r i c a b lt = by (r == row) refl
@@ -194,7 +168,7 @@ from_at row r i c a b lt = by (r == row) refl
     by false e = from_other row r i c a b (differ e) lt
 
 from_state : (row i : ℕ) → IsRow row → from row i STATE ≡ false
-from_state row i a = let low = a.1 in ap (λ q. not q && nat_lt STATE (row + 8)) (is_below STATE (row + i) (omega (arith, low)))
+from_state row i a = let low = a.1 in ap (λ q. not q && nat_lt STATE (row + 8)) (lt_from STATE (row + i) (omega (arith, low)))
 
 behind_state : (i m : ℕ) → behind_from i m STATE ≡ false
 behind_state i m = ap (λ q. q || (from MARKS m STATE || from PLACES m STATE)) (from_state SWITCHES i row_switches) ∙ (ap (λ q. q || from PLACES m STATE) (from_state MARKS m row_marks) ∙ from_state PLACES m row_places)
@@ -234,31 +208,27 @@ none_by : (a b p : Bool) → (a && false) || ((b && false) || (p && false)) ≡ 
 none_by a b p = ap (λ q. q || ((b && false) || (p && false))) (and_false a) ∙ (ap (λ q. q || (p && false)) (and_false b) ∙ and_false p)
 
 behind_all : (i m c r : ℕ) → IsRow r → c < 8 → i ≤ c → m ≤ c → behind_from i m (word r c) ≡ rows_behind all_rows c (word r c)
-behind_all i m c r a lt less few = behind_at i m c r a lt ∙ (ap (λ q. behind_by r q (nat_lt c m)) (not_below c i less) ∙ (ap (λ q. behind_by r false q) (not_below c m few) ∙ (all_by (r == SWITCHES) (r == MARKS) (r == PLACES) ∙ sym (behind_row all_rows r c))))
+behind_all i m c r a lt less few = behind_at i m c r a lt ∙ (ap (λ q. behind_by r q (nat_lt c m)) (lt_since c i less) ∙ (ap (λ q. behind_by r false q) (lt_since c m few) ∙ (all_by (r == SWITCHES) (r == MARKS) (r == PLACES) ∙ sym (behind_row all_rows r c))))
 
 behind_last : (i m c r : ℕ) → IsRow r → c < 8 → c < i → m ≤ c → behind_from i m (word r c) ≡ rows_behind last_rows c (word r c)
-behind_last i m c r a lt less few = behind_at i m c r a lt ∙ (ap (λ q. behind_by r q (nat_lt c m)) (is_below c i less) ∙ (ap (λ q. behind_by r true q) (not_below c m few) ∙ (last_by (r == SWITCHES) (r == MARKS) (r == PLACES) ∙ sym (behind_row last_rows r c))))
+behind_last i m c r a lt less few = behind_at i m c r a lt ∙ (ap (λ q. behind_by r q (nat_lt c m)) (lt_from c i less) ∙ (ap (λ q. behind_by r true q) (lt_since c m few) ∙ (last_by (r == SWITCHES) (r == MARKS) (r == PLACES) ∙ sym (behind_row last_rows r c))))
 
 behind_none : (i m c r : ℕ) → IsRow r → c < 8 → c < i → c < m → behind_from i m (word r c) ≡ false
-behind_none i m c r a lt less few = behind_at i m c r a lt ∙ (ap (λ q. behind_by r q (nat_lt c m)) (is_below c i less) ∙ (ap (λ q. behind_by r true q) (is_below c m few) ∙ none_by (r == SWITCHES) (r == MARKS) (r == PLACES)))
+behind_none i m c r a lt less few = behind_at i m c r a lt ∙ (ap (λ q. behind_by r q (nat_lt c m)) (lt_from c i less) ∙ (ap (λ q. behind_by r true q) (lt_from c m few) ∙ none_by (r == SWITCHES) (r == MARKS) (r == PLACES)))
 
 -- ---- a channel whose module is switched off
 
-yes : (q : Bool) → not q ≡ false → q ≡ true
-yes true e = refl
-yes false e = never (sym e)
-
 stopped_block : (k : Option Channel) (b : chips.Capture) (x : Capture) → CaptureAgrees k false false false true true b x → IsCourse k x → CaptureAgrees k true (not (counts_edges k)) (counts_edges k) false true b (cleared k x)
-stopped_block None b x a g = record { gate = λ f. never (sym f); queue = λ f. never (sym f); lost = λ f. never (sym f); count = λ f. a.count refl; condition = λ f. never f; mode = λ f. a.mode refl; starts = λ f. never (a.starts f).1; known = λ f. refl; free_known = λ f. refl; free_queue = λ f e. never (sym e); free_count = λ f e. refl }
-stopped_block (Some k) b x a g = record { gate = λ f. never (sym f); queue = λ f. a.queue refl ∙ ap (λ es. map kept es) (g.counter (yes (is_counter k.mode) f)).0; lost = λ f. a.lost refl ∙ (g.counter (yes (is_counter k.mode) f)).1; count = λ f. a.count refl ∙ g.uncounted f; condition = λ f. never f; mode = λ f. a.mode refl; starts = λ f. never f; known = λ f. refl; free_known = λ f. refl; free_queue = λ f e. yes (is_counter k.mode) e; free_count = λ f e. e }
+stopped_block None b x a g = record { gate = λ f. off_on (sym f); queue = λ f. off_on (sym f); lost = λ f. off_on (sym f); count = λ f. a.count refl; condition = λ f. off_on f; mode = λ f. a.mode refl; starts = λ f. off_on (a.starts f).1; known = λ f. refl; free_known = λ f. refl; free_queue = λ f e. off_on (sym e); free_count = λ f e. refl }
+stopped_block (Some k) b x a g = record { gate = λ f. off_on (sym f); queue = λ f. a.queue refl ∙ ap (λ es. map kept es) (g.counter (not-false (is_counter k.mode) f)).0; lost = λ f. a.lost refl ∙ (g.counter (not-false (is_counter k.mode) f)).1; count = λ f. a.count refl ∙ g.uncounted f; condition = λ f. off_on f; mode = λ f. a.mode refl; starts = λ f. off_on f; known = λ f. refl; free_known = λ f. refl; free_queue = λ f e. not-false (is_counter k.mode) e; free_count = λ f e. e }
 
 stopped_mode : (m : IcuMeasurementMode) (at : ℕ → ℕ) (c : ℕ) (k : Channel) (x : Capture) → ModeWords m at none c k x → ModeWords m at (rows_behind all_rows c) c k (cleared (Some k) x)
-stopped_mode SignalEdgeDetect at c k x h = record { switch = λ f. never (sym f ∙ behind_row all_rows SWITCHES c); mark = λ f. never (sym f ∙ behind_row all_rows MARKS c) }
+stopped_mode SignalEdgeDetect at c k x h = record { switch = λ f. off_on (sym f ∙ behind_row all_rows SWITCHES c); mark = λ f. off_on (sym f ∙ behind_row all_rows MARKS c) }
 stopped_mode EdgeCounter at c k x h = tt
-stopped_mode Timestamp at c k x h = record { switch = λ f. never (sym f ∙ behind_row all_rows SWITCHES c); mark = λ f. never (sym f ∙ behind_row all_rows MARKS c); size = λ f. h.size refl; interval = λ f g. never g; place = λ f ne. never (sym f ∙ behind_row all_rows PLACES c); left = λ f g. never g }
+stopped_mode Timestamp at c k x h = record { switch = λ f. off_on (sym f ∙ behind_row all_rows SWITCHES c); mark = λ f. off_on (sym f ∙ behind_row all_rows MARKS c); size = λ f. h.size refl; interval = λ f g. off_on g; place = λ f ne. off_on (sym f ∙ behind_row all_rows PLACES c); left = λ f g. off_on g }
 stopped_mode SignalMeasurement at c k x h =
     let nothing = none_served k (cleared (Some k) x) refl in
-    record { waits = λ f. never (sym f ∙ behind_row all_rows SWITCHES c); mark = λ f. never (sym f ∙ behind_row all_rows MARKS c); seen = λ f g. never g; start = λ f g. never g; opposite = λ f g. never g; value = λ f. subst (λ o. ValueIs (at (word VALUES c)) o) (sym nothing) tt; time = λ f. subst (λ o. ActiveIs (at (word TIMES c)) o) (sym nothing) tt }
+    record { waits = λ f. off_on (sym f ∙ behind_row all_rows SWITCHES c); mark = λ f. off_on (sym f ∙ behind_row all_rows MARKS c); seen = λ f g. off_on g; start = λ f g. off_on g; opposite = λ f g. off_on g; value = λ f. subst (λ o. ValueIs (at (word VALUES c)) o) (sym nothing) tt; time = λ f. subst (λ o. ActiveIs (at (word TIMES c)) o) (sym nothing) tt }
 
 stopped_words : (k : Option Channel) (at : ℕ → ℕ) (c : ℕ) (x : Capture) → ChannelWords k at none c x → ChannelWords k at (rows_behind all_rows c) c (cleared k x)
 stopped_words None at c x h = tt
@@ -269,34 +239,34 @@ stopped_off (Some k) x h = refl
 stopped_off None x h = by x.on refl
   where
     by : (q : Bool) → x.on ≡ q → x.on ≡ false
-    by true e = never (h e)
+    by true e = off_on (h e)
     by false e = e
 
 stopped_clean : (k : Option Channel) (x : Capture) → is_some k ≡ true → IsClean (cleared k x)
-stopped_clean None x some = never some
+stopped_clean None x some = off_on some
 stopped_clean (Some k) x some = record { off = refl; quiet = refl; unmarked = refl; uncounted = refl; unserved = refl }
 
 -- ---- a channel that is closed, and emptied
 
 shut_block : (k : Option Channel) (q n on m m1 : Bool) (b : chips.Capture) (x : Capture) → on ≡ false → x.on ≡ false → m ≡ true → CaptureAgrees k true q n on m b x → CaptureAgrees k false q n on m1 (record b { gate = false }) x
-shut_block k q n on m m1 b x off idle known a = record { gate = λ f. sym idle; queue = a.queue; lost = a.lost; count = a.count; condition = λ f. never (sym off ∙ f); mode = λ f. a.mode known; starts = a.starts; known = λ f. never (sym off ∙ f); free_known = λ f. never f; free_queue = λ f. never f; free_count = λ f. never f }
+shut_block k q n on m m1 b x off idle known a = record { gate = λ f. sym idle; queue = a.queue; lost = a.lost; count = a.count; condition = λ f. off_on (sym off ∙ f); mode = λ f. a.mode known; starts = a.starts; known = λ f. off_on (sym off ∙ f); free_known = λ f. off_on f; free_queue = λ f. off_on f; free_count = λ f. off_on f }
 
 emptied_block : (k : Option Channel) (q n q1 n1 on m : Bool) (b b1 : chips.Capture) (x : Capture) → on ≡ false → b1.gate ≡ b.gate → b1.mode ≡ b.mode → b1.queue ≡ map kept x.waiting → b1.lost ≡ x.lost → b1.count ≡ x.count → CaptureAgrees k false q n on m b x → CaptureAgrees k false q1 n1 on m b1 x
-emptied_block k q n q1 n1 on m b b1 x off gate mode queue lost count a = record { gate = λ f. gate ∙ a.gate f; queue = λ f. queue; lost = λ f. lost; count = λ f. count; condition = λ f. never (sym off ∙ f); mode = λ f. mode ∙ a.mode f; starts = a.starts; known = a.known; free_known = λ f. never f; free_queue = λ f. never f; free_count = λ f. never f }
+emptied_block k q n q1 n1 on m b b1 x off gate mode queue lost count a = record { gate = λ f. gate ∙ a.gate f; queue = λ f. queue; lost = λ f. lost; count = λ f. count; condition = λ f. off_on (sym off ∙ f); mode = λ f. mode ∙ a.mode f; starts = a.starts; known = a.known; free_known = λ f. off_on f; free_queue = λ f. off_on f; free_count = λ f. off_on f }
 
 counter_words : (k : Option Channel) (at : ℕ → ℕ) (behind : ℕ → Bool) (c : ℕ) (x : Capture) → counts_edges k ≡ true → ChannelWords k at behind c x
 counter_words None at behind c x e = tt
 counter_words (Some k) at behind c x e = subst (λ m. ModeWords m at behind c k x) (sym (counter_mode k.mode e)) tt
 
 counter_some : (k : Option Channel) → counts_edges k ≡ true → is_some k ≡ true
-counter_some None e = never e
+counter_some None e = off_on e
 counter_some (Some k) e = refl
 
 -- the first word is 0, and the second one
 switch_mode : (m : IcuMeasurementMode) (at : ℕ → ℕ) (c : ℕ) (k : Channel) (x : Capture) → IsClean x → at (word SWITCHES c) ≡ 0 → ModeWords m at (rows_behind all_rows c) c k x → ModeWords m at (rows_behind last_rows c) c k x
-switch_mode SignalEdgeDetect at c k x z new h = record { switch = λ f. new ∙ sym (ap (λ q. bit_of q) z.quiet); mark = λ f. never (sym f ∙ behind_row last_rows MARKS c) }
+switch_mode SignalEdgeDetect at c k x z new h = record { switch = λ f. new ∙ sym (ap (λ q. bit_of q) z.quiet); mark = λ f. off_on (sym f ∙ behind_row last_rows MARKS c) }
 switch_mode EdgeCounter at c k x z new h = tt
-switch_mode Timestamp at c k x z new h = record { switch = λ f. new ∙ sym (ap (λ q. bit_of q) z.quiet); mark = λ f. never (sym f ∙ behind_row last_rows MARKS c); size = λ f. h.size (behind_row all_rows SIZES c); interval = λ f g. never (sym z.off ∙ g); place = λ f ne. never (sym f ∙ behind_row last_rows PLACES c); left = λ f g. never (sym z.off ∙ g) }
+switch_mode Timestamp at c k x z new h = record { switch = λ f. new ∙ sym (ap (λ q. bit_of q) z.quiet); mark = λ f. off_on (sym f ∙ behind_row last_rows MARKS c); size = λ f. h.size (behind_row all_rows SIZES c); interval = λ f g. off_on (sym z.off ∙ g); place = λ f ne. off_on (sym f ∙ behind_row last_rows PLACES c); left = λ f g. off_on (sym z.off ∙ g) }
 switch_mode SignalMeasurement at c k x z new h = measure_closed at last_rows c k x SWITCHES (New_waits (new ∙ sym (ap (λ o. bit_of (is_some o)) (none_served k x z.unserved)))) h
 
 switch_words : (k : Option Channel) (at : ℕ → ℕ) (c : ℕ) (x : Capture) → (is_some k ≡ true → IsClean x) → at (word SWITCHES c) ≡ 0 → ChannelWords k at (rows_behind all_rows c) c x → ChannelWords k at (rows_behind last_rows c) c x
@@ -306,8 +276,8 @@ switch_words (Some k) at c x z new h = switch_mode k.mode at c k x (z refl) new 
 mark_mode : (m : IcuMeasurementMode) (at : ℕ → ℕ) (c : ℕ) (k : Channel) (x : Capture) → IsClean x → at (word MARKS c) ≡ 0 → ModeWords m at (rows_behind last_rows c) c k x → ModeWords m at none c k x
 mark_mode SignalEdgeDetect at c k x z new h = record { switch = λ f. h.switch (behind_row last_rows SWITCHES c); mark = λ f. new ∙ sym (ap (λ q. bit_of q) z.unmarked) }
 mark_mode EdgeCounter at c k x z new h = tt
-mark_mode Timestamp at c k x z new h = record { switch = λ f. h.switch (behind_row last_rows SWITCHES c); mark = λ f. subst (λ v. Stamped x v) (sym new) (Is_fresh z.off z.unserved); size = λ f. h.size (behind_row last_rows SIZES c); interval = λ f g. never (sym z.off ∙ g); place = λ f ne. absurd (ne refl new); left = λ f g. never (sym z.off ∙ g) }
-mark_mode SignalMeasurement at c k x z new h = record { waits = λ f. h.waits (behind_row last_rows SWITCHES c); mark = λ f. new ∙ sym (ap (λ q. bit_of q) z.unmarked); seen = λ f g. never (sym z.off ∙ g); start = λ f g. never (sym z.off ∙ g); opposite = λ f g. never (sym z.off ∙ g); value = λ f. h.value (behind_row last_rows VALUES c); time = λ f. h.time (behind_row last_rows TIMES c) }
+mark_mode Timestamp at c k x z new h = record { switch = λ f. h.switch (behind_row last_rows SWITCHES c); mark = λ f. subst (λ v. Stamped x v) (sym new) (Is_fresh z.off z.unserved); size = λ f. h.size (behind_row last_rows SIZES c); interval = λ f g. off_on (sym z.off ∙ g); place = λ f ne. absurd (ne refl new); left = λ f g. off_on (sym z.off ∙ g) }
+mark_mode SignalMeasurement at c k x z new h = record { waits = λ f. h.waits (behind_row last_rows SWITCHES c); mark = λ f. new ∙ sym (ap (λ q. bit_of q) z.unmarked); seen = λ f g. off_on (sym z.off ∙ g); start = λ f g. off_on (sym z.off ∙ g); opposite = λ f g. off_on (sym z.off ∙ g); value = λ f. h.value (behind_row last_rows VALUES c); time = λ f. h.time (behind_row last_rows TIMES c) }
 
 mark_words : (k : Option Channel) (at : ℕ → ℕ) (c : ℕ) (x : Capture) → (is_some k ≡ true → IsClean x) → at (word MARKS c) ≡ 0 → ChannelWords k at (rows_behind last_rows c) c x → ChannelWords k at none c x
 mark_words None at c x z new h = tt
@@ -317,13 +287,6 @@ mark_words (Some k) at c x z new h = mark_mode k.mode at c k x (z refl) new h
 
 not_yet : (k c : ℕ) → k ≢ c → nat_lt k c ≡ nat_lt k (c + 1)
 not_yet k c ne = grind (arith, nat_tests)
-
-none_below : (k : ℕ) → nat_lt k 0 ≡ false
-none_below k = grind (arith, nat_tests)
-
-or_true : (q : Bool) → q || true ≡ true
-or_true true = refl
-or_true false = refl
 
 module _ (d : IcuDriver) where
   -- the gap of one channel is closed
@@ -339,7 +302,7 @@ module _ (d : IcuDriver) where
     lines = refl;
   }
 
-  stopped : (chip : Chip) (w : World) (s : IcuState) → s.initialised ≡ true → IcuAgrees d settled chip w s → IcuAgrees d (closing d (Some true)) (chip_after chip (Stores STATE 0) 0) w (cleared_all d s false)
+  stopped : (chip : Chip) (w : World) (s : IcuState) → s.initialised ≡ true → IcuRepresents d settled chip w s → IcuRepresents d (closing d (Some true)) (chip_after chip (Stores STATE 0) 0) w (cleared_all d s false)
   stopped chip w s on h =
       let chip1 = chip_after chip (Stores STATE 0) 0 in
       let at = λ (c : ℕ) (lt : c < 8). by_channel_at (λ i. cleared (channel_of d i) (capture_at s i)) c lt in
@@ -349,7 +312,7 @@ module _ (d : IcuDriver) where
         outside = stands-move chip w (Stores STATE 0) 0 h.outside;
         size = h.size;
         wired = h.wired;
-        block = λ c lt. subst (λ x. CaptureAgrees (channel_of d c) true ((dropping d 0 0 0).queues c) ((dropping d 0 0 0).counts c) false true (chip_capture chip.captures c) x) (sym (at c lt)) (subst (λ q. CaptureAgrees (channel_of d c) true (not q && not (counts d c)) (not q && counts d c) false true (chip_capture chip.captures c) (cleared (channel_of d c) (capture_at s c))) (sym (none_below c)) (stopped_block (channel_of d c) (chip_capture chip.captures c) (capture_at s c) (subst (λ q. CaptureAgrees (channel_of d c) false false false q (q || false) (chip_capture chip.captures c) (capture_at s c)) on (h.block c lt)) (h.course c lt).0));
+        block = λ c lt. subst (λ x. CaptureAgrees (channel_of d c) true ((dropping d 0 0 0).queues c) ((dropping d 0 0 0).counts c) false true (chip_capture chip.captures c) x) (sym (at c lt)) (subst (λ q. CaptureAgrees (channel_of d c) true (not q && not (counts d c)) (not q && counts d c) false true (chip_capture chip.captures c) (cleared (channel_of d c) (capture_at s c))) (sym (lt_zero c)) (stopped_block (channel_of d c) (chip_capture chip.captures c) (capture_at s c) (subst (λ q. CaptureAgrees (channel_of d c) false false false q (q || false) (chip_capture chip.captures c) (capture_at s c)) on (h.block c lt)) (h.course c lt).0));
         state = λ f. stored_same chip STATE 0 0 (omega arith) h.outside.all.words;
         words = λ c lt. subst (λ x. ChannelWords (channel_of d c) (λ j. word_of chip1 j) (behind_from 0 0) c x) (sym (at c lt)) (words_left (λ j. word_of chip1 j) (λ j. word_of chip1 j) (rows_behind all_rows c) (behind_from 0 0) c (λ first row f. refl) (λ first row. sym (behind_all 0 0 c first row lt (omega arith) (omega arith))) (channel_of d c) (cleared (channel_of d c) (capture_at s c)) (stopped_words (channel_of d c) (λ j. word_of chip1 j) c (capture_at s c) (words_left (λ j. word_of chip j) (λ j. word_of chip1 j) none none c (λ first row e. let low = row.1 in keeps (word first c) (λ i. absurd (omega (arith, low, i)))) (λ first row. refl) (channel_of d c) (capture_at s c) (h.words c lt))));
         course = λ c lt. subst (λ x. IsCourse (channel_of d c) x × HasPlace (channel_of d c) x) (sym (at c lt)) (cleared_course (channel_of d c) (capture_at s c) (h.course c lt).0, off_place (channel_of d c) (cleared (channel_of d c) (capture_at s c)) (idle c lt));
@@ -365,7 +328,7 @@ module _ (d : IcuDriver) where
   all_gates : (c : ℕ) → c < 8 → has_bit CHANNELS c ≡ true
   all_gates c lt = by_eight (λ i. has_bit CHANNELS i ≡ true) refl refl refl refl refl refl refl refl c lt
 
-  shut : (chip : Chip) (w : World) (s : IcuState) → s.initialised ≡ false → IcuAgrees d (closing d None) chip w s → IcuAgrees d (dropping d 0 0 0) (chip_after chip (Write CaptureGateClear CHANNELS) 0) w s
+  shut : (chip : Chip) (w : World) (s : IcuState) → s.initialised ≡ false → IcuRepresents d (closing d None) chip w s → IcuRepresents d (dropping d 0 0 0) (chip_after chip (Write CaptureGateClear CHANNELS) 0) w s
   shut chip w s off h = record {
     outside = stands-move chip w (Write CaptureGateClear CHANNELS) 0 h.outside;
     size = length-at_bits (λ _. acting turns.Close chip.captures.time) CHANNELS chip.captures.captures ∙ h.size;
@@ -384,12 +347,12 @@ module _ (d : IcuDriver) where
   }
 
   -- all channels are done
-  done : (chip : Chip) (w : World) (s : IcuState) → IcuAgrees d (dropping d 8 8 8) chip w s → IcuAgrees d settled chip w s
+  done : (chip : Chip) (w : World) (s : IcuState) → IcuRepresents d (dropping d 8 8 8) chip w s → IcuRepresents d settled chip w s
   done chip w s h = record {
     outside = h.outside;
     size = h.size;
     wired = h.wired;
-    block = λ c lt. subst (λ q. CaptureAgrees (channel_of d c) false (not q && not (counts d c)) (not q && counts d c) s.initialised (s.initialised || false) (chip_capture chip.captures c) (capture_at s c)) (is_below c 8 lt) (h.block c lt);
+    block = λ c lt. subst (λ q. CaptureAgrees (channel_of d c) false (not q && not (counts d c)) (not q && counts d c) s.initialised (s.initialised || false) (chip_capture chip.captures c) (capture_at s c)) (lt_from c 8 lt) (h.block c lt);
     state = λ f. h.state (behind_state 8 8);
     words = λ c lt. words_left (λ j. word_of chip j) (λ j. word_of chip j) (behind_from 8 8) none c (λ first row f. refl) (λ first row. behind_none 8 8 c first row lt lt lt) (channel_of d c) (capture_at s c) (h.words c lt);
     course = h.course;
@@ -402,7 +365,7 @@ module _ (d : IcuDriver) where
   abbrev Here : Chip → World → IcuState → DeInitBody → Type 0
   Here chip w s k = At (icu_ground d) (deinit_bodies d) chip w s k (Called DeInit) (Some tells_nothing)
 
-  at_channel : (chip : Chip) (w : World) (s : IcuState) (e : IcuDriver) (c : ℕ) → e ≡ d → s.initialised ≡ false → c < 8 → IcuAgrees d (dropping d c c c) chip w s → Here chip w s (deinit_at e c)
+  at_channel : (chip : Chip) (w : World) (s : IcuState) (e : IcuDriver) (c : ℕ) → e ≡ d → s.initialised ≡ false → c < 8 → IcuRepresents d (dropping d c c c) chip w s → Here chip w s (deinit_at e c)
   at_channel chip w s e c is off lt h = by (counts e c) refl
     where
       same : (q : Bool) → counts e c ≡ q → counts d c ≡ q
@@ -412,7 +375,7 @@ module _ (d : IcuDriver) where
       by true i = (h, ((Is_after, is, off, lt, same true i), tt))
       by false i = (h, ((Is_after, is, off, lt, same false i), tt))
 
-  past_channel : (chip : Chip) (w : World) (s : IcuState) (made : Move) (m : ℕ → Bool) (k : DeInitBody) (e : IcuDriver) (c : ℕ) → e ≡ d → s.initialised ≡ false → c < 8 → IcuAgrees d (dropping d (c + 1) (c + 1) (c + 1)) chip w s → StepsTo (icu_ground d) (deinit_bodies d) chip w s (Called DeInit) made false (Some tells_nothing) m (deinit_past k e c)
+  past_channel : (chip : Chip) (w : World) (s : IcuState) (made : Move) (m : ℕ → Bool) (k : DeInitBody) (e : IcuDriver) (c : ℕ) → e ≡ d → s.initialised ≡ false → c < 8 → IcuRepresents d (dropping d (c + 1) (c + 1) (c + 1)) chip w s → StepsTo (icu_ground d) (deinit_bodies d) chip w s (Called DeInit) made false (Some tells_nothing) m (deinit_past k e c)
   past_channel chip w s made m k e c is off lt h = by (nat_lt c 7) refl
     where
       more : nat_lt c 7 ≡ true → c + 1 < 8
@@ -423,7 +386,7 @@ module _ (d : IcuDriver) where
 
       by : (q : Bool) → nat_lt c 7 ≡ q → StepsTo (icu_ground d) (deinit_bodies d) chip w s (Called DeInit) made false (Some tells_nothing) m (if q then (deinit_at e (c + 1), goes) else (k, ends None no_answer Nothing))
       by true i = at_channel chip w s e (c + 1) is off (more i) h
-      by false i = (done chip w s (subst (λ n. IcuAgrees d (dropping d n n n) chip w s) (last i) h), (refl, refl, refl))
+      by false i = (done chip w s (subst (λ n. IcuRepresents d (dropping d n n n) chip w s) (last i) h), (refl, refl, refl))
 
   steps : AllGood d (deinit_bodies d)
   steps chip w s (Store e) o t m (h, ((Is_before, is, on), u)) = (

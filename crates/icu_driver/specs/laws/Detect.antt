@@ -1,16 +1,16 @@
 -- The handler of an edge detection: its steps.
-use Rattle.std.proofs.Common.{ℕ, ◌/◌, Bool, ◌==◌, Some, None, arith}
-use Rattle.std.specs.Prelude.{if◌then◌else◌}
-use Rattle.mcal_base.specs.declared.moves.Move.TheVariants.{Read, Write, Load, Store as Stores}
-use Rattle.mcal_base.specs.declared.notice.NoticeKind.{NoticeKind}
-use Rattle.mcal_base.specs.declared.notice.NoticeKind.TheVariants.{IcuSignalNotification}
-use Rattle.mcal_base.specs.declared.register.Reg.TheVariants.{CaptureInfo, CapturePop}
-use Rattle.icu_driver.specs.laws.Base.{Move, Serve, no_answer, BodyTaken, goes, ends, Owed, Nothing, One, Shortens, shortens_if, word, line, SWITCHES, MARKS}
-use Rattle.icu_driver.specs.declared.service.detect.DetectBody.{DetectBody}
+-- From Base.
+-- Used by Detecting, service/detect/rt, Windows, Keep, Sample and 2 more.
+use Rattle.std.proofs.Common.{◌/◌, ◌==◌, if◌then◌else◌}
+use Rattle.icu_driver.specs.Terms
+use Terms.{arith, Bool, CaptureInfo, CapturePop, DetectBody, IcuSignalNotification, Load, None, NoticeKind, Read, Some}
+use Terms.{Stores, Write, ℕ}
+use Rattle.icu_driver.specs.laws.Base.{Move, Serve, no_answer, BodyTaken, goes, ends, Epilogue, Nothing, One, Shortens}
+use Rattle.icu_driver.specs.laws.Base.{shortens_if, word, line, SWITCHES, MARKS}
 use Rattle.icu_driver.specs.declared.service.detect.DetectBody.TheVariants.{Look, Switch, Pop, Mark}
 
 -- a notice, where it is due
-abbrev pub owed_if : Bool → NoticeKind → ℕ → Owed
+abbrev pub owed_if : Bool → NoticeKind → ℕ → Epilogue
 owed_if due kind c = if due then One (record { kind = kind; id = c }) else Nothing
 
 -- the serving of a channel's line, after which the body goes on

@@ -1,42 +1,28 @@
 -- The handler of an edge detection: what holds at each of its places, and that it is right.
-use Rattle.std.proofs.Common.{◌≡◌, ℕ, ◌/◌, ◌<◌, Bool, true, false, ◌||◌, ◌==◌, List, [], ◌∷◌, Option, Some, None, refl, sym, ◌∙◌, ap, subst}
-use Rattle.std.specs.Prelude.{if◌then◌else◌, map}
-use Rattle.chip_captures.specs.Captures.{Captures, capture_at as chip_capture, popped, info_of}
-use Rattle.chip_model.specs.Chip.{Chip, chip_after, word_of}
-use Rattle.mcal_base.specs.Bits.{bit_of}
-use Rattle.mcal_base.specs.declared.config.icu.IcuMeasurementMode.{IcuMeasurementMode}
-use Rattle.mcal_base.specs.declared.config.icu.IcuMeasurementMode.TheVariants.{SignalEdgeDetect, EdgeCounter, Timestamp, SignalMeasurement}
-use Rattle.mcal_base.specs.declared.moves.Move.TheVariants.{Read, Write, Store}
-use Rattle.mcal_base.specs.declared.notice.NoticeKind.TheVariants.{IcuSignalNotification}
-use Rattle.mcal_base.specs.declared.register.Reg.TheVariants.{CaptureInfo, CapturePop}
-use Rattle.run_model.specs.Frame.{Origin, Entered, missed_after}
-use Rattle.run_model.specs.Machine.{Told, outcome}
-use Rattle.run_model.specs.World.{World}
-use Rattle.run_model.proofs.OutsideLaws.{stands-move}
-use Rattle.service_outline.specs.Outline.{Bodies, AreRight, StepsTo, Serving, Is_serving, Served, Is_served}
-use Rattle.service_outline.specs.laws.Acts.{never_clean}
-use Rattle.icu_driver.specs.Edges.{Edge}
-use Rattle.icu_driver.specs.Ground.{Gap, none, settled, kept, counts_edges, CaptureAgrees, ModeWords, IcuAgrees, icu_ground}
-use Rattle.icu_driver.specs.Machine.{IcuState, capture_at, with_capture, served_by, kinds_by, notices_of, icu_machine}
-use Rattle.icu_driver.specs.Table.{channel_of, is_detection, is_counter, is_timestamp, is_measurement}
-use Rattle.icu_driver.specs.declared.call.Call.{Call}
-use Rattle.icu_driver.specs.declared.driver.Channel.{Channel}
-use Rattle.icu_driver.specs.declared.driver.IcuDriver.{IcuDriver}
-use Rattle.icu_driver.specs.declared.service.detect.DetectBody.{DetectBody}
+-- From One, Serve, Rows, Calls, Steady and 4 more.
+-- Used by Lawful.
+use Rattle.std.proofs.Common.{◌≡◌, ◌/◌, ◌<◌, ◌||◌, ◌==◌, [], ◌∷◌, ◌∙◌, if◌then◌else◌}
+use Rattle.icu_driver.specs.Terms
+use Terms.{ap, AreRight, below_test, bit_of, Bodies, Bool, Call, capture_at, CaptureAgrees, CaptureInfo, CapturePop}
+use Terms.{Captures, Channel, channel_of, Chip, chip_after, chip_capture, counts_edges, DetectBody, Edge, EdgeCounter}
+use Terms.{Entered, false, icu_ground, icu_machine, IcuDriver, IcuMeasurementMode, IcuRepresents, IcuSignalNotification}
+use Terms.{IcuState, info_of, is_counter, is_detection, is_measurement, Is_served, Is_serving, is_timestamp, kept}
+use Terms.{kinds_by, Lag, List, map, missed_after, ModeWords, never_clean, None, none, notices_of, off_on, Option}
+use Terms.{Origin, outcome, popped, Read, refl, Served, served_by, Serving, settled, SignalEdgeDetect}
+use Terms.{SignalMeasurement, Some, stands-move, StepsTo, Store, subst, sym, Timestamp, Told, true, with_capture}
+use Terms.{word_of, World, Write, ℕ}
 use Rattle.icu_driver.specs.declared.service.detect.DetectBody.TheVariants.{Look, Switch, Pop, Mark}
-use Rattle.icu_driver.specs.laws.Base.{no_answer, goes, ends, Nothing, word, line, SWITCHES, MARKS}
-use Rattle.icu_driver.specs.laws.Calls.{never, to_mode, from_mode, place_by, turns_by, may_row}
-use Rattle.icu_driver.specs.laws.Change.{as_course, row_switches, row_marks}
-use Rattle.icu_driver.specs.laws.Channels.{popped_agrees, block_as}
-use Rattle.icu_driver.specs.laws.Detect.{detect_work, detect_takes, detect_left, detect_shortens}
-use Rattle.icu_driver.specs.laws.Ground.{below_test}
-use Rattle.icu_driver.specs.laws.Measure.{one_is}
-use Rattle.icu_driver.specs.laws.One.{ChannelAgrees, channel_agrees, one_agrees, settled_at, with_same, with_state, left_channel, channel_new, word_new}
-use Rattle.icu_driver.specs.laws.Rows.{rows_of, rows_behind, behind_row, rows_at, row_others, row_stored, still_not}
-use Rattle.icu_driver.specs.laws.Serve.{missed_here, info_empty, waiting_on, split, served_here, popped_course, told_of, owes_notice, owes_no_error}
-use Rattle.icu_driver.specs.laws.Steady.{calm_at, oldest, AllGood, fronted, fronted_right}
+use Rattle.icu_driver.specs.laws.{Base.{no_answer, goes, ends, Nothing, word, line, SWITCHES, MARKS}, Calls.{to_mode}}
+use Rattle.icu_driver.specs.laws.{Calls.{from_mode, place_by, turns_by, may_row}, Change.{as_course, row_switches}}
+use Rattle.icu_driver.specs.laws.{Change.{row_marks}, Channels.{popped_agrees, block_as}, Detect.{detect_work}}
+use Rattle.icu_driver.specs.laws.{Detect.{detect_takes, detect_left, detect_shortens}, Measure.{one_is}}
+use Rattle.icu_driver.specs.laws.{One.{ChannelAgrees, channel_agrees, one_agrees, settled_at, with_same, with_state}}
+use Rattle.icu_driver.specs.laws.{One.{left_channel, channel_new, word_new}, Rows.{rows_of, rows_behind, behind_row}}
+use Rattle.icu_driver.specs.laws.{Rows.{rows_at, row_others, row_stored, still_not}, Serve.{missed_here, info_empty}}
+use Rattle.icu_driver.specs.laws.{Serve.{waiting_on, split, served_here, popped_course, told_of, owes_notice}}
+use Rattle.icu_driver.specs.laws.{Serve.{owes_no_error}, Steady.{calm_at, oldest, AllGood, fronted, fronted_right}}
 
-abbrev pub detect_gap : DetectBody → Gap
+abbrev pub detect_gap : DetectBody → Lag
 detect_gap (Mark c on) = rows_of (MARKS ∷ []) c
 detect_gap _ = settled
 
@@ -62,12 +48,12 @@ detect_bodies d = fronted d detect_work detect_takes detect_left detect_gap (λ 
 
 detection_by : (m : IcuMeasurementMode) → is_detection m || is_counter m ≡ true → is_counter m ≡ false → m ≡ SignalEdgeDetect
 detection_by SignalEdgeDetect e f = refl
-detection_by EdgeCounter e f = never (sym f)
-detection_by Timestamp e f = never e
-detection_by SignalMeasurement e f = never e
+detection_by EdgeCounter e f = off_on (sym f)
+detection_by Timestamp e f = off_on e
+detection_by SignalMeasurement e f = off_on e
 
 module _ (d : IcuDriver) where
-  look_by : (chip : Chip) (w : World) (s : IcuState) (m : ℕ → Bool) (c : ℕ) (k : Channel) → channel_of d c ≡ Some k → is_detection k.mode || is_counter k.mode ≡ true → c < 8 → IcuAgrees d settled chip w s → (es : List Edge) → (capture_at s c).waiting ≡ es → StepsTo (icu_ground d) (detect_bodies d) chip w s (Entered (line c)) (Read (CaptureInfo c)) false None (missed_after (icu_machine d) w s m) (if info_of (map kept es) / 4 == 0 then (Look c, ends None no_answer Nothing) else (Switch c, goes))
+  look_by : (chip : Chip) (w : World) (s : IcuState) (m : ℕ → Bool) (c : ℕ) (k : Channel) → channel_of d c ≡ Some k → is_detection k.mode || is_counter k.mode ≡ true → c < 8 → IcuRepresents d settled chip w s → (es : List Edge) → (capture_at s c).waiting ≡ es → StepsTo (icu_ground d) (detect_bodies d) chip w s (Entered (line c)) (Read (CaptureInfo c)) false None (missed_after (icu_machine d) w s m) (if info_of (map kept es) / 4 == 0 then (Look c, ends None no_answer Nothing) else (Switch c, goes))
   look_by chip w s m c k known mode lt h [] is = (h, missed_here d w s c m is, refl)
   look_by chip w s m c k known mode lt h (e ∷ es) is =
       let counter = not_counter (is_counter k.mode) refl in
@@ -110,7 +96,7 @@ module _ (d : IcuDriver) where
           next = (
             one_agrees d c lt settled (rows_of rs c) (settled_at c) (rows_at rs c (row_marks, tt) lt) chip chip1 w s s1 up.1 h (left_channel c w chip (popped b) (stands-move chip w (Write (CapturePop c) 0) 0 h.outside)) (with_state s c y) (subst (λ q. ChannelAgrees d (rows_of rs c) chip1 w s.initialised c q) (sym (with_same s c y lt)) (record {
               block = subst (λ q. CaptureAgrees (channel_of d c) false false false s.initialised m1 q y) (sym (channel_new c chip.captures (popped b) h.size lt)) (block_as (channel_of d c) false false false s.initialised m1 (popped b) z y refl refl refl refl refl (popped_agrees (channel_of d c) false s.initialised m1 b x u.edge p.rest p.is a.block));
-              words = from_mode d c k known SignalEdgeDetect mode (λ j. word_of chip j) (rows_behind rs c) y (record { switch = λ f. words.switch refl; mark = λ f. never (sym f ∙ behind_row rs MARKS c) });
+              words = from_mode d c k known SignalEdgeDetect mode (λ j. word_of chip j) (rows_behind rs c) y (record { switch = λ f. words.switch refl; mark = λ f. off_on (sym f ∙ behind_row rs MARKS c) });
               course = as_course (channel_of d c) z y refl refl refl refl refl (popped_course (channel_of d c) x u.edge p.rest p.is a.course);
               place = place_by d c k known y (ap (λ q. is_timestamp q) mode);
               turns = turns_by d c k known w y (ap (λ q. is_measurement q) mode);

@@ -1,32 +1,21 @@
 -- Icu_GetDutyCycleValues: its steps, what holds at each, and that they are right.
-use Rattle.std.proofs.Common.{◌≡◌, ℕ, Bool, true, false, ◌==◌, List, [], ◌∷◌, Option, Some, None, refl, sym, ◌∙◌, ap, subst, arith}
-use Rattle.std.specs.Prelude.{is_some}
-use Rattle.chip_captures.specs.Captures.{Captures}
-use Rattle.chip_model.specs.Chip.{Chip, word_of}
-use Rattle.mcal_base.specs.declared.config.icu.IcuMeasurementMode.TheVariants.{SignalMeasurement}
-use Rattle.mcal_base.specs.declared.moves.Move.TheVariants.{Load, Store}
-use Rattle.run_model.specs.Frame.{Origin, Called}
-use Rattle.run_model.specs.Machine.{Told, outcome}
-use Rattle.run_model.specs.World.{World}
-use Rattle.service_outline.specs.Done.{answers}
-use Rattle.service_outline.specs.Outline.{Bodies, AreRight, Before, Is_before, After, Is_after}
-use Rattle.icu_driver.specs.Ground.{Gap, none, settled, waiting_value, ValueIs, ActiveIs, IcuAgrees, icu_ground}
-use Rattle.icu_driver.specs.Machine.{IcuState, capture_at, with_capture, value_or}
-use Rattle.icu_driver.specs.Table.{is_measurement, is_duty_cycle}
-use Rattle.icu_driver.specs.declared.call.Call.{Call}
+-- From Measure, Calls, Steady, One, Rows.
+-- Used by service/duty/rt, Lawful, Windows.
+use Rattle.std.proofs.Common.{◌≡◌, ◌==◌, [], ◌∷◌, ◌∙◌}
+use Rattle.icu_driver.specs.Terms
+use Terms.{ActiveIs, After, and_parts, answers, ap, AreRight, arith, Before, Bodies, Bool, Call, Called, capture_at}
+use Terms.{Captures, Chip, DutyBody, false, GetDutyCycleValues, icu_ground, IcuDriver, IcuRepresents, IcuState}
+use Terms.{Is_after, Is_before, is_duty_cycle, is_measurement, is_some, Lag, List, Load, None, none, off_on, Option}
+use Terms.{Origin, outcome, Period, refl, settled, SignalMeasurement, Some, Store, subst, sym, Told, true, value_or}
+use Terms.{ValueIs, waiting_value, with_capture, word_of, World, ℕ}
 use Rattle.icu_driver.specs.declared.call.Call.TheVariants.{Channel}
-use Rattle.icu_driver.specs.declared.call.ChannelCall.TheVariants.{GetDutyCycleValues}
+use Rattle.icu_driver.specs.declared.service.duty.DutyBody.TheVariants.{Waits, Active, Hand}
+use Rattle.icu_driver.specs.laws.{Base.{Move, BodyTaken, goes, acts_on, ends, numbers, Nothing, Shortens, word}}
+use Rattle.icu_driver.specs.laws.{Base.{SWITCHES, VALUES, TIMES}, Calls.{MayCall, acts_is, measures, to_mode, may_row}}
+use Rattle.icu_driver.specs.laws.{Measure.{Held, IsPair, IsMeasured, waits_double, handed_waits, one_is, row_switches}}
+use Rattle.icu_driver.specs.laws.{Measure.{row_values, all_handed, unwaiting, handing}, One.{IsRow, with_same}}
+use Rattle.icu_driver.specs.laws.{Rows.{rows_of}, Steady.{calm_at, Good, AllGood, steady, steady_right}}
 use Rattle.icu_driver.specs.declared.driver.Channel as configured
-use Rattle.icu_driver.specs.declared.driver.IcuDriver.{IcuDriver}
-use Rattle.icu_driver.specs.laws.Base.{Move, BodyTaken, goes, acts_on, ends, numbers, Nothing, Shortens, word, SWITCHES, VALUES, TIMES}
-use Rattle.icu_driver.specs.laws.Calls.{never, MayCall, acts_is, measures, to_mode, may_row}
-use Rattle.icu_driver.specs.laws.Ground.{both_of}
-use Rattle.icu_driver.specs.laws.Measure.{Held, IsPair, IsMeasured, waits_double, handed_waits, one_is, row_switches, row_values, all_handed, unwaiting, handing}
-use Rattle.icu_driver.specs.laws.One.{IsRow, with_same}
-use Rattle.icu_driver.specs.laws.Rows.{rows_of}
-use Rattle.icu_driver.specs.laws.Steady.{calm_at, Good, AllGood, steady, steady_right}
-use Rattle.icu_driver.specs.declared.service.duty.DutyBody.{DutyBody}
-use Rattle.icu_driver.specs.declared.service.duty.DutyBody.TheVariants.{Waits, Period, Active, Hand}
 
 abbrev pub duty_work : DutyBody → Move
 duty_work (Waits c) = Load (word SWITCHES c)
@@ -56,7 +45,7 @@ duty_shortens (Hand c a v) x = omega arith
 
 -- ---- what holds at each; that a value waits is behind from the act on
 
-abbrev pub duty_gap : DutyBody → Gap
+abbrev pub duty_gap : DutyBody → Lag
 duty_gap (Waits c) = settled
 duty_gap (Period c q) = settled
 duty_gap (Active c q v) = settled
@@ -72,7 +61,7 @@ abbrev pub duty_bodies : (d : IcuDriver) → Bodies (icu_ground d) DutyBody
 duty_bodies d = steady d duty_work duty_takes duty_left duty_gap (duty_holds d)
 
 told_pair : (t v : ℕ) (o : Option (List ℕ)) → is_some o ≡ true → Held IsPair o → ValueIs v o → ActiveIs t o → value_or (0 ∷ 0 ∷ []) o ≡ t ∷ v ∷ []
-told_pair t v None e h i j = never e
+told_pair t v None e h i j = off_on e
 told_pair t v (Some (a ∷ n ∷ [])) e h i j = ap (λ z. z ∷ n ∷ []) (sym j) ∙ ap (λ z. t ∷ z ∷ []) (sym i)
 told_pair t v (Some []) e h i j = absurd h
 told_pair t v (Some (a ∷ [])) e h i j = absurd h
@@ -80,17 +69,17 @@ told_pair t v (Some (a ∷ n ∷ m ∷ ms)) e h i j = absurd h
 
 told_none : (o : Option (List ℕ)) → is_some o ≡ false → value_or (0 ∷ 0 ∷ []) o ≡ 0 ∷ 0 ∷ []
 told_none None e = refl
-told_none (Some v) e = never (sym e)
+told_none (Some v) e = off_on (sym e)
 
 row_times : IsRow TIMES
 row_times = (refl, omega arith, omega arith)
 
 module _ (d : IcuDriver) where
   mode_of : (c : ℕ) (i : MayCall d c GetDutyCycleValues) → i.channel.mode ≡ SignalMeasurement
-  mode_of c i = measures i.channel.mode (both_of (is_measurement i.channel.mode) (is_duty_cycle i.channel.measured) i.suited).0
+  mode_of c i = measures i.channel.mode (and_parts (is_measurement i.channel.mode) (is_duty_cycle i.channel.measured) i.suited).0
 
   -- both values are handed out
-  handed_two : (chip : Chip) (w : World) (s : IcuState) (c : ℕ) (i : MayCall d c GetDutyCycleValues) (m : ℕ → Bool) (q : Bool) (v a n : ℕ) → s.initialised ≡ true → value_or (0 ∷ 0 ∷ []) (waiting_value i.channel (capture_at s c)) ≡ a ∷ n ∷ [] → IcuAgrees d settled chip w s → duty_takes (Active c q v) (word_of chip (word TIMES c)) ≡ (Hand c a n, acts_on) → Good d (duty_bodies d) chip w s (Active c q v) (Called (Channel c GetDutyCycleValues)) None m
+  handed_two : (chip : Chip) (w : World) (s : IcuState) (c : ℕ) (i : MayCall d c GetDutyCycleValues) (m : ℕ → Bool) (q : Bool) (v a n : ℕ) → s.initialised ≡ true → value_or (0 ∷ 0 ∷ []) (waiting_value i.channel (capture_at s c)) ≡ a ∷ n ∷ [] → IcuRepresents d settled chip w s → duty_takes (Active c q v) (word_of chip (word TIMES c)) ≡ (Hand c a n, acts_on) → Good d (duty_bodies d) chip w s (Active c q v) (Called (Channel c GetDutyCycleValues)) None m
   handed_two chip w s c i m q v a n on told h takes =
       let x = capture_at s c in
       let y = record x { handed_out = true } in
@@ -119,7 +108,7 @@ module _ (d : IcuDriver) where
   steps chip w s (Active c true v) o t m (h, ((Is_before, i, on, e, is), u)) =
       let x = capture_at s c in
       let words = to_mode d c i.channel i.known SignalMeasurement (mode_of c i) (λ j. word_of chip j) none x (h.words c i.lt) in
-      let duty = (both_of (is_measurement i.channel.mode) (is_duty_cycle i.channel.measured) i.suited).1 in
+      let duty = (and_parts (is_measurement i.channel.mode) (is_duty_cycle i.channel.measured) i.suited).1 in
       let some = sym (e ∙ ap (λ z. is_some (waiting_value i.channel z)) (calm_at s c i.lt)) in
       let value = subst (λ z. ValueIs v (waiting_value i.channel z)) (calm_at s c i.lt) is in
       handed_two chip w s c i m true v (word_of chip (word TIMES c)) v on (told_pair (word_of chip (word TIMES c)) v (waiting_value i.channel x) some (waits_double i.channel x duty) value (words.time refl)) h refl

@@ -1,6 +1,9 @@
 -- At power on, and after each other reset, words and registers stand for the machine's first state.
-use Rattle.std.proofs.Common.{◌≡◌, ℕ, ◌+◌, ◌<◌, true, false, List, [], Option, Some, None, refl, sym, ◌∙◌, ap, subst, arith}
+-- From Tables.
+-- Used by RefinementRight.
+use Rattle.std.proofs.Common.{◌≡◌, ℕ, ◌+◌, ◌<◌, false, List, [], Option, Some, None, refl, sym, ◌∙◌, ap, subst, arith}
 use Rattle.std.specs.Prelude.{is_some}
+use Rattle.plain_facts.specs.Truths.{off_on}
 use Rattle.chip_captures.specs.Captures.{captures_fresh, capture_at as chip_capture, closed}
 use Rattle.chip_model.specs.Chip.{Chip, word_of, reset_chip}
 use Rattle.chip_model.proofs.WordLaws.{slice_index-blank}
@@ -15,7 +18,7 @@ use Rattle.run_model.specs.World.{World}
 use Rattle.run_model.specs.Outside.{StandsIn}
 use Rattle.run_model.proofs.OutsideLaws.{stands-reset}
 use Rattle.icu_driver.specs.Edges.{values_by, newest}
-use Rattle.icu_driver.specs.Ground.{settled, none, CaptureAgrees, WiredAs, ChannelWords, ModeWords, Stamped, Is_fresh, ValueIs, ActiveIs, waiting_value, HasPlace, HasTurns, IcuAgrees}
+use Rattle.icu_driver.specs.Refinement.{settled, none, CaptureAgrees, WiredAs, ChannelWords, ModeWords, Stamped, Is_fresh, ValueIs, ActiveIs, waiting_value, HasPlace, HasTurns, IcuRepresents}
 use Rattle.icu_driver.specs.Machine.{untouched, first_state}
 use Rattle.icu_driver.specs.Table.{channel_of}
 use Rattle.icu_driver.specs.Words.{word}
@@ -23,9 +26,6 @@ use Rattle.icu_driver.specs.declared.words.TheConstants.{VALUES, TIMES}
 use Rattle.icu_driver.specs.declared.driver.Channel.{Channel}
 use Rattle.icu_driver.specs.declared.driver.IcuDriver.{IcuDriver}
 use Rattle.icu_driver.specs.laws.Tables.{by_eight}
-
-never : {A : Type 0} → false ≡ true → A
-never e = absurd (cc)
 
 closed_at : (pins : List (Option ℕ)) (time c : ℕ) → c < 8 → chip_capture (captures_fresh pins time) c ≡ closed
 closed_at pins time c lt = by_eight (λ i. chip_capture (captures_fresh pins time) i ≡ closed) refl refl refl refl refl refl refl refl c lt
@@ -36,13 +36,13 @@ closed_agrees k = record {
   queue = λ f. refl;
   lost = λ f. refl;
   count = λ f. refl;
-  condition = λ f. never f;
-  mode = λ f. never f;
-  starts = λ f. never f;
-  known = λ f. never f;
-  free_known = λ f. never f;
-  free_queue = λ f. never f;
-  free_count = λ f. never f;
+  condition = λ f. off_on f;
+  mode = λ f. off_on f;
+  starts = λ f. off_on f;
+  known = λ f. off_on f;
+  free_known = λ f. off_on f;
+  free_queue = λ f. off_on f;
+  free_count = λ f. off_on f;
 }
 
 -- no value was measured
@@ -64,16 +64,16 @@ mode_words Timestamp at c k z = record {
   switch = λ f. z _;
   mark = λ f. subst (λ v. Stamped untouched v) (sym (z _)) (Is_fresh refl refl);
   size = λ f. z _;
-  interval = λ f g. never g;
+  interval = λ f g. off_on g;
   place = λ f ne. absurd (ne refl (z _));
-  left = λ f g. never g;
+  left = λ f g. off_on g;
 }
 mode_words SignalMeasurement at c k z = record {
   waits = λ f. z _ ∙ sym (ap (λ v. bit_of (is_some v)) (waits_none k));
   mark = λ f. z _;
-  seen = λ f g. never g;
-  start = λ f g. never g;
-  opposite = λ f g. never g;
+  seen = λ f g. off_on g;
+  start = λ f g. off_on g;
+  opposite = λ f g. off_on g;
   value = λ f. subst (λ v. ValueIs (at (word VALUES c)) v) (sym (waits_none k)) tt;
   time = λ f. subst (λ v. ActiveIs (at (word TIMES c)) v) (sym (waits_none k)) tt;
 }
@@ -84,13 +84,13 @@ channel_words (Some k) at c z = mode_words k.mode at c k z
 
 has_place : (k : Option Channel) → HasPlace k untouched
 has_place None = tt
-has_place (Some k) = λ m f. never f
+has_place (Some k) = λ m f. off_on f
 
 has_turns : (k : Option Channel) (w : World) → HasTurns k w untouched
 has_turns None w = tt
-has_turns (Some k) w = λ m f. never f
+has_turns (Some k) w = λ m f. off_on f
 
-pub reset_agrees : (d : IcuDriver) (chip : Chip) (w : World) (reason : Reason) → StandsIn chip w → WiredAs d chip.captures → IcuAgrees d settled (reset_chip chip reason) w first_state
+pub reset_agrees : (d : IcuDriver) (chip : Chip) (w : World) (reason : Reason) → StandsIn chip w → WiredAs d chip.captures → IcuRepresents d settled (reset_chip chip reason) w first_state
 reset_agrees d chip w reason h wired = record {
   outside = stands-reset chip w reason h;
   size = refl;

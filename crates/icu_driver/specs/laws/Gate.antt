@@ -1,39 +1,28 @@
 -- The services that only switch a channel on or off: their steps, what holds at each, and that they are right.
-use Rattle.std.proofs.Common.{◌≡◌, ℕ, ◌<◌, Bool, true, false, ◌||◌, ◌==◌, Option, Some, None, refl, sym, ◌∙◌, ap, subst, arith}
-use Rattle.chip_captures.specs.Captures.{Captures, capture_at as chip_capture, acted, acting, flushed}
-use Rattle.chip_captures.specs.declared.capture.Act.TheVariants as acts
-use Rattle.chip_model.specs.Chip.{Chip, chip_after, word_of}
-use Rattle.mcal_base.proofs.BitLaws.{length-at_bits}
-use Rattle.mcal_base.specs.declared.config.icu.IcuMeasurementMode.{IcuMeasurementMode}
-use Rattle.mcal_base.specs.declared.config.icu.IcuMeasurementMode.TheVariants.{SignalEdgeDetect, EdgeCounter, Timestamp, SignalMeasurement}
-use Rattle.run_model.specs.Frame.{Origin}
-use Rattle.run_model.specs.Machine.{Told, outcome}
-use Rattle.run_model.specs.World.{World}
-use Rattle.run_model.proofs.OutsideLaws.{stands-move}
-use Rattle.service_outline.specs.Acts.{StandsLow}
-use Rattle.service_outline.specs.Done.{answers}
-use Rattle.service_outline.specs.Outline.{Bodies, AreRight, Before, Is_before, After, Is_after}
-use Rattle.icu_driver.specs.Bounds.{halves}
-use Rattle.icu_driver.specs.Checks.{suits}
-use Rattle.icu_driver.specs.Ground.{Gap, none, settled, opening, emptying, CaptureAgrees, counts_edges, ChannelWords, ModeWords, IcuAgrees, bare, icu_ground}
-use Rattle.icu_driver.specs.Machine.{IcuState, Capture, capture_at, with_capture, switched, channel_work, channel_answer}
-use Rattle.icu_driver.specs.Table.{channel_of, is_counter, is_timestamp, is_measurement}
-use Rattle.icu_driver.specs.declared.call.Call.{Call}
+-- From Calls, One, Channels, Steady.
+-- Used by service/gate/rt, Lawful, Windows, Measure, Stamp.
+use Rattle.std.proofs.Common.{◌≡◌, ◌<◌, ◌||◌, ◌==◌, ◌∙◌}
+use Rattle.icu_driver.specs.Terms
+use Terms.{acted, acting, After, answers, ap, AreRight, arith, bare, Before, below_test, Bodies, Bool, Call, Capture}
+use Terms.{capture_at, CaptureAgrees, CaptureFlush, CaptureGateClear, CaptureGateSet, Captures, channel_answer}
+use Terms.{channel_of, channel_work, ChannelCall, ChannelWords, Chip, chip_after, chip_capture, counts_edges}
+use Terms.{DisableEdgeDetection, EdgeCounter, emptying, EnableEdgeDetection, eq_self, false, flushed, GateBody, halves}
+use Terms.{icu_ground, IcuDriver, IcuMeasurementMode, IcuRepresents, IcuState, Is_after, Is_before, is_counter}
+use Terms.{is_measurement, is_timestamp, Lag, length-at_bits, ModeWords, None, none, off_on, opening, Option, Origin}
+use Terms.{outcome, refl, settled, SignalEdgeDetect, SignalMeasurement, Some, stands-move, StandsLow}
+use Terms.{StopSignalMeasurement, subst, suits, switched, sym, Timestamp, Told, true, with_capture, word_of, World}
+use Terms.{Write, ℕ}
 use Rattle.icu_driver.specs.declared.call.Call.TheVariants.{Channel}
-use Rattle.icu_driver.specs.declared.call.ChannelCall.{ChannelCall}
-use Rattle.icu_driver.specs.declared.call.ChannelCall.TheVariants.{EnableEdgeDetection, DisableEdgeDetection, StopSignalMeasurement}
-use Rattle.icu_driver.specs.declared.driver.Channel as configured
-use Rattle.icu_driver.specs.declared.driver.IcuDriver.{IcuDriver}
-use Rattle.icu_driver.specs.laws.Calls.{never, MayCall, acts_is, detects, measures, to_mode, from_mode, is_there, counting, place_by, turns_by, switched_course, off_place, off_turns, opening_at, emptying_at, bare_at, calm_on}
-use Rattle.icu_driver.specs.laws.Channels.{opened_agrees, emptied_agrees, closed_agrees, dropped_agrees}
-use Rattle.icu_driver.specs.laws.Ground.{below_test}
-use Rattle.icu_driver.specs.laws.One.{ChannelAgrees, channel_agrees, one_agrees, settled_at, same_yes, same_state, with_same, with_state, left_channel, left_gate, channel_new, gate_new}
-use Rattle.icu_driver.specs.laws.Steady.{AllGood, steady, steady_right}
-use Rattle.mcal_base.specs.declared.moves.Move.TheVariants.{Write}
-use Rattle.mcal_base.specs.declared.register.Reg.TheVariants.{CaptureGateSet, CaptureGateClear, CaptureFlush}
-use Rattle.icu_driver.specs.laws.Base.{Move, Act, no_answer, BodyTaken, goes, acts_on, ends, Nothing, Shortens, bit}
-use Rattle.icu_driver.specs.declared.service.gate.GateBody.{GateBody}
 use Rattle.icu_driver.specs.declared.service.gate.GateBody.TheVariants.{Open, Empty, Close, Drop}
+use Rattle.icu_driver.specs.laws.{Calls.{MayCall, acts_is, detects, measures, to_mode, from_mode, is_there, counting}}
+use Rattle.icu_driver.specs.laws.{Calls.{place_by, turns_by, switched_course, off_place, off_turns, opening_at}}
+use Rattle.icu_driver.specs.laws.{Calls.{emptying_at, bare_at, calm_on}, Channels.{opened_agrees, emptied_agrees}}
+use Rattle.icu_driver.specs.laws.{Channels.{closed_agrees, dropped_agrees}, One.{ChannelAgrees, channel_agrees}}
+use Rattle.icu_driver.specs.laws.{One.{one_agrees, settled_at, same_state, with_same, with_state, left_channel}}
+use Rattle.icu_driver.specs.laws.{One.{left_gate, channel_new, gate_new}, Steady.{AllGood, steady, steady_right}}
+use Rattle.icu_driver.specs.laws.{Base.{Move, Act, no_answer, BodyTaken, goes, acts_on, ends, Nothing, Shortens, bit}}
+use Rattle.chip_captures.specs.declared.capture.Act.TheVariants as acts
+use Rattle.icu_driver.specs.declared.driver.Channel as configured
 
 abbrev pub gate_work : GateBody → Move
 gate_work (Open c) = Write CaptureGateSet (bit c)
@@ -61,7 +50,7 @@ gate_shortens (Drop c) x = omega arith
 
 -- ---- what holds at each; an edge that comes to a gate that is closed changes nothing
 
-abbrev pub gate_gap : GateBody → Gap
+abbrev pub gate_gap : GateBody → Lag
 gate_gap (Open c) = settled
 gate_gap (Empty c) = opening c
 gate_gap (Close c) = settled
@@ -86,33 +75,33 @@ gate_bodies d = steady d gate_work gate_takes gate_left gate_gap (gate_holds d)
 closed_work : (call : ChannelCall) (x : Capture) → closes call ≡ true → channel_work call x ≡ switched false x
 closed_work DisableEdgeDetection x e = refl
 closed_work StopSignalMeasurement x e = refl
-closed_work _ x e = never e
+closed_work _ x e = off_on e
 
 closed_answer : (k : configured.Channel) (call : ChannelCall) (x : Capture) → closes call ≡ true → channel_answer k call x ≡ no_answer
 closed_answer k DisableEdgeDetection x e = refl
 closed_answer k StopSignalMeasurement x e = refl
-closed_answer k _ x e = never e
+closed_answer k _ x e = off_on e
 
 closed_halves : (c : ℕ) (call : ChannelCall) → closes call ≡ true → halves (Channel c call) ≡ None
 closed_halves c DisableEdgeDetection e = refl
 closed_halves c StopSignalMeasurement e = refl
-closed_halves c _ e = never e
+closed_halves c _ e = off_on e
 
 -- a channel that stamps isn't stopped so
 closed_mode : (call : ChannelCall) (k : configured.Channel) → closes call ≡ true → suits call k ≡ true → is_timestamp k.mode ≡ false
 closed_mode DisableEdgeDetection k e i = ap (λ m. is_timestamp m) (detects k.mode i)
 closed_mode StopSignalMeasurement k e i = ap (λ m. is_timestamp m) (measures k.mode i)
-closed_mode _ k e i = never e
+closed_mode _ k e i = off_on e
 
 words_off : (m : IcuMeasurementMode) (at : ℕ → ℕ) (behind : ℕ → Bool) (c : ℕ) (k : configured.Channel) (x : Capture) → is_timestamp m ≡ false → ModeWords m at behind c k x → ModeWords m at behind c k (switched false x)
 words_off SignalEdgeDetect at behind c k x e h = record { switch = h.switch; mark = h.mark }
 words_off EdgeCounter at behind c k x e h = tt
-words_off Timestamp at behind c k x e h = never (sym e)
-words_off SignalMeasurement at behind c k x e h = record { waits = h.waits; mark = h.mark; seen = λ f g. never g; start = λ f g. never g; opposite = λ f g. never g; value = h.value; time = h.time }
+words_off Timestamp at behind c k x e h = off_on (sym e)
+words_off SignalMeasurement at behind c k x e h = record { waits = h.waits; mark = h.mark; seen = λ f g. off_on g; start = λ f g. off_on g; opposite = λ f g. off_on g; value = h.value; time = h.time }
 
 module _ (d : IcuDriver) where
   -- the gate is opened
-  pub opened : (chip : Chip) (w : World) (s : IcuState) (c : ℕ) → c < 8 → s.initialised ≡ true → counts_edges (channel_of d c) ≡ false → IcuAgrees d settled chip w s → IcuAgrees d (opening c) (chip_after chip (Write CaptureGateSet (bit c)) 0) w s
+  pub opened : (chip : Chip) (w : World) (s : IcuState) (c : ℕ) → c < 8 → s.initialised ≡ true → counts_edges (channel_of d c) ≡ false → IcuRepresents d settled chip w s → IcuRepresents d (opening c) (chip_after chip (Write CaptureGateSet (bit c)) 0) w s
   opened chip w s c lt on counter h =
       let k = channel_of d c in
       let x = capture_at s c in
@@ -120,7 +109,7 @@ module _ (d : IcuDriver) where
       let m = s.initialised || false in
       let a = channel_agrees d settled chip w s c lt h in
       one_agrees d c lt settled (opening c) (settled_at c) (opening_at c) chip (chip_after chip (Write CaptureGateSet (bit c)) 0) w s s on h (left_gate acts.Open c w chip lt h.size (stands-move chip w (Write CaptureGateSet (bit c)) 0 h.outside)) (same_state c s) (record {
-        block = subst (λ y. CaptureAgrees k (c == c) (c == c) false s.initialised m y x) (sym (gate_new acts.Open c chip.captures h.size lt)) (subst (λ q. CaptureAgrees k q q false s.initialised m (record b { gate = true }) x) (sym (same_yes c)) (opened_agrees k false s.initialised m b x on counter a.block));
+        block = subst (λ y. CaptureAgrees k (c == c) (c == c) false s.initialised m y x) (sym (gate_new acts.Open c chip.captures h.size lt)) (subst (λ q. CaptureAgrees k q q false s.initialised m (record b { gate = true }) x) (sym (eq_self c)) (opened_agrees k false s.initialised m b x on counter a.block));
         words = a.words;
         course = a.course;
         place = a.place;
@@ -143,7 +132,7 @@ module _ (d : IcuDriver) where
       let a = channel_agrees d (opening c) chip w s c i.lt h in
       let mode = detects i.channel.mode i.suited in
       let up = sym (ap (λ z. z.gate) (bare_at chip.captures c h.size i.lt)) ∙ gate in
-      let free = subst (λ q. CaptureAgrees k q q false s.initialised m1 b x) (same_yes c) a.block in
+      let free = subst (λ q. CaptureAgrees k q q false s.initialised m1 b x) (eq_self c) a.block in
       let w1 = to_mode d c i.channel i.known SignalEdgeDetect mode (λ j. word_of chip j) none x a.words in (
         below_test c i.lt,
         record {
@@ -182,7 +171,7 @@ module _ (d : IcuDriver) where
           acts = subst (λ z. StandsLow z false (Write CaptureGateClear (bit c)) None) (sym (closed_halves c call e)) tt;
           next = (
             one_agrees d c i.lt settled (emptying c) (settled_at c) (emptying_at c) chip (chip_after chip (Write CaptureGateClear (bit c)) 0) w s (with_capture s c y) on h (left_gate acts.Close c w chip i.lt h.size (stands-move chip w (Write CaptureGateClear (bit c)) 0 h.outside)) (with_state s c y) (subst (λ z. ChannelAgrees d (emptying c) (chip_after chip (Write CaptureGateClear (bit c)) 0) w s.initialised c z) (sym (with_same s c y i.lt)) (record {
-              block = subst (λ z. CaptureAgrees k false (c == c) false s.initialised m1 z y) (sym (gate_new acts.Close c chip.captures h.size i.lt)) (subst (λ q. CaptureAgrees k false q false s.initialised m1 (record b { gate = false }) y) (sym (same_yes c)) (closed_agrees k false s.initialised m1 b x a.block));
+              block = subst (λ z. CaptureAgrees k false (c == c) false s.initialised m1 z y) (sym (gate_new acts.Close c chip.captures h.size i.lt)) (subst (λ q. CaptureAgrees k false q false s.initialised m1 (record b { gate = false }) y) (sym (eq_self c)) (closed_agrees k false s.initialised m1 b x a.block));
               words = stays;
               course = switched_course k false x a.course;
               place = off_place k y refl;
@@ -200,7 +189,7 @@ module _ (d : IcuDriver) where
       let m1 = s.initialised || false in
       let a = channel_agrees d (emptying c) chip w s c lt h in
       let empty = a.course.off (sym (calm_on s c lt) ∙ off) in
-      let free = subst (λ q. CaptureAgrees k false q false s.initialised m1 b x) (same_yes c) a.block in (
+      let free = subst (λ q. CaptureAgrees k false q false s.initialised m1 b x) (eq_self c) a.block in (
         below_test c lt,
         (
           one_agrees d c lt (emptying c) settled (emptying_at c) (settled_at c) chip (chip_after chip (Write (CaptureFlush c) 0) 0) w s s on h (left_channel c w chip (flushed b) (stands-move chip w (Write (CaptureFlush c) 0) 0 h.outside)) (same_state c s) (record {

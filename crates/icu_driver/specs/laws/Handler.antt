@@ -1,18 +1,14 @@
 -- The bodies of the handlers, by what a channel is for.
-use Rattle.std.specs.Prelude.{Bool, true, false, Option, Some, None}
-use Rattle.mcal_base.specs.declared.config.icu.IcuMeasurementMode.{IcuMeasurementMode}
-use Rattle.mcal_base.specs.declared.config.icu.IcuMeasurementMode.TheVariants.{SignalEdgeDetect, EdgeCounter, Timestamp, SignalMeasurement}
-use Rattle.mcal_base.specs.declared.config.icu.IcuSignalMeasurementProperty.{IcuSignalMeasurementProperty}
-use Rattle.mcal_base.specs.declared.config.icu.IcuSignalMeasurementProperty.TheVariants.{PeriodTime, DutyCycle}
-use Rattle.icu_driver.specs.Ground.{first_of}
-use Rattle.icu_driver.specs.Table.{is_linear, is_duty_cycle}
-use Rattle.icu_driver.specs.declared.driver.Channel.{Channel}
-use Rattle.icu_driver.specs.declared.service.detect.DetectBody.TheVariants as detects
-use Rattle.icu_driver.specs.declared.service.keep.Kept.{Kept}
-use Rattle.icu_driver.specs.declared.service.keep.KeepBody.TheVariants as keeps
-use Rattle.icu_driver.specs.declared.service.sample.Sampled.{Sampled}
-use Rattle.icu_driver.specs.declared.service.sample.SampleBody.TheVariants as samples
+-- From Bodies.
+-- Used by Lawful, handler/rt, Sampling, Keeps, mcal_system: proofs/Carried.
+use Rattle.icu_driver.specs.Terms
+use Terms.{Bool, Channel, DutyCycle, EdgeCounter, false, first_of, IcuMeasurementMode, IcuSignalMeasurementProperty}
+use Terms.{is_duty_cycle, is_linear, Kept, None, Option, PeriodTime, Sampled, SignalEdgeDetect, SignalMeasurement, Some}
+use Terms.{Timestamp, true}
 use Rattle.icu_driver.specs.laws.Bodies.{IcuBody, detect_body, keep_body, sample_body}
+use Rattle.icu_driver.specs.declared.service.detect.DetectBody.TheVariants as detects
+use Rattle.icu_driver.specs.declared.service.keep.KeepBody.TheVariants as keeps
+use Rattle.icu_driver.specs.declared.service.sample.SampleBody.TheVariants as samples
 
 -- a measure begins at a rising edge; it ends at the next edge at which one begins
 abbrev pub begins : Option IcuSignalMeasurementProperty → Channel → Bool

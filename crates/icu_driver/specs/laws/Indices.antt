@@ -1,22 +1,13 @@
 -- The index of stamps and the stamps left until a notice: what one stamp more makes of them, and that the handler counts so.
-use Rattle.std.proofs.Common.{◌≡◌, ◌≢◌, ℕ, suc, ◌+◌, ◌-◌, ◌%◌, ◌<◌, ◌≤◌, ◌^◌, Bool, true, false, ◌&&◌, ◌==◌, not, Some, refl, sym, ◌∙◌, ap, arith}
-use Rattle.std.specs.Prelude.{if◌then◌else◌}
-use Rattle.std.proofs.Math.Nat.{suc-mod, mod_self, mod-eq_of_lt, mod-lt}
-use Rattle.std.proofs.lemmas.Bool.Decides.{nat_tests}
-use Rattle.icu_driver.specs.Ground.{left_by, IsStart}
-use Rattle.icu_driver.specs.Machine.{Start, index_by, is_full, is_notified}
-use Rattle.icu_driver.specs.Table.{is_linear}
-use Rattle.icu_driver.specs.declared.driver.Channel.{Channel}
-use Rattle.icu_driver.specs.declared.service.keep.Kept.{Kept}
+-- From Keep.
+-- Used by Keeping.
+use Rattle.std.proofs.Common.{◌≡◌, ◌≢◌, ◌+◌, ◌-◌, ◌%◌, ◌<◌, ◌≤◌, ◌^◌, ◌&&◌, ◌==◌, ◌∙◌, if◌then◌else◌}
+use Rattle.icu_driver.specs.Terms
+use Terms.{ap, arith, Bool, Channel, eq_is, eq_isnt, false, index_by, is_full, is_linear, is_notified, IsStart, Kept}
+use Terms.{left_by, mod-eq_of_lt, mod-lt, mod_self, nat_tests, not, refl, Some, Start, suc, suc-mod, sym, true, ℕ}
 use Rattle.icu_driver.specs.laws.Keep.{fills, next_index, left_now}
 
 -- ---- one stamp more
-
-equal_by : (k c : ℕ) → (k == c) ≡ true → k ≡ c
-equal_by k c e = grind (arith, nat_tests)
-
-differ_by : (k c : ℕ) → (k == c) ≡ false → k ≢ c
-differ_by k c e = grind (arith, nat_tests)
 
 -- a number modulo another one goes up by one, or begins anew
 mod_next : (n s : ℕ) → 0 < s → (n + 1) % s ≡ (if n % s + 1 == s then 0 else n % s + 1)
@@ -26,8 +17,8 @@ mod_next n s low = ap (λ z. z % s) (next n) ∙ (suc-mod n s ∙ (ap (λ z. z %
     next n = omega arith
 
     by : (q : Bool) → (n % s + 1 == s) ≡ q → (n % s + 1) % s ≡ (if q then 0 else n % s + 1)
-    by true e = ap (λ z. z % s) (equal_by (n % s + 1) s e) ∙ mod_self s
-    by false e = let lt : n % s < s = mod-lt n low in let ne = differ_by (n % s + 1) s e in let few : n % s + 1 < s = least (n % s + 1) s (up (n % s) s lt) ne in mod-eq_of_lt few
+    by true e = ap (λ z. z % s) (eq_is (n % s + 1) s e) ∙ mod_self s
+    by false e = let lt : n % s < s = mod-lt n low in let ne = eq_isnt (n % s + 1) s e in let few : n % s + 1 < s = least (n % s + 1) s (up (n % s) s lt) ne in mod-eq_of_lt few
       where
         up : (a s : ℕ) → a < s → a + 1 ≤ s
         up a s lt = omega (arith, lt)
@@ -84,7 +75,7 @@ module _ (k : Channel) (r : Kept) (a : Start) (n : ℕ) (h : HasRead k r a n) wh
       fewer m i less few = let a : i < 4294967296 = few in omega (arith, less)
 
       by : (q : Bool) → (r.left == 1) ≡ q → (if q then r.interval else (r.left + 2 ^ 32 - 1) % 2 ^ 32) ≡ a.interval - (n + 1) % a.interval
-      by true e = last (equal_by r.left 1 e) ∙ (whole a.interval ∙ sym (ap (λ z. a.interval - z) (mod_next n a.interval h.start.2 ∙ ap (λ z. if z then 0 else n % a.interval + 1) (sym last_is ∙ e))))
+      by true e = last (eq_is r.left 1 e) ∙ (whole a.interval ∙ sym (ap (λ z. a.interval - z) (mod_next n a.interval h.start.2 ∙ ap (λ z. if z then 0 else n % a.interval + 1) (sym last_is ∙ e))))
       by false e = ap (λ z. (z + 2 ^ 32 - 1) % 2 ^ 32) h.left ∙ (fewer (n % a.interval) a.interval lt h.start.3 ∙ sym (ap (λ z. a.interval - z) (mod_next n a.interval h.start.2 ∙ ap (λ z. if z then 0 else n % a.interval + 1) (sym last_is ∙ e))))
 
   -- the notice comes with it
@@ -107,7 +98,7 @@ module _ (k : Channel) (r : Kept) (a : Start) (n : ℕ) (h : HasRead k r a n) wh
       by true i =
           let at : r.index ≡ n = h.index ∙ ap (λ z. if z then n else n % a.size) i in
           let less = h.below in
-          let ne = differ_by (n + 1) a.size (sym (ap (λ z. z && n + 1 == a.size) i) ∙ (sym fills_is ∙ e)) in
+          let ne = eq_isnt (n + 1) a.size (sym (ap (λ z. z && n + 1 == a.size) i) ∙ (sym fills_is ∙ e)) in
           least (n + 1) a.size (omega (arith, at, less)) ne
         where
           least : (a s : ℕ) → a ≤ s → a ≢ s → a < s

@@ -1,44 +1,27 @@
 -- Icu_Init: its steps, what holds at each, and that they are right.
-use Rattle.std.proofs.Common.{◌≡◌, ◌≢◌, ℕ, ◌+◌, ◌-◌, ◌*◌, ◌<◌, Bool, true, false, ◌&&◌, ◌||◌, not, nat_lt, length, Option, Some, None, refl, sym, ◌∙◌, ap, subst, arith, length-set, get_or-set_other}
-use Rattle.std.specs.Prelude.{if◌then◌else◌, map, is_some}
-use Rattle.chip_captures.specs.Captures.{Captures, capture_at as chip_capture, with_capture as chip_with, with_condition, with_mode, closed}
+-- From Calls, One, Steady, Measure.
+-- Used by DeInit, service/init/rt, Lawful, Windows.
+use Rattle.std.proofs.Common.{◌≡◌, ◌≢◌, ◌+◌, ◌-◌, ◌*◌, ◌<◌, ◌&&◌, ◌||◌, ◌∙◌, if◌then◌else◌}
+use Rattle.icu_driver.specs.Terms
+use Terms.{ActiveIs, Acts, acts_by, ap, AreRight, arith, bare, bare_block, Before, below_test, bit_of, Bodies, Bool}
+use Terms.{Both, by_channel_at, by_eight, Call, Capture, capture_at, CaptureAgrees, CaptureCondition, CaptureMode}
+use Terms.{Captures, channel_of, ChannelWords, Chip, chip_after, chip_capture, chip_with, cleared, cleared_all, closed}
+use Terms.{Condition, condition_by, counts_edges, each_but, EdgeCounter, Enable, EnableSet, error_by, Falling, false}
+use Terms.{get_or-set_other, happens, has_bit, has_bit-or, HasPlace, HasTurns, icu_ground, icu_machine}
+use Terms.{IcuMeasurementMode, IcuRepresents, IcuStartEdge, IcuState, index_by, Init, InitBody, Is_before, is_counter}
+use Terms.{Is_fresh, is_measurement, Is_on, is_own_word, is_some, is_stamp, Is_stopped, IsClean, IsCourse, kept, Lag}
+use Terms.{length, length-set, map, missed_after, Mode, mode_by, ModeWords, nat_lt, None, none, not, off_on, Option}
+use Terms.{or_right, Origin, outcome, own_word, place_of, refl, Rising, settled, SignalEdgeDetect, SignalMeasurement}
+use Terms.{Some, stamp_in, Stamped, Stamps, stands-move, StandsIn, StepsTo, stored_other, stored_same, Stores, subst}
+use Terms.{sym, tells_nothing, Timestamp, Told, true, ValueIs, with_condition, with_mode, word_of, World, Write, ℕ}
+use Rattle.icu_driver.specs.laws.{Base.{nat_tests, Move, Act, no_answer, BodyTaken, goes, ends, Nothing, Shortens}}
+use Rattle.icu_driver.specs.laws.{Base.{word, condition_of, first_condition, mode_of, Channel, IcuDriver, STATE, LINES}}
+use Rattle.icu_driver.specs.laws.{Base.{MARKS, VALUES, TIMES}, Calls.{bare_at, off_place, off_turns}}
+use Rattle.icu_driver.specs.laws.{Measure.{none_served}, One.{channel_new, words_left, off_channel}, Steady.{AllGood}}
+use Rattle.icu_driver.specs.laws.{Steady.{steady, steady_right}}
+use Rattle.icu_driver.specs.declared.service.init.InitBody.TheVariants.{Store}
 use Rattle.chip_captures.specs.declared.capture.Capture as chips
 use Rattle.chip_captures.specs.declared.capture.Condition.TheVariants as conditions
-use Rattle.chip_model.specs.Chip.{Chip, chip_after, word_of}
-use Rattle.mcal_base.proofs.BitLaws.{has_bit-or}
-use Rattle.mcal_base.specs.Bits.{bit_of, has_bit}
-use Rattle.mcal_base.specs.Layout.{place_of}
-use Rattle.mcal_base.specs.declared.config.icu.IcuMeasurementMode.{IcuMeasurementMode}
-use Rattle.mcal_base.specs.declared.config.icu.IcuMeasurementMode.TheVariants.{SignalEdgeDetect, EdgeCounter, Timestamp, SignalMeasurement}
-use Rattle.mcal_base.specs.declared.config.icu.IcuStartEdge.{IcuStartEdge}
-use Rattle.mcal_base.specs.declared.config.icu.IcuStartEdge.TheVariants.{Rising, Falling, Both}
-use Rattle.mcal_base.specs.declared.layout.Array.TheVariants.{Stamps}
-use Rattle.mcal_base.specs.declared.moves.Move.TheVariants.{Write, Store as Stores}
-use Rattle.mcal_base.specs.declared.register.Reg.TheVariants.{EnableSet, CaptureCondition, CaptureMode}
-use Rattle.run_model.specs.Frame.{Origin, missed_after}
-use Rattle.run_model.specs.Machine.{Told, Acts, tells_nothing, outcome}
-use Rattle.run_model.specs.Outside.{StandsIn}
-use Rattle.run_model.specs.World.{World}
-use Rattle.run_model.proofs.OutsideLaws.{stands-move}
-use Rattle.service_outline.specs.Outline.{Bodies, AreRight, StepsTo, Before, Is_before}
-use Rattle.service_outline.specs.laws.Sweep.{each_but}
-use Rattle.service_outline.specs.laws.Words.{stored_same, stored_other}
-use Rattle.icu_driver.specs.Bounds.{is_own_word, is_stamp}
-use Rattle.icu_driver.specs.Checks.{error_by}
-use Rattle.icu_driver.specs.Ground.{Gap, none, settled, kept, counts_edges, condition_by, mode_by, bare, bare_block, CaptureAgrees, ChannelWords, ModeWords, Stamped, Is_on, Is_stopped, Is_fresh, ValueIs, ActiveIs, IsCourse, IsClean, HasPlace, HasTurns, IcuAgrees, icu_ground}
-use Rattle.icu_driver.specs.Machine.{IcuState, Capture, capture_at, cleared, cleared_all, index_by, stamp_in, acts_by, happens, icu_machine}
-use Rattle.icu_driver.specs.Table.{channel_of, is_counter, is_measurement}
-use Rattle.icu_driver.specs.declared.call.Call.{Call}
-use Rattle.icu_driver.specs.declared.call.Call.TheVariants.{Init}
-use Rattle.icu_driver.specs.laws.Base.{nat_tests, Move, Act, no_answer, BodyTaken, goes, ends, Nothing, Shortens, word, condition_of, first_condition, mode_of, Channel, IcuDriver, STATE, LINES, MARKS, VALUES, TIMES}
-use Rattle.icu_driver.specs.laws.Calls.{never, bare_at, off_place, off_turns}
-use Rattle.icu_driver.specs.laws.Ground.{below_test, own_word}
-use Rattle.icu_driver.specs.laws.Measure.{none_served}
-use Rattle.icu_driver.specs.laws.One.{channel_new, words_left, off_channel}
-use Rattle.icu_driver.specs.laws.Steady.{AllGood, steady, steady_right}
-use Rattle.icu_driver.specs.laws.Tables.{by_eight, by_channel_at}
-use Rattle.icu_driver.specs.declared.service.init.InitBody.{InitBody}
-use Rattle.icu_driver.specs.declared.service.init.InitBody.TheVariants.{Condition, Mode, Enable, Store}
 
 abbrev pub init_work : InitBody → Move
 init_work (Condition d c) = Write (CaptureCondition c) (first_condition (channel_of d c))
@@ -70,7 +53,7 @@ init_shortens Store x = omega arith
 
 -- ---- what holds at each; while the module is off conditions and modes are free
 
-abbrev pub init_gap : InitBody → Gap
+abbrev pub init_gap : InitBody → Lag
 init_gap Store = record settled { lines = Some true }
 init_gap _ = settled
 
@@ -139,10 +122,6 @@ chooses_same (Some k) b y e h = e ∙ h
 pub all_lines : (c : ℕ) → c < 8 → has_bit LINES (16 + c) ≡ true
 all_lines c lt = by_eight (λ i. has_bit LINES (16 + i) ≡ true) refl refl refl refl refl refl refl refl c lt
 
-or_on : (a b : Bool) → b ≡ true → a || b ≡ true
-or_on true b e = refl
-or_on false b e = e
-
 -- the state word may be stored
 pub may_state : (d : IcuDriver) → (is_own_word d STATE || is_stamp d STATE) && nat_lt STATE 147456 ≡ true
 may_state d = ap (λ q. (q || is_stamp d STATE) && nat_lt STATE 147456) (own_word d STATE (omega arith) (omega arith))
@@ -163,7 +142,7 @@ cleared_stored (Some k) x = refl
 
 module _ (d : IcuDriver) where
   -- a channel's condition or mode is written while the module is off
-  written : (chip : Chip) (w : World) (s : IcuState) (c : ℕ) (y : chips.Capture) → c < 8 → s.initialised ≡ false → Kept (chip_capture chip.captures c) y → StandsIn (record chip { captures = chip_with chip.captures c y }) w → IcuAgrees d settled chip w s → IcuAgrees d settled (record chip { captures = chip_with chip.captures c y }) w s
+  written : (chip : Chip) (w : World) (s : IcuState) (c : ℕ) (y : chips.Capture) → c < 8 → s.initialised ≡ false → Kept (chip_capture chip.captures c) y → StandsIn (record chip { captures = chip_with chip.captures c y }) w → IcuRepresents d settled chip w s → IcuRepresents d settled (record chip { captures = chip_with chip.captures c y }) w s
   written chip w s c y lt off same outside h = record {
     outside = outside;
     size = length-set chip.captures.captures c y ∙ h.size;
@@ -186,8 +165,8 @@ module _ (d : IcuDriver) where
         queue = λ f. same.1 ∙ a.queue f;
         lost = λ f. same.2 ∙ a.lost f;
         count = λ f. same.3 ∙ a.count f;
-        condition = λ f. never (sym off ∙ f);
-        mode = λ f. never (sym (ap (λ q. q || false) off) ∙ f);
+        condition = λ f. off_on (sym off ∙ f);
+        mode = λ f. off_on (sym (ap (λ q. q || false) off) ∙ f);
         starts = a.starts;
         known = a.known;
         free_known = a.free_known;
@@ -216,21 +195,21 @@ module _ (d : IcuDriver) where
 
   -- a channel of a module that is off, cleared
   cleared_block : (k : Option Channel) (moded : Bool) (b : chips.Capture) (x : Capture) → CaptureAgrees k false false false false false b x → IsCourse k x → x.on ≡ false → (is_some k ≡ true → IsClean x) → ChoosesFirst k b → b.mode ≡ mode_by (counts_edges k) → CaptureAgrees k false false false true true b (cleared k x)
-  cleared_block None moded b x a g off z p q = record { gate = a.gate; queue = a.queue; lost = a.lost; count = a.count; condition = λ f. tt; mode = λ f. q; starts = λ f. never (sym off ∙ f); known = λ f. f; free_known = λ f. never f; free_queue = λ f. never f; free_count = λ f. never f }
-  cleared_block (Some k) moded b x a g off z p q = record { gate = λ f. a.gate f ∙ off; queue = λ f. a.queue f ∙ ap (λ es. map kept es) (g.off off).0; lost = λ f. a.lost f ∙ (g.off off).1; count = λ f. a.count f ∙ (z refl).uncounted; condition = λ f. p; mode = λ f. q; starts = λ f. never f; known = λ f. f; free_known = λ f. never f; free_queue = λ f. never f; free_count = λ f. never f }
+  cleared_block None moded b x a g off z p q = record { gate = a.gate; queue = a.queue; lost = a.lost; count = a.count; condition = λ f. tt; mode = λ f. q; starts = λ f. off_on (sym off ∙ f); known = λ f. f; free_known = λ f. off_on f; free_queue = λ f. off_on f; free_count = λ f. off_on f }
+  cleared_block (Some k) moded b x a g off z p q = record { gate = λ f. a.gate f ∙ off; queue = λ f. a.queue f ∙ ap (λ es. map kept es) (g.off off).0; lost = λ f. a.lost f ∙ (g.off off).1; count = λ f. a.count f ∙ (z refl).uncounted; condition = λ f. p; mode = λ f. q; starts = λ f. off_on f; known = λ f. f; free_known = λ f. off_on f; free_queue = λ f. off_on f; free_count = λ f. off_on f }
 
   stamped_cleared : (k : Channel) (x : Capture) (v : ℕ) → x.on ≡ false → Stamped x v → Stamped (cleared (Some k) x) v
-  stamped_cleared k x _ off (Is_on e) = never (sym off ∙ e)
+  stamped_cleared k x _ off (Is_on e) = off_on (sym off ∙ e)
   stamped_cleared k x _ off (Is_stopped e f) = Is_stopped refl f
   stamped_cleared k x _ off (Is_fresh e f) = Is_fresh refl refl
 
   cleared_words : (m : IcuMeasurementMode) (at : ℕ → ℕ) (c : ℕ) (k : Channel) (x : Capture) → IsClean x → ModeWords m at none c k x → ModeWords m at none c k (cleared (Some k) x)
   cleared_words SignalEdgeDetect at c k x z h = record { switch = λ f. h.switch f ∙ ap (λ q. bit_of q) z.quiet; mark = λ f. h.mark f ∙ ap (λ q. bit_of q) z.unmarked }
   cleared_words EdgeCounter at c k x z h = tt
-  cleared_words Timestamp at c k x z h = record { switch = λ f. h.switch f ∙ ap (λ q. bit_of q) z.quiet; mark = λ f. stamped_cleared k x (at (word MARKS c)) z.off (h.mark f); size = h.size; interval = λ f g. never g; place = λ f ne. h.place f ne ∙ ap (λ es. index_by k x.start (length es)) z.unserved; left = λ f g. never g }
+  cleared_words Timestamp at c k x z h = record { switch = λ f. h.switch f ∙ ap (λ q. bit_of q) z.quiet; mark = λ f. stamped_cleared k x (at (word MARKS c)) z.off (h.mark f); size = h.size; interval = λ f g. off_on g; place = λ f ne. h.place f ne ∙ ap (λ es. index_by k x.start (length es)) z.unserved; left = λ f g. off_on g }
   cleared_words SignalMeasurement at c k x z h =
       let nothing = none_served k (cleared (Some k) x) refl in
-      record { waits = λ f. h.waits f ∙ (ap (λ o. bit_of (is_some o)) (none_served k x z.unserved) ∙ sym (ap (λ o. bit_of (is_some o)) nothing)); mark = λ f. h.mark f ∙ ap (λ q. bit_of q) z.unmarked; seen = λ f g. never g; start = λ f g. never g; opposite = λ f g. never g; value = λ f. subst (λ o. ValueIs (at (word VALUES c)) o) (sym nothing) tt; time = λ f. subst (λ o. ActiveIs (at (word TIMES c)) o) (sym nothing) tt }
+      record { waits = λ f. h.waits f ∙ (ap (λ o. bit_of (is_some o)) (none_served k x z.unserved) ∙ sym (ap (λ o. bit_of (is_some o)) nothing)); mark = λ f. h.mark f ∙ ap (λ q. bit_of q) z.unmarked; seen = λ f g. off_on g; start = λ f g. off_on g; opposite = λ f g. off_on g; value = λ f. subst (λ o. ValueIs (at (word VALUES c)) o) (sym nothing) tt; time = λ f. subst (λ o. ActiveIs (at (word TIMES c)) o) (sym nothing) tt }
 
   channel_cleared : (k : Option Channel) (at : ℕ → ℕ) (c : ℕ) (x : Capture) → (is_some k ≡ true → IsClean x) → ChannelWords k at none c x → ChannelWords k at none c (cleared k x)
   channel_cleared None at c x z h = tt
@@ -239,7 +218,7 @@ module _ (d : IcuDriver) where
   abbrev on_state : IcuState → IcuState
   on_state s = cleared_all d s true
 
-  started : (chip : Chip) (w : World) (s : IcuState) → s.initialised ≡ false → SetUp d (bare_block chip.captures) 8 → IcuAgrees d (record settled { lines = Some true }) chip w s → IcuAgrees d settled (chip_after chip (Stores STATE 1) 0) w (on_state s)
+  started : (chip : Chip) (w : World) (s : IcuState) → s.initialised ≡ false → SetUp d (bare_block chip.captures) 8 → IcuRepresents d (record settled { lines = Some true }) chip w s → IcuRepresents d settled (chip_after chip (Stores STATE 1) 0) w (on_state s)
   started chip w s off ready h =
       let gap = record settled { lines = Some true } in
       let chip1 = chip_after chip (Stores STATE 1) 0 in
@@ -258,13 +237,13 @@ module _ (d : IcuDriver) where
         turns = λ c lt. subst (λ x. HasTurns (channel_of d c) w x) (sym (at c lt)) (off_turns (channel_of d c) w (cleared (channel_of d c) (capture_at s c)) (cleared_off (channel_of d c) (capture_at s c) (idle c lt)));
         lines = λ c lt. h.lines c lt;
         stamps = λ c lt some i few g. keeps (place_of (Stamps c) i) (λ e. absurd (omega (arith, e))) ∙ (h.stamps c lt some i few refl ∙ sym (ap (λ (x : Capture). stamp_in x.stored i) (at c lt) ∙ ap (λ ss. stamp_in ss i) (cleared_stored (channel_of d c) (capture_at s c))));
-        clean = λ f. never (sym f);
+        clean = λ f. off_on (sym f);
       }
 
   acts_on_init : (w : World) (s : IcuState) (times : ℕ → ℕ) → s.initialised ≡ false → happens d w s (Acts Init times) ≡ Some (outcome (on_state s) tells_nothing)
   acts_on_init w s times off = ap (λ q. Some (acts_by d s Init (error_by d Init (not q) false))) off
 
-  mode_by_last : (chip : Chip) (w : World) (s : IcuState) (c : ℕ) (o : Origin Call) (t : Option Told) (m : ℕ → Bool) → c < 8 → Before Init o t → s.initialised ≡ false → IcuAgrees d settled chip w s → SetUp d (bare_block chip.captures) (c + 1) → (q : Bool) → nat_lt c 7 ≡ q → StepsTo (icu_ground d) (init_bodies d) chip w s o (Write (CaptureMode c) (mode_of (channel_of d c))) false t m (if q then (Condition d (c + 1), goes) else (Enable, goes))
+  mode_by_last : (chip : Chip) (w : World) (s : IcuState) (c : ℕ) (o : Origin Call) (t : Option Told) (m : ℕ → Bool) → c < 8 → Before Init o t → s.initialised ≡ false → IcuRepresents d settled chip w s → SetUp d (bare_block chip.captures) (c + 1) → (q : Bool) → nat_lt c 7 ≡ q → StepsTo (icu_ground d) (init_bodies d) chip w s o (Write (CaptureMode c) (mode_of (channel_of d c))) false t m (if q then (Condition d (c + 1), goes) else (Enable, goes))
   mode_by_last chip w s c o t m lt before off h ready true e = (h, ((before, off, refl, next c e, ready), tt))
     where
       next : (c : ℕ) → nat_lt c 7 ≡ true → c + 1 < 8
@@ -292,7 +271,7 @@ module _ (d : IcuDriver) where
       let mode_now = ap (λ z. z.mode) seen ∙ (mode_first (channel_of e c) b ∙ ap (λ z. mode_by (counts_edges (channel_of z c))) is) in
       let set = more_set (bare_block (chip_with chip.captures c y)) c (still_set chip.captures c y h.size lt ready) chosen_now mode_now in
       (below_test c lt, subst (λ z. StepsTo (icu_ground d) (init_bodies d) chip1 w s o (Write (CaptureMode c) (mode_of (channel_of e c))) false t m1 (if nat_lt c 7 then (Condition z (c + 1), goes) else (Enable, goes))) (sym is) (subst (λ z. StepsTo (icu_ground d) (init_bodies d) chip1 w s o (Write (CaptureMode c) (mode_of (channel_of z c))) false t m1 (if nat_lt c 7 then (Condition d (c + 1), goes) else (Enable, goes))) (sym is) (mode_by_last chip1 w s c o t m1 lt before off after set (nat_lt c 7) refl)))
-  steps chip w s Enable o t m (h, ((before, off, ready), u)) = (refl, (record { outside = stands-move chip w (Write EnableSet LINES) 0 h.outside; size = h.size; wired = h.wired; block = h.block; state = h.state; words = h.words; course = h.course; turns = h.turns; lines = λ c lt. has_bit-or chip.control.enabled LINES (16 + c) ∙ or_on (has_bit chip.control.enabled (16 + c)) (has_bit LINES (16 + c)) (all_lines c lt); stamps = h.stamps; clean = h.clean }, ((before, off, ready), tt)))
+  steps chip w s Enable o t m (h, ((before, off, ready), u)) = (refl, (record { outside = stands-move chip w (Write EnableSet LINES) 0 h.outside; size = h.size; wired = h.wired; block = h.block; state = h.state; words = h.words; course = h.course; turns = h.turns; lines = λ c lt. has_bit-or chip.control.enabled LINES (16 + c) ∙ or_right (has_bit chip.control.enabled (16 + c)) (has_bit LINES (16 + c)) (all_lines c lt); stamps = h.stamps; clean = h.clean }, ((before, off, ready), tt)))
   steps chip w s Store o t m (h, ((Is_before, off, ready), u)) = (
     may_state d,
     record {

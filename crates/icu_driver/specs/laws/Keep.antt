@@ -1,16 +1,16 @@
 -- The handler of a timestamp channel: its steps.
-use Rattle.std.proofs.Common.{ℕ, ◌+◌, ◌-◌, ◌/◌, ◌%◌, ◌^◌, ◌≤◌, Bool, true, false, ◌==◌, ◌&&◌, not, None, arith}
-use Rattle.std.specs.Prelude.{if◌then◌else◌}
-use Rattle.mcal_base.specs.declared.moves.Move.TheVariants.{Read, Write, Load, Store as Stores}
-use Rattle.mcal_base.specs.declared.notice.NoticeKind.TheVariants.{IcuTimestampNotification}
-use Rattle.mcal_base.specs.declared.register.Reg.TheVariants.{CaptureInfo, CaptureTimeLow, CaptureTimeHigh, CapturePop, CaptureFlush, CaptureGateClear}
-use Rattle.icu_driver.specs.Words.{stamp_word}
-use Rattle.icu_driver.specs.laws.Base.{Move, no_answer, BodyTaken, goes, ends, Owed, Nothing, Shortens, shortens_if, word, bit, joined, SWITCHES, MARKS, SIZES, INTERVALS, PLACES, VALUES}
-use Rattle.icu_driver.specs.laws.Detect as detect
+-- From Detect, Base.
+-- Used by Keeping, service/keep/rt, Windows, Indices.
+use Rattle.std.proofs.Common.{◌+◌, ◌-◌, ◌/◌, ◌%◌, ◌^◌, ◌≤◌, ◌==◌, ◌&&◌, if◌then◌else◌}
+use Rattle.icu_driver.specs.Terms
+use Terms.{arith, Bool, CaptureFlush, CaptureGateClear, CaptureInfo, CapturePop, CaptureTimeHigh, CaptureTimeLow, Close}
+use Terms.{Drop, false, IcuTimestampNotification, Index, Interval, KeepBody, Kept, Left, Load, Next, None, not, Off}
+use Terms.{Read, Rest, Size, stamp_word, Stores, Switch, true, Write, ℕ}
+use Rattle.icu_driver.specs.laws.Base.{Move, no_answer, BodyTaken, goes, ends, Epilogue, Nothing, Shortens, shortens_if}
+use Rattle.icu_driver.specs.laws.Base.{word, bit, joined, SWITCHES, MARKS, SIZES, INTERVALS, PLACES, VALUES}
 use Rattle.icu_driver.specs.laws.Detect.{owed_if}
-use Rattle.icu_driver.specs.declared.service.keep.Kept.{Kept}
-use Rattle.icu_driver.specs.declared.service.keep.KeepBody.{KeepBody}
-use Rattle.icu_driver.specs.declared.service.keep.KeepBody.TheVariants.{Look, Low, High, Size, Index, Left, Interval, Switch, Close, Drop, Off, Pop, Store, Next, Rest}
+use Rattle.icu_driver.specs.declared.service.keep.KeepBody.TheVariants.{Look, Low, High, Pop, Store}
+use Rattle.icu_driver.specs.laws.Detect as detect
 
 abbrev pub serves : ℕ → BodyTaken
 serves c = detect.serves c
@@ -27,7 +27,7 @@ next_index r = if not r.linear && (r.index + 1) % 2 ^ 32 == r.size then 0 else (
 abbrev pub left_now : Kept → ℕ
 left_now r = if r.left == 1 then r.interval else (r.left + 2 ^ 32 - 1) % 2 ^ 32
 
-abbrev pub keep_owed : Kept → Owed
+abbrev pub keep_owed : Kept → Epilogue
 keep_owed r = owed_if (r.left == 1 && r.notified) IcuTimestampNotification r.channel
 
 abbrev pub keep_work : KeepBody → Move

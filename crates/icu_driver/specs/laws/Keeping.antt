@@ -1,62 +1,49 @@
 -- The handler of a timestamp channel: what holds at each of its places, and that it is right.
-use Rattle.std.proofs.Common.{◌≡◌, ◌≢◌, ℕ, ◌+◌, ◌*◌, ◌/◌, ◌%◌, ◌<◌, ◌≤◌, ◌^◌, Bool, true, false, ◌&&◌, ◌||◌, ◌==◌, nat_lt, List, [], ◌∷◌, ◌++◌, length, Option, Some, None, refl, sym, ◌∙◌, ap, subst, arith, length-append}
-use Rattle.std.specs.Prelude.{if◌then◌else◌, is_some, map}
-use Rattle.std.specs.List.{AllByRecursion}
-use Rattle.std.proofs.lemmas.Bool.Decides.{nat_tests}
-use Rattle.mcal_base.specs.declared.TheConstants.{WORDS}
-use Rattle.run_model.specs.Outside.{StandsIn}
-use Rattle.chip_captures.specs.Captures.{Captures, capture_at as chip_capture, popped, flushed, info_of, oldest_time}
+-- From One, Stamp, Serve, Calls, Keep and 7 more.
+-- Used by Lawful.
+use Rattle.std.proofs.Common.{◌≡◌, ◌≢◌, ◌+◌, ◌*◌, ◌/◌, ◌%◌, ◌<◌, ◌≤◌, ◌^◌, ◌&&◌, ◌||◌, ◌==◌, [], ◌∷◌, ◌++◌, ◌∙◌}
+use Rattle.std.proofs.Common.{if◌then◌else◌}
+use Rattle.icu_driver.specs.Terms
+use Terms.{AllByRecursion, ap, AreRight, arith, At, below_test, Bodies, Bool, Call, Capture, capture_at, CaptureAgrees}
+use Terms.{CaptureFlush, CaptureGateClear, CaptureInfo, CapturePop, Captures, CaptureTimeLow, Channel, channel_of}
+use Terms.{ChannelWords, Chip, chip_after, chip_capture, Close, Drop, Edge, Entered, eq_other, eq_self, false, flushed}
+use Terms.{happens, HasPlace, icu_ground, icu_machine, IcuDriver, IcuRepresents, IcuState, IcuTimestampNotification}
+use Terms.{Index, index, index_by, info_of, Interval, interval_by, Is_fresh, is_full, is_linear, is_measurement}
+use Terms.{is_notified, Is_on, is_own_word, Is_served, Is_serving, is_some, is_stamp, Is_stopped, IsStart, KeepBody}
+use Terms.{Kept, kept, kinds_by, Lag, Left, left_by, length, length-append, List, Load, map, missed_after, ModeWords}
+use Terms.{nat_lt, nat_tests, never_clean, Next, None, none, notices_of, Off, off_on, oldest_time, only, Option, Origin}
+use Terms.{outcome, own_stamp, place_of, popped, Read, refl, Rest, Served, served_by, Serves, Serving, settled, Size}
+use Terms.{size_word, Some, stamp_in, stamp_word, Stamped, Stamps, StampWords, stands-move, StandsIn, Start, StepsTo}
+use Terms.{stored_other, stored_same, Stores, subst, Switch, switched, sym, Timestamp, Told, true, with_capture}
+use Terms.{word_of, WORDS, World, Write, ℕ}
+use Rattle.icu_driver.specs.declared.service.keep.KeepBody.TheVariants.{Look, Low, High, Pop, Store}
+use Rattle.icu_driver.specs.laws.{Base.{no_answer, goes, ends, Nothing, word, line, bit, joined, STATE, SWITCHES}}
+use Rattle.icu_driver.specs.laws.{Base.{MARKS, SIZES, INTERVALS, PLACES, VALUES}, Calls.{to_mode, from_mode, is_there}}
+use Rattle.icu_driver.specs.laws.{Calls.{turns_by, switched_course, off_place, off_turns, may_row}, Change.{as_course}}
+use Rattle.icu_driver.specs.laws.{Channels.{popped_agrees, closed_agrees, dropped_agrees, block_as}}
+use Rattle.icu_driver.specs.laws.{Count.{halves_join}, Indices.{HasRead, fills_is, next_is, left_is, notified_is}}
+use Rattle.icu_driver.specs.laws.{Indices.{place_next}, Keep.{fills, next_index, left_now, keep_read, keep_work}}
+use Rattle.icu_driver.specs.laws.{Keep.{keep_takes, keep_left, keep_shortens}, Measure.{one_is}, One.{IsAt, ChipLeft}}
+use Rattle.icu_driver.specs.laws.{One.{ChannelAgrees, channel_agrees, one_agrees, settled_at, same_state, with_same}}
+use Rattle.icu_driver.specs.laws.{One.{with_state, left_latched, left_channel, left_gate, left_word, channel_new}}
+use Rattle.icu_driver.specs.laws.{One.{gate_new, word_new, word_old, stamps_old, mode_left, words_left}, Rows.{rows_of}}
+use Rattle.icu_driver.specs.laws.{Rows.{rows_behind, behind_row, rows_at, row_others, row_stored, grows}}
+use Rattle.icu_driver.specs.laws.{Serve.{missed_here, info_empty, waiting_on, split, served_here, popped_course}}
+use Rattle.icu_driver.specs.laws.{Serve.{told_of, owes_notice, owes_no_error}, Stamp.{row_switches, row_marks}}
+use Rattle.icu_driver.specs.laws.{Stamp.{row_sizes, row_intervals, row_places, row_values, New_mark, New_place}}
+use Rattle.icu_driver.specs.laws.{Stamp.{New_left, stamp_closed}, Steady.{without_edges, calm_at, oldest, AllGood}}
+use Rattle.icu_driver.specs.laws.{Steady.{fronted, fronted_right}}
 use Rattle.chip_captures.specs.declared.capture.Act.TheVariants as turns
-use Rattle.chip_model.specs.Chip.{Chip, chip_after, word_of}
-use Rattle.mcal_base.specs.Layout.{place_of}
-use Rattle.mcal_base.specs.declared.config.icu.IcuMeasurementMode.TheVariants.{Timestamp}
-use Rattle.mcal_base.specs.declared.layout.Array.TheVariants.{Stamps}
-use Rattle.mcal_base.specs.declared.moves.Move.TheVariants.{Read, Write, Load, Store as Stores}
-use Rattle.mcal_base.specs.declared.notice.NoticeKind.TheVariants.{IcuTimestampNotification}
-use Rattle.mcal_base.specs.declared.register.Reg.TheVariants.{CaptureInfo, CaptureTimeLow, CapturePop, CaptureFlush, CaptureGateClear}
-use Rattle.run_model.specs.Frame.{Origin, Entered, missed_after}
-use Rattle.run_model.specs.Machine.{Told, Serves, outcome}
-use Rattle.run_model.specs.World.{World}
-use Rattle.run_model.proofs.OutsideLaws.{stands-move}
-use Rattle.service_outline.specs.Outline.{Bodies, At, AreRight, StepsTo, Serving, Is_serving, Served, Is_served}
-use Rattle.service_outline.specs.laws.Acts.{never_clean}
-use Rattle.service_outline.specs.laws.Words.{stored_same, stored_other}
-use Rattle.icu_driver.specs.Bounds.{is_own_word, is_stamp}
-use Rattle.icu_driver.specs.Edges.{Edge}
-use Rattle.icu_driver.specs.Ground.{Gap, none, only, settled, kept, CaptureAgrees, ChannelWords, ModeWords, StampWords, Stamped, Is_on, Is_stopped, Is_fresh, size_word, interval_by, left_by, IsStart, HasPlace, IcuAgrees, icu_ground}
-use Rattle.icu_driver.specs.Machine.{IcuState, Capture, Start, capture_at, with_capture, switched, index, index_by, is_full, is_notified, stamp_in, served_by, kinds_by, notices_of, happens, icu_machine}
-use Rattle.icu_driver.specs.Table.{channel_of, is_measurement, is_linear}
-use Rattle.icu_driver.specs.Words.{stamp_word}
-use Rattle.icu_driver.specs.declared.call.Call.{Call}
-use Rattle.icu_driver.specs.declared.driver.Channel.{Channel}
-use Rattle.icu_driver.specs.declared.driver.IcuDriver.{IcuDriver}
-use Rattle.icu_driver.specs.declared.service.keep.Kept.{Kept}
-use Rattle.icu_driver.specs.declared.service.keep.KeepBody.{KeepBody}
-use Rattle.icu_driver.specs.declared.service.keep.KeepBody.TheVariants.{Look, Low, High, Size, Index, Left, Interval, Switch, Close, Drop, Off, Pop, Store, Next, Rest}
-use Rattle.icu_driver.specs.laws.Base.{no_answer, goes, ends, Nothing, word, line, bit, joined, STATE, SWITCHES, MARKS, SIZES, INTERVALS, PLACES, VALUES}
-use Rattle.icu_driver.specs.laws.Calls.{never, to_mode, from_mode, is_there, turns_by, switched_course, off_place, off_turns, may_row}
-use Rattle.icu_driver.specs.laws.Change.{as_course}
-use Rattle.icu_driver.specs.laws.Channels.{popped_agrees, closed_agrees, dropped_agrees, block_as}
-use Rattle.icu_driver.specs.laws.Count.{halves_join}
-use Rattle.icu_driver.specs.laws.Ground.{below_test, own_stamp}
-use Rattle.icu_driver.specs.laws.Indices.{HasRead, fills_is, next_is, left_is, notified_is, place_next}
-use Rattle.icu_driver.specs.laws.Keep.{fills, next_index, left_now, keep_read, keep_work, keep_takes, keep_left, keep_shortens}
-use Rattle.icu_driver.specs.laws.Measure.{one_is}
-use Rattle.icu_driver.specs.laws.One.{IsAt, ChipLeft, ChannelAgrees, channel_agrees, one_agrees, settled_at, same_yes, other_no, same_state, with_same, with_state, left_latched, left_channel, left_gate, left_word, channel_new, gate_new, word_new, word_old, stamps_old, mode_left, words_left}
-use Rattle.icu_driver.specs.laws.Rows.{rows_of, rows_behind, behind_row, rows_at, row_others, row_stored, grows}
-use Rattle.icu_driver.specs.laws.Serve.{missed_here, info_empty, waiting_on, split, served_here, popped_course, told_of, owes_notice, owes_no_error}
-use Rattle.icu_driver.specs.laws.Stamp.{row_switches, row_marks, row_sizes, row_intervals, row_places, row_values, New_mark, New_place, New_left, stamp_closed}
-use Rattle.icu_driver.specs.laws.Steady.{calm, calm_at, oldest, AllGood, fronted, fronted_right}
 
 -- ---- what is under work: words, and a place of the stamps
 
-abbrev pub stamping : List ℕ → (channel place : ℕ) → Gap
+abbrev pub stamping : List ℕ → (channel place : ℕ) → Lag
 stamping rs c i = record (rows_of rs c) { stamps = λ k n. k == c && n == i }
 
-abbrev pub dropping : (channel place : ℕ) → Gap
+abbrev pub dropping : (channel place : ℕ) → Lag
 dropping c i = record (stamping (MARKS ∷ PLACES ∷ VALUES ∷ []) c i) { queues = only c }
 
-abbrev pub keep_gap : KeepBody → Gap
+abbrev pub keep_gap : KeepBody → Lag
 keep_gap (Drop r) = dropping r.channel r.index
 keep_gap (Off r) = stamping (MARKS ∷ PLACES ∷ VALUES ∷ []) r.channel r.index
 keep_gap (Store r) = stamping (PLACES ∷ VALUES ∷ []) r.channel r.index
@@ -144,10 +131,10 @@ keep_bodies d = fronted d keep_work keep_takes keep_left keep_gap (λ k. false) 
 -- ---- gaps of one channel
 
 stamping_at : (rs : List ℕ) (c i : ℕ) → IsAt c (rows_of rs c) → IsAt c (stamping rs c i)
-stamping_at rs c i a = record { gates = a.gates; queues = a.queues; counts = a.counts; words = a.words; state = a.state; stamps = λ k n ne. ap (λ q. q && n == i) (other_no k c ne); moded = a.moded; lines = a.lines }
+stamping_at rs c i a = record { gates = a.gates; queues = a.queues; counts = a.counts; words = a.words; state = a.state; stamps = λ k n ne. ap (λ q. q && n == i) (eq_other k c ne); moded = a.moded; lines = a.lines }
 
 dropping_at : (c i : ℕ) → IsAt c (rows_of (MARKS ∷ PLACES ∷ VALUES ∷ []) c) → IsAt c (dropping c i)
-dropping_at c i a = record { gates = a.gates; queues = λ k ne. other_no k c ne; counts = a.counts; words = a.words; state = a.state; stamps = λ k n ne. ap (λ q. q && n == i) (other_no k c ne); moded = a.moded; lines = a.lines }
+dropping_at c i a = record { gates = a.gates; queues = λ k ne. eq_other k c ne; counts = a.counts; words = a.words; state = a.state; stamps = λ k n ne. ap (λ q. q && n == i) (eq_other k c ne); moded = a.moded; lines = a.lines }
 
 rows_two : (c : ℕ) → c < 8 → IsAt c (rows_of (PLACES ∷ VALUES ∷ []) c)
 rows_two c lt = rows_at (PLACES ∷ VALUES ∷ []) c (row_places, (row_values, tt)) lt
@@ -157,13 +144,13 @@ rows_three c lt = rows_at (MARKS ∷ PLACES ∷ VALUES ∷ []) c (row_marks, (ro
 
 -- a place other than the one under work
 other_place : (c i n : ℕ) → c == c && n == i ≡ false → (i == n) ≡ false
-other_place c i n e = let f : (n == i) ≡ false = sym (ap (λ q. q && n == i) (same_yes c)) ∙ e in turned n i f
+other_place c i n e = let f : (n == i) ≡ false = sym (ap (λ q. q && n == i) (eq_self c)) ∙ e in turned n i f
   where
     turned : (n i : ℕ) → (n == i) ≡ false → (i == n) ≡ false
     turned n i f = grind (arith, nat_tests)
 
 row_is : (rs : List ℕ) (f c : ℕ) {A : Type 0} → rows_behind rs c (word f c) ≡ true → rows_behind rs c (word f c) ≡ false → A
-row_is rs f c e r = never (sym r ∙ e)
+row_is rs f c e r = off_on (sym r ∙ e)
 
 one_left : (n : ℕ) → (n == 1) ≡ true → n ≡ 1
 one_left n e = grind (arith, nat_tests)
@@ -228,14 +215,14 @@ index_of k x = index k x
 -- ---- its steps
 
 module _ (d : IcuDriver) where
-  words_of : (chip : Chip) (w : World) (s : IcuState) (gap : Gap) (r : Kept) (a : Stamper d r) → IcuAgrees d gap chip w s → StampWords (λ j. word_of chip j) gap.words r.channel a.k (capture_at s r.channel)
+  words_of : (chip : Chip) (w : World) (s : IcuState) (gap : Lag) (r : Kept) (a : Stamper d r) → IcuRepresents d gap chip w s → StampWords (λ j. word_of chip j) gap.words r.channel a.k (capture_at s r.channel)
   words_of chip w s gap r a h = to_mode d r.channel a.k a.known Timestamp a.mode (λ j. word_of chip j) gap.words (capture_at s r.channel) (h.words r.channel a.lt)
 
   -- stamps that are on have a mark, and a place for one more
   marked : (x : Capture) (v : ℕ) → x.on ≡ true → Stamped x v → v ≢ 0
   marked x _ up (Is_on e) z = absurd (cc)
-  marked x _ up (Is_stopped e f) z = never (sym e ∙ up)
-  marked x _ up (Is_fresh e f) z = never (sym e ∙ up)
+  marked x _ up (Is_stopped e f) z = off_on (sym e ∙ up)
+  marked x _ up (Is_fresh e f) z = off_on (sym e ∙ up)
 
   may_stamp : (r : Kept) (a : Stamper d r) → r.index < 64 → (is_own_word d (stamp_word r.channel r.index) || is_stamp d (stamp_word r.channel r.index)) && nat_lt (stamp_word r.channel r.index) 147456 ≡ true
   may_stamp r a few =
@@ -251,7 +238,7 @@ module _ (d : IcuDriver) where
       both true q e = e
       both false q e = e
 
-  look_by : (chip : Chip) (w : World) (s : IcuState) (m : ℕ → Bool) (r : Kept) (a : Stamper d r) → IcuAgrees d settled chip w s → (es : List Edge) → (capture_at s r.channel).waiting ≡ es → StepsTo (icu_ground d) (keep_bodies d) chip w s (Entered (line r.channel)) (Read (CaptureInfo r.channel)) false None (missed_after (icu_machine d) w s m) (if info_of (map kept es) / 4 == 0 then (Look r, ends None no_answer Nothing) else (Low r, goes))
+  look_by : (chip : Chip) (w : World) (s : IcuState) (m : ℕ → Bool) (r : Kept) (a : Stamper d r) → IcuRepresents d settled chip w s → (es : List Edge) → (capture_at s r.channel).waiting ≡ es → StepsTo (icu_ground d) (keep_bodies d) chip w s (Entered (line r.channel)) (Read (CaptureInfo r.channel)) false None (missed_after (icu_machine d) w s m) (if info_of (map kept es) / 4 == 0 then (Look r, ends None no_answer Nothing) else (Low r, goes))
   look_by chip w s m r a h [] is = (h, missed_here d w s r.channel m is, refl)
   look_by chip w s m r a h (e ∷ es) is =
       subst (λ q. StepsTo (icu_ground d) (keep_bodies d) chip w s (Entered (line r.channel)) (Read (CaptureInfo r.channel)) false None (missed_after (icu_machine d) w s m) (if q then (Look r, ends None no_answer Nothing) else (Low r, goes))) (sym (info_empty (kept e) (map kept es)))
@@ -273,15 +260,15 @@ module _ (d : IcuDriver) where
         read = record { linear = a.linear; size = b.size ∙ ap (λ z. size_word z) e; index = b.index ∙ ap (λ z. index_by a.k z (length x.served)) e; left = b.left ∙ ap (λ z. left_by z (length x.served)) e; below = subst (λ n. n < t.size) (sym b.index) (subst (λ z. index a.k x < size_word z) e q.2); start = i };
       }
 
-  under : (chip : Chip) (w : World) (s : IcuState) (r : Kept) (a : Stamper d r) → AllRead a.k r (capture_at s r.channel) → (capture_at s r.channel).on ≡ true → IcuAgrees d settled chip w s → Under r a (capture_at s r.channel)
+  under : (chip : Chip) (w : World) (s : IcuState) (r : Kept) (a : Stamper d r) → AllRead a.k r (capture_at s r.channel) → (capture_at s r.channel).on ≡ true → IcuRepresents d settled chip w s → Under r a (capture_at s r.channel)
   under chip w s r a b up h = let q = h.course r.channel a.lt in under_by r a (capture_at s r.channel) (capture_at s r.channel).start refl up b q.0.start q.1
 
-  read_here : (s : IcuState) (r : Kept) (a : Stamper d r) → AllRead a.k r (capture_at (calm s) r.channel) → AllRead a.k r (capture_at s r.channel)
+  read_here : (s : IcuState) (r : Kept) (a : Stamper d r) → AllRead a.k r (capture_at (without_edges s) r.channel) → AllRead a.k r (capture_at s r.channel)
   read_here s r a b =
       let same = calm_at s r.channel a.lt in
       record { size = b.size ∙ ap (λ z. size_word z.start) same; index = b.index ∙ ap (λ z. index a.k z) same; left = b.left ∙ ap (λ z. left_by z.start (length z.served)) same; last = λ e. ((b.last e).0 ∙ ap (λ z. interval_by z.start) same, (b.last e).1 ∙ ap (λ z. z.notification) same) }
 
-  read_calm : (s : IcuState) (r : Kept) (a : Stamper d r) → AllRead a.k r (capture_at s r.channel) → AllRead a.k r (capture_at (calm s) r.channel)
+  read_calm : (s : IcuState) (r : Kept) (a : Stamper d r) → AllRead a.k r (capture_at s r.channel) → AllRead a.k r (capture_at (without_edges s) r.channel)
   read_calm s r a b =
       let same = sym (calm_at s r.channel a.lt) in
       record { size = b.size ∙ ap (λ z. size_word z.start) same; index = b.index ∙ ap (λ z. index a.k z) same; left = b.left ∙ ap (λ z. left_by z.start (length z.served)) same; last = λ e. ((b.last e).0 ∙ ap (λ z. interval_by z.start) same, (b.last e).1 ∙ ap (λ z. z.notification) same) }
@@ -295,8 +282,8 @@ module _ (d : IcuDriver) where
 
   stamped_with : (x y : Capture) (v : ℕ) → x.on ≡ true → y.on ≡ true → Stamped x v → Stamped y v
   stamped_with x y _ up on (Is_on e) = Is_on on
-  stamped_with x y _ up on (Is_stopped e f) = never (sym e ∙ up)
-  stamped_with x y _ up on (Is_fresh e f) = never (sym e ∙ up)
+  stamped_with x y _ up on (Is_stopped e f) = off_on (sym e ∙ up)
+  stamped_with x y _ up on (Is_fresh e f) = off_on (sym e ∙ up)
 
   -- the channel with the stamp
   abbrev with_stamp : Channel → Edge → List Edge → Capture → Capture
@@ -310,17 +297,17 @@ module _ (d : IcuDriver) where
       let same = start ∙ u.is in
       record {
         place = small_place r.index u.start.size u.read.below u.read.start.1;
-        stamp = ap (λ ss. stamp_in ss r.index) stored ∙ (ap (λ q. if q then e.time else stamp_in x.stored r.index) (ap (λ i. i == r.index) (sym b.index) ∙ same_yes r.index) ∙ sym at);
+        stamp = ap (λ ss. stamp_in ss r.index) stored ∙ (ap (λ q. if q then e.time else stamp_in x.stored r.index) (ap (λ i. i == r.index) (sym b.index) ∙ eq_self r.index) ∙ sym at);
         next = next_is a.k r u.start n u.read ∙ sym (ap (λ z. index_by a.k z (length y.served)) same ∙ ap (λ m. index_by a.k (Some u.start) m) more);
         left = left_is a.k r u.start n u.read (λ one. (b.last one).0 ∙ ap (λ z. interval_by z) u.is) ∙ sym (ap (λ z. left_by z (length y.served)) same ∙ ap (λ m. left_by (Some u.start) m) more);
       }
 
-  calm_left : (s : IcuState) (r : Kept) (a : Stamper d r) → Left_over a.k r (capture_at s r.channel) → Left_over a.k r (capture_at (calm s) r.channel)
+  calm_left : (s : IcuState) (r : Kept) (a : Stamper d r) → Left_over a.k r (capture_at s r.channel) → Left_over a.k r (capture_at (without_edges s) r.channel)
   calm_left s r a b =
       let same = sym (calm_at s r.channel a.lt) in
       record { place = b.place; stamp = sym (ap (λ z. stamp_in z.stored r.index) same) ∙ b.stamp; next = b.next ∙ ap (λ z. index a.k z) same; left = b.left ∙ ap (λ z. left_by z.start (length z.served)) same }
 
-  left_here : (s : IcuState) (r : Kept) (a : Stamper d r) → Left_over a.k r (capture_at (calm s) r.channel) → Left_over a.k r (capture_at s r.channel)
+  left_here : (s : IcuState) (r : Kept) (a : Stamper d r) → Left_over a.k r (capture_at (without_edges s) r.channel) → Left_over a.k r (capture_at s r.channel)
   left_here s r a b =
       let same = calm_at s r.channel a.lt in
       record { place = b.place; stamp = sym (ap (λ z. stamp_in z.stored r.index) same) ∙ b.stamp; next = b.next ∙ ap (λ z. index a.k z) same; left = b.left ∙ ap (λ z. left_by z.start (length z.served)) same }
@@ -342,17 +329,17 @@ module _ (d : IcuDriver) where
   abbrev Here : Chip → World → IcuState → KeepBody → Kept → Type 0
   Here chip w s k r = At (icu_ground d) (keep_bodies d) chip w s k (Entered (line r.channel)) None
 
-  read_at : (chip : Chip) (w : World) (s : IcuState) (r : Kept) (a : Stamper d r) (e : Edge) → oldest (capture_at s r.channel).waiting ≡ Some e → r.time ≡ e.time → AllRead a.k r (capture_at s r.channel) → IcuAgrees d settled chip w s → (q : Bool) → fills r ≡ q → Here chip w s (if q then Close r else Pop r) r
+  read_at : (chip : Chip) (w : World) (s : IcuState) (r : Kept) (a : Stamper d r) (e : Edge) → oldest (capture_at s r.channel).waiting ≡ Some e → r.time ≡ e.time → AllRead a.k r (capture_at s r.channel) → IcuRepresents d settled chip w s → (q : Bool) → fills r ≡ q → Here chip w s (if q then Close r else Pop r) r
   read_at chip w s r a e leads at b h true full = (h, ((Is_serving, a, read_calm s r a b, full), record { lt = a.lt; edge = e; leads = leads; is = at }))
   read_at chip w s r a e leads at b h false full = (h, ((Is_serving, a, read_calm s r a b, full), record { lt = a.lt; edge = e; leads = leads; is = at }))
 
   -- the time of the oldest edge
-  oldest_is : (chip : Chip) (w : World) (s : IcuState) (c : ℕ) (e : Edge) → c < 8 → IcuAgrees d settled chip w s → oldest (capture_at s c).waiting ≡ Some e → (oldest_time (chip_capture chip.captures c).queue ≡ e.time) × (e.time < 2 ^ 32)
+  oldest_is : (chip : Chip) (w : World) (s : IcuState) (c : ℕ) (e : Edge) → c < 8 → IcuRepresents d settled chip w s → oldest (capture_at s c).waiting ≡ Some e → (oldest_time (chip_capture chip.captures c).queue ≡ e.time) × (e.time < 2 ^ 32)
   oldest_is chip w s c e lt h leads =
       let p = split e (capture_at s c).waiting leads in
       (ap (λ q. oldest_time q) ((h.block c lt).queue refl ∙ ap (λ es. map kept es) p.is), (subst (λ xs. AllByRecursion (λ (e : Edge). e.time < 2 ^ 32) xs) p.is (h.course c lt).0.times).0)
 
-  left_by_value : (chip : Chip) (w : World) (s : IcuState) (m : ℕ → Bool) (r : Kept) (v : ℕ) (a : Stamper d r) (e : Edge) → oldest (capture_at s r.channel).waiting ≡ Some e → r.time ≡ e.time → r.size ≡ size_word (capture_at s r.channel).start → r.index ≡ index a.k (capture_at s r.channel) → v ≡ left_by (capture_at s r.channel).start (length (capture_at s r.channel).served) → IcuAgrees d settled chip w s → (q : Bool) → (v == 1) ≡ q → StepsTo (icu_ground d) (keep_bodies d) chip w s (Entered (line r.channel)) (Load (word VALUES r.channel)) false None m (if q then (Interval (record r { left = 1 }), goes) else (keep_read (record r { left = v }), goes))
+  left_by_value : (chip : Chip) (w : World) (s : IcuState) (m : ℕ → Bool) (r : Kept) (v : ℕ) (a : Stamper d r) (e : Edge) → oldest (capture_at s r.channel).waiting ≡ Some e → r.time ≡ e.time → r.size ≡ size_word (capture_at s r.channel).start → r.index ≡ index a.k (capture_at s r.channel) → v ≡ left_by (capture_at s r.channel).start (length (capture_at s r.channel).served) → IcuRepresents d settled chip w s → (q : Bool) → (v == 1) ≡ q → StepsTo (icu_ground d) (keep_bodies d) chip w s (Entered (line r.channel)) (Load (word VALUES r.channel)) false None m (if q then (Interval (record r { left = 1 }), goes) else (keep_read (record r { left = v }), goes))
   left_by_value chip w s m r v a e leads at size index left h true one =
       let same = sym (calm_at s r.channel a.lt) in
       let r1 = record r { left = 1 } in
@@ -361,7 +348,7 @@ module _ (d : IcuDriver) where
   left_by_value chip w s m r v a e leads at size index left h false one =
       let r1 = record r { left = v } in
       let a1 : Stamper d r1 = record { k = a.k; known = a.known; mode = a.mode; lt = a.lt; linear = a.linear } in
-      read_at chip w s r1 a1 e leads at (record { size = size; index = index; left = left; last = λ i. never (sym one ∙ ap (λ n. n == 1) i) }) h (fills r1) refl
+      read_at chip w s r1 a1 e leads at (record { size = size; index = index; left = left; last = λ i. off_on (sym one ∙ ap (λ n. n == 1) i) }) h (fills r1) refl
 
   -- ---- the serving
 
@@ -383,9 +370,9 @@ module _ (d : IcuDriver) where
         switch = λ f. h.switch refl;
         mark = λ f. row_is rs MARKS r.channel (behind_row rs MARKS r.channel) f;
         size = λ f. h.size refl;
-        interval = λ f g. never g;
+        interval = λ f g. off_on g;
         place = λ f ne. row_is rs PLACES r.channel (behind_row rs PLACES r.channel) f;
-        left = λ f g. never g;
+        left = λ f g. off_on g;
       }
 
   stamps_with : (chip : Chip) (s : IcuState) (r : Kept) (a : Stamper d r) (e : Edge) (es : List Edge) → r.index ≡ index a.k (capture_at s r.channel) → ((i : ℕ) → i < 64 → word_of chip (place_of (Stamps r.channel) i) ≡ stamp_in (capture_at s r.channel).stored i) → (i : ℕ) → i < 64 → r.channel == r.channel && i == r.index ≡ false → word_of chip (place_of (Stamps r.channel) i) ≡ stamp_in (with_stamp a.k e es (capture_at s r.channel)).stored i
@@ -491,7 +478,7 @@ module _ (d : IcuDriver) where
           acts = tt;
           next = (
             one_agrees d c a.lt settled (dropping c r.index) (settled_at c) (dropping_at c r.index (rows_three c a.lt)) chip chip1 w s s1 up.1 h (left_gate turns.Close c w chip a.lt h.size (stands-move chip w (Write CaptureGateClear (bit c)) 0 h.outside)) (with_state s c y) (subst (λ q. ChannelAgrees d (dropping c r.index) chip1 w s.initialised c q) (sym (with_same s c y a.lt)) (record {
-              block = subst (λ q. CaptureAgrees k false (c == c) false s.initialised m1 q y) (sym (gate_new turns.Close c chip.captures h.size a.lt)) (subst (λ q. CaptureAgrees k false q false s.initialised m1 (record bc { gate = false }) y) (sym (same_yes c)) (block_as k false true false s.initialised m1 (record bc { gate = false }) (switched false x) y refl refl refl refl refl (closed_agrees k false s.initialised m1 bc x g.block)));
+              block = subst (λ q. CaptureAgrees k false (c == c) false s.initialised m1 q y) (sym (gate_new turns.Close c chip.captures h.size a.lt)) (subst (λ q. CaptureAgrees k false q false s.initialised m1 (record bc { gate = false }) y) (sym (eq_self c)) (block_as k false true false s.initialised m1 (record bc { gate = false }) (switched false x) y refl refl refl refl refl (closed_agrees k false s.initialised m1 bc x g.block)));
               words = from_mode d c a.k a.known Timestamp a.mode (λ j. word_of chip1 j) (rows_behind rs c) y (words_closed (λ j. word_of chip j) r a x u.edge p.rest (words_of chip w s settled r a h));
               course = as_course k (switched false x) y refl refl refl refl refl (switched_course k false x g.course);
               place = off_place k y refl;
@@ -511,7 +498,7 @@ module _ (d : IcuDriver) where
       let rs = MARKS ∷ PLACES ∷ VALUES ∷ [] in
       let g = channel_agrees d (dropping c r.index) chip w s c a.lt h in
       let empty = g.course.off (sym (ap (λ q. q.on) (calm_at s c a.lt)) ∙ off) in
-      let free = subst (λ q. CaptureAgrees k false q false s.initialised m1 bc x) (same_yes c) g.block in (
+      let free = subst (λ q. CaptureAgrees k false q false s.initialised m1 bc x) (eq_self c) g.block in (
         below_test c a.lt,
         (
           one_agrees d c a.lt (dropping c r.index) (stamping rs c r.index) (dropping_at c r.index (rows_three c a.lt)) (stamping_at rs c r.index (rows_three c a.lt)) chip (chip_after chip (Write (CaptureFlush c) 0) 0) w s s on h (left_channel c w chip (flushed bc) (stands-move chip w (Write (CaptureFlush c) 0) 0 h.outside)) (same_state c s) (record {
@@ -561,7 +548,7 @@ module _ (d : IcuDriver) where
             course = g.course;
             place = g.place;
             turns = g.turns;
-            stamps = λ some j few i. stamp_now chip c r.index r.time j x a.lt q.place few h.outside.all.words q.stamp (λ e. g.stamps some j few (ap (λ z. z && j == r.index) (same_yes c) ∙ e));
+            stamps = λ some j few i. stamp_now chip c r.index r.time j x a.lt q.place few h.outside.all.words q.stamp (λ e. g.stamps some j few (ap (λ z. z && j == r.index) (eq_self c) ∙ e));
           }),
           ((Is_served, a, on, b), tt),
         ),

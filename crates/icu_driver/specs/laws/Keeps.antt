@@ -1,28 +1,18 @@
 -- The driver keeps to its module: registers, words and lines of others are nothing to it.
-use Rattle.std.proofs.Common.{◌≡◌, ℕ, ◌+◌, ◌-◌, ◌*◌, ◌/◌, ◌%◌, ◌<◌, ◌≤◌, ◌^◌, ◌==◌, ◌&&◌, ◌||◌, not, nat_lt, Bool, true, false, Option, Some, None, refl, arith}
-use Rattle.std.specs.Prelude.{if◌then◌else◌, is_some}
-use Rattle.std.proofs.lemmas.Bool.Decides.{nat_tests}
-use Rattle.mcal_base.specs.Bits.{bit_of, has_bit}
-use Rattle.mcal_base.specs.declared.module_name.ModuleName.TheVariants.{Icu}
-use Rattle.mcal_base.specs.declared.moves.Move.{Move}
-use Rattle.mcal_base.specs.declared.moves.Move.TheVariants.{Read, Write, Load, Store}
-use Rattle.mcal_base.specs.declared.register.Reg.{Reg}
-use Rattle.mcal_base.specs.declared.register.Reg.TheVariants.{EnableSet, EnableClear, CaptureCondition, CaptureMode, CaptureGateSet, CaptureGateClear, CaptureCountLow, CaptureCountHigh, CaptureZero, CaptureTimeLow, CaptureTimeHigh, CaptureInfo, CapturePop, CaptureFlush}
-use Rattle.service_outline.specs.Services.{entering}
-use Rattle.service_outline.specs.ShortServices.{driver_of}
-use Rattle.service_outline.specs.There.{names_there}
-use Rattle.step_runner.specs.Lifts.{and-left}
-use Rattle.step_runner.specs.Whose.{only, is_of, module_of_register, module_of_line, module_of_word, EnablesWithin, WritesWithin, NamesWithin, EnablesOthers, WritesOthers, NamesOthers, KeepsTo}
-use Rattle.step_runner.proofs.Whose.{not-unless}
-use Rattle.icu_driver.specs.Bounds.{is_capture, counted, channel_count, is_own_word, is_stamp, is_for_lines, may_write, may_name}
-use Rattle.icu_driver.specs.Ground.{has_lines, owns_written, icu_owns}
-use Rattle.icu_driver.specs.Table.{channel_of, channel_of_line}
-use Rattle.icu_driver.specs.declared.asked.Asked.{Asked}
-use Rattle.icu_driver.specs.declared.driver.Channel.{Channel}
-use Rattle.icu_driver.specs.declared.driver.IcuDriver.{IcuDriver}
-use Rattle.icu_driver.specs.laws.Ground.{within as within_eight, both_of, lines_parts, other_line}
-use Rattle.icu_driver.specs.laws.Handler.{body_by}
-use Rattle.icu_driver.specs.laws.Lawful.{icu}
+-- From RefinementRight, Handler, Lawful.
+-- Used by mcal_drivers: proofs/Joining.
+use Rattle.std.proofs.Common.{◌≡◌, ◌+◌, ◌-◌, ◌*◌, ◌/◌, ◌%◌, ◌<◌, ◌≤◌, ◌^◌, ◌==◌, ◌&&◌, ◌||◌, if◌then◌else◌}
+use Rattle.icu_driver.specs.Terms
+use Terms.{and_first, and_parts, arith, Asked, bit_of, Bool, CaptureCondition, CaptureCountHigh, CaptureCountLow}
+use Terms.{CaptureFlush, CaptureGateClear, CaptureGateSet, CaptureInfo, CaptureMode, CapturePop, CaptureTimeHigh}
+use Terms.{CaptureTimeLow, CaptureZero, Channel, channel_count, channel_of, channel_of_line, counted, driver_of}
+use Terms.{EnableClear, EnableSet, EnablesOthers, EnablesWithin, entering, false, has_bit, has_lines, Icu, icu_owns}
+use Terms.{IcuDriver, is_capture, is_for_lines, is_of, is_own_word, is_some, is_stamp, KeepsTo, lines_parts, Load}
+use Terms.{may_name, may_write, module_of_line, module_of_register, module_of_word, Move, names_there, NamesOthers}
+use Terms.{NamesWithin, nat_lt, nat_tests, None, not, not-unless, Option, other_line, owns_written, Read, refl, Reg}
+use Terms.{Some, Store, true, within_eight, Write, WritesOthers, WritesWithin, ℕ}
+use Rattle.step_runner.specs.Whose.{only}
+use Rattle.icu_driver.specs.laws.{Handler.{body_by}, Lawful.{icu}}
 
 own_register : (r : Reg) → is_capture r ≡ true → is_of (only Icu) (module_of_register r) ≡ true
 own_register (CaptureCondition c) e = refl
@@ -95,14 +85,14 @@ within_words n k few e = (low, high)
     below i = grind (arith, nat_tests)
 
     high : k < 40960
-    high = let less = below (both_of (not (nat_lt k 32768)) (nat_lt k (32768 + (64 + 32 * n))) e).1 in omega (arith, few, less)
+    high = let less = below (and_parts (not (nat_lt k 32768)) (nat_lt k (32768 + (64 + 32 * n))) e).1 in omega (arith, few, less)
 
 own_word : (d : IcuDriver) (k : ℕ) → is_own_word d k ≡ true → is_of (only Icu) (module_of_word k) ≡ true
 own_word d k e = let p = within_words (channel_count d) k (count_few d) e in driver_word k p.0 p.1
 
 own_stamp : (d : IcuDriver) (k : ℕ) → is_stamp d k ≡ true → is_of (only Icu) (module_of_word k) ≡ true
 own_stamp d k e =
-    let p = both_of (not (nat_lt k 139264)) (is_some (channel_of d ((k - 139264) / 64))) e in
+    let p = and_parts (not (nat_lt k 139264)) (is_some (channel_of d ((k - 139264) / 64))) e in
     let low = high_word k p.0 in
     let few = within_eight d ((k - 139264) / 64) p.1 in
     stamp_place k low (omega (arith, low, few))
@@ -208,7 +198,7 @@ line_of d l h = by (nat_lt l 16) refl h
 -- it is the captures' alone
 pub keeps_captures : (d : IcuDriver) → KeepsTo (only Icu) (driver_of (icu d))
 keeps_captures d = record {
-  may = λ o made h. within d made (and-left (may_name d made) (names_there made) h);
+  may = λ o made h. within d made (and_first (may_name d made) (names_there made) h);
   owns = λ o made h. others d made h;
   handlers = λ l h. line_of d l (handled (channel_of_line d l) h);
   polls = λ w s c. refl;

@@ -1,4 +1,6 @@
 -- The block in time: a level that comes from outside reaches block and machine alike, whatever is under work.
+-- From Parts, Tables.
+-- Used by Levels.
 use Rattle.std.proofs.Common.{◌≡◌, ℕ, ◌<◌, Bool, true, false, ◌||◌, ◌==◌, not, nat_lt, length, Option, Some, None, refl, sym, ◌∙◌, ap, subst, arith}
 use Rattle.std.specs.Prelude.{if◌then◌else◌, slice_set}
 use Rattle.std.proofs.lemmas.Bool.Decides.{nat_tests}
@@ -11,7 +13,7 @@ use Rattle.mcal_base.specs.declared.directive.Order.TheVariants.{Level}
 use Rattle.run_model.specs.World.{World}
 use Rattle.run_model.specs.Outside.{StandsIn}
 use Rattle.icu_driver.specs.Edges.{is_same}
-use Rattle.icu_driver.specs.Ground.{Gap, CaptureAgrees, BlockAgrees, WiredAs, FitsIcu, pin_by}
+use Rattle.icu_driver.specs.Refinement.{Lag, CaptureAgrees, BlockAgrees, WiredAs, FitsIcu, pin_by}
 use Rattle.icu_driver.specs.Machine.{IcuState, Capture, capture_at, by_channel, edge_at_pin, edge_taken, moved}
 use Rattle.icu_driver.specs.Table.{channel_of}
 use Rattle.icu_driver.specs.declared.driver.Channel.{Channel}
@@ -35,7 +37,7 @@ pin_agrees (Some k) g q n on moded time pin rising b x h = by_pin (k.pin == pin)
     by_pin false = h
 
 -- all channels
-pub edge_block : (d : IcuDriver) (gap : Gap) (b : Captures) (s : IcuState) (pin : ℕ) (rising : Bool) → length b.captures ≡ 8 → WiredAs d b → BlockAgrees d gap b s → BlockAgrees d gap (after_edge b pin rising) (record s { channels = by_channel (λ c. edge_at_pin (channel_of d c) b.time pin rising (capture_at s c)) })
+pub edge_block : (d : IcuDriver) (gap : Lag) (b : Captures) (s : IcuState) (pin : ℕ) (rising : Bool) → length b.captures ≡ 8 → WiredAs d b → BlockAgrees d gap b s → BlockAgrees d gap (after_edge b pin rising) (record s { channels = by_channel (λ c. edge_at_pin (channel_of d c) b.time pin rising (capture_at s c)) })
 edge_block d gap b s pin rising size wired h c lt =
     let on = s.initialised in
     let after = λ (y : chips.Capture) (z : Capture). CaptureAgrees (channel_of d c) (gap.gates c) (gap.queues c) (gap.counts c) on (on || gap.moded) y z in
@@ -55,7 +57,7 @@ below : (q : ℕ) → nat_lt q 64 ≡ true → q < 64
 below q e = grind (arith, nat_tests)
 
 -- a level at a pin of the chip, and at one that it doesn't have
-module _ (d : IcuDriver) (fits : FitsIcu d) (gap : Gap) (chip : Chip) (w : World) (s : IcuState) (pin : ℕ) (v : Bool) (outside : StandsIn chip w) (size : length chip.captures.captures ≡ 8) (wired : WiredAs d chip.captures) (h : BlockAgrees d gap chip.captures s) where
+module _ (d : IcuDriver) (fits : FitsIcu d) (gap : Lag) (chip : Chip) (w : World) (s : IcuState) (pin : ℕ) (v : Bool) (outside : StandsIn chip w) (size : length chip.captures.captures ≡ 8) (wired : WiredAs d chip.captures) (h : BlockAgrees d gap chip.captures s) where
   abbrev edged_state : IcuState
   edged_state = record s { channels = by_channel (λ c. edge_at_pin (channel_of d c) w.now pin v (capture_at s c)) }
 

@@ -1,58 +1,31 @@
 -- The capture driver, as the outline and the runner see it, and that it owes nothing.
-use Rattle.std.proofs.Common.{◌≡◌, ℕ, ◌+◌, ◌-◌, ◌<◌, ◌≤◌, Bool, true, false, ◌&&◌, ◌||◌, not, nat_lt, List, Option, Some, None, refl, sym, ◌∙◌, ap, subst, arith}
-use Rattle.std.specs.Prelude.{if◌then◌else◌, is_some}
-use Rattle.std.proofs.lemmas.Bool.Decides.{nat_tests}
-use Rattle.chip_model.specs.Chip.{Chip, word_of}
-use Rattle.mcal_base.specs.declared.config.icu.IcuMeasurementMode.{IcuMeasurementMode}
-use Rattle.mcal_base.specs.declared.config.icu.IcuMeasurementMode.TheVariants.{SignalEdgeDetect, EdgeCounter, Timestamp, SignalMeasurement}
-use Rattle.mcal_base.specs.declared.config.icu.IcuSignalMeasurementProperty.{IcuSignalMeasurementProperty}
-use Rattle.mcal_base.specs.declared.error_name.ErrorName.{ErrorName}
-use Rattle.run_model.specs.Frame.{Open, Called, Entered}
-use Rattle.run_model.specs.World.{World}
-use Rattle.service_outline.specs.Both.{either}
-use Rattle.service_outline.specs.Done.{tells_error}
-use Rattle.service_outline.specs.Outline.{Bodies, At, AreRight, Outlined, IsOutlined, LooksRight, CanEnter, Is_before, Is_serving}
-use Rattle.service_outline.specs.ShortServices.{driver_of}
-use Rattle.service_outline.specs.Seen.{Starts}
-use Rattle.service_outline.specs.declared.body.Or.TheVariants.{First, Second}
-use Rattle.service_outline.specs.declared.body.Looked.{Looked}
-use Rattle.service_outline.specs.declared.short.Short.{Short}
-use Rattle.service_outline.specs.laws.Either.{either_right}
-use Rattle.service_outline.specs.laws.Reports.{error_told}
-use Rattle.icu_driver.specs.Bounds.{is_stamp, steps_of}
-use Rattle.mcal_base.specs.declared.config.icu.IcuSignalMeasurementProperty.TheVariants.{LowTime, HighTime, PeriodTime, DutyCycle}
-use Rattle.icu_driver.specs.Checks.{error_by, allows, suits, answer_refused}
-use Rattle.icu_driver.specs.Ground.{FitsIcu, settled, first_of, IcuAgrees, icu_ground}
-use Rattle.icu_driver.specs.Edges.{begins_rising}
-use Rattle.icu_driver.specs.Machine.{IcuState, is_on, acts_by, icu_machine}
-use Rattle.icu_driver.specs.Requests.{IsSmall}
-use Rattle.icu_driver.specs.Table.{channel_of, channel_of_line, is_detection, is_counter, is_measurement, is_duty_cycle}
-use Rattle.icu_driver.specs.declared.asked.Asked.{Asked}
-use Rattle.icu_driver.specs.declared.call.Call.{Call}
+-- From Look, Handler, Calls, Change, Count and 11 more.
+-- Used by frames/rt, mcal_drivers: Laws, caller/rt, Keeps, mcal_system: proofs/Resting and 2 more.
+use Rattle.std.proofs.Common.{◌≡◌, ◌+◌, ◌-◌, ◌<◌, ◌≤◌, ◌&&◌, ◌||◌, ◌∙◌, if◌then◌else◌}
+use Rattle.icu_driver.specs.Terms
+use Terms.{acts_by, allows, answer_refused, ap, AreRight, arith, Asked, At, begins_rising, Bodies, Bool, Call, Called}
+use Terms.{CanEnter, Channel, channel_of, channel_of_line, ChannelCall, Chip, DisableEdgeCount, DisableEdgeDetection}
+use Terms.{DisableNotification, driver_of, DutyCycle, EdgeCounter, either, either_right, EnableEdgeCount}
+use Terms.{EnableEdgeDetection, EnableNotification, Entered, error_by, error_told, ErrorName, false, First, first_of}
+use Terms.{FitsIcu, GetDutyCycleValues, GetEdgeNumbers, GetInputState, GetTimeElapsed, GetTimestampIndex, ground_right}
+use Terms.{HighTime, icu_ground, icu_machine, IcuDriver, IcuMeasurementMode, IcuRepresents}
+use Terms.{IcuSignalMeasurementProperty, IcuState, Is_before, is_counter, is_detection, is_duty_cycle, is_measurement}
+use Terms.{is_on, Is_serving, is_some, is_stamp, IsOutlined, IsSmall, List, Looked, LooksRight, LowTime, nat_lt}
+use Terms.{nat_tests, never_after, never_serving, None, not, Open, Option, Outlined, own_word, PeriodTime, refl}
+use Terms.{ResetEdgeCount, Second, SetActivationCondition, settled, Short, SignalEdgeDetect, SignalMeasurement, Some}
+use Terms.{Starts, StartSignalMeasurement, StartTimestamp, STATE, steps_of, StopSignalMeasurement, StopTimestamp, subst}
+use Terms.{suits, sym, tells_error, Timestamp, true, within, word_of, World, ℕ}
+use Rattle.icu_driver.specs.laws.{Bodies.{IcuBody}, Calls.{MayCall, stamps}, Change.{change_bodies, change_right}}
+use Rattle.icu_driver.specs.laws.{Count.{count_bodies, count_right}, DeInit.{deinit_bodies, deinit_right}}
+use Rattle.icu_driver.specs.laws.{Detecting.{detect_bodies, detect_right}, Duty.{duty_bodies, duty_right}}
+use Rattle.icu_driver.specs.laws.{Gate.{gate_bodies, gate_right}, Handler.{is_whole, handler_by, handler_of, body_by}}
+use Rattle.icu_driver.specs.laws.{Init.{init_bodies, init_right}, Keeping.{keep_bodies, keep_right}, Look.{icu_looked}}
+use Rattle.icu_driver.specs.laws.{Look.{looked_by, begins, begun_on, begun_with, Passed, off_of, on_of, deinit_on}}
+use Rattle.icu_driver.specs.laws.{Look.{allowed, sizes_of, edges_of, is_stop, unhindered, stop_unhindered, early}}
+use Rattle.icu_driver.specs.laws.{Look.{asked_word}, Measure.{measure_bodies, measure_right}, Sampling.{sample_bodies}}
+use Rattle.icu_driver.specs.laws.{Sampling.{sample_right}, Stamp.{stamp_bodies, stamp_right}, Windows.{icu_seen}}
+use Rattle.icu_driver.specs.laws.{Windows.{icu_sees}}
 use Rattle.icu_driver.specs.declared.call.Call.TheVariants as calls
-use Rattle.icu_driver.specs.declared.call.ChannelCall.{ChannelCall}
-use Rattle.icu_driver.specs.declared.call.ChannelCall.TheVariants.{SetActivationCondition, EnableNotification, DisableNotification, GetInputState, EnableEdgeDetection, DisableEdgeDetection, ResetEdgeCount, EnableEdgeCount, DisableEdgeCount, GetEdgeNumbers, StartTimestamp, StopTimestamp, GetTimestampIndex, StartSignalMeasurement, StopSignalMeasurement, GetTimeElapsed, GetDutyCycleValues}
-use Rattle.icu_driver.specs.declared.driver.Channel.{Channel}
-use Rattle.icu_driver.specs.declared.driver.IcuDriver.{IcuDriver}
-use Rattle.icu_driver.specs.declared.words.TheConstants.{STATE}
-use Rattle.icu_driver.specs.laws.Bodies.{IcuBody}
-use Rattle.icu_driver.specs.laws.Calls.{MayCall, stamps}
-use Rattle.icu_driver.specs.laws.Change.{change_bodies, change_right}
-use Rattle.icu_driver.specs.laws.Count.{count_bodies, count_right}
-use Rattle.icu_driver.specs.laws.DeInit.{deinit_bodies, deinit_right}
-use Rattle.icu_driver.specs.laws.Detecting.{detect_bodies, detect_right}
-use Rattle.icu_driver.specs.laws.Duty.{duty_bodies, duty_right}
-use Rattle.icu_driver.specs.laws.Gate.{gate_bodies, gate_right}
-use Rattle.icu_driver.specs.laws.Ground.{ground_right, within, own_word}
-use Rattle.icu_driver.specs.laws.Handler.{is_whole, handler_by, handler_of, body_by}
-use Rattle.icu_driver.specs.laws.Init.{init_bodies, init_right}
-use Rattle.icu_driver.specs.laws.Keeping.{keep_bodies, keep_right}
-use Rattle.icu_driver.specs.laws.Look.{icu_looked, looked_by, begins, begun_on, begun_with, Passed, off_of, on_of, deinit_on, allowed, sizes_of, edges_of, is_stop, unhindered, stop_unhindered, early, asked_word}
-use Rattle.icu_driver.specs.laws.Measure.{measure_bodies, measure_right}
-use Rattle.icu_driver.specs.laws.Sampling.{sample_bodies, sample_right}
-use Rattle.icu_driver.specs.laws.Stamp.{stamp_bodies, stamp_right}
-use Rattle.service_outline.specs.laws.Seen.{never_after, never_serving}
-use Rattle.icu_driver.specs.laws.Windows.{icu_seen, icu_sees}
 use Rattle.icu_driver.specs.declared.service.count.CountBody.TheVariants as counts
 use Rattle.icu_driver.specs.declared.service.keep.KeepBody.TheVariants as keeps
 use Rattle.icu_driver.specs.declared.service.sample.SampleBody.TheVariants as samples
@@ -98,7 +71,7 @@ some_allowed : (call : ChannelCall) (k : Option Channel) → allows call k ≡ t
 some_allowed call None e = absurd (cc)
 some_allowed call (Some k) e = refl
 
-module _ (d : IcuDriver) (fits : FitsIcu d) (chip : Chip) (w : World) (s : IcuState) (h : IcuAgrees d settled chip w s) where
+module _ (d : IcuDriver) (fits : FitsIcu d) (chip : Chip) (w : World) (s : IcuState) (h : IcuRepresents d settled chip w s) where
   abbrev Looks : Call → Looked IcuBody → Type 0
   Looks call l = LooksRight (icu d) chip w s call l
 

@@ -1,4 +1,6 @@
 -- An outside level is set: words and registers agree with the machine as before.
+-- From Course, Turns, Later, Parts, Tables.
+-- Used by Over.
 use Rattle.std.proofs.Common.{◌≡◌, ℕ, ◌+◌, ◌<◌, Bool, true, false, length, refl, sym, ◌∙◌, ap, subst}
 use Rattle.std.specs.Prelude.{if◌then◌else◌, is_some}
 use Rattle.chip_captures.specs.Captures.{pin_of, channels_at, acting}
@@ -11,7 +13,7 @@ use Rattle.mcal_base.specs.declared.directive.Order.TheVariants.{Level}
 use Rattle.run_model.specs.World.{World, world_after}
 use Rattle.run_model.proofs.OutsideLaws.{stands-event}
 use Rattle.icu_driver.specs.Edges.{is_same}
-use Rattle.icu_driver.specs.Ground.{Gap, FitsIcu, IcuAgrees, ChannelWords, IsCourse, HasTurns, IsClean, all_are, state_word}
+use Rattle.icu_driver.specs.Refinement.{Lag, FitsIcu, IcuRepresents, ChannelWords, IsCourse, HasTurns, IsClean, all_are, state_word}
 use Rattle.icu_driver.specs.Machine.{IcuState, Capture, capture_at, by_channel, edge_at_pin, moved, stamp_in}
 use Rattle.icu_driver.specs.Table.{channel_of}
 use Rattle.icu_driver.specs.declared.driver.IcuDriver.{IcuDriver}
@@ -21,7 +23,7 @@ use Rattle.icu_driver.specs.laws.Parts.{still}
 use Rattle.icu_driver.specs.laws.Tables.{by_channel_at}
 use Rattle.icu_driver.specs.laws.Turns.{pin_turns, pin_kept}
 
-module _ (d : IcuDriver) (fits : FitsIcu d) (gap : Gap) (chip : Chip) (w : World) (s : IcuState) (pin : ℕ) (v : Bool) (h : IcuAgrees d gap chip w s) where
+module _ (d : IcuDriver) (fits : FitsIcu d) (gap : Lag) (chip : Chip) (w : World) (s : IcuState) (pin : ℕ) (v : Bool) (h : IcuRepresents d gap chip w s) where
   abbrev after : Bool → IcuState
   after r = if r then s else record s { channels = by_channel (λ c. edge_at_pin (channel_of d c) w.now pin v (capture_at s c)) }
 
@@ -58,7 +60,7 @@ module _ (d : IcuDriver) (fits : FitsIcu d) (gap : Gap) (chip : Chip) (w : World
   word_same : (k : ℕ) → word_of (happened chip (Level pin v)) k ≡ word_of chip k
   word_same k = level_leaves (λ c. word_of c k) chip pin v refl
 
-  pub level_agrees : IcuAgrees d gap (happened chip (Level pin v)) world (moved d w s (Level pin v))
+  pub level_agrees : IcuRepresents d gap (happened chip (Level pin v)) world (moved d w s (Level pin v))
   level_agrees =
       let r = is_same (w.levels pin) v in
       record {

@@ -1,29 +1,21 @@
 -- The load of the state word: what it decides for each call, and what a call shows that goes on.
-use Rattle.std.proofs.Common.{◌≡◌, ℕ, ◌<◌, ◌≤◌, Bool, true, false, ◌||◌, ◌==◌, nat_lt, not, length, cond, List, [], ◌∷◌, Option, Some, None, refl, ◌∙◌, ap, arith}
-use Rattle.std.specs.Prelude.{if◌then◌else◌, is_some, slice_index_or}
-use Rattle.std.specs.Option.{option_or}
-use Rattle.std.proofs.lemmas.Bool.Decides.{nat_tests}
-use Rattle.det_errors.proofs.RowLaws.{none_holds, last_at}
-use Rattle.det_errors.specs.Rows.{errors_of}
-use Rattle.mcal_base.specs.declared.error_name.ErrorName.{ErrorName}
-use Rattle.mcal_base.specs.declared.error_name.ErrorName.TheVariants.{IcuNotStarted}
+-- From Bodies.
+-- Used by Lawful, asked/rt.
+use Rattle.std.proofs.Common.{◌≡◌, ◌<◌, ◌≤◌, ◌||◌, ◌==◌, [], ◌∷◌, ◌∙◌, if◌then◌else◌}
+use Rattle.icu_driver.specs.Terms
+use Terms.{allows, answer_refused, ap, arith, Asked, Bool, Call, channel_of, channel_service, ChannelCall, cond, DeInit}
+use Terms.{DisableEdgeCount, DisableEdgeDetection, DisableNotification, Done, EnableEdgeCount, EnableEdgeDetection}
+use Terms.{EnableNotification, error_by, ErrorName, errors_of, facts_by, false, GetDutyCycleValues, GetEdgeNumbers}
+use Terms.{GetInputState, GetTimeElapsed, GetTimestampIndex, Goes, IcuDriver, IcuNotStarted, IcuState, Init}
+use Terms.{is_detection, is_some, last_at, length, List, Looked, nat_lt, nat_tests, None, none_holds, not, not-false}
+use Terms.{Option, option_or, owed_error, refl, Refused, reporting, ResetEdgeCount, service_of, SetActivationCondition}
+use Terms.{slice_index_or, Some, StartSignalMeasurement, StartTimestamp, state_word, StopSignalMeasurement}
+use Terms.{StopTimestamp, true, ℕ}
+use Rattle.icu_driver.specs.laws.{Base.{no_answer, Nothing}, Bodies.{IcuBody, init_body, deinit_body, change_body}}
+use Rattle.icu_driver.specs.laws.{Bodies.{count_body, gate_body, stamp_body, measure_body, duty_body}}
 use Rattle.mcal_base.specs.declared.service.Service.TheVariants as services
-use Rattle.service_outline.specs.Done.{owed_error}
-use Rattle.service_outline.specs.declared.done.Done.{Done}
-use Rattle.service_outline.specs.declared.body.Looked.{Looked}
-use Rattle.service_outline.specs.declared.body.Looked.TheVariants.{Refused, Goes}
-use Rattle.icu_driver.specs.Checks.{facts_by, error_by, service_of, channel_service, answer_refused, allows, reporting}
-use Rattle.icu_driver.specs.Ground.{state_word}
-use Rattle.icu_driver.specs.Machine.{IcuState}
-use Rattle.icu_driver.specs.Table.{channel_of, is_detection}
-use Rattle.icu_driver.specs.declared.asked.Asked.{Asked}
-use Rattle.icu_driver.specs.declared.call.Call.{Call}
-use Rattle.icu_driver.specs.declared.call.Call.TheVariants.{Init, DeInit}
 use Rattle.icu_driver.specs.declared.call.Call.TheVariants as calls
-use Rattle.icu_driver.specs.declared.call.ChannelCall.{ChannelCall}
-use Rattle.icu_driver.specs.declared.call.ChannelCall.TheVariants.{SetActivationCondition, EnableNotification, DisableNotification, GetInputState, EnableEdgeDetection, DisableEdgeDetection, ResetEdgeCount, EnableEdgeCount, DisableEdgeCount, GetEdgeNumbers, StartTimestamp, StopTimestamp, GetTimestampIndex, StartSignalMeasurement, StopSignalMeasurement, GetTimeElapsed, GetDutyCycleValues}
 use Rattle.icu_driver.specs.declared.driver.Channel as configured
-use Rattle.icu_driver.specs.declared.driver.IcuDriver.{IcuDriver}
 use Rattle.icu_driver.specs.declared.service.change.ChangeBody.TheVariants as changes
 use Rattle.icu_driver.specs.declared.service.count.CountBody.TheVariants as counts
 use Rattle.icu_driver.specs.declared.service.deinit.DeInitBody.TheVariants as deinits
@@ -32,8 +24,6 @@ use Rattle.icu_driver.specs.declared.service.gate.GateBody.TheVariants as gates
 use Rattle.icu_driver.specs.declared.service.init.InitBody.TheVariants as inits
 use Rattle.icu_driver.specs.declared.service.measure.MeasureBody.TheVariants as measures
 use Rattle.icu_driver.specs.declared.service.stamp.StampBody.TheVariants as stamps
-use Rattle.icu_driver.specs.laws.Base.{no_answer, Nothing}
-use Rattle.icu_driver.specs.laws.Bodies.{IcuBody, init_body, deinit_body, change_body, count_body, gate_body, stamp_body, measure_body, duty_body}
 
 -- ---- what it decides
 
@@ -108,10 +98,6 @@ Passed d s call = error_by d call (not s.initialised) true ≡ None
 no_error : (d : IcuDriver) (s : IcuState) (call : Call) → Passed d s call → (k : ℕ) → k < length (errors_of (service_of call)) → slice_index_or (facts_by d call (not s.initialised) true) k false ≡ false
 no_error d s call pass k lt = none_holds (errors_of (service_of call)) (facts_by d call (not s.initialised) true) pass k lt
 
-yes : (b : Bool) → not b ≡ false → b ≡ true
-yes true e = refl
-yes false e = absurd (cc)
-
 no : (b : Bool) → not (not b) ≡ false → b ≡ false
 no true e = absurd (cc)
 no false e = refl
@@ -140,13 +126,13 @@ two_there GetTimeElapsed = omega arith
 two_there GetDutyCycleValues = omega arith
 
 pub on_of : (d : IcuDriver) (s : IcuState) (c : ℕ) (call : ChannelCall) → Passed d s (calls.Channel c call) → s.initialised ≡ true
-on_of d s c call pass = let two = two_there call in yes s.initialised (no_error d s (calls.Channel c call) pass 0 (omega (arith, two)))
+on_of d s c call pass = let two = two_there call in not-false s.initialised (no_error d s (calls.Channel c call) pass 0 (omega (arith, two)))
 
 pub deinit_on : (d : IcuDriver) (s : IcuState) → Passed d s DeInit → s.initialised ≡ true
-deinit_on d s pass = yes s.initialised (no_error d s DeInit pass 0 (omega arith))
+deinit_on d s pass = not-false s.initialised (no_error d s DeInit pass 0 (omega arith))
 
 pub allowed : (d : IcuDriver) (s : IcuState) (c : ℕ) (call : ChannelCall) → Passed d s (calls.Channel c call) → allows call (channel_of d c) ≡ true
-allowed d s c call pass = yes (allows call (channel_of d c)) (no_error d s (calls.Channel c call) pass 1 (two_there call))
+allowed d s c call pass = not-false (allows call (channel_of d c)) (no_error d s (calls.Channel c call) pass 1 (two_there call))
 
 -- the arguments of a start are right
 pub sizes_of : (d : IcuDriver) (s : IcuState) (c size interval : ℕ) → Passed d s (calls.Channel c (StartTimestamp size interval)) → (0 < size) × (size ≤ 64) × (0 < interval)

@@ -1,44 +1,31 @@
 -- Icu_StartSignalMeasurement and Icu_GetTimeElapsed: their steps, what holds at each, and that they are right.
-use Rattle.std.proofs.Common.{◌≡◌, ℕ, ◌<◌, Bool, true, false, ◌||◌, ◌==◌, not, List, [], ◌∷◌, Option, Some, None, refl, sym, ◌∙◌, ap, subst, arith}
-use Rattle.std.specs.Prelude.{if◌then◌else◌, is_some}
-use Rattle.std.specs.List.{AllByRecursion, filter_map, cons_option}
-use Rattle.chip_captures.specs.Captures.{Captures, capture_at as chip_capture, acted, acting, flushed}
-use Rattle.chip_captures.specs.declared.capture.Act.TheVariants as turns
-use Rattle.chip_model.specs.Chip.{Chip, chip_after, word_of}
-use Rattle.mcal_base.proofs.BitLaws.{length-at_bits}
-use Rattle.mcal_base.specs.Bits.{bit_of}
-use Rattle.mcal_base.specs.declared.config.icu.IcuMeasurementMode.TheVariants.{SignalMeasurement}
-use Rattle.mcal_base.specs.declared.config.icu.IcuSignalMeasurementProperty.{IcuSignalMeasurementProperty}
-use Rattle.mcal_base.specs.declared.config.icu.IcuSignalMeasurementProperty.TheVariants.{HighTime, LowTime, PeriodTime, DutyCycle}
-use Rattle.mcal_base.specs.declared.moves.Move.TheVariants.{Write, Load, Store}
-use Rattle.mcal_base.specs.declared.register.Reg.TheVariants.{CaptureGateSet, CaptureFlush}
-use Rattle.run_model.specs.Frame.{Origin}
-use Rattle.run_model.specs.Machine.{Told, outcome}
-use Rattle.run_model.specs.World.{World}
-use Rattle.run_model.proofs.OutsideLaws.{stands-move}
-use Rattle.service_outline.specs.Done.{answers, numbers}
-use Rattle.service_outline.specs.Outline.{Bodies, AreRight, Before, Is_before, After, Is_after}
-use Rattle.icu_driver.specs.Edges.{Edge, value_of, values_by, values, newest, measures as measured_edges, begins_rising, ends_rising}
-use Rattle.icu_driver.specs.Ground.{Gap, none, settled, opening, CaptureAgrees, ModeWords, HasTurns, waiting_value, seen_by, seen_number, ValueIs, ActiveIs, IcuAgrees, bare, icu_ground}
-use Rattle.icu_driver.specs.Machine.{IcuState, Capture, capture_at, with_capture, switched, started, value_or, handed}
-use Rattle.icu_driver.specs.Table.{channel_of, is_counter, is_timestamp, is_measurement, is_duty_cycle}
-use Rattle.icu_driver.specs.declared.call.Call.{Call}
+-- From Calls, One, Rows, Steady, Channels and 2 more.
+-- Used by Duty, Sampling, service/measure/rt, Lawful, Windows and 4 more.
+use Rattle.std.proofs.Common.{◌≡◌, ◌<◌, ◌||◌, ◌==◌, [], ◌∷◌, ◌∙◌, if◌then◌else◌}
+use Rattle.icu_driver.specs.Terms
+use Terms.{acted, acting, ActiveIs, After, AllByRecursion, and_parts, answers, ap, AreRight, arith, bare, Before}
+use Terms.{begins_rising, below_test, bit_of, Bodies, Bool, Call, Capture, capture_at, CaptureAgrees, CaptureFlush}
+use Terms.{CaptureGateSet, Captures, channel_of, Chip, chip_after, chip_capture, cons_option, DutyCycle, Edge}
+use Terms.{ends_rising, eq_self, false, filter_map, flushed, GetTimeElapsed, Hand, handed, HasTurns, HighTime}
+use Terms.{icu_ground, IcuDriver, IcuRepresents, IcuSignalMeasurementProperty, IcuState, Is_after, Is_before}
+use Terms.{is_counter, is_duty_cycle, is_measurement, is_some, is_timestamp, Lag, length-at_bits, List, Load, LowTime}
+use Terms.{MeasureBody, measured_edges, ModeWords, newest, None, none, not, not-true, numbers, off_on, opening, Option}
+use Terms.{or_true, Origin, outcome, PeriodTime, refl, seen_by, seen_number, settled, SignalMeasurement, Some}
+use Terms.{stands-move, started, StartSignalMeasurement, Store, subst, switched, sym, Told, true, Unhand, Unsee}
+use Terms.{value_of, value_or, ValueIs, values, values_by, values_none, waiting_value, with_capture, word_of, World}
+use Terms.{Write, ℕ}
 use Rattle.icu_driver.specs.declared.call.Call.TheVariants.{Channel}
-use Rattle.icu_driver.specs.declared.call.ChannelCall.TheVariants.{StartSignalMeasurement, GetTimeElapsed}
+use Rattle.icu_driver.specs.declared.service.measure.MeasureBody.TheVariants.{Open, Empty, Waits, Value}
+use Rattle.icu_driver.specs.laws.{Base.{Move, no_answer, BodyTaken, goes, acts_on, ends, number, Nothing, Shortens}}
+use Rattle.icu_driver.specs.laws.{Base.{word, bit, SWITCHES, SIZES, VALUES, TIMES}, Calls.{MayCall, acts_is, measures}}
+use Rattle.icu_driver.specs.laws.{Calls.{to_mode, from_mode, is_there, counting, place_by, switched_course, opening_at}}
+use Rattle.icu_driver.specs.laws.{Calls.{bare_at, may_row}, Change.{as_course}, Channels.{emptied_agrees, block_as}}
+use Rattle.icu_driver.specs.laws.{Gate.{opened}, One.{IsRow, ChannelAgrees, channel_agrees, one_agrees, settled_at}}
+use Rattle.icu_driver.specs.laws.{One.{with_same, with_state, left_same, left_channel, channel_new, gate_new, word_new}}
+use Rattle.icu_driver.specs.laws.{Rows.{rows_of, rows_behind, rows_at, row_others, row_stored, New_waits, New_seen}}
+use Rattle.icu_driver.specs.laws.{Rows.{measure_closed}, Steady.{calm_at, AllGood, steady, steady_right}}
+use Rattle.chip_captures.specs.declared.capture.Act.TheVariants as turns
 use Rattle.icu_driver.specs.declared.driver.Channel as configured
-use Rattle.icu_driver.specs.declared.driver.IcuDriver.{IcuDriver}
-use Rattle.icu_driver.specs.laws.Base.{Move, no_answer, BodyTaken, goes, acts_on, ends, number, Nothing, Shortens, word, bit, SWITCHES, SIZES, VALUES, TIMES}
-use Rattle.icu_driver.specs.laws.Calls.{never, MayCall, acts_is, measures, to_mode, from_mode, is_there, counting, place_by, switched_course, opening_at, bare_at, may_row}
-use Rattle.icu_driver.specs.laws.Change.{as_course}
-use Rattle.icu_driver.specs.laws.Channels.{emptied_agrees, block_as}
-use Rattle.icu_driver.specs.laws.Fresh.{values_none}
-use Rattle.icu_driver.specs.laws.Gate.{opened}
-use Rattle.icu_driver.specs.laws.Ground.{below_test, both_of}
-use Rattle.icu_driver.specs.laws.One.{IsRow, ChannelAgrees, channel_agrees, one_agrees, settled_at, same_yes, with_same, with_state, left_same, left_channel, channel_new, gate_new, word_new}
-use Rattle.icu_driver.specs.laws.Rows.{rows_of, rows_behind, rows_at, row_others, row_stored, New_waits, New_seen, measure_closed}
-use Rattle.icu_driver.specs.laws.Steady.{calm_at, AllGood, steady, steady_right}
-use Rattle.icu_driver.specs.declared.service.measure.MeasureBody.{MeasureBody}
-use Rattle.icu_driver.specs.declared.service.measure.MeasureBody.TheVariants.{Open, Empty, Unhand, Unsee, Waits, Value, Hand}
 
 abbrev pub measure_work : MeasureBody → Move
 measure_work (Open c) = Write CaptureGateSet (bit c)
@@ -126,14 +113,14 @@ single None k es e = tt
 single (Some LowTime) k es e = newest_held IsOne (values_by (Some LowTime) k es) (all_filtered IsOne (value_of LowTime) low_one (measured_edges (begins_rising LowTime k) (ends_rising LowTime k) es))
 single (Some HighTime) k es e = newest_held IsOne (values_by (Some HighTime) k es) (all_filtered IsOne (value_of HighTime) high_one (measured_edges (begins_rising HighTime k) (ends_rising HighTime k) es))
 single (Some PeriodTime) k es e = newest_held IsOne (values_by (Some PeriodTime) k es) (all_filtered IsOne (value_of PeriodTime) period_one (measured_edges (begins_rising PeriodTime k) (ends_rising PeriodTime k) es))
-single (Some DutyCycle) k es e = never (sym e)
+single (Some DutyCycle) k es e = off_on (sym e)
 
 double : (p : Option IcuSignalMeasurementProperty) (k : configured.Channel) (es : List Edge) → is_duty_cycle p ≡ true → Held IsPair (newest (values_by p k es))
 double None k es e = tt
 double (Some DutyCycle) k es e = newest_held IsPair (values_by (Some DutyCycle) k es) (all_filtered IsPair (value_of DutyCycle) duty_pair (measured_edges (begins_rising DutyCycle k) (ends_rising DutyCycle k) es))
-double (Some LowTime) k es e = never e
-double (Some HighTime) k es e = never e
-double (Some PeriodTime) k es e = never e
+double (Some LowTime) k es e = off_on e
+double (Some HighTime) k es e = off_on e
+double (Some PeriodTime) k es e = off_on e
 
 held_if : {A : Type 0} (P : A → Type 0) (q : Bool) (o : Option A) → Held P o → Held P (if q then None else o)
 held_if P true o h = tt
@@ -165,7 +152,7 @@ one_is false = refl
 
 -- ---- what holds at each; words are behind from the act on
 
-abbrev pub measure_gap : MeasureBody → Gap
+abbrev pub measure_gap : MeasureBody → Lag
 measure_gap (Open c) = settled
 measure_gap (Empty c) = opening c
 measure_gap (Unhand c) = rows_of (SWITCHES ∷ SIZES ∷ []) c
@@ -218,17 +205,9 @@ begun_turns : (k : Option configured.Channel) (w : World) (x : Capture) → HasT
 begun_turns None w x = tt
 begun_turns (Some k) w x = λ m o. (tt, tt)
 
-or_true : (q : Bool) → q || true ≡ true
-or_true true = refl
-or_true false = refl
-
-not_is : (q : Bool) → not q ≡ true → q ≡ false
-not_is true e = never e
-not_is false e = refl
-
 module _ (d : IcuDriver) where
   -- that a value waits is stored: none does
-  pub unwaiting : (rs : List ℕ) → AllByRecursion IsRow rs → (chip : Chip) (w : World) (s : IcuState) (c : ℕ) (k : configured.Channel) → IsMeasured d s c k → waiting_value k (capture_at s c) ≡ None → IcuAgrees d (rows_of (SWITCHES ∷ rs) c) chip w s → IcuAgrees d (rows_of rs c) (chip_after chip (Store (word SWITCHES c) 0) 0) w s
+  pub unwaiting : (rs : List ℕ) → AllByRecursion IsRow rs → (chip : Chip) (w : World) (s : IcuState) (c : ℕ) (k : configured.Channel) → IsMeasured d s c k → waiting_value k (capture_at s c) ≡ None → IcuRepresents d (rows_of (SWITCHES ∷ rs) c) chip w s → IcuRepresents d (rows_of rs c) (chip_after chip (Store (word SWITCHES c) 0) 0) w s
   unwaiting rs all chip w s c k (known, mode, lt, on) e h =
       let at1 = λ (j : ℕ). word_of (chip_after chip (Store (word SWITCHES c) 0) 0) j in
       let x = capture_at s c in
@@ -236,7 +215,7 @@ module _ (d : IcuDriver) where
       row_stored d c lt k known SWITCHES row_switches rs all 0 chip w s on h (subst (λ m. ModeWords m at1 (rows_behind rs c) c k x) (sym mode) (measure_closed at1 rs c k x SWITCHES (New_waits (word_new SWITCHES c 0 chip row_switches lt h.outside.all.words ∙ sym (ap (λ o. bit_of (is_some o)) e))) others))
 
   -- the values are handed out in the machine, and the word is behind
-  pub handing : (chip : Chip) (w : World) (s : IcuState) (c : ℕ) (k : configured.Channel) → IsMeasured d s c k → IcuAgrees d settled chip w s → IcuAgrees d (rows_of (SWITCHES ∷ []) c) chip w (with_capture s c (record (capture_at s c) { handed_out = true }))
+  pub handing : (chip : Chip) (w : World) (s : IcuState) (c : ℕ) (k : configured.Channel) → IsMeasured d s c k → IcuRepresents d settled chip w s → IcuRepresents d (rows_of (SWITCHES ∷ []) c) chip w (with_capture s c (record (capture_at s c) { handed_out = true }))
   handing chip w s c k (known, mode, lt, on) h =
       let a = channel_agrees d settled chip w s c lt h in
       let x = capture_at s c in
@@ -245,7 +224,7 @@ module _ (d : IcuDriver) where
       one_agrees d c lt settled (rows_of (SWITCHES ∷ []) c) (settled_at c) (rows_at (SWITCHES ∷ []) c (row_switches, tt) lt) chip chip w s (with_capture s c y) on h (left_same c w chip h.outside) (with_state s c y) (subst (λ z. ChannelAgrees d (rows_of (SWITCHES ∷ []) c) chip w s.initialised c z) (sym (with_same s c y lt)) (record {
         block = block_as (channel_of d c) false false false s.initialised (s.initialised || false) (chip_capture chip.captures c) x y refl refl refl refl refl a.block;
         words = from_mode d c k known SignalMeasurement mode (λ j. word_of chip j) (rows_behind (SWITCHES ∷ []) c) y (record {
-          waits = λ f. never (sym f ∙ ap (λ q. q || false) (same_yes (word SWITCHES c)));
+          waits = λ f. off_on (sym f ∙ ap (λ q. q || false) (eq_self (word SWITCHES c)));
           mark = λ f. words.mark refl;
           seen = λ f g. words.seen refl g;
           start = λ f g. words.start refl g;
@@ -277,7 +256,7 @@ module _ (d : IcuDriver) where
       let a = channel_agrees d (opening c) chip w s c i.lt h in
       let mode = measures i.channel.mode i.suited in
       let up = sym (ap (λ z. z.gate) (bare_at chip.captures c h.size i.lt)) ∙ gate in
-      let free = subst (λ q. CaptureAgrees k q q false s.initialised m1 b x) (same_yes c) a.block in
+      let free = subst (λ q. CaptureAgrees k q q false s.initialised m1 b x) (eq_self c) a.block in
       let words = to_mode d c i.channel i.known SignalMeasurement mode (λ j. word_of chip j) none x a.words in
       let nothing = none_served i.channel y refl in (
         below_test c i.lt,
@@ -291,9 +270,9 @@ module _ (d : IcuDriver) where
             one_agrees d c i.lt (opening c) (rows_of rs c) (opening_at c) (rows_at rs c (row_switches, (row_sizes, tt)) i.lt) chip chip1 w s s1 on h (left_channel c w chip (flushed b) (stands-move chip w (Write (CaptureFlush c) 0) 0 h.outside)) (with_state s c y) (subst (λ z. ChannelAgrees d (rows_of rs c) chip1 w s.initialised c z) (sym (with_same s c y i.lt)) (record {
               block = subst (λ z. CaptureAgrees k false false false s.initialised m1 z y) (sym (channel_new c chip.captures (flushed b) h.size i.lt)) (block_as k false false false s.initialised m1 (flushed b) (switched true x) y refl refl refl refl refl (emptied_agrees k false s.initialised m1 b x on (is_there d c i.channel i.known) up free));
               words = from_mode d c i.channel i.known SignalMeasurement mode (λ j. word_of chip j) (rows_behind rs c) y (record {
-                waits = λ f. never (sym f ∙ ap (λ q. q || (word SWITCHES c == word SIZES c || false)) (same_yes (word SWITCHES c)));
+                waits = λ f. off_on (sym f ∙ ap (λ q. q || (word SWITCHES c == word SIZES c || false)) (eq_self (word SWITCHES c)));
                 mark = λ f. words.mark refl;
-                seen = λ f g. never (sym f ∙ ap (λ q. word SIZES c == word SWITCHES c || (q || false)) (same_yes (word SIZES c)) ∙ or_true (word SIZES c == word SWITCHES c));
+                seen = λ f g. off_on (sym f ∙ ap (λ q. word SIZES c == word SWITCHES c || (q || false)) (eq_self (word SIZES c)) ∙ or_true (word SIZES c == word SWITCHES c));
                 start = λ f g. tt;
                 opposite = λ f g. tt;
                 value = λ f. subst (λ v. ValueIs (word_of chip (word VALUES c)) v) (sym nothing) tt;
@@ -319,7 +298,7 @@ module _ (d : IcuDriver) where
       (may_row d SIZES c row_sizes lt, (row_stored d c lt k known SIZES row_sizes [] tt 0 chip w s on h (subst (λ m. ModeWords m at1 (rows_behind [] c) c k x) (sym mode) (measure_closed at1 [] c k x SIZES (New_seen (word_new SIZES c 0 chip row_sizes lt h.outside.all.words ∙ sym (ap (λ es. seen_number (seen_by k (record x { served = es }))) served))) others)), (refl, refl, refl)))
   steps chip w s (Waits c) o t m (h, ((Is_before, i, on), u)) =
       let x = capture_at s c in
-      let mode = measures i.channel.mode (both_of (is_measurement i.channel.mode) (not (is_duty_cycle i.channel.measured)) i.suited).0 in
+      let mode = measures i.channel.mode (and_parts (is_measurement i.channel.mode) (not (is_duty_cycle i.channel.measured)) i.suited).0 in
       let words = to_mode d c i.channel i.known SignalMeasurement mode (λ j. word_of chip j) none x (h.words c i.lt) in
       (may_row d SWITCHES c row_switches i.lt, (h, ((Is_before, i, on, ap (λ z. z == 1) (words.waits refl) ∙ (one_is (is_some (waiting_value i.channel x)) ∙ sym (ap (λ z. is_some (waiting_value i.channel z)) (calm_at s c i.lt)))), tt)))
   steps chip w s (Value c q) o t m (h, ((Is_before, i, on, e), u)) =
@@ -327,11 +306,11 @@ module _ (d : IcuDriver) where
       let y = record x { handed_out = true } in
       let s1 = with_capture s c y in
       let v = word_of chip (word VALUES c) in
-      let suited = both_of (is_measurement i.channel.mode) (not (is_duty_cycle i.channel.measured)) i.suited in
+      let suited = and_parts (is_measurement i.channel.mode) (not (is_duty_cycle i.channel.measured)) i.suited in
       let mode = measures i.channel.mode suited.0 in
       let words = to_mode d c i.channel i.known SignalMeasurement mode (λ j. word_of chip j) none x (h.words c i.lt) in
       let waits = e ∙ ap (λ z. is_some (waiting_value i.channel z)) (calm_at s c i.lt) in
-      let told = handed_waits (0 ∷ []) i.channel x ∙ (told_one v (waiting_value i.channel x) (waits_single i.channel x (not_is (is_duty_cycle i.channel.measured) suited.1)) (words.value refl) ∙ ap (λ z. (if z then v else 0) ∷ []) (sym waits)) in (
+      let told = handed_waits (0 ∷ []) i.channel x ∙ (told_one v (waiting_value i.channel x) (waits_single i.channel x (not-true (is_duty_cycle i.channel.measured) suited.1)) (words.value refl) ∙ ap (λ z. (if z then v else 0) ∷ []) (sym waits)) in (
         may_row d VALUES c row_values i.lt,
         record {
           own = tt;

@@ -1,41 +1,17 @@
 -- One channel under a step: the other ones are as they were.
-use Rattle.std.proofs.Common.{◌≡◌, ◌≢◌, ℕ, ◌+◌, ◌%◌, ◌<◌, ◌≤◌, ◌^◌, Bool, true, false, ◌||◌, ◌==◌, nat_lt, length, Option, Some, None, refl, sym, ◌∙◌, ap, subst, arith, length-set, get_or-set_same, get_or-set_other}
-use Rattle.std.specs.Prelude.{if◌then◌else◌, slice_index_or, is_some}
-use Rattle.std.proofs.lemmas.Bool.Decides.{nat_tests}
-use Rattle.chip_captures.specs.Captures.{Captures, capture_at as chip_capture, with_capture as chip_with, acted, acting, closed}
-use Rattle.chip_captures.specs.declared.capture.Act.{Act}
+-- Used by Keeping, Change, Stamp, DeInit, Sampling and 8 more.
+use Rattle.std.proofs.Common.{◌≡◌, ◌≢◌, ◌+◌, ◌%◌, ◌<◌, ◌≤◌, ◌^◌, ◌||◌, ◌==◌, ◌∙◌, if◌then◌else◌}
+use Rattle.icu_driver.specs.Terms
+use Terms.{Act, acted, acting, ActiveIs, all_are, ap, arith, bit, Bool, by_channel_at, Capture, capture_at}
+use Terms.{CaptureAgrees, Captures, Channel, channel_of, ChannelWords, Chip, chip_after, chip_capture, chip_with}
+use Terms.{closed, each_but, EdgeCounter, eq_other, eq_self, false, get_or-at_bits, get_or-set_other, get_or-set_same}
+use Terms.{has_bit, has_bit-pow_other, has_bit-pow_same, HasPlace, HasTurns, IcuDriver, IcuMeasurementMode}
+use Terms.{IcuRepresents, IcuState, INTERVALS, is_some, IsClean, IsCourse, Lag, length, length-at_bits, length-set}
+use Terms.{MARKS, ModeWords, nat_lt, nat_tests, None, off_on, OppositeIs, Option, place_of, PLACES, refl, seen_by}
+use Terms.{settled, SignalEdgeDetect, SignalMeasurement, SIZES, slice_index_or, Some, stamp_in, Stamped, Stamps}
+use Terms.{stands-move, StandsIn, StartIs, STATE, state_word, Store, stored_other, stored_same, subst, SWITCHES, sym}
+use Terms.{TIMES, Timestamp, true, ValueIs, VALUES, waiting_value, with_capture, word, word_of, WORDS, World, ℕ}
 use Rattle.chip_captures.specs.declared.capture.Capture as chips
-use Rattle.chip_model.specs.Chip.{Chip, chip_after, word_of}
-use Rattle.mcal_base.specs.Bits.{has_bit}
-use Rattle.mcal_base.proofs.BitLaws.{length-at_bits, get_or-at_bits, has_bit-pow_same, has_bit-pow_other}
-use Rattle.mcal_base.specs.Layout.{place_of}
-use Rattle.mcal_base.specs.declared.TheConstants.{WORDS}
-use Rattle.mcal_base.specs.declared.layout.Array.TheVariants.{Stamps}
-use Rattle.mcal_base.specs.declared.moves.Move.TheVariants.{Store}
-use Rattle.run_model.specs.World.{World}
-use Rattle.run_model.specs.Outside.{StandsIn}
-use Rattle.run_model.proofs.OutsideLaws.{stands-move}
-use Rattle.service_outline.specs.laws.Sweep.{each_but}
-use Rattle.service_outline.specs.laws.Words.{stored_same, stored_other}
-use Rattle.icu_driver.specs.Ground.{Gap, settled, CaptureAgrees, IsClean, ChannelWords, ModeWords, IsCourse, HasPlace, HasTurns, Stamped, StartIs, OppositeIs, ValueIs, ActiveIs, waiting_value, seen_by, all_are, state_word, IcuAgrees}
-use Rattle.icu_driver.specs.Machine.{IcuState, Capture, capture_at, with_capture, stamp_in}
-use Rattle.icu_driver.specs.Table.{channel_of}
-use Rattle.icu_driver.specs.Words.{word, bit}
-use Rattle.icu_driver.specs.declared.driver.Channel.{Channel}
-use Rattle.icu_driver.specs.declared.driver.IcuDriver.{IcuDriver}
-use Rattle.icu_driver.specs.declared.words.TheConstants.{STATE, SWITCHES, MARKS, SIZES, INTERVALS, PLACES, VALUES, TIMES}
-use Rattle.mcal_base.specs.declared.config.icu.IcuMeasurementMode.{IcuMeasurementMode}
-use Rattle.mcal_base.specs.declared.config.icu.IcuMeasurementMode.TheVariants.{SignalEdgeDetect, EdgeCounter, Timestamp, SignalMeasurement}
-use Rattle.icu_driver.specs.laws.Tables.{by_channel_at}
-
-never : {A : Type 0} → false ≡ true → A
-never e = absurd (cc)
-
-pub same_yes : (c : ℕ) → (c == c) ≡ true
-same_yes c = grind (arith, nat_tests)
-
-pub other_no : (k c : ℕ) → k ≢ c → (k == c) ≡ false
-other_no k c ne = grind (arith, nat_tests)
 
 -- ---- rows of words
 
@@ -54,7 +30,7 @@ apart_rows a b c ne e = ne (omega (arith, e))
 -- ---- what is of one channel
 
 -- all that is under work is of this channel
-pub record IsAt (c : ℕ) (gap : Gap) : Type 0 where
+pub record IsAt (c : ℕ) (gap : Lag) : Type 0 where
   pub gates : (k : ℕ) → k ≢ c → gap.gates k ≡ false
   pub queues : (k : ℕ) → k ≢ c → gap.queues k ≡ false
   pub counts : (k : ℕ) → k ≢ c → gap.counts k ≡ false
@@ -65,7 +41,7 @@ pub record IsAt (c : ℕ) (gap : Gap) : Type 0 where
   pub lines : gap.lines ≡ None
 
 -- what is under work of the other channels stays
-pub record GapLeft (c : ℕ) (gap gap1 : Gap) : Type 0 where
+pub record GapLeft (c : ℕ) (gap gap1 : Lag) : Type 0 where
   pub gates : (k : ℕ) → k ≢ c → gap.gates k ≡ gap1.gates k
   pub queues : (k : ℕ) → k ≢ c → gap.queues k ≡ gap1.queues k
   pub counts : (k : ℕ) → k ≢ c → gap.counts k ≡ gap1.counts k
@@ -75,7 +51,7 @@ pub record GapLeft (c : ℕ) (gap gap1 : Gap) : Type 0 where
   pub moded : gap.moded ≡ gap1.moded
   pub lines : gap.lines ≡ gap1.lines
 
-gap_left : (c : ℕ) (gap gap1 : Gap) → IsAt c gap → IsAt c gap1 → GapLeft c gap gap1
+gap_left : (c : ℕ) (gap gap1 : Lag) → IsAt c gap → IsAt c gap1 → GapLeft c gap gap1
 gap_left c gap gap1 was is = record {
   gates = λ k ne. was.gates k ne ∙ sym (is.gates k ne);
   queues = λ k ne. was.queues k ne ∙ sym (is.queues k ne);
@@ -88,7 +64,7 @@ gap_left c gap gap1 was is = record {
 }
 
 -- what the agreement says of a channel
-pub record ChannelAgrees (d : IcuDriver) (gap : Gap) (chip : Chip) (w : World) (on : Bool) (c : ℕ) (x : Capture) : Type 0 where
+pub record ChannelAgrees (d : IcuDriver) (gap : Lag) (chip : Chip) (w : World) (on : Bool) (c : ℕ) (x : Capture) : Type 0 where
   pub block : CaptureAgrees (channel_of d c) (gap.gates c) (gap.queues c) (gap.counts c) on (on || gap.moded) (chip_capture chip.captures c) x
   pub words : ChannelWords (channel_of d c) (λ k. word_of chip k) gap.words c x
   pub course : IsCourse (channel_of d c) x
@@ -96,16 +72,16 @@ pub record ChannelAgrees (d : IcuDriver) (gap : Gap) (chip : Chip) (w : World) (
   pub turns : HasTurns (channel_of d c) w x
   pub stamps : is_some (channel_of d c) ≡ true → (i : ℕ) → i < 64 → gap.stamps c i ≡ false → word_of chip (place_of (Stamps c) i) ≡ stamp_in x.stored i
 
-pub channel_agrees : (d : IcuDriver) (gap : Gap) (chip : Chip) (w : World) (s : IcuState) (c : ℕ) → c < 8 → IcuAgrees d gap chip w s → ChannelAgrees d gap chip w s.initialised c (capture_at s c)
+pub channel_agrees : (d : IcuDriver) (gap : Lag) (chip : Chip) (w : World) (s : IcuState) (c : ℕ) → c < 8 → IcuRepresents d gap chip w s → ChannelAgrees d gap chip w s.initialised c (capture_at s c)
 channel_agrees d gap chip w s c lt h = record { block = h.block c lt; words = h.words c lt; course = (h.course c lt).0; place = (h.course c lt).1; turns = h.turns c lt; stamps = λ some i few g. h.stamps c lt some i few g }
 
 -- no channel of a module that is off is on
-pub off_channel : (d : IcuDriver) (gap : Gap) (chip : Chip) (w : World) (s : IcuState) (c : ℕ) → c < 8 → s.initialised ≡ false → IcuAgrees d gap chip w s → (capture_at s c).on ≡ false
+pub off_channel : (d : IcuDriver) (gap : Lag) (chip : Chip) (w : World) (s : IcuState) (c : ℕ) → c < 8 → s.initialised ≡ false → IcuRepresents d gap chip w s → (capture_at s c).on ≡ false
 off_channel d gap chip w s c lt off h = by (capture_at s c).on refl
   where
     by : (q : Bool) → (capture_at s c).on ≡ q → (capture_at s c).on ≡ false
     by false e = e
-    by true e = never (sym off ∙ ((h.block c lt).starts e).0)
+    by true e = off_on (sym off ∙ ((h.block c lt).starts e).0)
 
 -- what a step at a channel leaves of the chip
 pub record ChipLeft (c : ℕ) (w : World) (chip chip1 : Chip) : Type 0 where
@@ -127,10 +103,10 @@ pub same_state : (c : ℕ) (s : IcuState) → StateLeft c s s
 same_state c s = record { on = refl; others = λ k lt ne. refl }
 
 pub with_same : (s : IcuState) (c : ℕ) (x : Capture) → c < 8 → capture_at (with_capture s c x) c ≡ x
-with_same s c x lt = by_channel_at (λ k. if k == c then x else capture_at s k) c lt ∙ ap (λ q. if q then x else capture_at s c) (same_yes c)
+with_same s c x lt = by_channel_at (λ k. if k == c then x else capture_at s k) c lt ∙ ap (λ q. if q then x else capture_at s c) (eq_self c)
 
 pub with_other : (s : IcuState) (c k : ℕ) (x : Capture) → k < 8 → k ≢ c → capture_at (with_capture s c x) k ≡ capture_at s k
-with_other s c k x lt ne = by_channel_at (λ i. if i == c then x else capture_at s i) k lt ∙ ap (λ q. if q then x else capture_at s k) (other_no k c ne)
+with_other s c k x lt ne = by_channel_at (λ i. if i == c then x else capture_at s i) k lt ∙ ap (λ q. if q then x else capture_at s k) (eq_other k c ne)
 
 pub with_state : (s : IcuState) (c : ℕ) (x : Capture) → StateLeft c s (with_capture s c x)
 with_state s c x = record { on = refl; others = λ k lt ne. with_other s c k x lt ne }
@@ -165,7 +141,7 @@ module _ (at at1 : ℕ → ℕ) (behind behind1 : ℕ → Bool) (c : ℕ) (same 
 
 -- ---- the whole agreement after a step at one channel
 
-module _ (d : IcuDriver) (c : ℕ) (lt : c < 8) (gap gap1 : Gap) (same : GapLeft c gap gap1) (chip chip1 : Chip) (w : World) (s s1 : IcuState) (h : IcuAgrees d gap chip w s) (left : ChipLeft c w chip chip1) (stays : StateLeft c s s1) (clean : s1.initialised ≡ false → (k : ℕ) → k < 8 → is_some (channel_of d k) ≡ true → IsClean (capture_at s1 k)) (here : ChannelAgrees d gap1 chip1 w s.initialised c (capture_at s1 c)) where
+module _ (d : IcuDriver) (c : ℕ) (lt : c < 8) (gap gap1 : Lag) (same : GapLeft c gap gap1) (chip chip1 : Chip) (w : World) (s s1 : IcuState) (h : IcuRepresents d gap chip w s) (left : ChipLeft c w chip chip1) (stays : StateLeft c s s1) (clean : s1.initialised ≡ false → (k : ℕ) → k < 8 → is_some (channel_of d k) ≡ true → IsClean (capture_at s1 k)) (here : ChannelAgrees d gap1 chip1 w s.initialised c (capture_at s1 c)) where
   block_other : (k : ℕ) → k < 8 → k ≢ c → CaptureAgrees (channel_of d k) (gap1.gates k) (gap1.queues k) (gap1.counts k) s1.initialised (s1.initialised || gap1.moded) (chip_capture chip1.captures k) (capture_at s1 k)
   block_other k few ne =
       let a = h.block k few in
@@ -187,7 +163,7 @@ module _ (d : IcuDriver) (c : ℕ) (lt : c < 8) (gap gap1 : Gap) (same : GapLeft
   words_other : (k : ℕ) → k < 8 → k ≢ c → ChannelWords (channel_of d k) (λ j. word_of chip1 j) gap1.words k (capture_at s1 k)
   words_other k few ne = subst (λ x. ChannelWords (channel_of d k) (λ j. word_of chip1 j) gap1.words k x) (sym (stays.others k few ne)) (words_left (λ j. word_of chip j) (λ j. word_of chip1 j) gap.words gap1.words k (λ first r g. left.words first k r few ne) (λ first r. same.words first k r few ne) (channel_of d k) (capture_at s k) (h.words k few))
 
-  pub step_agrees : IcuAgrees d gap1 chip1 w s1
+  pub step_agrees : IcuRepresents d gap1 chip1 w s1
   step_agrees = record {
     outside = left.outside;
     size = left.size ∙ h.size;
@@ -203,8 +179,8 @@ module _ (d : IcuDriver) (c : ℕ) (lt : c < 8) (gap gap1 : Gap) (same : GapLeft
   }
 
 -- the same of an initialised module
-pub one_agrees : (d : IcuDriver) (c : ℕ) → c < 8 → (gap gap1 : Gap) → IsAt c gap → IsAt c gap1 → (chip chip1 : Chip) (w : World) (s s1 : IcuState) → s.initialised ≡ true → IcuAgrees d gap chip w s → ChipLeft c w chip chip1 → StateLeft c s s1 → ChannelAgrees d gap1 chip1 w s.initialised c (capture_at s1 c) → IcuAgrees d gap1 chip1 w s1
-one_agrees d c lt gap gap1 was is chip chip1 w s s1 on h left stays here = step_agrees d c lt gap gap1 (gap_left c gap gap1 was is) chip chip1 w s s1 h left stays (λ off. never (sym off ∙ (stays.on ∙ on))) here
+pub one_agrees : (d : IcuDriver) (c : ℕ) → c < 8 → (gap gap1 : Lag) → IsAt c gap → IsAt c gap1 → (chip chip1 : Chip) (w : World) (s s1 : IcuState) → s.initialised ≡ true → IcuRepresents d gap chip w s → ChipLeft c w chip chip1 → StateLeft c s s1 → ChannelAgrees d gap1 chip1 w s.initialised c (capture_at s1 c) → IcuRepresents d gap1 chip1 w s1
+one_agrees d c lt gap gap1 was is chip chip1 w s s1 on h left stays here = step_agrees d c lt gap gap1 (gap_left c gap gap1 was is) chip chip1 w s s1 h left stays (λ off. off_on (sym off ∙ (stays.on ∙ on))) here
 
 -- ---- what steps at a channel leave of the chip
 

@@ -1,4 +1,5 @@
 -- An edge, and what a frame writes to gates, queues and counts: block and machine do the same.
+-- Used by Course, Turns, Levels, Later.
 use Rattle.std.proofs.Common.{◌≡◌, ℕ, suc, ◌+◌, ◌%◌, ◌^◌, Bool, true, false, ◌&&◌, ◌||◌, not, nat_lt, List, [], ◌∷◌, ◌++◌, length, Some, refl, sym, ◌∙◌, ap, subst}
 use Rattle.std.specs.Prelude.{if◌then◌else◌, map}
 use Rattle.chip_captures.specs.Captures.{take_edge, caught, chooses as chip_chooses}
@@ -9,7 +10,7 @@ use Rattle.chip_captures.specs.declared.capture.Mode.TheVariants.{Keeps, Counts}
 use Rattle.mcal_base.specs.declared.config.icu.IcuStartEdge.{IcuStartEdge}
 use Rattle.mcal_base.specs.declared.config.icu.IcuStartEdge.TheVariants.{Rising, Falling, Both}
 use Rattle.icu_driver.specs.Edges.{Edge}
-use Rattle.icu_driver.specs.Ground.{CaptureAgrees, kept, chosen, condition_by, mode_by, bare}
+use Rattle.icu_driver.specs.Refinement.{CaptureAgrees, kept, chosen, condition_by, mode_by, bare}
 use Rattle.icu_driver.specs.Machine.{Capture, edge_queued, is_taken, edge_taken}
 use Rattle.icu_driver.specs.Table.{is_counter, is_measurement, chooses}
 use Rattle.icu_driver.specs.declared.driver.Channel.{Channel}

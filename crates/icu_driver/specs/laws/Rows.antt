@@ -1,21 +1,14 @@
 -- Rows of words that are behind at a channel, and the store that catches one up.
-use Rattle.std.proofs.Common.{◌≡◌, ◌≢◌, ℕ, ◌<◌, Bool, true, false, ◌||◌, ◌==◌, List, [], ◌∷◌, Some, refl, ◌∙◌, ap, arith}
-use Rattle.std.specs.Prelude.{is_some}
-use Rattle.std.specs.List.{AllByRecursion}
-use Rattle.std.proofs.lemmas.Bool.Decides.{nat_tests}
-use Rattle.chip_model.specs.Chip.{Chip, chip_after, word_of}
-use Rattle.mcal_base.specs.Bits.{bit_of}
-use Rattle.mcal_base.specs.declared.moves.Move.TheVariants.{Store}
-use Rattle.run_model.specs.World.{World}
-use Rattle.icu_driver.specs.Ground.{Gap, settled, ModeWords, MeasureWords, waiting_value, seen_by, seen_number, StartIs, OppositeIs, ValueIs, ActiveIs, IcuAgrees}
-use Rattle.icu_driver.specs.Machine.{IcuState, Capture, capture_at}
-use Rattle.icu_driver.specs.Table.{channel_of}
-use Rattle.icu_driver.specs.Words.{word}
-use Rattle.icu_driver.specs.declared.driver.Channel.{Channel}
-use Rattle.icu_driver.specs.declared.driver.IcuDriver.{IcuDriver}
-use Rattle.icu_driver.specs.declared.words.TheConstants.{STATE, SWITCHES, MARKS, SIZES, INTERVALS, PLACES, VALUES, TIMES}
-use Rattle.icu_driver.specs.laws.Calls.{to_mode, from_mode}
-use Rattle.icu_driver.specs.laws.One.{IsAt, IsRow, channel_agrees, one_agrees, apart_words, other_no, same_state, left_word, word_old, stamps_old, mode_left}
+-- From One, Calls.
+-- Used by Sampling, Measure, Stamp, Detecting, Keeping and 2 more.
+use Rattle.std.proofs.Common.{◌≡◌, ◌≢◌, ◌<◌, ◌||◌, ◌==◌, [], ◌∷◌, ◌∙◌}
+use Rattle.icu_driver.specs.Terms
+use Terms.{ActiveIs, AllByRecursion, ap, arith, bit_of, Bool, Capture, capture_at, Channel, channel_of, Chip}
+use Terms.{chip_after, eq_other, false, IcuDriver, IcuRepresents, IcuState, INTERVALS, is_some, Lag, List, MARKS}
+use Terms.{MeasureWords, ModeWords, nat_tests, OppositeIs, PLACES, refl, seen_by, seen_number, settled, SIZES, Some}
+use Terms.{StartIs, STATE, Store, SWITCHES, TIMES, true, ValueIs, VALUES, waiting_value, word, word_of, World, ℕ}
+use Rattle.icu_driver.specs.laws.{Calls.{to_mode, from_mode}, One.{IsAt, IsRow, channel_agrees, one_agrees}}
+use Rattle.icu_driver.specs.laws.{One.{apart_words, same_state, left_word, word_old, stamps_old, mode_left}}
 
 -- the row is one of these, and the word one of theirs at a channel
 abbrev pub has_row : List ℕ → ℕ → Bool
@@ -26,7 +19,7 @@ abbrev pub rows_behind : List ℕ → ℕ → ℕ → Bool
 rows_behind [] c j = false
 rows_behind (r ∷ rs) c j = j == word r c || rows_behind rs c j
 
-abbrev pub rows_of : List ℕ → ℕ → Gap
+abbrev pub rows_of : List ℕ → ℕ → Lag
 rows_of rs c = record settled { words = rows_behind rs c }
 
 same_row : (f r c : ℕ) → (word f c == word r c) ≡ (f == r)
@@ -38,11 +31,11 @@ behind_row (r ∷ rs) f c = ap (λ q. q || rows_behind rs c (word f c)) (same_ro
 
 other_rows : (rs : List ℕ) (first k c : ℕ) → AllByRecursion IsRow rs → IsRow first → k < 8 → c < 8 → k ≢ c → rows_behind rs c (word first k) ≡ false
 other_rows [] first k c all row lt few ne = refl
-other_rows (r ∷ rs) first k c all row lt few ne = ap (λ q. q || rows_behind rs c (word first k)) (other_no (word first k) (word r c) (apart_words first r k c row all.0 lt few ne)) ∙ other_rows rs first k c all.1 row lt few ne
+other_rows (r ∷ rs) first k c all row lt few ne = ap (λ q. q || rows_behind rs c (word first k)) (eq_other (word first k) (word r c) (apart_words first r k c row all.0 lt few ne)) ∙ other_rows rs first k c all.1 row lt few ne
 
 state_apart : (rs : List ℕ) (c : ℕ) → AllByRecursion IsRow rs → rows_behind rs c STATE ≡ false
 state_apart [] c all = refl
-state_apart (r ∷ rs) c all = let low = all.0.1 in ap (λ q. q || rows_behind rs c STATE) (other_no STATE (word r c) (λ e. absurd (omega (arith, low, e)))) ∙ state_apart rs c all.1
+state_apart (r ∷ rs) c all = let low = all.0.1 in ap (λ q. q || rows_behind rs c STATE) (eq_other STATE (word r c) (λ e. absurd (omega (arith, low, e)))) ∙ state_apart rs c all.1
 
 pub rows_at : (rs : List ℕ) (c : ℕ) → AllByRecursion IsRow rs → c < 8 → IsAt c (rows_of rs c)
 rows_at rs c all few = record { gates = λ k ne. refl; queues = λ k ne. refl; counts = λ k ne. refl; words = λ first k r lt ne. other_rows rs first k c all r lt few ne; state = state_apart rs c all; stamps = λ k i ne. refl; moded = refl; lines = refl }
@@ -54,7 +47,7 @@ grows rs first f c e i = let g : rows_behind (first ∷ rs) c (word f c) ≡ tru
     here : (f r : ℕ) → f ≡ r → (f == r) ≡ true
     here f r e = grind (arith, nat_tests)
 
-module _ (d : IcuDriver) (c : ℕ) (lt : c < 8) (k : Channel) (known : channel_of d c ≡ Some k) (first : ℕ) (row : IsRow first) (rs : List ℕ) (all : AllByRecursion IsRow rs) (v : ℕ) (chip : Chip) (w : World) (s : IcuState) (on : s.initialised ≡ true) (h : IcuAgrees d (rows_of (first ∷ rs) c) chip w s) where
+module _ (d : IcuDriver) (c : ℕ) (lt : c < 8) (k : Channel) (known : channel_of d c ≡ Some k) (first : ℕ) (row : IsRow first) (rs : List ℕ) (all : AllByRecursion IsRow rs) (v : ℕ) (chip : Chip) (w : World) (s : IcuState) (on : s.initialised ≡ true) (h : IcuRepresents d (rows_of (first ∷ rs) c) chip w s) where
   abbrev after : Chip
   after = chip_after chip (Store (word first c) v) 0
 
@@ -62,7 +55,7 @@ module _ (d : IcuDriver) (c : ℕ) (lt : c < 8) (k : Channel) (known : channel_o
   pub row_others : ModeWords k.mode (λ j. word_of after j) (rows_behind (first ∷ rs) c) c k (capture_at s c)
   row_others = mode_left (λ j. word_of chip j) (λ j. word_of after j) (rows_behind (first ∷ rs) c) (rows_behind (first ∷ rs) c) c (λ f r e. word_old first f c v chip (grows rs first f c e)) (λ f r. refl) k.mode k (capture_at s c) (to_mode d c k known k.mode refl (λ j. word_of chip j) (rows_behind (first ∷ rs) c) (capture_at s c) (channel_agrees d (rows_of (first ∷ rs) c) chip w s c lt h).words)
 
-  pub row_stored : ModeWords k.mode (λ j. word_of after j) (rows_behind rs c) c k (capture_at s c) → IcuAgrees d (rows_of rs c) after w s
+  pub row_stored : ModeWords k.mode (λ j. word_of after j) (rows_behind rs c) c k (capture_at s c) → IcuRepresents d (rows_of rs c) after w s
   row_stored words =
       let a = channel_agrees d (rows_of (first ∷ rs) c) chip w s c lt h in
       one_agrees d c lt (rows_of (first ∷ rs) c) (rows_of rs c) (rows_at (first ∷ rs) c (row, all) lt) (rows_at rs c all lt) chip after w s s on h (left_word first c v w chip row lt h.outside) (same_state c s) (record {

@@ -1,14 +1,15 @@
 -- The handler of a measurement: its steps.
-use Rattle.std.proofs.Common.{ℕ, ◌+◌, ◌-◌, ◌/◌, ◌%◌, ◌^◌, Bool, true, false, ◌==◌, ◌&&◌, not, None, arith}
-use Rattle.std.specs.Prelude.{if◌then◌else◌}
-use Rattle.mcal_base.specs.declared.moves.Move.TheVariants.{Read, Write, Load, Store as Stores}
-use Rattle.mcal_base.specs.declared.register.Reg.TheVariants.{CaptureInfo, CaptureTimeLow, CaptureTimeHigh, CapturePop}
-use Rattle.icu_driver.specs.Edges.{is_same}
-use Rattle.icu_driver.specs.laws.Base.{Move, no_answer, BodyTaken, goes, ends, Nothing, Shortens, shortens_if, word, joined, SWITCHES, MARKS, SIZES, INTERVALS, PLACES, VALUES, TIMES}
+-- From Base, Detect.
+-- Used by Sampling, service/sample/rt, Windows.
+use Rattle.std.proofs.Common.{◌+◌, ◌-◌, ◌/◌, ◌%◌, ◌^◌, ◌==◌, ◌&&◌, if◌then◌else◌}
+use Rattle.icu_driver.specs.Terms
+use Terms.{Active, arith, Bool, CaptureInfo, CapturePop, CaptureTimeHigh, CaptureTimeLow, false, High, is_same, Keep}
+use Terms.{Last, Load, Look, Low, Mark, None, not, Opposite, Pop, Read, SampleBody, Sampled, Seen, Stores, true, Value}
+use Terms.{Waits, Write, ℕ}
+use Rattle.icu_driver.specs.laws.Base.{Move, no_answer, BodyTaken, goes, ends, Nothing, Shortens, shortens_if, word}
+use Rattle.icu_driver.specs.laws.Base.{joined, SWITCHES, MARKS, SIZES, INTERVALS, PLACES, VALUES, TIMES}
 use Rattle.icu_driver.specs.laws.Detect.{serves}
-use Rattle.icu_driver.specs.declared.service.sample.Sampled.{Sampled}
-use Rattle.icu_driver.specs.declared.service.sample.SampleBody.{SampleBody}
-use Rattle.icu_driver.specs.declared.service.sample.SampleBody.TheVariants.{Look, Low, High, Seen, Start, Opposite, Pop, Value, Active, Waits, Mark, Keep, Last}
+use Rattle.icu_driver.specs.declared.service.sample.SampleBody.TheVariants.{Start}
 
 abbrev pub looked : Sampled → ℕ → Sampled
 looked r x = record r { rising = x % 2 == 1; gap = x / 2 % 2 == 1 }

@@ -1,57 +1,45 @@
 -- The handler of a measurement: what holds at each of its places, and that it is right.
-use Rattle.std.proofs.Common.{◌≡◌, ℕ, ◌+◌, ◌/◌, ◌%◌, ◌<◌, ◌^◌, Bool, true, false, ◌&&◌, ◌||◌, ◌==◌, not, nat_lt, List, [], ◌∷◌, ◌++◌, length, Option, Some, None, refl, sym, ◌∙◌, ap, subst, arith, length-append}
-use Rattle.std.specs.Prelude.{if◌then◌else◌, is_some, map}
-use Rattle.std.specs.List.{AllByRecursion}
-use Rattle.std.proofs.lemmas.Bool.Decides.{nat_tests}
-use Rattle.std.proofs.lemmas.List.{append_assoc}
-use Rattle.chip_captures.specs.Captures.{Captures, capture_at as chip_capture, popped, info_of, oldest_time}
-use Rattle.chip_model.specs.Chip.{Chip, chip_after, word_of}
-use Rattle.mcal_base.specs.Bits.{bit_of}
-use Rattle.mcal_base.specs.declared.config.icu.IcuMeasurementMode.TheVariants.{SignalMeasurement}
-use Rattle.mcal_base.specs.declared.config.icu.IcuSignalMeasurementProperty.{IcuSignalMeasurementProperty}
-use Rattle.mcal_base.specs.declared.config.icu.IcuSignalMeasurementProperty.TheVariants.{HighTime, LowTime, PeriodTime, DutyCycle}
-use Rattle.mcal_base.specs.declared.moves.Move.TheVariants.{Read, Write, Store as Stores}
-use Rattle.mcal_base.specs.declared.register.Reg.TheVariants.{CaptureInfo, CaptureTimeLow, CapturePop}
-use Rattle.run_model.specs.Frame.{Origin, Entered, missed_after}
-use Rattle.run_model.specs.Machine.{Told, Serves, outcome}
-use Rattle.run_model.specs.World.{World}
-use Rattle.run_model.proofs.OutsideLaws.{stands-move}
-use Rattle.service_outline.specs.Outline.{Bodies, AreRight, StepsTo, Serving, Is_serving, Served, Is_served}
-use Rattle.service_outline.specs.laws.Acts.{never_clean}
-use Rattle.icu_driver.specs.Edges.{Edge, is_same, newest, values, values_by, begins_rising}
-use Rattle.icu_driver.specs.Ground.{Gap, none, settled, kept, CaptureAgrees, MeasureWords, ModeWords, HasTurns, Alternate, EndsAt, Seen, Nothing_seen, Start_seen, Opposite_seen, starts_at, unbroken, opposed, seen_with, seen_from, seen_number, seen_by, first_of, told_by, told_with, StartIs, OppositeIs, ValueIs, ActiveIs, waiting_value, IcuAgrees, icu_ground}
-use Rattle.icu_driver.specs.Machine.{IcuState, Capture, capture_at, with_capture, served_by, kinds_by, notices_of, completes, stamp_in, happens, icu_machine}
-use Rattle.icu_driver.specs.Table.{channel_of, is_timestamp, is_measurement, is_duty_cycle}
-use Rattle.icu_driver.specs.declared.call.Call.{Call}
-use Rattle.icu_driver.specs.declared.driver.Channel.{Channel}
-use Rattle.icu_driver.specs.declared.driver.IcuDriver.{IcuDriver}
-use Rattle.icu_driver.specs.declared.service.sample.Sampled.{Sampled}
-use Rattle.icu_driver.specs.declared.service.sample.SampleBody.{SampleBody}
+-- From Rows, One, Sample, Serve, Stamp and 9 more.
+-- Used by Lawful.
+use Rattle.std.proofs.Common.{◌≡◌, ◌+◌, ◌/◌, ◌%◌, ◌<◌, ◌^◌, ◌&&◌, ◌||◌, ◌==◌, [], ◌∷◌, ◌++◌, ◌∙◌, if◌then◌else◌}
+use Rattle.icu_driver.specs.Terms
+use Terms.{Active, ActiveIs, AllByRecursion, Alternate, ap, append_assoc, AreRight, arith, begins_rising, below_test}
+use Terms.{bit_of, Bodies, Bool, Call, Capture, capture_at, CaptureAgrees, CaptureInfo, CapturePop, Captures}
+use Terms.{CaptureTimeLow, Channel, channel_of, Chip, chip_after, chip_capture, completes, DutyCycle, Edge, EndsAt}
+use Terms.{Entered, false, first_of, happens, HasTurns, High, HighTime, icu_ground, icu_machine, IcuDriver}
+use Terms.{IcuRepresents, IcuSignalMeasurementProperty, IcuState, info_of, is_duty_cycle, is_measurement, is_same}
+use Terms.{Is_served, Is_serving, is_some, is_timestamp, Keep, kept, kinds_by, Lag, Last, length, length-append, List}
+use Terms.{Look, Low, LowTime, lt_itself, map, Mark, MeasureHistory, MeasureWords, missed_after, ModeWords, nat_lt}
+use Terms.{nat_tests, never_clean, newest, None, none, not, Nothing_seen, notices_of, off_on, oldest_time, opposed}
+use Terms.{Opposite, Opposite_seen, OppositeIs, Option, Origin, outcome, PeriodTime, Pop, popped, Read, refl}
+use Terms.{SampleBody, Sampled, seen_by, seen_from, seen_number, seen_with, Served, served_by, Serves, Serving, settled}
+use Terms.{SignalMeasurement, Some, stamp_in, stands-move, Start_seen, StartIs, starts_at, StepsTo, Stores, subst, sym}
+use Terms.{Told, told_by, told_with, true, unbroken, Value, ValueIs, values, values_by, waiting_value, Waits}
+use Terms.{with_capture, word_of, World, Write, ℕ}
+use Rattle.icu_driver.specs.declared.service.sample.SampleBody.TheVariants.{Start}
+use Rattle.icu_driver.specs.laws.{Base.{tells_nothing, no_answer, goes, ends, Nothing, word, line, joined, SWITCHES}}
+use Rattle.icu_driver.specs.laws.{Base.{MARKS, SIZES, INTERVALS, PLACES, VALUES, TIMES}, Calls.{to_mode, from_mode}}
+use Rattle.icu_driver.specs.laws.{Calls.{place_by, may_row}, Change.{as_course}, Channels.{popped_agrees, block_as}}
+use Rattle.icu_driver.specs.laws.{Count.{halves_join}, Detect.{serves}, Handler.{is_whole}, Measure.{Held, IsOne}}
+use Rattle.icu_driver.specs.laws.{Measure.{waits_single}, One.{IsRow, ChannelAgrees, channel_agrees, one_agrees}}
+use Rattle.icu_driver.specs.laws.{One.{settled_at, same_state, with_same, with_state, left_same, left_latched}}
+use Rattle.icu_driver.specs.laws.{One.{left_channel, channel_new, word_new}, Rows.{rows_of, rows_behind, behind_row}}
+use Rattle.icu_driver.specs.laws.{Rows.{rows_at, row_others, row_stored, New_waits, New_mark, New_seen, New_start}}
+use Rattle.icu_driver.specs.laws.{Rows.{New_opposite, New_value, New_time, NewWord, measure_closed}, Sample.{starts}}
+use Rattle.icu_driver.specs.laws.{Sample.{is_complete, seen_now, row_of, since, looked, sample_work, sample_takes}}
+use Rattle.icu_driver.specs.laws.{Sample.{sample_left, sample_shortens}, Serve.{missed_here, info_empty, info_rising}}
+use Rattle.icu_driver.specs.laws.{Serve.{info_gap, waiting_on, split, served_here, popped_course}, Stamp.{row_switches}}
+use Rattle.icu_driver.specs.laws.{Stamp.{row_marks, row_sizes, row_intervals, row_places, row_values}}
+use Rattle.icu_driver.specs.laws.{Steady.{without_edges, calm_at, oldest, AllGood, fronted, fronted_right}}
+use Rattle.icu_driver.specs.laws.{Values.{values_append}}
 use Rattle.icu_driver.specs.declared.service.sample.SampleBody.TheVariants as places
-use Rattle.icu_driver.specs.declared.service.sample.SampleBody.TheVariants.{Look, Low, High, Start, Opposite, Pop, Value, Active, Waits, Mark, Keep, Last}
-use Rattle.icu_driver.specs.laws.Base.{tells_nothing, no_answer, goes, ends, Nothing, word, line, joined, SWITCHES, MARKS, SIZES, INTERVALS, PLACES, VALUES, TIMES}
-use Rattle.icu_driver.specs.laws.Calls.{never, to_mode, from_mode, place_by, may_row}
-use Rattle.icu_driver.specs.laws.Change.{as_course}
-use Rattle.icu_driver.specs.laws.Channels.{popped_agrees, block_as}
-use Rattle.icu_driver.specs.laws.Count.{halves_join}
-use Rattle.icu_driver.specs.laws.Detect.{serves}
-use Rattle.icu_driver.specs.laws.Ground.{below_test}
-use Rattle.icu_driver.specs.laws.Handler.{is_whole}
-use Rattle.icu_driver.specs.laws.Measure.{Held, IsOne, waits_single}
-use Rattle.icu_driver.specs.laws.One.{IsRow, ChannelAgrees, channel_agrees, one_agrees, settled_at, same_state, with_same, with_state, left_same, left_latched, left_channel, channel_new, word_new}
-use Rattle.icu_driver.specs.laws.Rows.{rows_of, rows_behind, behind_row, rows_at, row_others, row_stored, New_waits, New_mark, New_seen, New_start, New_opposite, New_value, New_time, NewWord, measure_closed}
-use Rattle.icu_driver.specs.laws.Sample.{starts, is_complete, seen_now, row_of, since, looked, sample_work, sample_takes, sample_left, sample_shortens}
-use Rattle.icu_driver.specs.laws.Serve.{missed_here, info_empty, info_rising, info_gap, waiting_on, split, served_here, popped_course}
-use Rattle.icu_driver.specs.laws.Stamp.{row_switches, row_marks, row_sizes, row_intervals, row_places, row_values}
-use Rattle.icu_driver.specs.laws.Steady.{calm, calm_at, oldest, AllGood, fronted, fronted_right}
-use Rattle.icu_driver.specs.laws.Values.{values_append}
 
 -- ---- what is under work: words of the channel
 
 abbrev pub value_rows : Sampled → List ℕ
 value_rows r = SWITCHES ∷ MARKS ∷ SIZES ∷ row_of r ∷ []
 
-abbrev pub sample_gap : SampleBody → Gap
+abbrev pub sample_gap : SampleBody → Lag
 sample_gap (Value r) = rows_of (VALUES ∷ TIMES ∷ value_rows r) r.channel
 sample_gap (Active r) = rows_of (TIMES ∷ value_rows r) r.channel
 sample_gap (Waits r) = rows_of (value_rows r) r.channel
@@ -75,11 +63,11 @@ pub record Sampler (d : IcuDriver) (r : Sampled) : Type 0 where
   pub duty : r.duty ≡ is_duty_cycle (Some property)
 
 -- what was seen before the edge, which a gap makes nothing
-abbrev pub seen_before : Sampled → Seen → Seen
+abbrev pub seen_before : Sampled → MeasureHistory → MeasureHistory
 seen_before r s = if r.gap then Nothing_seen else s
 
 -- the time that it keeps last
-abbrev pub LastIs : (starts : Bool) → ℕ → Seen → Type 0
+abbrev pub LastIs : (starts : Bool) → ℕ → MeasureHistory → Type 0
 LastIs true t s = StartIs t s
 LastIs false t s = OppositeIs t s
 
@@ -141,42 +129,42 @@ sample_bodies d = fronted d sample_work sample_takes sample_left sample_gap (λ 
 starts_is : (r : Sampled) (first : Bool) (e : Edge) → r.first ≡ first → r.rising ≡ e.rising → starts r ≡ starts_at first e
 starts_is r first e f g = ap (λ q. is_same r.rising q) f ∙ ap (λ q. is_same q first) g
 
-seen_load : (q : Bool) (v : ℕ) (s : Seen) → v ≡ seen_number s → (if q then 0 else v) ≡ seen_number (if q then Nothing_seen else s)
+seen_load : (q : Bool) (v : ℕ) (s : MeasureHistory) → v ≡ seen_number s → (if q then 0 else v) ≡ seen_number (if q then Nothing_seen else s)
 seen_load true v s e = refl
 seen_load false v s e = e
 
-start_load : (q : Bool) (v : ℕ) (s : Seen) → StartIs v s → StartIs v (if q then Nothing_seen else s)
+start_load : (q : Bool) (v : ℕ) (s : MeasureHistory) → StartIs v s → StartIs v (if q then Nothing_seen else s)
 start_load true v s h = tt
 start_load false v s h = h
 
-opposite_load : (q : Bool) (v : ℕ) (s : Seen) → OppositeIs v s → OppositeIs v (if q then Nothing_seen else s)
+opposite_load : (q : Bool) (v : ℕ) (s : MeasureHistory) → OppositeIs v s → OppositeIs v (if q then Nothing_seen else s)
 opposite_load true v s h = tt
 opposite_load false v s h = h
 
-seen_more : (first : Bool) (s : Seen) (es : List Edge) (e : Edge) → seen_from first s (es ++ e ∷ []) ≡ seen_with first e (seen_from first s es)
+seen_more : (first : Bool) (s : MeasureHistory) (es : List Edge) (e : Edge) → seen_from first s (es ++ e ∷ []) ≡ seen_with first e (seen_from first s es)
 seen_more first s [] e = refl
 seen_more first s (x ∷ xs) e = seen_more first (seen_with first x s) xs e
 
 -- what an edge makes of what was seen, by whether a measure starts at it
-abbrev seen_next : (starts : Bool) → ℕ → Seen → Seen
+abbrev seen_next : (starts : Bool) → ℕ → MeasureHistory → MeasureHistory
 seen_next q t u = if q then Start_seen t else opposed t u
 
-opposed_word : (t : ℕ) (u : Seen) → (if seen_number u == 1 then 2 else 0) ≡ seen_number (opposed t u)
+opposed_word : (t : ℕ) (u : MeasureHistory) → (if seen_number u == 1 then 2 else 0) ≡ seen_number (opposed t u)
 opposed_word t Nothing_seen = refl
 opposed_word t (Start_seen a) = refl
 opposed_word t (Opposite_seen a b) = refl
 
-seen_word : (q : Bool) (v t : ℕ) (u : Seen) → v ≡ seen_number u → (if q then 1 else if v == 1 then 2 else 0) ≡ seen_number (seen_next q t u)
+seen_word : (q : Bool) (v t : ℕ) (u : MeasureHistory) → v ≡ seen_number u → (if q then 1 else if v == 1 then 2 else 0) ≡ seen_number (seen_next q t u)
 seen_word true v t u e = refl
 seen_word false v t u e = ap (λ n. if n == 1 then 2 else 0) e ∙ opposed_word t u
 
-last_word : (q : Bool) (t : ℕ) (u : Seen) → LastIs q t (seen_next q t u)
+last_word : (q : Bool) (t : ℕ) (u : MeasureHistory) → LastIs q t (seen_next q t u)
 last_word true t u = refl
 last_word false t Nothing_seen = tt
 last_word false t (Start_seen a) = refl
 last_word false t (Opposite_seen a b) = tt
 
-start_kept : (v t : ℕ) (u : Seen) → StartIs v u → StartIs v (opposed t u)
+start_kept : (v t : ℕ) (u : MeasureHistory) → StartIs v u → StartIs v (opposed t u)
 start_kept v t Nothing_seen h = tt
 start_kept v t (Start_seen a) h = h
 start_kept v t (Opposite_seen a b) h = tt
@@ -197,7 +185,7 @@ abbrev ToldIs : Bool → (start opposite time : ℕ) → List (List ℕ) → Typ
 ToldIs true a b t vs = IsTold a b t vs
 ToldIs false a b t vs = vs ≡ []
 
-told_is : (p : IcuSignalMeasurementProperty) (q : Bool) (e : Edge) (u : Seen) (a b : ℕ) → StartIs a u → OppositeIs b u → ToldIs (complete_by (is_whole (Some p)) q (seen_number u)) a b e.time (told_by p q e u)
+told_is : (p : IcuSignalMeasurementProperty) (q : Bool) (e : Edge) (u : MeasureHistory) (a b : ℕ) → StartIs a u → OppositeIs b u → ToldIs (complete_by (is_whole (Some p)) q (seen_number u)) a b e.time (told_by p q e u)
 told_is HighTime true e u a b h i = refl
 told_is HighTime false e Nothing_seen a b h i = refl
 told_is HighTime false e (Start_seen n) a b h i = record { value = since n e.time ∷ []; is = refl; whole = ap (λ z. since z e.time) h; active = tt }
@@ -229,9 +217,6 @@ more_told vs v = ap (λ n. nat_lt (length vs) n) (length-append vs (v ∷ [])) �
 none_told : (vs : List (List ℕ)) → vs ++ [] ≡ vs
 none_told [] = refl
 none_told (v ∷ vs) = ap (λ ws. v ∷ ws) (none_told vs)
-
-no_less : (n : ℕ) → nat_lt n n ≡ false
-no_less n = grind (arith, nat_tests)
 
 alternate_front : (es fs : List Edge) → Alternate (es ++ fs) → Alternate es
 alternate_front [] fs a = tt
@@ -276,13 +261,13 @@ all_told : (q : Bool) → AllByRecursion IsRow (told_rows q)
 all_told q = (row_values, (row_times, all_valued q))
 
 -- the words after the serving, of an edge that tells nothing and of one that tells a value
-seen_words : (q : Bool) (at : ℕ → ℕ) (c : ℕ) (k : Channel) (x y : Capture) (t : ℕ) (u : Seen) → x.on ≡ true → y.active ≡ x.active → waiting_value k y ≡ waiting_value k x → seen_by k y ≡ seen_next q t u → StartIs (at (word INTERVALS c)) u → MeasureWords at none c k x → MeasureWords at (rows_behind (seen_rows q) c) c k y
-seen_words true at c k x y t u up active same is start h = record { waits = λ f. h.waits refl ∙ ap (λ o. bit_of (is_some o)) (sym same); mark = λ f. h.mark refl ∙ ap (λ z. bit_of z) (sym active); seen = λ f g. never (sym f ∙ behind_row (seen_rows true) SIZES c); start = λ f g. never (sym f ∙ behind_row (seen_rows true) INTERVALS c); opposite = λ f g. subst (λ z. OppositeIs (at (word PLACES c)) z) (sym is) tt; value = λ f. subst (λ o. ValueIs (at (word VALUES c)) o) (sym same) (h.value refl); time = λ f. subst (λ o. ActiveIs (at (word TIMES c)) o) (sym same) (h.time refl) }
-seen_words false at c k x y t u up active same is start h = record { waits = λ f. h.waits refl ∙ ap (λ o. bit_of (is_some o)) (sym same); mark = λ f. h.mark refl ∙ ap (λ z. bit_of z) (sym active); seen = λ f g. never (sym f ∙ behind_row (seen_rows false) SIZES c); start = λ f g. subst (λ z. StartIs (at (word INTERVALS c)) z) (sym is) (start_kept (at (word INTERVALS c)) t u start); opposite = λ f g. never (sym f ∙ behind_row (seen_rows false) PLACES c); value = λ f. subst (λ o. ValueIs (at (word VALUES c)) o) (sym same) (h.value refl); time = λ f. subst (λ o. ActiveIs (at (word TIMES c)) o) (sym same) (h.time refl) }
+seen_words : (q : Bool) (at : ℕ → ℕ) (c : ℕ) (k : Channel) (x y : Capture) (t : ℕ) (u : MeasureHistory) → x.on ≡ true → y.active ≡ x.active → waiting_value k y ≡ waiting_value k x → seen_by k y ≡ seen_next q t u → StartIs (at (word INTERVALS c)) u → MeasureWords at none c k x → MeasureWords at (rows_behind (seen_rows q) c) c k y
+seen_words true at c k x y t u up active same is start h = record { waits = λ f. h.waits refl ∙ ap (λ o. bit_of (is_some o)) (sym same); mark = λ f. h.mark refl ∙ ap (λ z. bit_of z) (sym active); seen = λ f g. off_on (sym f ∙ behind_row (seen_rows true) SIZES c); start = λ f g. off_on (sym f ∙ behind_row (seen_rows true) INTERVALS c); opposite = λ f g. subst (λ z. OppositeIs (at (word PLACES c)) z) (sym is) tt; value = λ f. subst (λ o. ValueIs (at (word VALUES c)) o) (sym same) (h.value refl); time = λ f. subst (λ o. ActiveIs (at (word TIMES c)) o) (sym same) (h.time refl) }
+seen_words false at c k x y t u up active same is start h = record { waits = λ f. h.waits refl ∙ ap (λ o. bit_of (is_some o)) (sym same); mark = λ f. h.mark refl ∙ ap (λ z. bit_of z) (sym active); seen = λ f g. off_on (sym f ∙ behind_row (seen_rows false) SIZES c); start = λ f g. subst (λ z. StartIs (at (word INTERVALS c)) z) (sym is) (start_kept (at (word INTERVALS c)) t u start); opposite = λ f g. off_on (sym f ∙ behind_row (seen_rows false) PLACES c); value = λ f. subst (λ o. ValueIs (at (word VALUES c)) o) (sym same) (h.value refl); time = λ f. subst (λ o. ActiveIs (at (word TIMES c)) o) (sym same) (h.time refl) }
 
-told_words : (q : Bool) (at : ℕ → ℕ) (c : ℕ) (k : Channel) (y : Capture) (t : ℕ) (u : Seen) → seen_by k y ≡ seen_next q t u → StartIs (at (word INTERVALS c)) u → MeasureWords at (rows_behind (told_rows q) c) c k y
-told_words true at c k y t u is start = record { waits = λ f. never (sym f ∙ behind_row (told_rows true) SWITCHES c); mark = λ f. never (sym f ∙ behind_row (told_rows true) MARKS c); seen = λ f g. never (sym f ∙ behind_row (told_rows true) SIZES c); start = λ f g. never (sym f ∙ behind_row (told_rows true) INTERVALS c); opposite = λ f g. subst (λ z. OppositeIs (at (word PLACES c)) z) (sym is) tt; value = λ f. never (sym f ∙ behind_row (told_rows true) VALUES c); time = λ f. never (sym f ∙ behind_row (told_rows true) TIMES c) }
-told_words false at c k y t u is start = record { waits = λ f. never (sym f ∙ behind_row (told_rows false) SWITCHES c); mark = λ f. never (sym f ∙ behind_row (told_rows false) MARKS c); seen = λ f g. never (sym f ∙ behind_row (told_rows false) SIZES c); start = λ f g. subst (λ z. StartIs (at (word INTERVALS c)) z) (sym is) (start_kept (at (word INTERVALS c)) t u start); opposite = λ f g. never (sym f ∙ behind_row (told_rows false) PLACES c); value = λ f. never (sym f ∙ behind_row (told_rows false) VALUES c); time = λ f. never (sym f ∙ behind_row (told_rows false) TIMES c) }
+told_words : (q : Bool) (at : ℕ → ℕ) (c : ℕ) (k : Channel) (y : Capture) (t : ℕ) (u : MeasureHistory) → seen_by k y ≡ seen_next q t u → StartIs (at (word INTERVALS c)) u → MeasureWords at (rows_behind (told_rows q) c) c k y
+told_words true at c k y t u is start = record { waits = λ f. off_on (sym f ∙ behind_row (told_rows true) SWITCHES c); mark = λ f. off_on (sym f ∙ behind_row (told_rows true) MARKS c); seen = λ f g. off_on (sym f ∙ behind_row (told_rows true) SIZES c); start = λ f g. off_on (sym f ∙ behind_row (told_rows true) INTERVALS c); opposite = λ f g. subst (λ z. OppositeIs (at (word PLACES c)) z) (sym is) tt; value = λ f. off_on (sym f ∙ behind_row (told_rows true) VALUES c); time = λ f. off_on (sym f ∙ behind_row (told_rows true) TIMES c) }
+told_words false at c k y t u is start = record { waits = λ f. off_on (sym f ∙ behind_row (told_rows false) SWITCHES c); mark = λ f. off_on (sym f ∙ behind_row (told_rows false) MARKS c); seen = λ f g. off_on (sym f ∙ behind_row (told_rows false) SIZES c); start = λ f g. subst (λ z. StartIs (at (word INTERVALS c)) z) (sym is) (start_kept (at (word INTERVALS c)) t u start); opposite = λ f g. off_on (sym f ∙ behind_row (told_rows false) PLACES c); value = λ f. off_on (sym f ∙ behind_row (told_rows false) VALUES c); time = λ f. off_on (sym f ∙ behind_row (told_rows false) TIMES c) }
 
 -- the channel with the edge, which completes a value or doesn't
 abbrev sampled_by : Bool → Edge → List Edge → Capture → Capture
@@ -297,34 +282,34 @@ new_last false at c k x t e h = New_opposite (subst (λ v. OppositeIs v (seen_by
 -- ---- its steps
 
 module _ (d : IcuDriver) where
-  words_of : (chip : Chip) (w : World) (s : IcuState) (gap : Gap) (r : Sampled) (a : Sampler d r) → IcuAgrees d gap chip w s → MeasureWords (λ j. word_of chip j) gap.words r.channel a.k (capture_at s r.channel)
+  words_of : (chip : Chip) (w : World) (s : IcuState) (gap : Lag) (r : Sampled) (a : Sampler d r) → IcuRepresents d gap chip w s → MeasureWords (λ j. word_of chip j) gap.words r.channel a.k (capture_at s r.channel)
   words_of chip w s gap r a h = to_mode d r.channel a.k a.known SignalMeasurement a.mode (λ j. word_of chip j) gap.words (capture_at s r.channel) (h.words r.channel a.lt)
 
-  seen_calm : (s : IcuState) (r : Sampled) (a : Sampler d r) → seen_by a.k (capture_at (calm s) r.channel) ≡ seen_by a.k (capture_at s r.channel)
+  seen_calm : (s : IcuState) (r : Sampled) (a : Sampler d r) → seen_by a.k (capture_at (without_edges s) r.channel) ≡ seen_by a.k (capture_at s r.channel)
   seen_calm s r a = ap (λ z. seen_by a.k z) (calm_at s r.channel a.lt)
 
-  now_here : (s : IcuState) (r : Sampled) (a : Sampler d r) → Seen_now a.k r (capture_at (calm s) r.channel) → Seen_now a.k r (capture_at s r.channel)
+  now_here : (s : IcuState) (r : Sampled) (a : Sampler d r) → Seen_now a.k r (capture_at (without_edges s) r.channel) → Seen_now a.k r (capture_at s r.channel)
   now_here s r a b = record { number = b.number ∙ ap (λ z. seen_number z) (seen_calm s r a); last = subst (λ z. LastIs (starts r) r.time z) (seen_calm s r a) b.last }
 
-  now_calm : (s : IcuState) (r : Sampled) (a : Sampler d r) → Seen_now a.k r (capture_at s r.channel) → Seen_now a.k r (capture_at (calm s) r.channel)
+  now_calm : (s : IcuState) (r : Sampled) (a : Sampler d r) → Seen_now a.k r (capture_at s r.channel) → Seen_now a.k r (capture_at (without_edges s) r.channel)
   now_calm s r a b = record { number = b.number ∙ ap (λ z. seen_number z) (sym (seen_calm s r a)); last = subst (λ z. LastIs (starts r) r.time z) (sym (seen_calm s r a)) b.last }
 
-  waiting_calm : (s : IcuState) (r : Sampled) (a : Sampler d r) → waiting_value a.k (capture_at (calm s) r.channel) ≡ waiting_value a.k (capture_at s r.channel)
+  waiting_calm : (s : IcuState) (r : Sampled) (a : Sampler d r) → waiting_value a.k (capture_at (without_edges s) r.channel) ≡ waiting_value a.k (capture_at s r.channel)
   waiting_calm s r a = ap (λ z. waiting_value a.k z) (calm_at s r.channel a.lt)
 
-  value_here : (s : IcuState) (r : Sampled) (a : Sampler d r) → Valued a.k r (capture_at (calm s) r.channel) → Valued a.k r (capture_at s r.channel)
+  value_here : (s : IcuState) (r : Sampled) (a : Sampler d r) → Valued a.k r (capture_at (without_edges s) r.channel) → Valued a.k r (capture_at s r.channel)
   value_here s r a b =
       let same = waiting_calm s r a in
       record { waits = sym (ap (λ o. is_some o) same) ∙ b.waits; active = sym (ap (λ z. z.active) (calm_at s r.channel a.lt)) ∙ b.active; value = subst (λ o. ValueIs (since r.start r.time) o) same b.value; time = subst (λ o. ActiveIs (since r.start r.opposite) o) same b.time }
 
-  value_calm : (s : IcuState) (r : Sampled) (a : Sampler d r) → Valued a.k r (capture_at s r.channel) → Valued a.k r (capture_at (calm s) r.channel)
+  value_calm : (s : IcuState) (r : Sampled) (a : Sampler d r) → Valued a.k r (capture_at s r.channel) → Valued a.k r (capture_at (without_edges s) r.channel)
   value_calm s r a b =
       let same = sym (waiting_calm s r a) in
       record { waits = sym (ap (λ o. is_some o) same) ∙ b.waits; active = ap (λ z. z.active) (calm_at s r.channel a.lt) ∙ b.active; value = subst (λ o. ValueIs (since r.start r.time) o) same b.value; time = subst (λ o. ActiveIs (since r.start r.opposite) o) same b.time }
 
   -- ---- reading
 
-  look_by : (chip : Chip) (w : World) (s : IcuState) (m : ℕ → Bool) (r : Sampled) (a : Sampler d r) → IcuAgrees d settled chip w s → (es : List Edge) → (capture_at s r.channel).waiting ≡ es → StepsTo (icu_ground d) (sample_bodies d) chip w s (Entered (line r.channel)) (Read (CaptureInfo r.channel)) false None (missed_after (icu_machine d) w s m) (if info_of (map kept es) / 4 == 0 then (Look r, ends None no_answer Nothing) else (Low (looked r (info_of (map kept es))), goes))
+  look_by : (chip : Chip) (w : World) (s : IcuState) (m : ℕ → Bool) (r : Sampled) (a : Sampler d r) → IcuRepresents d settled chip w s → (es : List Edge) → (capture_at s r.channel).waiting ≡ es → StepsTo (icu_ground d) (sample_bodies d) chip w s (Entered (line r.channel)) (Read (CaptureInfo r.channel)) false None (missed_after (icu_machine d) w s m) (if info_of (map kept es) / 4 == 0 then (Look r, ends None no_answer Nothing) else (Low (looked r (info_of (map kept es))), goes))
   look_by chip w s m r a h [] is = (h, missed_here d w s r.channel m is, refl)
   look_by chip w s m r a h (e ∷ es) is =
       let n = length (map kept (e ∷ es)) in
@@ -332,7 +317,7 @@ module _ (d : IcuDriver) where
       (h, ((Is_serving, record { k = a.k; known = a.known; mode = a.mode; lt = a.lt; property = a.property; measured = a.measured; first = a.first; whole = a.whole; duty = a.duty }), record { lt = a.lt; edge = e; leads = ap (λ xs. oldest xs) is; is = (info_rising e.rising e.after_gap n, info_gap e.rising e.after_gap n) }))
 
   -- the time of the oldest edge
-  oldest_is : (chip : Chip) (w : World) (s : IcuState) (c : ℕ) (e : Edge) → c < 8 → IcuAgrees d settled chip w s → oldest (capture_at s c).waiting ≡ Some e → (oldest_time (chip_capture chip.captures c).queue ≡ e.time) × (e.time < 2 ^ 32)
+  oldest_is : (chip : Chip) (w : World) (s : IcuState) (c : ℕ) (e : Edge) → c < 8 → IcuRepresents d settled chip w s → oldest (capture_at s c).waiting ≡ Some e → (oldest_time (chip_capture chip.captures c).queue ≡ e.time) × (e.time < 2 ^ 32)
   oldest_is chip w s c e lt h leads =
       let p = split e (capture_at s c).waiting leads in
       (ap (λ q. oldest_time q) ((h.block c lt).queue refl ∙ ap (λ es. map kept es) p.is), (subst (λ xs. AllByRecursion (λ (e : Edge). e.time < 2 ^ 32) xs) p.is (h.course c lt).0.times).0)
@@ -348,7 +333,7 @@ module _ (d : IcuDriver) where
     start : StartIs r.start (unbroken e (seen_by a.k x))
     opposite : OppositeIs r.opposite (unbroken e (seen_by a.k x))
 
-  read_all : (s : IcuState) (r : Sampled) (a : Sampler d r) (e : Edge) → r.rising ≡ e.rising → r.gap ≡ e.after_gap → r.time ≡ e.time → r.seen ≡ seen_number (seen_before r (seen_by a.k (capture_at (calm s) r.channel))) → StartIs r.start (seen_before r (seen_by a.k (capture_at (calm s) r.channel))) → OppositeIs r.opposite (seen_before r (seen_by a.k (capture_at (calm s) r.channel))) → AllRead r a (capture_at s r.channel) e
+  read_all : (s : IcuState) (r : Sampled) (a : Sampler d r) (e : Edge) → r.rising ≡ e.rising → r.gap ≡ e.after_gap → r.time ≡ e.time → r.seen ≡ seen_number (seen_before r (seen_by a.k (capture_at (without_edges s) r.channel))) → StartIs r.start (seen_before r (seen_by a.k (capture_at (without_edges s) r.channel))) → OppositeIs r.opposite (seen_before r (seen_by a.k (capture_at (without_edges s) r.channel))) → AllRead r a (capture_at s r.channel) e
   read_all s r a e rising gap time seen start opposite =
       let is = ap (λ z. seen_before r z) (seen_calm s r a) ∙ ap (λ q. if q then Nothing_seen else seen_by a.k (capture_at s r.channel)) gap in
       record { rising = rising; gap = gap; time = time; seen = seen ∙ ap (λ z. seen_number z) is; start = subst (λ z. StartIs r.start z) is start; opposite = subst (λ z. OppositeIs r.opposite z) is opposite }
@@ -400,7 +385,7 @@ module _ (d : IcuDriver) where
   completes_by r a x e false i b alt =
       let vs = values a.k x.served in
       let told = subst (λ z. ToldIs z r.start r.opposite e.time (told_at r a x e)) i (told_here r a x e b) in
-      ap (λ ws. nat_lt (length vs) (length ws)) (values_more r a x e alt ∙ (ap (λ ws. vs ++ ws) told ∙ none_told vs)) ∙ no_less (length vs)
+      ap (λ ws. nat_lt (length vs) (length ws)) (values_more r a x e alt ∙ (ap (λ ws. vs ++ ws) told ∙ none_told vs)) ∙ lt_itself (length vs)
 
   -- the machine serves
   serves_is : (w : World) (s : IcuState) (r : Sampled) (a : Sampler d r) (e : Edge) (es : List Edge) (received : ℕ) (q : Bool) → completes a.k (capture_at s r.channel).served e ≡ q → s.initialised ≡ true → (capture_at s r.channel).waiting ≡ e ∷ es → happens d w s (Serves (line r.channel) received) ≡ Some (outcome (with_capture s r.channel (sampled_by q e es (capture_at s r.channel))) tells_nothing)
@@ -412,14 +397,14 @@ module _ (d : IcuDriver) where
       ∙ ap (λ f. Some (outcome (with_capture s r.channel (sampled_by f e es x)) tells_nothing)) i)
 
   -- its edges turn, up to this one
-  turned : (chip : Chip) (w : World) (s : IcuState) (r : Sampled) (a : Sampler d r) (e : Edge) (es : List Edge) → IcuAgrees d settled chip w s → (capture_at s r.channel).on ≡ true → (capture_at s r.channel).waiting ≡ e ∷ es → Alternate ((capture_at s r.channel).served ++ e ∷ [])
+  turned : (chip : Chip) (w : World) (s : IcuState) (r : Sampled) (a : Sampler d r) (e : Edge) (es : List Edge) → IcuRepresents d settled chip w s → (capture_at s r.channel).on ≡ true → (capture_at s r.channel).waiting ≡ e ∷ es → Alternate ((capture_at s r.channel).served ++ e ∷ [])
   turned chip w s r a e es h up is =
       let x = capture_at s r.channel in
       let turns = subst (λ q. HasTurns q w x) a.known (h.turns r.channel a.lt) (ap (λ q. is_measurement q) a.mode) up in
       alternate_one x.served e es (subst (λ q. Alternate (x.served ++ q)) is turns.0)
 
   -- the channel after it
-  sampled : (chip : Chip) (w : World) (s : IcuState) (r : Sampled) (a : Sampler d r) (e : Edge) (es : List Edge) (rs : List ℕ) (y : Capture) → AllByRecursion IsRow rs → s.initialised ≡ true → (capture_at s r.channel).on ≡ true → (capture_at s r.channel).waiting ≡ e ∷ es → y.on ≡ (capture_at s r.channel).on → y.waiting ≡ es → y.lost ≡ (capture_at s r.channel).lost → y.count ≡ (capture_at s r.channel).count → y.start ≡ (capture_at s r.channel).start → y.activation ≡ (capture_at s r.channel).activation → y.stored ≡ (capture_at s r.channel).stored → y.served ≡ (capture_at s r.channel).served ++ e ∷ [] → MeasureWords (λ j. word_of chip j) (rows_behind rs r.channel) r.channel a.k y → IcuAgrees d settled chip w s → IcuAgrees d (rows_of rs r.channel) (chip_after chip (Write (CapturePop r.channel) 0) 0) w (with_capture s r.channel y)
+  sampled : (chip : Chip) (w : World) (s : IcuState) (r : Sampled) (a : Sampler d r) (e : Edge) (es : List Edge) (rs : List ℕ) (y : Capture) → AllByRecursion IsRow rs → s.initialised ≡ true → (capture_at s r.channel).on ≡ true → (capture_at s r.channel).waiting ≡ e ∷ es → y.on ≡ (capture_at s r.channel).on → y.waiting ≡ es → y.lost ≡ (capture_at s r.channel).lost → y.count ≡ (capture_at s r.channel).count → y.start ≡ (capture_at s r.channel).start → y.activation ≡ (capture_at s r.channel).activation → y.stored ≡ (capture_at s r.channel).stored → y.served ≡ (capture_at s r.channel).served ++ e ∷ [] → MeasureWords (λ j. word_of chip j) (rows_behind rs r.channel) r.channel a.k y → IcuRepresents d settled chip w s → IcuRepresents d (rows_of rs r.channel) (chip_after chip (Write (CapturePop r.channel) 0) 0) w (with_capture s r.channel y)
   sampled chip w s r a e es rs y all on up is still_on still_waits still_lost still_count still_start still_chosen still_stored more words h =
       let c = r.channel in
       let k = channel_of d c in
@@ -443,7 +428,7 @@ module _ (d : IcuDriver) where
   abbrev Pops : Chip → World → IcuState → (ℕ → Bool) → Sampled → SampleBody → Type 0
   Pops chip w s m r k = StepsTo (icu_ground d) (sample_bodies d) (chip_after chip (Write (CapturePop r.channel) 0) 0) w s (Entered (line r.channel)) (Write (CapturePop r.channel) 0) false None m (k, serves r.channel)
 
-  pop_value : (chip : Chip) (w : World) (s : IcuState) (m : ℕ → Bool) (r : Sampled) (a : Sampler d r) (e : Edge) (es : List Edge) → IcuAgrees d settled chip w s → (capture_at s r.channel).on ≡ true → s.initialised ≡ true → (capture_at s r.channel).waiting ≡ e ∷ es → Alternate ((capture_at s r.channel).served ++ e ∷ []) → AllRead r a (capture_at s r.channel) e → is_complete r ≡ true → Pops chip w s m r (Value r)
+  pop_value : (chip : Chip) (w : World) (s : IcuState) (m : ℕ → Bool) (r : Sampled) (a : Sampler d r) (e : Edge) (es : List Edge) → IcuRepresents d settled chip w s → (capture_at s r.channel).on ≡ true → s.initialised ≡ true → (capture_at s r.channel).waiting ≡ e ∷ es → Alternate ((capture_at s r.channel).served ++ e ∷ []) → AllRead r a (capture_at s r.channel) e → is_complete r ≡ true → Pops chip w s m r (Value r)
   pop_value chip w s m r a e es h up on is alt b i =
       let c = r.channel in
       let x = capture_at s c in
@@ -469,7 +454,7 @@ module _ (d : IcuDriver) where
         );
       }
 
-  pop_keep : (chip : Chip) (w : World) (s : IcuState) (m : ℕ → Bool) (r : Sampled) (a : Sampler d r) (e : Edge) (es : List Edge) → IcuAgrees d settled chip w s → (capture_at s r.channel).on ≡ true → s.initialised ≡ true → (capture_at s r.channel).waiting ≡ e ∷ es → Alternate ((capture_at s r.channel).served ++ e ∷ []) → AllRead r a (capture_at s r.channel) e → is_complete r ≡ false → Pops chip w s m r (Keep r)
+  pop_keep : (chip : Chip) (w : World) (s : IcuState) (m : ℕ → Bool) (r : Sampled) (a : Sampler d r) (e : Edge) (es : List Edge) → IcuRepresents d settled chip w s → (capture_at s r.channel).on ≡ true → s.initialised ≡ true → (capture_at s r.channel).waiting ≡ e ∷ es → Alternate ((capture_at s r.channel).served ++ e ∷ []) → AllRead r a (capture_at s r.channel) e → is_complete r ≡ false → Pops chip w s m r (Keep r)
   pop_keep chip w s m r a e es h up on is alt b i =
       let c = r.channel in
       let x = capture_at s c in
@@ -494,7 +479,7 @@ module _ (d : IcuDriver) where
         );
       }
 
-  pop_by : (chip : Chip) (w : World) (s : IcuState) (m : ℕ → Bool) (r : Sampled) (a : Sampler d r) (e : Edge) → IcuAgrees d settled chip w s → oldest (capture_at s r.channel).waiting ≡ Some e → AllRead r a (capture_at s r.channel) e → (q : Bool) → is_complete r ≡ q → Pops chip w s m r (if q then Value r else Keep r)
+  pop_by : (chip : Chip) (w : World) (s : IcuState) (m : ℕ → Bool) (r : Sampled) (a : Sampler d r) (e : Edge) → IcuRepresents d settled chip w s → oldest (capture_at s r.channel).waiting ≡ Some e → AllRead r a (capture_at s r.channel) e → (q : Bool) → is_complete r ≡ q → Pops chip w s m r (if q then Value r else Keep r)
   pop_by chip w s m r a e h leads b true i =
       let up = waiting_on d chip w s r.channel e a.lt h leads in
       let p = split e (capture_at s r.channel).waiting leads in
@@ -507,7 +492,7 @@ module _ (d : IcuDriver) where
   -- ---- what is stored behind it
 
   abbrev Behind : Chip → World → IcuState → List ℕ → Sampled → Type 0
-  Behind chip w s rs r = IcuAgrees d (rows_of rs r.channel) chip w s
+  Behind chip w s rs r = IcuRepresents d (rows_of rs r.channel) chip w s
 
   -- a word is stored that is right then
   stored : (first : ℕ) (row : IsRow first) (rs : List ℕ) → AllByRecursion IsRow rs → (v : ℕ) (chip : Chip) (w : World) (s : IcuState) (r : Sampled) (a : Sampler d r) → s.initialised ≡ true → (word_of (chip_after chip (Stores (word first r.channel) v) 0) (word first r.channel) ≡ v → NewWord (λ j. word_of (chip_after chip (Stores (word first r.channel) v) 0) j) r.channel a.k (capture_at s r.channel) first) → Behind chip w s (first ∷ rs) r → Behind (chip_after chip (Stores (word first r.channel) v) 0) w s rs r
@@ -535,7 +520,7 @@ module _ (d : IcuDriver) where
         stamps = λ some j few i. g.stamps some j few refl;
       })
 
-  value_by : (chip : Chip) (w : World) (s : IcuState) (m : ℕ → Bool) (r : Sampled) (a : Sampler d r) → s.initialised ≡ true → Seen_now a.k r (capture_at (calm s) r.channel) → Valued a.k r (capture_at (calm s) r.channel) → Behind chip w s (TIMES ∷ value_rows r) r → (q : Bool) → r.duty ≡ q → StepsTo (icu_ground d) (sample_bodies d) chip w s (Entered (line r.channel)) (Stores (word VALUES r.channel) (since r.start r.time)) false (Some tells_nothing) m (if q then (Active r, goes) else (Waits r, goes))
+  value_by : (chip : Chip) (w : World) (s : IcuState) (m : ℕ → Bool) (r : Sampled) (a : Sampler d r) → s.initialised ≡ true → Seen_now a.k r (capture_at (without_edges s) r.channel) → Valued a.k r (capture_at (without_edges s) r.channel) → Behind chip w s (TIMES ∷ value_rows r) r → (q : Bool) → r.duty ≡ q → StepsTo (icu_ground d) (sample_bodies d) chip w s (Entered (line r.channel)) (Stores (word VALUES r.channel) (since r.start r.time)) false (Some tells_nothing) m (if q then (Active r, goes) else (Waits r, goes))
   value_by chip w s m r a on b v h true i = (h, ((Is_served, a, on, b, v), tt))
   value_by chip w s m r a on b v h false i = (single (value_rows r) (all_valued (starts r)) chip w s r a on i h, ((Is_served, a, on, b, v), tt))
 
@@ -555,18 +540,18 @@ module _ (d : IcuDriver) where
   steps chip w s (places.Seen r) o t m (h, ((Is_serving, a), u)) =
       let words = words_of chip w s settled r a h in
       let up = (waiting_on d chip w s r.channel u.edge a.lt h u.leads).0 in
-      let s0 = seen_by a.k (capture_at (calm s) r.channel) in
+      let s0 = seen_by a.k (capture_at (without_edges s) r.channel) in
       (may_row d SIZES r.channel row_sizes a.lt, (h, ((Is_serving, record { k = a.k; known = a.known; mode = a.mode; lt = a.lt; property = a.property; measured = a.measured; first = a.first; whole = a.whole; duty = a.duty }, seen_load r.gap (word_of chip (word SIZES r.channel)) s0 (words.seen refl up ∙ ap (λ z. seen_number z) (sym (seen_calm s r a)))), record { lt = a.lt; edge = u.edge; leads = u.leads; is = u.is })))
   steps chip w s (Start r) o t m (h, ((Is_serving, a, seen), u)) =
       let words = words_of chip w s settled r a h in
       let up = (waiting_on d chip w s r.channel u.edge a.lt h u.leads).0 in
-      let s0 = seen_by a.k (capture_at (calm s) r.channel) in
+      let s0 = seen_by a.k (capture_at (without_edges s) r.channel) in
       let v = word_of chip (word INTERVALS r.channel) in
       (may_row d INTERVALS r.channel row_intervals a.lt, (h, ((Is_serving, record { k = a.k; known = a.known; mode = a.mode; lt = a.lt; property = a.property; measured = a.measured; first = a.first; whole = a.whole; duty = a.duty }, seen, start_load r.gap v s0 (subst (λ z. StartIs v z) (sym (seen_calm s r a)) (words.start refl up))), record { lt = a.lt; edge = u.edge; leads = u.leads; is = u.is })))
   steps chip w s (Opposite r) o t m (h, ((Is_serving, a, seen, start), u)) =
       let words = words_of chip w s settled r a h in
       let up = (waiting_on d chip w s r.channel u.edge a.lt h u.leads).0 in
-      let s0 = seen_by a.k (capture_at (calm s) r.channel) in
+      let s0 = seen_by a.k (capture_at (without_edges s) r.channel) in
       let v = word_of chip (word PLACES r.channel) in
       (may_row d PLACES r.channel row_places a.lt, (h, ((Is_serving, record { k = a.k; known = a.known; mode = a.mode; lt = a.lt; property = a.property; measured = a.measured; first = a.first; whole = a.whole; duty = a.duty }, seen, start, opposite_load r.gap v s0 (subst (λ z. OppositeIs v z) (sym (seen_calm s r a)) (words.opposite refl up))), record { lt = a.lt; edge = u.edge; leads = u.leads; is = u.is })))
   steps chip w s (Pop r) o t m (h, ((Is_serving, a, seen, start, opposite), u)) = (below_test r.channel a.lt, pop_by chip w s (missed_after (icu_machine d) w s m) r a u.edge h u.leads (read_all s r a u.edge u.is.0.0 u.is.0.1 u.is.1 seen start opposite) (is_complete r) refl)

@@ -1,13 +1,12 @@
 -- What is measured, followed edge by edge: the measures over served edges are told by what was seen before the newest one.
-use Rattle.std.proofs.Common.{◌≡◌, Bool, true, false, ◌&&◌, not, List, [], ◌∷◌, ◌++◌, Option, Some, None, refl, sym, ◌∙◌, ap}
-use Rattle.std.specs.Prelude.{if◌then◌else◌}
-use Rattle.std.specs.Option.{option_map}
-use Rattle.std.proofs.lemmas.List.{append_assoc}
-use Rattle.icu_driver.specs.Edges.{Edge, is_same, up_to, beginning_at, measures}
-use Rattle.icu_driver.specs.Ground.{Seen, seen_with, seen_from, Alternate}
+-- Used by Values.
+use Rattle.std.proofs.Common.{◌≡◌, ◌&&◌, [], ◌∷◌, ◌++◌, ◌∙◌, if◌then◌else◌}
+use Rattle.icu_driver.specs.Terms
+use Terms.{Alternate, ap, append_assoc, beginning_at, Bool, Edge, false, is_same, List, MeasureHistory, measures, None}
+use Terms.{not, off_on, Option, option_map, refl, seen_from, seen_with, Some, sym, true, up_to}
 
 -- what was seen after one more edge
-pub seen_append : (first : Bool) (s : Seen) (es : List Edge) (e : Edge) → seen_from first s (es ++ e ∷ []) ≡ seen_with first e (seen_from first s es)
+pub seen_append : (first : Bool) (s : MeasureHistory) (es : List Edge) (e : Edge) → seen_from first s (es ++ e ∷ []) ≡ seen_with first e (seen_from first s es)
 seen_append first s [] e = refl
 seen_append first s (x ∷ es) e = seen_append first (seen_with first x s) es e
 
@@ -32,9 +31,6 @@ twice false = refl
 pub same_not : (a b : Bool) → is_same a (not b) ≡ not (is_same a b)
 same_not true b = refl
 same_not false b = refl
-
-never : {A : Type 0} → false ≡ true → A
-never e = absurd (cc)
 
 -- ---- a high or a low time: from an edge to the next opposite one
 
@@ -71,7 +67,7 @@ half_held : (sx gy sy : Bool) (x y : Edge) (o p : Option (List Edge)) → (sx �
 half_held false gy sy x y o p h = refl
 half_held true true sy x y o p h = refl
 half_held true false true x y o p h = refl
-half_held true false false x y o p h = never (h refl refl)
+half_held true false false x y o p h = off_on (h refl refl)
 
 turns : (first : Bool) (x y : Edge) → is_same x.rising first ≡ true → is_same y.rising (not x.rising) ≡ true → is_same y.rising (not first) ≡ true
 turns first x y s t = sym (ap (λ b. is_same y.rising (not b)) (same_to x.rising first s)) ∙ t
@@ -97,7 +93,7 @@ whole_new first (x ∷ y ∷ z ∷ zs) e = whole_new first (y ∷ z ∷ zs) e
 whole_one : (sx ge se : Bool) (x e : Edge) → (sx ≡ true → ge ≡ false → se ≡ false) → (if sx then beginning_at x (if ge then None else if se then Some (e ∷ []) else option_map (λ xs. e ∷ xs) None) else []) ++ ((if se then beginning_at e None else []) ++ []) ≡ []
 whole_one true true true x e h = refl
 whole_one true true false x e h = refl
-whole_one true false true x e h = never (sym (h refl refl))
+whole_one true false true x e h = off_on (sym (h refl refl))
 whole_one true false false x e h = refl
 whole_one false ge true x e h = refl
 whole_one false ge false x e h = refl
@@ -116,7 +112,7 @@ whole_held true true sy gz sz x y z o p h = refl
 whole_held true false true gz sz x y z o p h = refl
 whole_held true false false true sz x y z o p h = refl
 whole_held true false false false true x y z o p h = refl
-whole_held true false false false false x y z o p h = never (h refl refl)
+whole_held true false false false false x y z o p h = off_on (h refl refl)
 
 -- an edge behind a start edge is none, and one behind an edge that is none is a start edge
 leaves_start : (first : Bool) (x y : Edge) → is_same x.rising first ≡ true → is_same y.rising (not x.rising) ≡ true → is_same y.rising first ≡ false

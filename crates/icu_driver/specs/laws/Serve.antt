@@ -1,28 +1,16 @@
 -- What all handlers do alike: the look at the queue, and the serving of the oldest edge.
-use Rattle.std.proofs.Common.{◌≡◌, ℕ, suc, ◌+◌, ◌-◌, ◌*◌, ◌/◌, ◌%◌, ◌<◌, ◌≤◌, ◌^◌, Bool, true, false, ◌&&◌, ◌||◌, ◌==◌, not, nat_lt, List, [], ◌∷◌, length, Option, Some, None, refl, sym, ◌∙◌, ap, subst, arith}
-use Rattle.std.specs.Prelude.{if◌then◌else◌}
-use Rattle.std.specs.List.{AllByRecursion}
-use Rattle.std.proofs.lemmas.Bool.Decides.{nat_tests}
-use Rattle.chip_captures.specs.Captures.{info_of}
+-- From Detect, Steady.
+-- Used by Detecting, Keeping, Sampling.
+use Rattle.std.proofs.Common.{◌≡◌, ◌+◌, ◌-◌, ◌*◌, ◌/◌, ◌%◌, ◌<◌, ◌≤◌, ◌^◌, ◌&&◌, ◌||◌, ◌==◌, [], ◌∷◌, ◌∙◌}
+use Rattle.std.proofs.Common.{if◌then◌else◌}
+use Rattle.icu_driver.specs.Terms
+use Terms.{AllByRecursion, ap, arith, bit_of, Bool, Capture, capture_at, Channel, channel_of, channel_of_line, Chip}
+use Terms.{DevError, Edge, error_in, false, happens, icu_machine, IcuDriver, IcuRepresents, IcuState, info_of, IsCourse}
+use Terms.{kinds_by, length, List, missed_after, nat_lt, nat_tests, None, not, Notice, NoticeKind, notices_in}
+use Terms.{notices_of, Option, outcome, ready, ready_by, refl, served, served_by, served_edge, Serves, settled, Some}
+use Terms.{subst, suc, sym, Told, true, waits, with_capture, World, ℕ}
+use Rattle.icu_driver.specs.laws.{Base.{line, no_answer}, Detect.{owed_if}, Steady.{oldest}}
 use Rattle.chip_captures.specs.declared.capture.Edge as chip_edges
-use Rattle.chip_model.specs.Chip.{Chip}
-use Rattle.mcal_base.specs.Bits.{bit_of}
-use Rattle.mcal_base.specs.declared.notice.Notice.{Notice}
-use Rattle.mcal_base.specs.declared.notice.NoticeKind.{NoticeKind}
-use Rattle.mcal_base.specs.declared.moves.DevError.{DevError}
-use Rattle.run_model.specs.Frame.{missed_after}
-use Rattle.run_model.specs.Machine.{Serves, Told, outcome}
-use Rattle.run_model.specs.World.{World}
-use Rattle.service_outline.specs.Outline.{error_in, notices_in}
-use Rattle.icu_driver.specs.Edges.{Edge}
-use Rattle.icu_driver.specs.Ground.{settled, IsCourse, IcuAgrees}
-use Rattle.icu_driver.specs.Machine.{IcuState, Capture, capture_at, with_capture, happens, ready, ready_by, waits, served, served_edge, served_by, kinds_by, notices_of, icu_machine}
-use Rattle.icu_driver.specs.Table.{channel_of, channel_of_line}
-use Rattle.icu_driver.specs.declared.driver.Channel.{Channel}
-use Rattle.icu_driver.specs.declared.driver.IcuDriver.{IcuDriver}
-use Rattle.icu_driver.specs.laws.Base.{line, no_answer}
-use Rattle.icu_driver.specs.laws.Detect.{owed_if}
-use Rattle.icu_driver.specs.laws.Steady.{oldest}
 
 -- ---- the line of a channel
 
@@ -94,7 +82,7 @@ missed_here d w s c m e = either (m (line c)) (not (ready d w s (line c))) (ap (
 -- ---- the serving
 
 -- an edge that waits is of a channel that is on, of an initialised module
-pub waiting_on : (d : IcuDriver) (chip : Chip) (w : World) (s : IcuState) (c : ℕ) (e : Edge) → c < 8 → IcuAgrees d settled chip w s → oldest (capture_at s c).waiting ≡ Some e → ((capture_at s c).on ≡ true) × (s.initialised ≡ true)
+pub waiting_on : (d : IcuDriver) (chip : Chip) (w : World) (s : IcuState) (c : ℕ) (e : Edge) → c < 8 → IcuRepresents d settled chip w s → oldest (capture_at s c).waiting ≡ Some e → ((capture_at s c).on ≡ true) × (s.initialised ≡ true)
 waiting_on d chip w s c e lt h is = by (capture_at s c).on refl
   where
     by : (q : Bool) → (capture_at s c).on ≡ q → ((capture_at s c).on ≡ true) × (s.initialised ≡ true)

@@ -1,20 +1,13 @@
 -- The sizes of the stamps that are shown.
-use Rattle.std.proofs.Common.{◌≡◌, ℕ, ◌<◌, Bool, true, false, ◌==◌, Option, Some, None, refl, sym, ◌∙◌, ap, arith}
-use Rattle.std.specs.Prelude.{if◌then◌else◌}
-use Rattle.std.proofs.lemmas.Bool.Decides.{nat_tests}
-use Rattle.chip_model.specs.Chip.{Chip, word_of}
-use Rattle.mcal_base.specs.declared.config.icu.IcuMeasurementMode.{IcuMeasurementMode}
-use Rattle.mcal_base.specs.declared.config.icu.IcuMeasurementMode.TheVariants.{SignalEdgeDetect, EdgeCounter, Timestamp, SignalMeasurement}
-use Rattle.run_model.specs.World.{World}
-use Rattle.icu_driver.specs.Bounds.{size_by, size_of}
-use Rattle.icu_driver.specs.Ground.{none, settled, stamps_edges, size_word, IsStart, IcuAgrees}
-use Rattle.icu_driver.specs.Machine.{IcuState, Start, capture_at}
-use Rattle.icu_driver.specs.Table.{channel_of, is_timestamp}
-use Rattle.icu_driver.specs.Words.{word}
-use Rattle.icu_driver.specs.declared.driver.Channel.{Channel}
-use Rattle.icu_driver.specs.declared.driver.IcuDriver.{IcuDriver}
-use Rattle.icu_driver.specs.declared.words.TheConstants.{SIZES}
-use Rattle.icu_driver.specs.laws.Calls.{never, to_mode}
+-- From Calls.
+-- Used by shown/rt.
+use Rattle.std.proofs.Common.{◌≡◌, ◌<◌, ◌==◌, ◌∙◌, if◌then◌else◌}
+use Rattle.icu_driver.specs.Terms
+use Terms.{ap, arith, Bool, capture_at, Channel, channel_of, Chip, EdgeCounter, false, IcuDriver, IcuMeasurementMode}
+use Terms.{IcuRepresents, IcuState, is_timestamp, IsStart, nat_tests, None, none, off_on, Option, refl, settled}
+use Terms.{SignalEdgeDetect, SignalMeasurement, size_by, size_of, size_word, SIZES, Some, stamps_edges, Start, sym}
+use Terms.{Timestamp, true, word, word_of, World, ℕ}
+use Rattle.icu_driver.specs.laws.Calls.{to_mode}
 
 -- the size that a word has, of a channel that stamps
 abbrev pub some_size : ℕ → Option ℕ
@@ -38,16 +31,16 @@ size_in (Some a) i = ap (λ q. if q then None else Some a.size) (positive a.size
 not_timestamp : (m : IcuMeasurementMode) (n : ℕ) → is_timestamp m ≡ false → shown_in m n ≡ None
 not_timestamp SignalEdgeDetect n e = refl
 not_timestamp EdgeCounter n e = refl
-not_timestamp Timestamp n e = never (sym e)
+not_timestamp Timestamp n e = off_on (sym e)
 not_timestamp SignalMeasurement n e = refl
 
 timestamp_mode : (m : IcuMeasurementMode) → is_timestamp m ≡ true → m ≡ Timestamp
-timestamp_mode SignalEdgeDetect e = never e
-timestamp_mode EdgeCounter e = never e
+timestamp_mode SignalEdgeDetect e = off_on e
+timestamp_mode EdgeCounter e = off_on e
 timestamp_mode Timestamp e = refl
-timestamp_mode SignalMeasurement e = never e
+timestamp_mode SignalMeasurement e = off_on e
 
-pub size_shown : (d : IcuDriver) (chip : Chip) (w : World) (s : IcuState) (c : ℕ) → c < 8 → IcuAgrees d settled chip w s → shown_by (channel_of d c) (word_of chip (word SIZES c)) ≡ size_of s c
+pub size_shown : (d : IcuDriver) (chip : Chip) (w : World) (s : IcuState) (c : ℕ) → c < 8 → IcuRepresents d settled chip w s → shown_by (channel_of d c) (word_of chip (word SIZES c)) ≡ size_of s c
 size_shown d chip w s c lt h = by_channel (channel_of d c) refl
   where
     by_mode : (k : Channel) → channel_of d c ≡ Some k → (q : Bool) → is_timestamp k.mode ≡ q → shown_in k.mode (word_of chip (word SIZES c)) ≡ size_by (capture_at s c).start

@@ -1,49 +1,35 @@
 -- The services of timestamps: their steps, what holds at each, and that they are right.
-use Rattle.std.proofs.Common.{◌≡◌, ℕ, ◌-◌, ◌%◌, ◌<◌, ◌≤◌, ◌^◌, Bool, true, false, ◌&&◌, ◌||◌, ◌==◌, not, List, [], ◌∷◌, length, Option, Some, None, refl, sym, ◌∙◌, ap, subst, arith}
-use Rattle.std.specs.Prelude.{if◌then◌else◌, is_some, slice_index_or}
-use Rattle.std.specs.List.{AllByRecursion}
-use Rattle.std.proofs.lemmas.Bool.Decides.{nat_tests}
-use Rattle.chip_captures.specs.Captures.{Captures, capture_at as chip_capture, acted, acting, flushed}
-use Rattle.chip_captures.specs.declared.capture.Act.TheVariants as turns
-use Rattle.chip_model.specs.Chip.{Chip, chip_after, word_of}
-use Rattle.mcal_base.proofs.BitLaws.{length-at_bits}
-use Rattle.mcal_base.specs.declared.config.icu.IcuMeasurementMode.TheVariants.{Timestamp}
-use Rattle.mcal_base.specs.declared.error_name.ErrorName.TheVariants.{IcuNotStarted}
-use Rattle.mcal_base.specs.declared.moves.Move.TheVariants.{Write, Load, Store}
-use Rattle.mcal_base.specs.declared.register.Reg.TheVariants.{CaptureGateSet, CaptureGateClear, CaptureFlush}
-use Rattle.mcal_base.specs.declared.service.Service.TheVariants as services
-use Rattle.run_model.specs.Frame.{Origin, Called, missed_after}
-use Rattle.run_model.specs.Machine.{Told, outcome}
-use Rattle.run_model.specs.World.{World}
-use Rattle.run_model.proofs.OutsideLaws.{stands-move}
-use Rattle.service_outline.specs.Acts.{Cleans, KeepsClean}
-use Rattle.service_outline.specs.Done.{answers, owed_error, tells_error}
-use Rattle.service_outline.specs.Outline.{Bodies, AreRight, StepsTo, TellsAs, Before, Is_before, After, Is_after}
-use Rattle.service_outline.specs.declared.done.Done.{Done}
-use Rattle.service_outline.specs.declared.done.Owed.{Owed}
-use Rattle.service_outline.specs.laws.Reports.{error_told}
-use Rattle.icu_driver.specs.Checks.{error_by, reporting}
-use Rattle.icu_driver.specs.Ground.{stamps_edges, Gap, none, settled, opening, emptying, CaptureAgrees, ModeWords, StampWords, Stamped, Is_on, Is_stopped, Is_fresh, size_word, interval_by, left_by, IsStart, HasPlace, IcuAgrees, bare, icu_ground}
-use Rattle.icu_driver.specs.Machine.{IcuState, Capture, Start, capture_at, with_capture, switched, started, index, index_by, asked, acts_by, icu_machine}
-use Rattle.icu_driver.specs.Table.{channel_of, is_counter, is_timestamp, is_measurement, is_linear}
-use Rattle.icu_driver.specs.declared.call.Call.{Call}
+-- From Calls, One, Rows, Steady, Channels and 2 more.
+-- Used by Keeping, Sampling, DeInit, service/stamp/rt, Lawful and 1 more.
+use Rattle.std.proofs.Common.{◌≡◌, ◌-◌, ◌%◌, ◌<◌, ◌≤◌, ◌^◌, ◌&&◌, ◌||◌, ◌==◌, [], ◌∷◌, ◌∙◌, if◌then◌else◌}
+use Rattle.icu_driver.specs.Terms
+use Terms.{acted, acting, acts_by, After, AllByRecursion, answers, ap, AreRight, arith, Ask, asked, bare, Before}
+use Terms.{below_test, Bodies, Bool, Call, Called, Capture, capture_at, CaptureAgrees, CaptureFlush, CaptureGateClear}
+use Terms.{CaptureGateSet, Captures, channel_of, Chip, chip_after, chip_capture, Cleans, Done, Empty, emptying}
+use Terms.{Epilogue, eq_other, eq_self, error_by, error_told, false, flushed, GetTimestampIndex, HasPlace, icu_ground}
+use Terms.{icu_machine, IcuDriver, IcuNotStarted, IcuRepresents, IcuState, index, index_by, interval_by, Is_after}
+use Terms.{Is_before, is_counter, Is_fresh, is_linear, is_measurement, Is_on, is_some, Is_stopped, is_timestamp}
+use Terms.{IsStart, KeepsClean, Lag, left_by, length, length-at_bits, List, Load, mark_in, missed_after, ModeWords}
+use Terms.{nat_tests, None, none, not, off_on, On, opening, Option, Origin, outcome, owed_error, refl, reporting}
+use Terms.{settled, size_word, slice_index_or, Some, StampBody, Stamped, Stamping, stamps_edges, StampWords}
+use Terms.{stands-move, Start, Started, started, StartTimestamp, StepsTo, still, StopTimestamp, Store, subst, switched}
+use Terms.{sym, tells_error, TellsAs, Timestamp, Told, true, with_capture, word_of, World, Write, ℕ}
 use Rattle.icu_driver.specs.declared.call.Call.TheVariants.{Channel}
-use Rattle.icu_driver.specs.declared.call.ChannelCall.TheVariants.{StartTimestamp, StopTimestamp, GetTimestampIndex}
+use Rattle.icu_driver.specs.declared.service.stamp.StampBody.TheVariants.{Open, Size, Interval, Index, Left, Look}
+use Rattle.icu_driver.specs.declared.service.stamp.StampBody.TheVariants.{Close, Drop, Off}
+use Rattle.icu_driver.specs.laws.{Base.{Move, Act, no_answer, BodyTaken, goes, acts_on, ends, number, Nothing}}
+use Rattle.icu_driver.specs.laws.{Base.{Shortens, shortens_if, word, bit, SWITCHES, MARKS, SIZES, INTERVALS, PLACES}}
+use Rattle.icu_driver.specs.laws.{Base.{VALUES}, Calls.{MayCall, acts_is, stamps, to_mode, from_mode, is_there}}
+use Rattle.icu_driver.specs.laws.{Calls.{counting, turns_by, switched_course, off_place, off_turns, opening_at}}
+use Rattle.icu_driver.specs.laws.{Calls.{bare_at, calm_on, may_row}, Channels.{emptied_agrees, closed_agrees}}
+use Rattle.icu_driver.specs.laws.{Channels.{dropped_agrees, block_as}, Gate.{opened}, One.{IsAt, IsRow, ChannelAgrees}}
+use Rattle.icu_driver.specs.laws.{One.{channel_agrees, one_agrees, settled_at, same_state, with_same, with_state}}
+use Rattle.icu_driver.specs.laws.{One.{left_same, left_channel, left_gate, channel_new, gate_new, word_new}}
+use Rattle.icu_driver.specs.laws.{Rows.{has_row, rows_of, rows_behind, behind_row, rows_at, row_others, row_stored}}
+use Rattle.icu_driver.specs.laws.{Rows.{still_not}, Steady.{without_edges, calm_at, AllGood, fronted, fronted_right}}
+use Rattle.chip_captures.specs.declared.capture.Act.TheVariants as turns
+use Rattle.mcal_base.specs.declared.service.Service.TheVariants as services
 use Rattle.icu_driver.specs.declared.driver.Channel as configured
-use Rattle.icu_driver.specs.declared.driver.IcuDriver.{IcuDriver}
-use Rattle.icu_driver.specs.laws.Base.{Move, Act, no_answer, BodyTaken, goes, acts_on, ends, number, Nothing, Shortens, shortens_if, word, bit, SWITCHES, MARKS, SIZES, INTERVALS, PLACES, VALUES}
-use Rattle.icu_driver.specs.laws.Calls.{never, MayCall, acts_is, stamps, to_mode, from_mode, is_there, counting, turns_by, switched_course, off_place, off_turns, opening_at, bare_at, calm_on, may_row}
-use Rattle.icu_driver.specs.laws.Channels.{emptied_agrees, closed_agrees, dropped_agrees, block_as}
-use Rattle.icu_driver.specs.laws.Gate.{opened}
-use Rattle.icu_driver.specs.laws.Ground.{below_test}
-use Rattle.icu_driver.specs.laws.One.{IsAt, IsRow, ChannelAgrees, channel_agrees, one_agrees, settled_at, same_yes, other_no, same_state, with_same, with_state, left_same, left_channel, left_gate, channel_new, gate_new, word_new}
-use Rattle.icu_driver.specs.laws.Parts.{still}
-use Rattle.icu_driver.specs.laws.Rows.{has_row, rows_of, rows_behind, behind_row, rows_at, row_others, row_stored, still_not}
-use Rattle.icu_driver.specs.laws.Steady.{calm, calm_at, AllGood, fronted, fronted_right}
-use Rattle.icu_driver.specs.laws.Tables.{mark_in}
-use Rattle.icu_driver.specs.declared.service.stamp.StampBody.{StampBody}
-use Rattle.icu_driver.specs.declared.service.stamp.StampBody.TheVariants.{Open, Empty, On, Size, Interval, Index, Left, Look, Close, Drop, Off, Started, Ask}
-use Rattle.icu_driver.specs.declared.service.stamp.Stamping.{Stamping}
 
 abbrev pub stamp_work : StampBody → Move
 stamp_work (Open r) = Write CaptureGateSet (bit r.channel)
@@ -108,10 +94,10 @@ stamp_shortens (Ask c q) x = omega arith
 -- ---- what holds at each; words are behind from the act on
 
 -- a channel was switched off: what waits is still to be dropped, and its mark is behind
-abbrev pub stopping : ℕ → Gap
+abbrev pub stopping : ℕ → Lag
 stopping c = record (emptying c) { words = rows_behind (MARKS ∷ []) c }
 
-abbrev pub stamp_gap : StampBody → Gap
+abbrev pub stamp_gap : StampBody → Lag
 stamp_gap (Open r) = settled
 stamp_gap (Empty r) = opening r.channel
 stamp_gap (On r) = rows_of (MARKS ∷ SIZES ∷ INTERVALS ∷ PLACES ∷ VALUES ∷ []) r.channel
@@ -179,7 +165,7 @@ cleans_by : (made : Move) (k : StampBody) (p : StampBody × BodyTaken) → stamp
 cleans_by made k p u = by_left p.1.done
   where
     by_left : (left : Option Done) → KeepsClean (stamp_clean k) made (stamp_clean p.0) left
-    by_left None = λ e. never (sym u ∙ e)
+    by_left None = λ e. off_on (sym u ∙ e)
     by_left (Some n) = tt
 
 cleans_if : (made : Move) (k : StampBody) (q : Bool) (a b : StampBody × BodyTaken) → Cleans stamp_clean made k a → Cleans stamp_clean made k b → Cleans stamp_clean made k (if q then a else b)
@@ -226,8 +212,8 @@ mark_one x _ (Is_stopped e f) = sym e
 mark_one x _ (Is_fresh e f) = sym e
 
 mark_none : (x : Capture) (v : ℕ) → Stamped x v → (v == 0) ≡ true → x.served ≡ []
-mark_none x _ (Is_on e) f = never f
-mark_none x _ (Is_stopped e g) f = never f
+mark_none x _ (Is_on e) f = off_on f
+mark_none x _ (Is_stopped e g) f = off_on f
 mark_none x _ (Is_fresh e g) f = g
 
 no_index : (k : configured.Channel) (x : Capture) → IsStart x.start → x.served ≡ [] → index k x ≡ 0
@@ -243,12 +229,12 @@ no_index k x start e = ap (λ es. index_by k x.start (length es)) e ∙ by x.sta
 
 -- the index that is told
 index_told : (q : Bool) (m v i : ℕ) → q ≡ not (m == 0) → ((m ≡ 0 → ⊥) → v ≡ i) → ((m == 0) ≡ true → i ≡ 0) → (if q then v else 0) ≡ i
-index_told true m v i e f g = f (λ z. never (sym (e ∙ ap (λ n. not (n == 0)) z)))
+index_told true m v i e f g = f (λ z. off_on (sym (e ∙ ap (λ n. not (n == 0)) z)))
 index_told false m v i e f g = sym (g (yes (m == 0) (sym e)))
   where
     yes : (q : Bool) → not q ≡ false → q ≡ true
     yes true e = refl
-    yes false e = never (sym e)
+    yes false e = off_on (sym e)
 
 -- ---- a word of a timestamp channel that is right again
 
@@ -263,14 +249,14 @@ no_less : (rs : List ℕ) (first f c : ℕ) → (f == first) ≡ false → rows_
 no_less rs first f c e r = behind_row rs f c ∙ (sym (ap (λ q. q || has_row rs f) e) ∙ (sym (behind_row (first ∷ rs) f c) ∙ r))
 
 pub stamp_closed : (at : ℕ → ℕ) (rs : List ℕ) (c : ℕ) (k : configured.Channel) (x : Capture) (first : ℕ) → NewStamp at c k x first → StampWords at (rows_behind (first ∷ rs) c) c k x → StampWords at (rows_behind rs c) c k x
-stamp_closed at rs c k x _ (New_mark new) h = record { switch = λ f. h.switch (still_not rs MARKS SWITCHES c refl f); mark = λ f. new; size = λ f. h.size (still_not rs MARKS SIZES c refl f); interval = λ f g. h.interval (still_not rs MARKS INTERVALS c refl f) g; place = λ f ne. h.place (still_not rs MARKS PLACES c refl f) (λ b. never (sym b ∙ behind_row (MARKS ∷ rs) MARKS c)); left = λ f g. h.left (still_not rs MARKS VALUES c refl f) g }
+stamp_closed at rs c k x _ (New_mark new) h = record { switch = λ f. h.switch (still_not rs MARKS SWITCHES c refl f); mark = λ f. new; size = λ f. h.size (still_not rs MARKS SIZES c refl f); interval = λ f g. h.interval (still_not rs MARKS INTERVALS c refl f) g; place = λ f ne. h.place (still_not rs MARKS PLACES c refl f) (λ b. off_on (sym b ∙ behind_row (MARKS ∷ rs) MARKS c)); left = λ f g. h.left (still_not rs MARKS VALUES c refl f) g }
 stamp_closed at rs c k x _ (New_size new) h = record { switch = λ f. h.switch (still_not rs SIZES SWITCHES c refl f); mark = λ f. h.mark (still_not rs SIZES MARKS c refl f); size = λ f. new; interval = λ f g. h.interval (still_not rs SIZES INTERVALS c refl f) g; place = λ f ne. h.place (still_not rs SIZES PLACES c refl f) (λ b. ne (no_less rs SIZES MARKS c refl b)); left = λ f g. h.left (still_not rs SIZES VALUES c refl f) g }
 stamp_closed at rs c k x _ (New_interval new) h = record { switch = λ f. h.switch (still_not rs INTERVALS SWITCHES c refl f); mark = λ f. h.mark (still_not rs INTERVALS MARKS c refl f); size = λ f. h.size (still_not rs INTERVALS SIZES c refl f); interval = λ f g. new; place = λ f ne. h.place (still_not rs INTERVALS PLACES c refl f) (λ b. ne (no_less rs INTERVALS MARKS c refl b)); left = λ f g. h.left (still_not rs INTERVALS VALUES c refl f) g }
 stamp_closed at rs c k x _ (New_place new) h = record { switch = λ f. h.switch (still_not rs PLACES SWITCHES c refl f); mark = λ f. h.mark (still_not rs PLACES MARKS c refl f); size = λ f. h.size (still_not rs PLACES SIZES c refl f); interval = λ f g. h.interval (still_not rs PLACES INTERVALS c refl f) g; place = λ f ne. new; left = λ f g. h.left (still_not rs PLACES VALUES c refl f) g }
 stamp_closed at rs c k x _ (New_left new) h = record { switch = λ f. h.switch (still_not rs VALUES SWITCHES c refl f); mark = λ f. h.mark (still_not rs VALUES MARKS c refl f); size = λ f. h.size (still_not rs VALUES SIZES c refl f); interval = λ f g. h.interval (still_not rs VALUES INTERVALS c refl f) g; place = λ f ne. h.place (still_not rs VALUES PLACES c refl f) (λ b. ne (no_less rs VALUES MARKS c refl b)); left = λ f g. new }
 
 row_is : (rs : List ℕ) (f c : ℕ) {A : Type 0} → has_row rs f ≡ true → rows_behind rs c (word f c) ≡ false → A
-row_is rs f c e r = never (sym r ∙ (behind_row rs f c ∙ e))
+row_is rs f c e r = off_on (sym r ∙ (behind_row rs f c ∙ e))
 
 -- there is a place for the first stamp
 first_full : (q : Bool) (size : ℕ) → 0 < size → q && 0 == size ≡ false
@@ -285,11 +271,11 @@ all_rows : AllByRecursion IsRow (MARKS ∷ SIZES ∷ INTERVALS ∷ PLACES ∷ VA
 all_rows = (row_marks, (row_sizes, (row_intervals, (row_places, (row_values, tt)))))
 
 stopping_at : (c : ℕ) → c < 8 → IsAt c (stopping c)
-stopping_at c lt = let a = rows_at (MARKS ∷ []) c (row_marks, tt) lt in record { gates = λ k ne. refl; queues = λ k ne. other_no k c ne; counts = λ k ne. refl; words = a.words; state = a.state; stamps = λ k i ne. refl; moded = refl; lines = refl }
+stopping_at c lt = let a = rows_at (MARKS ∷ []) c (row_marks, tt) lt in record { gates = λ k ne. refl; queues = λ k ne. eq_other k c ne; counts = λ k ne. refl; words = a.words; state = a.state; stamps = λ k i ne. refl; moded = refl; lines = refl }
 
 module _ (d : IcuDriver) where
   -- a word of a timestamp channel is stored
-  stored : (first : ℕ) (row : IsRow first) (rs : List ℕ) (all : AllByRecursion IsRow rs) (v : ℕ) (chip : Chip) (w : World) (s : IcuState) (c : ℕ) (k : configured.Channel) → channel_of d c ≡ Some k → k.mode ≡ Timestamp → c < 8 → s.initialised ≡ true → NewStamp (λ j. word_of (chip_after chip (Store (word first c) v) 0) j) c k (capture_at s c) first → IcuAgrees d (rows_of (first ∷ rs) c) chip w s → IcuAgrees d (rows_of rs c) (chip_after chip (Store (word first c) v) 0) w s
+  stored : (first : ℕ) (row : IsRow first) (rs : List ℕ) (all : AllByRecursion IsRow rs) (v : ℕ) (chip : Chip) (w : World) (s : IcuState) (c : ℕ) (k : configured.Channel) → channel_of d c ≡ Some k → k.mode ≡ Timestamp → c < 8 → s.initialised ≡ true → NewStamp (λ j. word_of (chip_after chip (Store (word first c) v) 0) j) c k (capture_at s c) first → IcuRepresents d (rows_of (first ∷ rs) c) chip w s → IcuRepresents d (rows_of rs c) (chip_after chip (Store (word first c) v) 0) w s
   stored first row rs all v chip w s c k known mode lt on new h =
       let at1 = λ (j : ℕ). word_of (chip_after chip (Store (word first c) v) 0) j in
       let x = capture_at s c in
@@ -297,7 +283,7 @@ module _ (d : IcuDriver) where
       row_stored d c lt k known first row rs all v chip w s on h (subst (λ m. ModeWords m at1 (rows_behind rs c) c k x) (sym mode) (stamp_closed at1 rs c k x first new others))
 
   -- what the state says that has begun
-  begun_on : (s : IcuState) (r : Stamping) (b : Begun d (calm s) r) → ((capture_at s r.channel).on ≡ true) × ((capture_at s r.channel).start ≡ Some (start_of r)) × ((capture_at s r.channel).served ≡ [])
+  begun_on : (s : IcuState) (r : Stamping) (b : Begun d (without_edges s) r) → ((capture_at s r.channel).on ≡ true) × ((capture_at s r.channel).start ≡ Some (start_of r)) × ((capture_at s r.channel).served ≡ [])
   begun_on s r (k, known, mode, lt, on, up, start, served) = (sym (ap (λ z. z.on) (calm_at s r.channel lt)) ∙ up, sym (ap (λ z. z.start) (calm_at s r.channel lt)) ∙ start, sym (ap (λ z. z.served) (calm_at s r.channel lt)) ∙ served)
 
   zero_stamps : (a : Option Start) (r : Stamping) (n : ℕ) → a ≡ Some (start_of r) → n ≡ 0 → 0 < r.interval → left_by a n ≡ r.interval
@@ -307,7 +293,7 @@ module _ (d : IcuDriver) where
       rest i low = omega (arith, low)
 
   -- it looks whether stamps are on
-  look_by : (chip : Chip) (w : World) (s : IcuState) (m : ℕ → Bool) (c : ℕ) (owed : Owed) (i : MayStop d c) → s.initialised ≡ true → owed ≡ owed_error (reporting d) services.IcuStopTimestamp IcuNotStarted → IcuAgrees d settled chip w s → (q : Bool) → (capture_at s c).on ≡ q → StepsTo (icu_ground d) (stamp_bodies d) chip w s (Called (Channel c StopTimestamp)) (Load (word MARKS c)) true None m (if q then (Close c, goes) else (Look c owed, ends (Some Act) no_answer owed))
+  look_by : (chip : Chip) (w : World) (s : IcuState) (m : ℕ → Bool) (c : ℕ) (owed : Epilogue) (i : MayStop d c) → s.initialised ≡ true → owed ≡ owed_error (reporting d) services.IcuStopTimestamp IcuNotStarted → IcuRepresents d settled chip w s → (q : Bool) → (capture_at s c).on ≡ q → StepsTo (icu_ground d) (stamp_bodies d) chip w s (Called (Channel c StopTimestamp)) (Load (word MARKS c)) true None m (if q then (Close c, goes) else (Look c owed, ends (Some Act) no_answer owed))
   look_by chip w s m c owed i on e h true up = (h, ((Is_before, i, on, calm_on s c i.lt ∙ up), tt))
   look_by chip w s m c owed i on e h false up = record {
     own = tt;
@@ -338,7 +324,7 @@ module _ (d : IcuDriver) where
       let a = channel_agrees d (opening c) chip w s c i.lt h in
       let mode = stamps i.channel.mode i.suited in
       let up = sym (ap (λ q. q.gate) (bare_at chip.captures c h.size i.lt)) ∙ gate in
-      let free = subst (λ q. CaptureAgrees k q q false s.initialised m1 b x) (same_yes c) a.block in
+      let free = subst (λ q. CaptureAgrees k q q false s.initialised m1 b x) (eq_self c) a.block in
       let words = to_mode d c i.channel i.known Timestamp mode (λ j. word_of chip j) none x a.words in (
         below_test c i.lt,
         record {
@@ -358,7 +344,7 @@ module _ (d : IcuDriver) where
                 place = λ f ne. row_is rs PLACES c refl f;
                 left = λ f g. row_is rs VALUES c refl f;
               });
-              course = let q = switched_course k true x a.course in record { room = q.room; times = q.times; counter = q.counter; off = q.off; start = z; count = q.count; unstarted = λ f. never (sym f ∙ (ap (λ q. stamps_edges q) i.known ∙ ap (λ q. is_timestamp q) mode)); uncounted = q.uncounted };
+              course = let q = switched_course k true x a.course in record { room = q.room; times = q.times; counter = q.counter; off = q.off; start = z; count = q.count; unstarted = λ f. off_on (sym f ∙ (ap (λ q. stamps_edges q) i.known ∙ ap (λ q. is_timestamp q) mode)); uncounted = q.uncounted };
               place = subst (λ q. HasPlace q y) (sym i.known) (λ f g. (refl, first_full (is_linear i.channel.buffer) r.size z.0, first_place (is_linear i.channel.buffer) r.size z.0));
               turns = turns_by d c i.channel i.known w y (ap (λ q. is_measurement q) mode);
               stamps = λ some j few g. a.stamps some j few refl;
@@ -399,7 +385,7 @@ module _ (d : IcuDriver) where
       let is_on = sym (calm_on s c i.lt) ∙ up in
       let words = to_mode d c i.channel i.known Timestamp i.mode (λ j. word_of chip j) none x a.words in
       let some = (subst (λ z. HasPlace z x) i.known a.place i.mode is_on).0 in
-      let marked = λ (f : word_of chip (word MARKS c) ≡ 0). never (sym (ap (λ v. v == 1) f) ∙ (mark_one x (word_of chip (word MARKS c)) (words.mark refl) ∙ is_on)) in (
+      let marked = λ (f : word_of chip (word MARKS c) ≡ 0). off_on (sym (ap (λ v. v == 1) f) ∙ (mark_one x (word_of chip (word MARKS c)) (words.mark refl) ∙ is_on)) in (
         refl,
         record {
           own = tt;
@@ -409,14 +395,14 @@ module _ (d : IcuDriver) where
           acts = tt;
           next = (
             one_agrees d c i.lt settled (stopping c) (settled_at c) (stopping_at c i.lt) chip (chip_after chip (Write CaptureGateClear (bit c)) 0) w s s1 on h (left_gate turns.Close c w chip i.lt h.size (stands-move chip w (Write CaptureGateClear (bit c)) 0 h.outside)) (with_state s c y) (subst (λ z. ChannelAgrees d (stopping c) (chip_after chip (Write CaptureGateClear (bit c)) 0) w s.initialised c z) (sym (with_same s c y i.lt)) (record {
-              block = subst (λ z. CaptureAgrees k false (c == c) false s.initialised m1 z y) (sym (gate_new turns.Close c chip.captures h.size i.lt)) (subst (λ q. CaptureAgrees k false q false s.initialised m1 (record b { gate = false }) y) (sym (same_yes c)) (closed_agrees k false s.initialised m1 b x a.block));
+              block = subst (λ z. CaptureAgrees k false (c == c) false s.initialised m1 z y) (sym (gate_new turns.Close c chip.captures h.size i.lt)) (subst (λ q. CaptureAgrees k false q false s.initialised m1 (record b { gate = false }) y) (sym (eq_self c)) (closed_agrees k false s.initialised m1 b x a.block));
               words = from_mode d c i.channel i.known Timestamp i.mode (λ j. word_of chip j) (rows_behind rs c) y (record {
                 switch = λ f. words.switch refl;
                 mark = λ f. row_is rs MARKS c refl f;
                 size = λ f. words.size refl;
-                interval = λ f g. never g;
+                interval = λ f g. off_on g;
                 place = λ f ne. words.place refl (λ q. marked);
-                left = λ f g. never g;
+                left = λ f g. off_on g;
               });
               course = switched_course k false x a.course;
               place = off_place k y refl;
@@ -434,7 +420,7 @@ module _ (d : IcuDriver) where
       let m1 = s.initialised || false in
       let a = channel_agrees d (stopping c) chip w s c lt h in
       let empty = a.course.off (sym (calm_on s c lt) ∙ off) in
-      let free = subst (λ q. CaptureAgrees k false q false s.initialised m1 b x) (same_yes c) a.block in (
+      let free = subst (λ q. CaptureAgrees k false q false s.initialised m1 b x) (eq_self c) a.block in (
         below_test c lt,
         (
           one_agrees d c lt (stopping c) (rows_of (MARKS ∷ []) c) (stopping_at c lt) (rows_at (MARKS ∷ []) c (row_marks, tt) lt) chip (chip_after chip (Write (CaptureFlush c) 0) 0) w s s on h (left_channel c w chip (flushed b) (stands-move chip w (Write (CaptureFlush c) 0) 0 h.outside)) (same_state c s) (record {

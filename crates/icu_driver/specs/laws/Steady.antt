@@ -1,37 +1,15 @@
 -- What a family of bodies owes: what its places rest on stays while the hardware moves.
-use Rattle.std.proofs.Common.{◌≡◌, ℕ, ◌+◌, ◌%◌, ◌<◌, ◌^◌, Bool, true, false, ◌==◌, not, nat_lt, List, [], ◌∷◌, ◌++◌, length, Option, Some, None, refl, sym, ◌∙◌, ap, subst, arith}
-use Rattle.std.specs.Prelude.{if◌then◌else◌, map}
-use Rattle.chip_captures.specs.Captures.{Captures, channels_at, acting}
-use Rattle.chip_captures.specs.declared.capture.Act.TheVariants.{Catch}
+-- Used by Sampling, Keeping, Change, Detecting, Duty and 8 more.
+use Rattle.std.proofs.Common.{◌≡◌, ◌+◌, ◌%◌, ◌<◌, ◌^◌, ◌==◌, [], ◌∷◌, ◌++◌, ◌∙◌, if◌then◌else◌}
+use Rattle.icu_driver.specs.Terms
+use Terms.{acting, ap, AreRight, arith, At, at_bits, bare, bare_block, Bodies, BodyTaken, Bool, by_channel}
+use Terms.{by_channel_at, by_if, Call, Capture, capture_at, Captures, Catch, caught-bare, Channel, channel_of}
+use Terms.{channels_at, Chip, Cleans, Edge, edge_at_pin, edge_queued, edge_taken, enumerate_from, false, Fill, happened}
+use Terms.{has_bit, icu_ground, icu_may, IcuDriver, IcuState, is_counter, is_same, is_taken, Lag, length, Level}
+use Terms.{level_leaves, List, map, marks_of, Move, moved, nat_lt, never_clean, None, not, Option, Order, Origin}
+use Terms.{pin_still, refl, RightAt, same_marks, Shortens, Some, still, subst, sym, Told, true, word_later, word_of}
+use Terms.{WORDS, World, ℕ}
 use Rattle.chip_captures.specs.declared.capture.Capture as chips
-use Rattle.chip_model.specs.Chip.{Chip, happened, word_of}
-use Rattle.chip_model.proofs.HistoryLaws.{level_leaves}
-use Rattle.std.specs.List.{enumerate_from}
-use Rattle.mcal_base.specs.Bits.{at_bits, has_bit}
-use Rattle.mcal_base.specs.declared.directive.Order.{Order}
-use Rattle.mcal_base.specs.declared.directive.Order.TheVariants.{Level, Fill}
-use Rattle.mcal_base.specs.declared.moves.Move.{Move}
-use Rattle.run_model.specs.Frame.{Origin}
-use Rattle.run_model.specs.Machine.{Told}
-use Rattle.run_model.specs.World.{World}
-use Rattle.service_outline.specs.Acts.{Cleans}
-use Rattle.service_outline.specs.Fuel.{Shortens}
-use Rattle.service_outline.specs.Outline.{Bodies, At, AreRight, RightAt}
-use Rattle.service_outline.specs.declared.done.BodyTaken.{BodyTaken}
-use Rattle.service_outline.specs.laws.Acts.{never_clean}
-use Rattle.service_outline.specs.laws.Words.{word_later}
-use Rattle.mcal_base.specs.declared.TheConstants.{WORDS}
-use Rattle.icu_driver.specs.Bounds.{icu_may}
-use Rattle.icu_driver.specs.Edges.{Edge, is_same}
-use Rattle.icu_driver.specs.Ground.{Gap, bare, bare_block, marks_of, icu_ground}
-use Rattle.icu_driver.specs.Machine.{IcuState, Capture, capture_at, by_channel, moved, edge_at_pin, edge_taken, edge_queued, is_taken}
-use Rattle.icu_driver.specs.Table.{channel_of, is_counter}
-use Rattle.icu_driver.specs.declared.call.Call.{Call}
-use Rattle.icu_driver.specs.declared.driver.Channel.{Channel}
-use Rattle.icu_driver.specs.declared.driver.IcuDriver.{IcuDriver}
-use Rattle.icu_driver.specs.laws.Course.{pin_still}
-use Rattle.icu_driver.specs.laws.Parts.{still, caught-bare}
-use Rattle.icu_driver.specs.laws.Tables.{by_channel_at, by_if, same_marks}
 
 -- ---- the block, but for what edges change
 
@@ -54,21 +32,21 @@ foot_later d chip _ size = refl
 
 -- ---- the state, but for what edges change
 
-abbrev pub calm : IcuState → IcuState
-calm s = record { initialised = s.initialised; channels = by_channel (λ c. still (capture_at s c)) }
+abbrev pub without_edges : IcuState → IcuState
+without_edges s = record { initialised = s.initialised; channels = by_channel (λ c. still (capture_at s c)) }
 
-pub calm_at : (s : IcuState) (c : ℕ) → c < 8 → capture_at (calm s) c ≡ still (capture_at s c)
+pub calm_at : (s : IcuState) (c : ℕ) → c < 8 → capture_at (without_edges s) c ≡ still (capture_at s c)
 calm_at s c lt = by_channel_at (λ i. still (capture_at s i)) c lt
 
 -- eight channels that are the same are one table
 same_table : (f g : ℕ → Capture) → ((c : ℕ) → c < 8 → f c ≡ g c) → by_channel f ≡ by_channel g
 same_table f g e = rw (e 0 (omega arith), e 1 (omega arith), e 2 (omega arith), e 3 (omega arith), e 4 (omega arith), e 5 (omega arith), e 6 (omega arith), e 7 (omega arith)) refl
 
-level_calm : (d : IcuDriver) (w : World) (s : IcuState) (pin : ℕ) (v : Bool) (r : Bool) → calm (if r then s else record s { channels = by_channel (λ c. edge_at_pin (channel_of d c) w.now pin v (capture_at s c)) }) ≡ calm s
+level_calm : (d : IcuDriver) (w : World) (s : IcuState) (pin : ℕ) (v : Bool) (r : Bool) → without_edges (if r then s else record s { channels = by_channel (λ c. edge_at_pin (channel_of d c) w.now pin v (capture_at s c)) }) ≡ without_edges s
 level_calm d w s pin v true = refl
-level_calm d w s pin v false = ap (λ xs. record (calm s) { channels = xs }) (same_table (λ c. still (capture_at (record s { channels = by_channel (λ i. edge_at_pin (channel_of d i) w.now pin v (capture_at s i)) }) c)) (λ c. still (capture_at s c)) (λ c lt. ap (λ x. still x) (by_channel_at (λ i. edge_at_pin (channel_of d i) w.now pin v (capture_at s i)) c lt) ∙ pin_still (channel_of d c) w.now pin v (capture_at s c)))
+level_calm d w s pin v false = ap (λ xs. record (without_edges s) { channels = xs }) (same_table (λ c. still (capture_at (record s { channels = by_channel (λ i. edge_at_pin (channel_of d i) w.now pin v (capture_at s i)) }) c)) (λ c. still (capture_at s c)) (λ c lt. ap (λ x. still x) (by_channel_at (λ i. edge_at_pin (channel_of d i) w.now pin v (capture_at s i)) c lt) ∙ pin_still (channel_of d c) w.now pin v (capture_at s c)))
 
-pub moved_calm : (d : IcuDriver) (w : World) (s : IcuState) (order : Order) → calm (moved d w s order) ≡ calm s
+pub moved_calm : (d : IcuDriver) (w : World) (s : IcuState) (order : Order) → without_edges (moved d w s order) ≡ without_edges s
 moved_calm d w s (Level pin v) = level_calm d w s pin v (is_same (w.levels pin) v)
 moved_calm d w s _ = refl
 
@@ -123,8 +101,8 @@ fronts_later d w s order (Some c) P h = record { lt = h.lt; edge = h.edge; leads
 
 module _ (d : IcuDriver) where
   -- what holds at a place of a body, of the block and the state, but for what edges change; and whose oldest edge it knows, and what of it
-  abbrev pub fronted : {Body : Type 0} → (Body → Move) → (Body → ℕ → Body × BodyTaken) → (Body → ℕ) → (Body → Gap) → (Body → Bool) → (Captures × List ℕ → IcuState → Body → Origin Call → Option Told → Type 0) → (Body → Option ℕ) → (Captures × List ℕ → Body → Edge → Type 0) → Bodies (icu_ground d) Body
-  fronted work takes fuel gap clean holds front knows = record { work_of = work; takes = takes; fuel = fuel; gap_of = gap; clean = clean; place = λ f w s k o t. holds f (calm s) k o t × Fronts (front k) s (knows f k) }
+  abbrev pub fronted : {Body : Type 0} → (Body → Move) → (Body → ℕ → Body × BodyTaken) → (Body → ℕ) → (Body → Lag) → (Body → Bool) → (Captures × List ℕ → IcuState → Body → Origin Call → Option Told → Type 0) → (Body → Option ℕ) → (Captures × List ℕ → Body → Edge → Type 0) → Bodies (icu_ground d) Body
+  fronted work takes fuel gap clean holds front knows = record { work_of = work; takes = takes; fuel = fuel; gap_of = gap; clean = clean; place = λ f w s k o t. holds f (without_edges s) k o t × Fronts (front k) s (knows f k) }
 
   -- a step at a place: a move that its frame may make, and a right one
   abbrev pub Good : {Body : Type 0} → Bodies (icu_ground d) Body → Chip → World → IcuState → Body → Origin Call → Option Told → (ℕ → Bool) → Type 0
@@ -133,9 +111,9 @@ module _ (d : IcuDriver) where
   abbrev pub AllGood : {Body : Type 0} → Bodies (icu_ground d) Body → Type 0
   AllGood {Body} b = (chip : Chip) (w : World) (s : IcuState) (k : Body) (o : Origin Call) (t : Option Told) (m : ℕ → Bool) → At (icu_ground d) b chip w s k o t → Good b chip w s k o t m
 
-  module _ {Body : Type 0} (work : Body → Move) (takes : Body → ℕ → Body × BodyTaken) (fuel : Body → ℕ) (gap : Body → Gap) (clean : Body → Bool) (holds : Captures × List ℕ → IcuState → Body → Origin Call → Option Told → Type 0) (front : Body → Option ℕ) (knows : Captures × List ℕ → Body → Edge → Type 0) (shortens : (k : Body) (x : ℕ) → Shortens fuel k (takes k x)) (cleans : (k : Body) (x : ℕ) → Cleans clean (work k) k (takes k x)) where
-    fronted_later : (chip : Chip) (w : World) (s : IcuState) (order : Order) (k : Body) (o : Origin Call) (t : Option Told) → length chip.words ≡ WORDS → holds ((icu_ground d).foot chip) (calm s) k o t × Fronts (front k) s (knows ((icu_ground d).foot chip) k) → holds ((icu_ground d).foot (happened chip order)) (calm (moved d w s order)) k o t × Fronts (front k) (moved d w s order) (knows ((icu_ground d).foot (happened chip order)) k)
-    fronted_later chip w s order k o t size h = (subst (λ x. holds ((icu_ground d).foot (happened chip order)) x k o t) (sym (moved_calm d w s order)) (subst (λ f. holds f (calm s) k o t) (sym (foot_later d chip order size)) h.0), fronts_later d w s order (front k) (knows ((icu_ground d).foot (happened chip order)) k) (subst (λ f. Fronts (front k) s (knows f k)) (sym (foot_later d chip order size)) h.1))
+  module _ {Body : Type 0} (work : Body → Move) (takes : Body → ℕ → Body × BodyTaken) (fuel : Body → ℕ) (gap : Body → Lag) (clean : Body → Bool) (holds : Captures × List ℕ → IcuState → Body → Origin Call → Option Told → Type 0) (front : Body → Option ℕ) (knows : Captures × List ℕ → Body → Edge → Type 0) (shortens : (k : Body) (x : ℕ) → Shortens fuel k (takes k x)) (cleans : (k : Body) (x : ℕ) → Cleans clean (work k) k (takes k x)) where
+    fronted_later : (chip : Chip) (w : World) (s : IcuState) (order : Order) (k : Body) (o : Origin Call) (t : Option Told) → length chip.words ≡ WORDS → holds ((icu_ground d).foot chip) (without_edges s) k o t × Fronts (front k) s (knows ((icu_ground d).foot chip) k) → holds ((icu_ground d).foot (happened chip order)) (without_edges (moved d w s order)) k o t × Fronts (front k) (moved d w s order) (knows ((icu_ground d).foot (happened chip order)) k)
+    fronted_later chip w s order k o t size h = (subst (λ x. holds ((icu_ground d).foot (happened chip order)) x k o t) (sym (moved_calm d w s order)) (subst (λ f. holds f (without_edges s) k o t) (sym (foot_later d chip order size)) h.0), fronts_later d w s order (front k) (knows ((icu_ground d).foot (happened chip order)) k) (subst (λ f. Fronts (front k) s (knows f k)) (sym (foot_later d chip order size)) h.1))
 
     pub fronted_right : AllGood (fronted work takes fuel gap clean holds front knows) → AreRight (icu_ground d) (fronted work takes fuel gap clean holds front knows)
     fronted_right steps = record {
@@ -147,8 +125,8 @@ module _ (d : IcuDriver) where
     }
 
   -- bodies that know no edge
-  abbrev pub steady : {Body : Type 0} → (Body → Move) → (Body → ℕ → Body × BodyTaken) → (Body → ℕ) → (Body → Gap) → (Captures → IcuState → Body → Origin Call → Option Told → Type 0) → Bodies (icu_ground d) Body
+  abbrev pub steady : {Body : Type 0} → (Body → Move) → (Body → ℕ → Body × BodyTaken) → (Body → ℕ) → (Body → Lag) → (Captures → IcuState → Body → Origin Call → Option Told → Type 0) → Bodies (icu_ground d) Body
   steady work takes fuel gap holds = fronted work takes fuel gap (λ k. false) (λ f s k o t. holds f.0 s k o t) (λ k. None) (λ f k e. Unit {0})
 
-  pub steady_right : {Body : Type 0} (work : Body → Move) (takes : Body → ℕ → Body × BodyTaken) (fuel : Body → ℕ) (gap : Body → Gap) (holds : Captures → IcuState → Body → Origin Call → Option Told → Type 0) → ((k : Body) (x : ℕ) → Shortens fuel k (takes k x)) → AllGood (steady work takes fuel gap holds) → AreRight (icu_ground d) (steady work takes fuel gap holds)
+  pub steady_right : {Body : Type 0} (work : Body → Move) (takes : Body → ℕ → Body × BodyTaken) (fuel : Body → ℕ) (gap : Body → Lag) (holds : Captures → IcuState → Body → Origin Call → Option Told → Type 0) → ((k : Body) (x : ℕ) → Shortens fuel k (takes k x)) → AllGood (steady work takes fuel gap holds) → AreRight (icu_ground d) (steady work takes fuel gap holds)
   steady_right work takes fuel gap holds shortens steps = fronted_right work takes fuel gap (λ k. false) (λ f s k o t. holds f.0 s k o t) (λ k. None) (λ f k e. Unit {0}) shortens (λ k x. never_clean (work k) k (takes k x)) steps

@@ -1,8 +1,9 @@
 -- The channels of a state, by number.
+-- Used by proofs/StampLaws, proofs/RoomLaws, proofs/CallLaws, proofs/EdgeLaws, Fits and 7 more.
 use Rattle.std.proofs.Common.{◌≡◌, ℕ, zero, suc, ◌<◌, ◌≤◌, Bool, true, false, [], ◌∷◌, refl, arith}
 use Rattle.std.specs.Prelude.{if◌then◌else◌, slice_index_or}
 use Rattle.chip_model.specs.Chip.{Chip, word_of}
-use Rattle.icu_driver.specs.Ground.{marks_of}
+use Rattle.icu_driver.specs.Refinement.{marks_of}
 use Rattle.icu_driver.specs.Words.{word}
 use Rattle.icu_driver.specs.declared.words.TheConstants.{STATE, MARKS}
 use Rattle.icu_driver.specs.Machine.{Capture, by_channel, untouched}

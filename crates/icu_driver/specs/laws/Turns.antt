@@ -1,20 +1,20 @@
 -- The edges of a measurement turn, as the levels of its pin do.
-use Rattle.std.proofs.Common.{◌≡◌, ℕ, ◌+◌, ◌%◌, ◌^◌, Bool, true, false, ◌&&◌, ◌||◌, ◌==◌, not, nat_lt, List, [], ◌∷◌, ◌++◌, length, cond, Option, Some, None, refl, sym, ◌∙◌, ap, subst, arith}
+-- From Parts.
+-- Used by Levels.
+use Rattle.std.proofs.Common.{◌≡◌, ℕ, ◌+◌, ◌%◌, ◌^◌, Bool, true, false, ◌&&◌, ◌||◌, ◌==◌, not, nat_lt, List, [], ◌∷◌, ◌++◌, length, cond, Option, Some, None, refl, sym, ◌∙◌, ap, subst}
 use Rattle.std.specs.Prelude.{if◌then◌else◌}
-use Rattle.std.proofs.lemmas.Bool.Decides.{nat_tests}
 use Rattle.std.proofs.lemmas.List.{append_assoc}
+use Rattle.plain_facts.specs.Truths.{on_off}
+use Rattle.plain_facts.specs.Numbers.{eq_is}
 use Rattle.mcal_base.specs.declared.config.icu.IcuMeasurementMode.{IcuMeasurementMode}
 use Rattle.mcal_base.specs.declared.config.icu.IcuMeasurementMode.TheVariants.{SignalMeasurement}
 use Rattle.run_model.specs.World.{World, with_at}
 use Rattle.icu_driver.specs.Edges.{Edge, is_same}
-use Rattle.icu_driver.specs.Ground.{Alternate, EndsAt, HasTurns}
+use Rattle.icu_driver.specs.Refinement.{Alternate, EndsAt, HasTurns}
 use Rattle.icu_driver.specs.Machine.{Capture, edge_taken, edge_queued, edge_at_pin}
 use Rattle.icu_driver.specs.Table.{is_counter, is_measurement, chooses}
 use Rattle.icu_driver.specs.declared.driver.Channel.{Channel}
 use Rattle.icu_driver.specs.laws.Parts.{taken-still}
-
-never : {A : Type 0} → true ≡ false → A
-never e = absurd (cc)
 
 turned_level : (old v : Bool) → is_same old v ≡ false → is_same v (not old) ≡ true
 turned_level true true e = absurd (cc)
@@ -37,7 +37,7 @@ ends_more (x ∷ y ∷ ys) e = ends_more (y ∷ ys) e
 -- after a loss nothing is said
 ends_lost : (level : Bool) (es : List Edge) → EndsAt true level es
 ends_lost level [] = tt
-ends_lost level (x ∷ []) = λ f. never f
+ends_lost level (x ∷ []) = λ f. on_off f
 ends_lost level (x ∷ y ∷ ys) = ends_lost level (y ∷ ys)
 
 abbrev Turned : Bool → Capture → Type 0
@@ -69,12 +69,9 @@ Turning k level x = is_measurement k.mode ≡ true → x.on ≡ true → Turned 
 taken_turning : (k : Channel) (now : ℕ) (v old : Bool) (x : Capture) → is_same old v ≡ false → Turning k old x → Turning k v (edge_taken k now v x)
 taken_turning k now v old x e h = λ m on. let o = sym (ap (λ (y : Capture). y.on) (taken-still k now v x)) ∙ on in subst (λ (y : Capture). Turned v y) (sym (measured_queued k now v x m o)) (queued_turned (nat_lt (length x.waiting) 4) now v old x e (h m o))
 
-equal_by : (a b : ℕ) → (a == b) ≡ true → a ≡ b
-equal_by a b e = grind (arith, nat_tests)
-
 -- a level that changes, and one that doesn't
 changed_by : (k : Channel) (w : World) (pin : ℕ) (v : Bool) (x : Capture) (q : Bool) → (k.pin == pin) ≡ q → is_same (w.levels pin) v ≡ false → Turning k (w.levels k.pin) x → Turning k (cond q v (w.levels k.pin)) (if q then edge_taken k w.now v x else x)
-changed_by k w pin v x true e f h = taken_turning k w.now v (w.levels k.pin) x (ap (λ p. is_same (w.levels p) v) (equal_by k.pin pin e) ∙ f) h
+changed_by k w pin v x true e f h = taken_turning k w.now v (w.levels k.pin) x (ap (λ p. is_same (w.levels p) v) (eq_is k.pin pin e) ∙ f) h
 changed_by k w pin v x false e f h = h
 
 same_to : (a b : Bool) → is_same a b ≡ true → a ≡ b
@@ -84,7 +81,7 @@ same_to false true e = absurd (cc)
 same_to false false e = refl
 
 kept_by : (k : Channel) (w : World) (pin : ℕ) (v : Bool) (x : Capture) (q : Bool) → (k.pin == pin) ≡ q → is_same (w.levels pin) v ≡ true → Turning k (w.levels k.pin) x → Turning k (cond q v (w.levels k.pin)) x
-kept_by k w pin v x true e f h = subst (λ l. Turning k l x) (ap (λ p. w.levels p) (equal_by k.pin pin e) ∙ same_to (w.levels pin) v f) h
+kept_by k w pin v x true e f h = subst (λ l. Turning k l x) (ap (λ p. w.levels p) (eq_is k.pin pin e) ∙ same_to (w.levels pin) v f) h
 kept_by k w pin v x false e f h = h
 
 pub pin_turns : (k : Option Channel) (w : World) (pin : ℕ) (v : Bool) (x : Capture) → is_same (w.levels pin) v ≡ false → HasTurns k w x → HasTurns k (record w { levels = with_at w.levels pin v }) (edge_at_pin k w.now pin v x)

@@ -1,18 +1,17 @@
 -- The values over served edges: one more edge adds the value that what was seen tells, and no other.
-use Rattle.std.proofs.Common.{◌≡◌, Bool, true, false, ◌&&◌, not, List, [], ◌∷◌, ◌++◌, Some, refl, ◌∙◌, ap}
-use Rattle.std.specs.Prelude.{if◌then◌else◌}
-use Rattle.std.specs.List.{filter_map}
-use Rattle.std.proofs.lemmas.List.Elements.{filter_map-append}
-use Rattle.mcal_base.specs.declared.config.icu.IcuSignalMeasurementProperty.{IcuSignalMeasurementProperty}
-use Rattle.mcal_base.specs.declared.config.icu.IcuSignalMeasurementProperty.TheVariants.{HighTime, LowTime, PeriodTime, DutyCycle}
-use Rattle.icu_driver.specs.Edges.{Edge, is_same, measures, value_of, values_by, begins_rising}
-use Rattle.icu_driver.specs.Ground.{Seen, Nothing_seen, Start_seen, Opposite_seen, seen_with, seen_from, opposed, unbroken, half_told, whole_told, told_with, Alternate}
-use Rattle.icu_driver.specs.declared.driver.Channel.{Channel}
+-- From Seen.
+-- Used by Sampling.
+use Rattle.std.proofs.Common.{◌≡◌, ◌&&◌, [], ◌∷◌, ◌++◌, ◌∙◌, if◌then◌else◌}
+use Rattle.icu_driver.specs.Terms
+use Terms.{Alternate, ap, begins_rising, Bool, Channel, DutyCycle, Edge, false, filter_map, filter_map-append}
+use Terms.{half_told, HighTime, IcuSignalMeasurementProperty, is_same, List, LowTime, MeasureHistory, measures, not}
+use Terms.{Nothing_seen, opposed, Opposite_seen, PeriodTime, refl, seen_from, seen_with, Some, Start_seen, told_with}
+use Terms.{true, unbroken, value_of, values_by, whole_told}
 use Rattle.icu_driver.specs.laws.Seen.{half_new, half_append, whole_new, whole_append, same_not}
 
 -- ---- a high time
 
-high_case : (sx ge se : Bool) (x e : Edge) (s : Seen) → filter_map (value_of HighTime) (if sx && (not ge && not se) then (x ∷ e ∷ []) ∷ [] else []) ≡ half_told se e (if ge then Nothing_seen else if sx then Start_seen x.time else opposed x.time s)
+high_case : (sx ge se : Bool) (x e : Edge) (s : MeasureHistory) → filter_map (value_of HighTime) (if sx && (not ge && not se) then (x ∷ e ∷ []) ∷ [] else []) ≡ half_told se e (if ge then Nothing_seen else if sx then Start_seen x.time else opposed x.time s)
 high_case true true true x e s = refl
 high_case true true false x e s = refl
 high_case true false true x e s = refl
@@ -29,7 +28,7 @@ high_none true ge e = refl
 high_none false true e = refl
 high_none false false e = refl
 
-high_from : (first : Bool) (s : Seen) (x : Edge) (xs : List Edge) (e : Edge) → filter_map (value_of HighTime) (half_new first (x ∷ xs) e) ≡ half_told (is_same e.rising first) e (unbroken e (seen_from first s (x ∷ xs)))
+high_from : (first : Bool) (s : MeasureHistory) (x : Edge) (xs : List Edge) (e : Edge) → filter_map (value_of HighTime) (half_new first (x ∷ xs) e) ≡ half_told (is_same e.rising first) e (unbroken e (seen_from first s (x ∷ xs)))
 high_from first s x [] e = ap (λ q. filter_map (value_of HighTime) (if is_same x.rising first && (not e.after_gap && q) then (x ∷ e ∷ []) ∷ [] else [])) (same_not e.rising first) ∙ high_case (is_same x.rising first) e.after_gap (is_same e.rising first) x e (unbroken x s)
 high_from first s x (y ∷ ys) e = high_from first (seen_with first x s) y ys e
 
@@ -39,7 +38,7 @@ high_told first (x ∷ xs) e = high_from first Nothing_seen x xs e
 
 -- ---- a low time
 
-low_case : (sx ge se : Bool) (x e : Edge) (s : Seen) → filter_map (value_of LowTime) (if sx && (not ge && not se) then (x ∷ e ∷ []) ∷ [] else []) ≡ half_told se e (if ge then Nothing_seen else if sx then Start_seen x.time else opposed x.time s)
+low_case : (sx ge se : Bool) (x e : Edge) (s : MeasureHistory) → filter_map (value_of LowTime) (if sx && (not ge && not se) then (x ∷ e ∷ []) ∷ [] else []) ≡ half_told se e (if ge then Nothing_seen else if sx then Start_seen x.time else opposed x.time s)
 low_case true true true x e s = refl
 low_case true true false x e s = refl
 low_case true false true x e s = refl
@@ -56,7 +55,7 @@ low_none true ge e = refl
 low_none false true e = refl
 low_none false false e = refl
 
-low_from : (first : Bool) (s : Seen) (x : Edge) (xs : List Edge) (e : Edge) → filter_map (value_of LowTime) (half_new first (x ∷ xs) e) ≡ half_told (is_same e.rising first) e (unbroken e (seen_from first s (x ∷ xs)))
+low_from : (first : Bool) (s : MeasureHistory) (x : Edge) (xs : List Edge) (e : Edge) → filter_map (value_of LowTime) (half_new first (x ∷ xs) e) ≡ half_told (is_same e.rising first) e (unbroken e (seen_from first s (x ∷ xs)))
 low_from first s x [] e = ap (λ q. filter_map (value_of LowTime) (if is_same x.rising first && (not e.after_gap && q) then (x ∷ e ∷ []) ∷ [] else [])) (same_not e.rising first) ∙ low_case (is_same x.rising first) e.after_gap (is_same e.rising first) x e (unbroken x s)
 low_from first s x (y ∷ ys) e = low_from first (seen_with first x s) y ys e
 
@@ -66,7 +65,7 @@ low_told first (x ∷ xs) e = low_from first Nothing_seen x xs e
 
 -- ---- a period
 
-period_case : (sx gy sy ge se : Bool) (x y e : Edge) (s : Seen) → filter_map (value_of PeriodTime) (if sx && (not gy && (not sy && (not ge && se))) then (x ∷ y ∷ e ∷ []) ∷ [] else []) ≡ whole_told se false e (if ge then Nothing_seen else if sy then Start_seen y.time else opposed y.time (if gy then Nothing_seen else if sx then Start_seen x.time else opposed x.time s))
+period_case : (sx gy sy ge se : Bool) (x y e : Edge) (s : MeasureHistory) → filter_map (value_of PeriodTime) (if sx && (not gy && (not sy && (not ge && se))) then (x ∷ y ∷ e ∷ []) ∷ [] else []) ≡ whole_told se false e (if ge then Nothing_seen else if sy then Start_seen y.time else opposed y.time (if gy then Nothing_seen else if sx then Start_seen x.time else opposed x.time s))
 period_case true true true true true x y e s = refl
 period_case true true true true false x y e s = refl
 period_case true true true false true x y e s = refl
@@ -125,7 +124,7 @@ period_none true true e = refl
 period_none true false e = refl
 period_none false ge e = refl
 
-period_from : (first : Bool) (s : Seen) (x y : Edge) (ys : List Edge) (e : Edge) → filter_map (value_of PeriodTime) (whole_new first (x ∷ y ∷ ys) e) ≡ whole_told (is_same e.rising first) false e (unbroken e (seen_from first s (x ∷ y ∷ ys)))
+period_from : (first : Bool) (s : MeasureHistory) (x y : Edge) (ys : List Edge) (e : Edge) → filter_map (value_of PeriodTime) (whole_new first (x ∷ y ∷ ys) e) ≡ whole_told (is_same e.rising first) false e (unbroken e (seen_from first s (x ∷ y ∷ ys)))
 period_from first s x y [] e = period_case (is_same x.rising first) y.after_gap (is_same y.rising first) e.after_gap (is_same e.rising first) x y e (unbroken x s)
 period_from first s x y (z ∷ zs) e = period_from first (seen_with first x s) y z zs e
 
@@ -136,7 +135,7 @@ period_told first (x ∷ y ∷ ys) e = period_from first Nothing_seen x y ys e
 
 -- ---- a duty cycle
 
-duty_case : (sx gy sy ge se : Bool) (x y e : Edge) (s : Seen) → filter_map (value_of DutyCycle) (if sx && (not gy && (not sy && (not ge && se))) then (x ∷ y ∷ e ∷ []) ∷ [] else []) ≡ whole_told se true e (if ge then Nothing_seen else if sy then Start_seen y.time else opposed y.time (if gy then Nothing_seen else if sx then Start_seen x.time else opposed x.time s))
+duty_case : (sx gy sy ge se : Bool) (x y e : Edge) (s : MeasureHistory) → filter_map (value_of DutyCycle) (if sx && (not gy && (not sy && (not ge && se))) then (x ∷ y ∷ e ∷ []) ∷ [] else []) ≡ whole_told se true e (if ge then Nothing_seen else if sy then Start_seen y.time else opposed y.time (if gy then Nothing_seen else if sx then Start_seen x.time else opposed x.time s))
 duty_case true true true true true x y e s = refl
 duty_case true true true true false x y e s = refl
 duty_case true true true false true x y e s = refl
@@ -195,7 +194,7 @@ duty_none true true e = refl
 duty_none true false e = refl
 duty_none false ge e = refl
 
-duty_from : (first : Bool) (s : Seen) (x y : Edge) (ys : List Edge) (e : Edge) → filter_map (value_of DutyCycle) (whole_new first (x ∷ y ∷ ys) e) ≡ whole_told (is_same e.rising first) true e (unbroken e (seen_from first s (x ∷ y ∷ ys)))
+duty_from : (first : Bool) (s : MeasureHistory) (x y : Edge) (ys : List Edge) (e : Edge) → filter_map (value_of DutyCycle) (whole_new first (x ∷ y ∷ ys) e) ≡ whole_told (is_same e.rising first) true e (unbroken e (seen_from first s (x ∷ y ∷ ys)))
 duty_from first s x y [] e = duty_case (is_same x.rising first) y.after_gap (is_same y.rising first) e.after_gap (is_same e.rising first) x y e (unbroken x s)
 duty_from first s x y (z ∷ zs) e = duty_from first (seen_with first x s) y z zs e
 

@@ -1,64 +1,44 @@
 -- What frames have done in their windows: the halves of a count and of an edge's time are read one after the other.
-use Rattle.std.proofs.Common.{◌≡◌, ℕ, ◌/◌, Bool, true, false, ◌==◌, None, refl}
-use Rattle.std.specs.Prelude.{if◌then◌else◌}
-use Rattle.mcal_base.specs.declared.moves.Move.{Move}
-use Rattle.mcal_base.specs.declared.register.Reg.TheVariants.{CaptureCountLow, CaptureTimeLow}
-use Rattle.service_outline.specs.Done.{goes}
-use Rattle.service_outline.specs.Either.{either_work, either_takes}
-use Rattle.service_outline.specs.Seen.{is_windowed, Seen, Plain, HasRead, SeesTo}
-use Rattle.service_outline.specs.declared.body.Or.TheVariants.{First, Second}
-use Rattle.service_outline.specs.declared.done.BodyTaken.{BodyTaken}
-use Rattle.service_outline.specs.laws.Seen.{plain_sees, sees_if}
-use Rattle.icu_driver.specs.declared.service.count.CountBody.{CountBody}
+-- From Keep, Sample, Change, Count, DeInit and 7 more.
+-- Used by Lawful.
+use Rattle.std.proofs.Common.{◌≡◌, ◌/◌, ◌==◌, if◌then◌else◌}
+use Rattle.icu_driver.specs.Terms
+use Terms.{BodyTaken, Bool, CaptureCountLow, CaptureTimeLow, ChangeBody, CountBody, DeInitBody, DetectBody, DutyBody}
+use Terms.{either_takes, either_work, false, First, GateBody, goes, HasRead, InitBody, is_windowed, KeepBody, Kept}
+use Terms.{MeasureBody, Move, Plain, plain_sees, refl, SampleBody, Second, sees_if, SeesTo, StampBody, true}
+use Terms.{WindowHistory, ℕ}
+use Rattle.icu_driver.specs.laws.{Bodies.{IcuBody}, Change.{change_work, change_takes}, Count.{count_work, count_takes}}
+use Rattle.icu_driver.specs.laws.{DeInit.{deinit_work, deinit_takes}, Detect.{detect_work, detect_takes}}
+use Rattle.icu_driver.specs.laws.{Duty.{duty_work, duty_takes}, Gate.{gate_work, gate_takes}, Init.{init_work}}
+use Rattle.icu_driver.specs.laws.{Init.{init_takes}, Measure.{measure_work, measure_takes}, Stamp.{stamp_work}}
+use Rattle.icu_driver.specs.laws.{Stamp.{stamp_takes}, Keep.{fills, keep_work, keep_takes}, Sample.{is_complete}}
+use Rattle.icu_driver.specs.laws.{Sample.{sample_work, sample_takes}}
 use Rattle.icu_driver.specs.declared.service.count.CountBody.TheVariants as counts
-use Rattle.icu_driver.specs.declared.service.keep.KeepBody.{KeepBody}
 use Rattle.icu_driver.specs.declared.service.keep.KeepBody.TheVariants as keeps
-use Rattle.icu_driver.specs.declared.service.keep.Kept.{Kept}
-use Rattle.icu_driver.specs.declared.service.sample.SampleBody.{SampleBody}
 use Rattle.icu_driver.specs.declared.service.sample.SampleBody.TheVariants as samples
-use Rattle.icu_driver.specs.declared.service.init.InitBody.{InitBody}
 use Rattle.icu_driver.specs.declared.service.init.InitBody.TheVariants as inits
-use Rattle.icu_driver.specs.declared.service.deinit.DeInitBody.{DeInitBody}
 use Rattle.icu_driver.specs.declared.service.deinit.DeInitBody.TheVariants as deinits
-use Rattle.icu_driver.specs.declared.service.detect.DetectBody.{DetectBody}
 use Rattle.icu_driver.specs.declared.service.detect.DetectBody.TheVariants as detects
-use Rattle.icu_driver.specs.declared.service.change.ChangeBody.{ChangeBody}
 use Rattle.icu_driver.specs.declared.service.change.ChangeBody.TheVariants as changes
-use Rattle.icu_driver.specs.declared.service.gate.GateBody.{GateBody}
 use Rattle.icu_driver.specs.declared.service.gate.GateBody.TheVariants as gates
-use Rattle.icu_driver.specs.declared.service.stamp.StampBody.{StampBody}
 use Rattle.icu_driver.specs.declared.service.stamp.StampBody.TheVariants as stamps
-use Rattle.icu_driver.specs.declared.service.measure.MeasureBody.{MeasureBody}
 use Rattle.icu_driver.specs.declared.service.measure.MeasureBody.TheVariants as measures
-use Rattle.icu_driver.specs.declared.service.duty.DutyBody.{DutyBody}
 use Rattle.icu_driver.specs.declared.service.duty.DutyBody.TheVariants as duties
-use Rattle.icu_driver.specs.laws.Bodies.{IcuBody}
-use Rattle.icu_driver.specs.laws.Change.{change_work, change_takes}
-use Rattle.icu_driver.specs.laws.Count.{count_work, count_takes}
-use Rattle.icu_driver.specs.laws.DeInit.{deinit_work, deinit_takes}
-use Rattle.icu_driver.specs.laws.Detect.{detect_work, detect_takes}
-use Rattle.icu_driver.specs.laws.Duty.{duty_work, duty_takes}
-use Rattle.icu_driver.specs.laws.Gate.{gate_work, gate_takes}
-use Rattle.icu_driver.specs.laws.Init.{init_work, init_takes}
-use Rattle.icu_driver.specs.laws.Measure.{measure_work, measure_takes}
-use Rattle.icu_driver.specs.laws.Stamp.{stamp_work, stamp_takes}
-use Rattle.icu_driver.specs.laws.Keep.{fills, keep_work, keep_takes}
-use Rattle.icu_driver.specs.laws.Sample.{is_complete, sample_work, sample_takes}
 
 -- before it reads a high half it has read the low one
-abbrev pub count_seen : CountBody → Seen
+abbrev pub count_seen : CountBody → WindowHistory
 count_seen (counts.High c low) = HasRead (CaptureCountLow c)
 count_seen k = Plain
 
-abbrev pub keep_seen : KeepBody → Seen
+abbrev pub keep_seen : KeepBody → WindowHistory
 keep_seen (keeps.High r) = HasRead (CaptureTimeLow r.channel)
 keep_seen k = Plain
 
-abbrev pub sample_seen : SampleBody → Seen
+abbrev pub sample_seen : SampleBody → WindowHistory
 sample_seen (samples.High r) = HasRead (CaptureTimeLow r.channel)
 sample_seen k = Plain
 
-abbrev pub icu_seen : IcuBody → Seen
+abbrev pub icu_seen : IcuBody → WindowHistory
 icu_seen (First (Second (Second (First k)))) = keep_seen k
 icu_seen (First (Second (Second (Second k)))) = sample_seen k
 icu_seen (Second (First (Second (First k)))) = count_seen k

@@ -1,7 +1,7 @@
 use crate::service::init::condition;
 use crate::words::{MARKS, SWITCHES, word};
 use mcal_base::{AnswerName, IcuStartEdge, Move, Reg};
-use service_outline::{Body, BodyTaken, Owed, acts, acts_with, ends, named, nothing};
+use service_outline::{Body, BodyTaken, Epilogue, acts, acts_with, ends, named, nothing};
 
 /// The services that set or ask for what a channel keeps, from the load of the state word on.
 #[derive(Clone, Copy)]
@@ -40,10 +40,10 @@ impl Body for ChangeBody {
 
     fn took(&mut self, value: u32) -> BodyTaken {
         let (after, taken) = match *self {
-            ChangeBody::Notify(..) => (*self, acts_with(nothing(), Owed::Nothing)),
+            ChangeBody::Notify(..) => (*self, acts_with(nothing(), Epilogue::Nothing)),
             ChangeBody::Choose(channel, _, true) => (ChangeBody::Drop(channel), acts()),
-            ChangeBody::Choose(_, _, false) => (*self, acts_with(nothing(), Owed::Nothing)),
-            ChangeBody::Drop(_) => (*self, ends(None, nothing(), Owed::Nothing)),
+            ChangeBody::Choose(_, _, false) => (*self, acts_with(nothing(), Epilogue::Nothing)),
+            ChangeBody::Drop(_) => (*self, ends(None, nothing(), Epilogue::Nothing)),
             ChangeBody::Ask(channel) => (ChangeBody::Take(channel, value), acts()),
             ChangeBody::Take(_, mark) => {
                 let name = if mark == 1 {
@@ -51,7 +51,7 @@ impl Body for ChangeBody {
                 } else {
                     AnswerName::IcuIdle
                 };
-                (*self, ends(None, named(name), Owed::Nothing))
+                (*self, ends(None, named(name), Epilogue::Nothing))
             }
         };
         *self = after;

@@ -3,7 +3,7 @@ ghost use Rattle.icu_driver.specs.Words as spec;
 
 use crate::words::bit;
 use mcal_base::{Move, Reg};
-use service_outline::{Body, BodyTaken, Owed, acts, acts_with, ends, nothing, number};
+use service_outline::{Body, BodyTaken, Epilogue, acts, acts_with, ends, nothing, number};
 
 /// The services of an edge counter, from the load of the state word on. The count is read in halves.
 #[derive(Clone, Copy)]
@@ -40,7 +40,7 @@ impl Body for CountBody {
     fn took(&mut self, value: u32) -> BodyTaken {
         match *self {
             CountBody::Open(_) | CountBody::Close(_) | CountBody::Zero(_) => {
-                acts_with(nothing(), Owed::Nothing)
+                acts_with(nothing(), Epilogue::Nothing)
             }
             CountBody::Low(channel) => {
                 *self = CountBody::High(channel, value);
@@ -48,7 +48,7 @@ impl Body for CountBody {
             }
             CountBody::High(_, low) => {
                 let count = joined(low, value);
-                ends(None, number(count), Owed::Nothing)
+                ends(None, number(count), Epilogue::Nothing)
             }
         }
     }

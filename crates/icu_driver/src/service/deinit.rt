@@ -4,7 +4,7 @@ ghost use Rattle.icu_driver.specs.laws.DeInit as spec;
 use crate::driver::IcuDriver;
 use crate::words::{CHANNELS, LINES, MARKS, STATE, SWITCHES, word};
 use mcal_base::{IcuMeasurementMode, Move, Reg};
-use service_outline::{Body, BodyTaken, Owed, acts, ends, goes, nothing};
+use service_outline::{Body, BodyTaken, Epilogue, acts, ends, goes, nothing};
 
 /// `Icu_DeInit`, from the load of the state word on.
 #[derive(Clone, Copy)]
@@ -56,7 +56,7 @@ impl Body for DeInitBody {
             }
             DeInitBody::Zero(..) | DeInitBody::Mark(..) => (
                 *self,
-                ends(None, nothing(), Owed::Nothing),
+                ends(None, nothing(), Epilogue::Nothing),
             ),
         };
         *self = after;

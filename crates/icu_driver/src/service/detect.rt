@@ -1,6 +1,6 @@
 use crate::words::{MARKS, SWITCHES, line, word};
 use mcal_base::{Event, Move, Notice, NoticeKind, Reg};
-use service_outline::{Body, BodyTaken, Owed, ends, goes, nothing};
+use service_outline::{Body, BodyTaken, Epilogue, ends, goes, nothing};
 
 /// The handler of an edge detection, in its window.
 #[derive(Clone, Copy)]
@@ -33,7 +33,10 @@ impl Body for DetectBody {
 
     fn took(&mut self, value: u32) -> BodyTaken {
         let (after, taken) = match *self {
-            DetectBody::Look(_) if value / 4 == 0 => (*self, ends(None, nothing(), Owed::Nothing)),
+            DetectBody::Look(_) if value / 4 == 0 => (
+                *self,
+                ends(None, nothing(), Epilogue::Nothing),
+            ),
             DetectBody::Look(channel) => (DetectBody::Switch(channel), goes()),
             DetectBody::Switch(channel) => (DetectBody::Pop(channel, value == 1), goes()),
             DetectBody::Pop(channel, on) => {
@@ -47,9 +50,9 @@ impl Body for DetectBody {
                 let owed = if on {
                     let id = u32::from(channel);
                     let kind = NoticeKind::IcuSignalNotification;
-                    Owed::One(Notice { kind, id })
+                    Epilogue::One(Notice { kind, id })
                 } else {
-                    Owed::Nothing
+                    Epilogue::Nothing
                 };
                 (*self, ends(None, nothing(), owed))
             }

@@ -1,6 +1,6 @@
 use crate::words::{SWITCHES, TIMES, VALUES, word};
 use mcal_base::Move;
-use service_outline::{Body, BodyTaken, Owed, acts, ends, goes, numbers};
+use service_outline::{Body, BodyTaken, Epilogue, acts, ends, goes, numbers};
 
 /// `Icu_GetDutyCycleValues`, from the load of the state word on.
 #[derive(Clone, Copy)]
@@ -42,7 +42,7 @@ impl Body for DutyBody {
             DutyBody::Active(channel, false, _) => (DutyBody::Hand(channel, 0, 0), acts()),
             DutyBody::Hand(_, active, period) => {
                 let answer = numbers(active, period);
-                (*self, ends(None, answer, Owed::Nothing))
+                (*self, ends(None, answer, Epilogue::Nothing))
             }
         };
         *self = after;

@@ -1,6 +1,6 @@
 use crate::words::bit;
 use mcal_base::{Move, Reg};
-use service_outline::{Body, BodyTaken, Owed, acts, acts_with, ends, goes, nothing};
+use service_outline::{Body, BodyTaken, Epilogue, acts, acts_with, ends, goes, nothing};
 
 /// The services that only switch a channel on or off, from the load of the state word on.
 #[derive(Clone, Copy)]
@@ -35,9 +35,9 @@ impl Body for GateBody {
     fn took(&mut self, _value: u32) -> BodyTaken {
         let (after, taken) = match *self {
             GateBody::Open(channel) => (GateBody::Empty(channel), goes()),
-            GateBody::Empty(_) => (*self, acts_with(nothing(), Owed::Nothing)),
+            GateBody::Empty(_) => (*self, acts_with(nothing(), Epilogue::Nothing)),
             GateBody::Close(channel) => (GateBody::Drop(channel), acts()),
-            GateBody::Drop(_) => (*self, ends(None, nothing(), Owed::Nothing)),
+            GateBody::Drop(_) => (*self, ends(None, nothing(), Epilogue::Nothing)),
         };
         *self = after;
         taken

@@ -4,7 +4,7 @@ ghost use Rattle.icu_driver.specs.Words as spec;
 use crate::driver::{Channel, IcuDriver};
 use crate::words::{LINES, STATE};
 use mcal_base::{IcuMeasurementMode, IcuStartEdge, Move, Reg};
-use service_outline::{Body, BodyTaken, Owed, acts_with, goes, nothing};
+use service_outline::{Body, BodyTaken, Epilogue, acts_with, goes, nothing};
 
 /// `Icu_Init`, from the load of the state word on.
 #[derive(Clone, Copy)]
@@ -51,7 +51,7 @@ impl Body for InitBody {
             }
             InitBody::Mode(..) => (InitBody::Enable, goes()),
             InitBody::Enable => (InitBody::Store, goes()),
-            InitBody::Store => (InitBody::Store, acts_with(nothing(), Owed::Nothing)),
+            InitBody::Store => (InitBody::Store, acts_with(nothing(), Epilogue::Nothing)),
         };
         *self = after;
         taken

@@ -6,7 +6,7 @@ use crate::words::{
     INTERVALS, MARKS, PLACES, SIZES, SWITCHES, VALUES, bit, line, stamp_word, word,
 };
 use mcal_base::{Event, Move, Notice, NoticeKind, Reg};
-use service_outline::{Body, BodyTaken, Owed, ends, goes, nothing};
+use service_outline::{Body, BodyTaken, Epilogue, ends, goes, nothing};
 
 /// What the handler of a timestamp channel knows of its channel and of the oldest edge.
 #[derive(Clone, Copy)]
@@ -93,7 +93,10 @@ impl Body for KeepBody {
 
     fn took(&mut self, value: u32) -> BodyTaken {
         let (after, taken) = match *self {
-            KeepBody::Look(_) if value / 4 == 0 => (*self, ends(None, nothing(), Owed::Nothing)),
+            KeepBody::Look(_) if value / 4 == 0 => (
+                *self,
+                ends(None, nothing(), Epilogue::Nothing),
+            ),
             KeepBody::Look(r) => (KeepBody::Low(r), goes()),
             KeepBody::Low(r) => (KeepBody::High(Kept { time: value, ..r }), goes()),
             KeepBody::High(r) => {
@@ -179,15 +182,15 @@ impl Kept {
     }
 
     /// The notice, where it is due.
-    fn owed(self) -> Owed
+    fn owed(self) -> Epilogue
         ensures { result ≡ spec.keep_owed self }
     {
         if self.left == 1 && self.notified {
             let id = u32::from(self.channel);
             let kind = NoticeKind::IcuTimestampNotification;
-            Owed::One(Notice { kind, id })
+            Epilogue::One(Notice { kind, id })
         } else {
-            Owed::Nothing
+            Epilogue::Nothing
         }
     }
 }

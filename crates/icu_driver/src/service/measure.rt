@@ -1,6 +1,6 @@
 use crate::words::{SIZES, SWITCHES, VALUES, bit, word};
 use mcal_base::{Move, Reg};
-use service_outline::{Body, BodyTaken, Owed, acts, ends, goes, nothing, number};
+use service_outline::{Body, BodyTaken, Epilogue, acts, ends, goes, nothing, number};
 
 /// `Icu_StartSignalMeasurement` and `Icu_GetTimeElapsed`, from the load of the state word on.
 #[derive(Clone, Copy)]
@@ -46,13 +46,13 @@ impl Body for MeasureBody {
             MeasureBody::Open(channel) => (MeasureBody::Empty(channel), goes()),
             MeasureBody::Empty(channel) => (MeasureBody::Unhand(channel), acts()),
             MeasureBody::Unhand(channel) => (MeasureBody::Unsee(channel), goes()),
-            MeasureBody::Unsee(_) => (*self, ends(None, nothing(), Owed::Nothing)),
+            MeasureBody::Unsee(_) => (*self, ends(None, nothing(), Epilogue::Nothing)),
             MeasureBody::Waits(channel) => (MeasureBody::Value(channel, value == 1), goes()),
             MeasureBody::Value(channel, waits) => {
                 let handed = if waits { value } else { 0 };
                 (MeasureBody::Hand(channel, handed), acts())
             }
-            MeasureBody::Hand(_, handed) => (*self, ends(None, number(handed), Owed::Nothing)),
+            MeasureBody::Hand(_, handed) => (*self, ends(None, number(handed), Epilogue::Nothing)),
         };
         *self = after;
         taken

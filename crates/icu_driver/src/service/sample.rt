@@ -4,7 +4,7 @@ ghost use Rattle.icu_driver.specs.laws.Sample as spec;
 use crate::service::count::joined;
 use crate::words::{INTERVALS, MARKS, PLACES, SIZES, SWITCHES, TIMES, VALUES, line, word};
 use mcal_base::{Event, Move, Reg};
-use service_outline::{Body, BodyTaken, Owed, ends, goes, nothing};
+use service_outline::{Body, BodyTaken, Epilogue, ends, goes, nothing};
 
 /// What the handler of a measurement knows of its channel, of the oldest edge, and of what was seen before it.
 #[derive(Clone, Copy)]
@@ -93,7 +93,10 @@ impl Body for SampleBody {
 
     fn took(&mut self, value: u32) -> BodyTaken {
         let (after, taken) = match *self {
-            SampleBody::Look(_) if value / 4 == 0 => (*self, ends(None, nothing(), Owed::Nothing)),
+            SampleBody::Look(_) if value / 4 == 0 => (
+                *self,
+                ends(None, nothing(), Epilogue::Nothing),
+            ),
             SampleBody::Look(r) => (SampleBody::Low(r.looked(value)), goes()),
             SampleBody::Low(r) => (SampleBody::High(Sampled { time: value, ..r }), goes()),
             SampleBody::High(r) => {
@@ -118,7 +121,7 @@ impl Body for SampleBody {
             SampleBody::Waits(r) => (SampleBody::Mark(r), goes()),
             SampleBody::Mark(r) => (SampleBody::Keep(r), goes()),
             SampleBody::Keep(r) => (SampleBody::Last(r), goes()),
-            SampleBody::Last(_) => (*self, ends(None, nothing(), Owed::Nothing)),
+            SampleBody::Last(_) => (*self, ends(None, nothing(), Epilogue::Nothing)),
         };
         *self = after;
         taken

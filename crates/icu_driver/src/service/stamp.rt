@@ -1,6 +1,6 @@
 use crate::words::{INTERVALS, MARKS, PLACES, SIZES, VALUES, bit, word};
 use mcal_base::{Move, Reg};
-use service_outline::{Body, BodyTaken, Owed, acts, acts_with, ends, goes, nothing, number};
+use service_outline::{Body, BodyTaken, Epilogue, acts, acts_with, ends, goes, nothing, number};
 
 /// A start of stamps.
 #[derive(Clone, Copy)]
@@ -31,7 +31,7 @@ pub enum StampBody {
     /// and how many stamps are left until the first notice.
     Left(Stamping),
     /// It looks whether stamps are on. Where they aren't, it acts and owes this.
-    Look(u8, Owed),
+    Look(u8, Epilogue),
     /// It acts, and closes the gate.
     Close(u8),
     /// It drops what waits.
@@ -80,7 +80,10 @@ impl Body for StampBody {
             StampBody::Size(start) => (StampBody::Interval(start), goes()),
             StampBody::Interval(start) => (StampBody::Index(start), goes()),
             StampBody::Index(start) => (StampBody::Left(start), goes()),
-            StampBody::Left(_) | StampBody::Off(_) => (*self, ends(None, nothing(), Owed::Nothing)),
+            StampBody::Left(_) | StampBody::Off(_) => (
+                *self,
+                ends(None, nothing(), Epilogue::Nothing),
+            ),
             StampBody::Look(channel, _) if value == 1 => (StampBody::Close(channel), goes()),
             StampBody::Look(_, owed) => (*self, acts_with(nothing(), owed)),
             StampBody::Close(channel) => (StampBody::Drop(channel), acts()),
@@ -88,7 +91,7 @@ impl Body for StampBody {
             StampBody::Started(channel) => (StampBody::Ask(channel, value != 0), goes()),
             StampBody::Ask(_, started) => {
                 let index = if started { value } else { 0 };
-                (*self, acts_with(number(index), Owed::Nothing))
+                (*self, acts_with(number(index), Epilogue::Nothing))
             }
         };
         *self = after;

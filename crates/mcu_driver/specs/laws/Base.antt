@@ -1,34 +1,15 @@
 -- Bodies of short services, in one window and with nothing held, and their acts.
-use Rattle.std.proofs.Common.{◌≡◌, ℕ, ◌≤◌, Bool, true, false, ◌&&◌, not, [], Option, Some, None, refl, ◌∙◌, ap, arith}
-use Rattle.chip_model.specs.Chip.{Chip, chip_after, value_of}
-use Rattle.mcal_base.specs.declared.answer.Answer.{Answer}
-use Rattle.mcal_base.specs.declared.directive.Order.{Order}
-use Rattle.mcal_base.specs.declared.directive.Order.TheVariants.{Tick}
-use Rattle.mcal_base.specs.declared.moves.Event.{Event}
-use Rattle.mcal_base.specs.declared.moves.Event.TheVariants.{Act}
-use Rattle.mcal_base.specs.declared.moves.Move.{Move}
-use Rattle.run_model.specs.World.{World, world_after}
-use Rattle.run_model.specs.Machine.{outcome}
-use Rattle.run_model.specs.Frame.{Origin, Called, is_shared, resets_chip, begins_word, is_reset_service, missed_after}
-use Rattle.run_model.specs.Legal.{SendsRight}
-use Rattle.service_outline.specs.Acts.{Cleans}
-use Rattle.service_outline.specs.Done.{answers}
-use Rattle.service_outline.specs.Fuel.{Shortens, ShortensTo}
-use Rattle.service_outline.specs.Past.{Past, nothing_yet}
-use Rattle.service_outline.specs.Services.{Within, LongBodies, AreLong, Works, KeepsMask}
-use Rattle.service_outline.specs.declared.done.BodyTaken.{BodyTaken}
-use Rattle.service_outline.specs.declared.done.Done.{Done}
-use Rattle.service_outline.specs.declared.done.Owed.TheVariants.{Nothing}
-use Rattle.service_outline.specs.laws.ShortServices.{plain_turns, plain_makes}
-use Rattle.service_outline.specs.laws.StepKinds.{or_true}
-use Rattle.mcu_driver.specs.Bounds.{may, mcu_setting}
-use Rattle.mcu_driver.specs.Checks.{service_of}
-use Rattle.mcu_driver.specs.Ground.{Holds, McuAgrees, mcu_basis}
-use Rattle.mcu_driver.specs.Machine.{McuState, is_locked, work, acts_by}
-use Rattle.mcu_driver.specs.declared.call.Call.{Call}
-use Rattle.mcu_driver.specs.declared.driver.McuDriver.{McuDriver}
-use Rattle.mcu_driver.specs.laws.Ground.{owned_plain, may_parts}
-use Rattle.mcu_driver.specs.laws.Look.{MayAct}
+-- From RefinementRight, Look.
+-- Used by Clock, Query, State, Reset, Fill.
+use Rattle.std.proofs.Common.{◌≡◌, ◌≤◌, ◌&&◌, [], ◌∙◌}
+use Rattle.mcu_driver.specs.Terms
+use Terms.{Act, acts_by, Answer, answers, ap, AreLong, arith, begins_word, BodyTaken, Bool, Call, Called, Chip}
+use Terms.{chip_after, Cleans, Done, Event, false, FrameHistory, fresh_history, is_locked, is_reset_service, is_shared}
+use Terms.{KeepsMask, LongBodies, may, mcu_basis, mcu_setting, McuDriver, McuRepresents, McuState, missed_after, Move}
+use Terms.{None, not, Nothing, Option, or_true, Order, Origin, outcome, plain_makes, plain_turns, refl, Reservations}
+use Terms.{resets_chip, SendsRight, service_of, Shortens, ShortensTo, Some, Tick, true, value_of, Within, work, Works}
+use Terms.{World, world_after, ℕ}
+use Rattle.mcu_driver.specs.laws.{RefinementRight.{owned_plain, may_parts}, Look.{MayAct}}
 
 -- the oscillator's time goes on
 osc_later : (w : World) (rate : ℕ) (order : Order) → w.osc ≤ (world_after w rate order).osc
@@ -41,27 +22,27 @@ stays_closed room later e (Some n) h = h
 
 -- what holds at a place is of the state and of the frame
 abbrev pub HoldsAt : Type 0 → Type 1
-HoldsAt Body = World → McuState → Body → Origin Call → Past → Type 0
+HoldsAt Body = World → McuState → Body → Origin Call → FrameHistory → Type 0
 
 module _ (d : McuDriver) where
   abbrev pub plain : {Body : Type 0} → (Body → Move) → (Body → ℕ → Body × BodyTaken) → (Body → ℕ) → (Body → Bool) → HoldsAt Body → LongBodies (mcu_basis d) Body
-  plain work takes fuel clean holds = record { work_of = work; takes = takes; fuel = fuel; room = fuel; clean = clean; spot = λ k. Within tt [] (λ below f w s o t. holds w s k o t) }
+  plain work takes fuel clean holds = record { work_of = work; takes = takes; fuel = fuel; room = fuel; clean = clean; assertion = λ k. Within tt [] (λ below f w s o t. holds w s k o t) }
 
   -- what a step is, by what it makes of the body
-  abbrev pub WorksTo : {Body : Type 0} → LongBodies (mcu_basis d) Body → Holds → Chip → World → McuState → Body → Origin Call → (value received : ℕ) → Past → (ℕ → Bool) → Body × BodyTaken → Type 0
+  abbrev pub WorksTo : {Body : Type 0} → LongBodies (mcu_basis d) Body → Reservations → Chip → World → McuState → Body → Origin Call → (value received : ℕ) → FrameHistory → (ℕ → Bool) → Body × BodyTaken → Type 0
   WorksTo b below chip w s k o x y t m p = Works (mcu_basis d) b below chip (chip_after chip (b.work_of k) y) w s o (b.work_of k) (b.clean k) x y t m p.0 p.1.event p.1.done
 
   -- what they owe
   pub record IsPlain {Body : Type 0} (b : LongBodies (mcu_basis d) Body) (holds : HoldsAt Body) : Type 0 where
-    pub own : (w : World) (s : McuState) (k : Body) (o : Origin Call) (t : Past) → holds w s k o t → may (b.work_of k) ≡ true
-    pub steps : (below : Holds) (chip : Chip) (w : World) (s : McuState) (k : Body) (o : Origin Call) (y : ℕ) (t : Past) (m : ℕ → Bool) → McuAgrees d below chip w s → holds w s k o t → WorksTo b below chip w s k o (value_of chip (b.work_of k)) y t m (b.takes k (value_of chip (b.work_of k)))
-    pub later : (w w1 : World) (s : McuState) (k : Body) (o : Origin Call) (t : Past) → w.osc ≤ w1.osc → holds w s k o t → holds w1 s k o t
+    pub own : (w : World) (s : McuState) (k : Body) (o : Origin Call) (t : FrameHistory) → holds w s k o t → may (b.work_of k) ≡ true
+    pub steps : (below : Reservations) (chip : Chip) (w : World) (s : McuState) (k : Body) (o : Origin Call) (y : ℕ) (t : FrameHistory) (m : ℕ → Bool) → McuRepresents d below chip w s → holds w s k o t → WorksTo b below chip w s k o (value_of chip (b.work_of k)) y t m (b.takes k (value_of chip (b.work_of k)))
+    pub later : (w w1 : World) (s : McuState) (k : Body) (o : Origin Call) (t : FrameHistory) → w.osc ≤ w1.osc → holds w s k o t → holds w1 s k o t
     pub calm : (k : Body) (x : ℕ) → (b.takes k x).1.event ≡ None → (resets_chip (b.work_of k) ≡ false) × (begins_word (b.work_of k) ≡ false)
     pub shortens : (k : Body) (x : ℕ) → Shortens b.fuel k (b.takes k x)
     pub cleans : (k : Body) (x : ℕ) → Cleans b.clean (b.work_of k) k (b.takes k x)
 
   module _ {Body : Type 0} (work : Body → Move) (takes : Body → ℕ → Body × BodyTaken) (fuel : Body → ℕ) (clean : Body → Bool) (holds : HoldsAt Body) (p : IsPlain (plain work takes fuel clean holds) holds) where
-    named : (w : World) (s : McuState) (k : Body) (o : Origin Call) (t : Past) → holds w s k o t → is_shared (work k) ≡ false
+    named : (w : World) (s : McuState) (k : Body) (o : Origin Call) (t : FrameHistory) → holds w s k o t → is_shared (work k) ≡ false
     named w s k o t h = owned_plain (work k) (may_parts (work k) (p.own w s k o t h)).0
 
     pub plain_right : AreLong (mcu_basis d) (plain work takes fuel clean holds)
@@ -77,8 +58,8 @@ module _ (d : McuDriver) where
 
   -- ---- an act without an error that ends the body
 
-  module _ {Body : Type 0} (b : LongBodies (mcu_basis d) Body) (below : Holds) (before chip : Chip) (w : World) (s s1 : McuState) (call : Call) (made : Move) (clean : Bool) (x y : ℕ) (m : ℕ → Bool) (k : Body) (a : Answer) where
-    pub acted : MayAct d s call → work d w s call ≡ outcome s1 (answers a) → SendsRight before None made → resets_chip made ≡ is_reset_service (service_of call) && true → McuAgrees d below chip w s1 → Works (mcu_basis d) b below before chip w s (Called call) made clean x y nothing_yet m k (Some Act) (Some (record { answer = a; owed = Nothing }))
+  module _ {Body : Type 0} (b : LongBodies (mcu_basis d) Body) (below : Reservations) (before chip : Chip) (w : World) (s s1 : McuState) (call : Call) (made : Move) (clean : Bool) (x y : ℕ) (m : ℕ → Bool) (k : Body) (a : Answer) where
+    pub acted : MayAct d s call → work d w s call ≡ outcome s1 (answers a) → SendsRight before None made → resets_chip made ≡ is_reset_service (service_of call) && true → McuRepresents d below chip w s1 → Works (mcu_basis d) b below before chip w s (Called call) made clean x y fresh_history m k (Some Act) (Some (record { answer = a; owed = Nothing }))
     acted pass does sends reset h = record {
       may = refl;
       stands = tt;

@@ -1,14 +1,7 @@
 -- Each body as one of the driver's bodies.
-use Rattle.service_outline.specs.declared.body.Or.{Or}
-use Rattle.service_outline.specs.declared.body.Or.TheVariants.{First, Second}
-use Rattle.service_outline.specs.declared.sweep.Place.TheVariants.{Opens}
-use Rattle.service_outline.specs.declared.sweep.Sweep.{Sweep}
-use Rattle.mcu_driver.specs.declared.service.clock.ClockBody.{ClockBody}
-use Rattle.mcu_driver.specs.declared.service.fill.Fill.{Fill}
-use Rattle.mcu_driver.specs.declared.service.fill.FilledBody.{FilledBody}
-use Rattle.mcu_driver.specs.declared.service.query.QueryBody.{QueryBody}
-use Rattle.mcu_driver.specs.declared.service.reset.ResetBody.{ResetBody}
-use Rattle.mcu_driver.specs.declared.service.state.StateBody.{StateBody}
+-- Used by Look, Lawful, mcal_drivers: Frames, service/rt.
+use Rattle.mcu_driver.specs.Terms
+use Terms.{ClockBody, Fill, FilledBody, First, Opens, Or, QueryBody, ResetBody, Second, StateBody, Sweep}
 
 -- a place in any body of the driver
 abbrev pub McuBody : Type 0

@@ -1,39 +1,19 @@
 -- Mcu_InitRamSection: a sweep over the section's words with the mask open, and then the act.
-use Rattle.std.proofs.Common.{◌≡◌, ◌≢◌, ℕ, ◌+◌, ◌<◌, ◌≤◌, Bool, true, false, ◌&&◌, nat_lt, ◌==◌, List, [], ◌∷◌, Option, Some, None, length, refl, sym, ◌∙◌, ap, subst, arith, get_or-set_same, get_or-set_other}
-use Rattle.std.specs.Prelude.{if◌then◌else◌, slice_index}
-use Rattle.std.proofs.lemmas.Bool.Decides.{nat_tests}
-use Rattle.chip_model.specs.Chip.{Chip, chip_after, value_of}
-use Rattle.mcal_base.specs.declared.answer_name.AnswerName.TheVariants.{EOk}
-use Rattle.mcal_base.specs.declared.moves.Event.TheVariants.{Act}
-use Rattle.mcal_base.specs.declared.moves.Move.{Move}
-use Rattle.mcal_base.specs.declared.moves.Move.TheVariants.{Write, Load}
-use Rattle.mcal_base.specs.declared.register.Reg.TheVariants.{Ram}
-use Rattle.run_model.specs.World.{World, world_after}
-use Rattle.run_model.specs.Frame.{Origin, Called}
-use Rattle.run_model.specs.Causes.{blocks}
-use Rattle.service_outline.specs.Done.{ends, named}
-use Rattle.service_outline.specs.Past.{Past, nothing_yet, Being, Is_being}
-use Rattle.service_outline.specs.Services.{Held, Spot, Within, LongBodies, Stand, AreLong, Right, TurnsTo, AllLet, mark_of, place_at}
-use Rattle.service_outline.specs.Sweeping.{Sweeping, sweep}
-use Rattle.service_outline.specs.declared.done.BodyTaken.{BodyTaken}
-use Rattle.service_outline.specs.declared.done.Owed.TheVariants.{Nothing}
-use Rattle.service_outline.specs.declared.sweep.Sweep.{Sweep}
-use Rattle.service_outline.specs.laws.Sweeping.{sweep_right}
-use Rattle.mcu_driver.specs.Bounds.{class_of, mcu_setting}
-use Rattle.mcu_driver.specs.Ground.{Part, Holds, is_done, done_by, want, AllRight, McuAgrees, mcu_basis}
-use Rattle.mcu_driver.specs.Machine.{McuState, word_in, ram_at, fills_with, filled}
-use Rattle.mcu_driver.specs.Table.{section_of, is_within, FitsMcu}
-use Rattle.mcu_driver.specs.declared.call.Call.{Call}
-use Rattle.mcu_driver.specs.declared.call.Call.TheVariants.{InitRamSection}
-use Rattle.mcu_driver.specs.declared.driver.McuDriver.{McuDriver}
-use Rattle.mcu_driver.specs.declared.driver.Section.{Section}
-use Rattle.mcu_driver.specs.declared.service.fill.Fill.{Fill}
+-- From RefinementRight, Base, Look.
+-- Used by service/fill/rt, Lawful.
+use Rattle.std.proofs.Common.{◌≡◌, ◌≢◌, ◌+◌, ◌<◌, ◌≤◌, ◌&&◌, ◌==◌, [], ◌∷◌, ◌∙◌, if◌then◌else◌}
+use Rattle.mcu_driver.specs.Terms
+use Terms.{Act, AllLet, AllRight, ap, AreLong, arith, AssertedAt, blocks, BodyTaken, Bool, Call, Called, Chip}
+use Terms.{chip_after, class_of, done_by, ends, EOk, eq_isnt, false, Fill, filled, fills_with, FitsMcu, FrameHistory}
+use Terms.{fresh_history, get_or-set_other, get_or-set_same, if_false, if_true, InitRamSection, is_done, Is_this_frame}
+use Terms.{is_within, IsThisFrame, length, List, Load, LongBodies, mark_of, mcu_basis, mcu_setting, McuDriver}
+use Terms.{McuRepresents, McuState, Move, named, nat_lt, nat_tests, None, Nothing, Option, Origin, Part, place_at}
+use Terms.{PointAssertion, Ram, ram_at, refl, Reservations, ReservedBy, Right, Section, section_of, slice_index, Some}
+use Terms.{STATE, subst, Sweep, sweep, sweep_right, Sweeping, sym, true, TurnsTo, value_of, want, Within, word_in}
+use Terms.{World, world_after, Write, ℕ}
+use Rattle.mcu_driver.specs.laws.{Base.{acted}, RefinementRight.{all_moved, basis_right}, Look.{fill_passes}}
 use Rattle.mcu_driver.specs.declared.service.fill.FilledBody as bodies
 use Rattle.mcu_driver.specs.declared.service.fill.FilledBody.TheVariants as fills
-use Rattle.mcu_driver.specs.declared.words.TheConstants.{STATE}
-use Rattle.mcu_driver.specs.laws.Base.{acted}
-use Rattle.mcu_driver.specs.laws.Ground.{all_moved, basis_right}
-use Rattle.mcu_driver.specs.laws.Look.{fill_passes}
 
 -- ---- the sweep and what follows
 
@@ -53,7 +33,7 @@ abbrev pub filled_takes : bodies.FilledBody → ℕ → bodies.FilledBody × Bod
 filled_takes k x = (k, ends (Some Act) (named EOk) Nothing)
 
 -- no frame below holds the section
-abbrev pub Free : ℕ → Holds → Type 0
+abbrev pub Free : ℕ → Reservations → Type 0
 Free n [] = Unit {0}
 Free n (h ∷ hs) = (n == h.what.section ≡ false) × Free n hs
 
@@ -61,8 +41,8 @@ abbrev pub section_in : Fill → Section
 section_in r = record { base = r.base; size = r.size; default_value = r.value }
 
 -- the call that fills a section as it is configured, which no frame below holds
-abbrev pub IsFilling : McuDriver → Fill → Holds → Origin Call → Past → Type 0
-IsFilling d r below o t = Being (Called (InitRamSection r.section)) nothing_yet o t × (section_of d r.section ≡ Some (section_in r)) × Free r.section below
+abbrev pub IsFilling : McuDriver → Fill → Reservations → Origin Call → FrameHistory → Type 0
+IsFilling d r below o t = IsThisFrame (Called (InitRamSection r.section)) fresh_history o t × (section_of d r.section ≡ Some (section_in r)) × Free r.section below
 
 abbrev pub part : Fill → ℕ → List Part
 part r i = record { section = r.section; upto = i } ∷ []
@@ -70,24 +50,16 @@ part r i = record { section = r.section; upto = i } ∷ []
 abbrev pub filling : (d : McuDriver) → Sweeping (mcu_basis d) Fill bodies.FilledBody
 filling d = record { count = fill_count; move = fill_move; after = fill_after; hold = part; place = IsFilling d }
 
-abbrev pub filled_spot : (d : McuDriver) → bodies.FilledBody → Spot (mcu_basis d)
+abbrev pub filled_spot : (d : McuDriver) → bodies.FilledBody → PointAssertion (mcu_basis d)
 filled_spot d (fills.Act r) = Within tt (part r r.size) (λ below f w s o t. IsFilling d r below o t)
 
 abbrev pub filled_bodies : (d : McuDriver) → LongBodies (mcu_basis d) bodies.FilledBody
-filled_bodies d = record { work_of = filled_work; takes = filled_takes; fuel = λ k. 1; room = λ k. 1; clean = λ k. false; spot = filled_spot d }
+filled_bodies d = record { work_of = filled_work; takes = filled_takes; fuel = λ k. 1; room = λ k. 1; clean = λ k. false; assertion = filled_spot d }
 
 abbrev pub fill_bodies : (d : McuDriver) → LongBodies (mcu_basis d) (Sweep Fill bodies.FilledBody)
 fill_bodies d = sweep (filling d) (filled_bodies d)
 
 -- ---- which words are filled
-
-if_true : {A : Type 0} (b : Bool) (x y : A) → b ≡ true → (if b then x else y) ≡ x
-if_true true x y e = refl
-if_true false x y e = absurd (cc)
-
-if_false : {A : Type 0} (b : Bool) (x y : A) → b ≡ false → (if b then x else y) ≡ y
-if_false true x y e = absurd (cc)
-if_false false x y e = refl
 
 -- none at first, one more with each write, and all of them at last
 none_done : (x : Section) (k : ℕ) → is_done x 0 k ≡ false
@@ -105,26 +77,23 @@ all_done x k = grind (arith, nat_tests)
 not_done : (x : Section) (i k : ℕ) → is_within x k ≡ false → is_done x i k ≡ false
 not_done x i k e = ap (λ q. q && nat_lt k (x.base + i)) e
 
-differs : (n m : ℕ) → (n == m) ≡ false → n ≢ m
-differs n m e = grind (arith, nat_tests)
-
 -- what is wanted of a word goes by what is there, and where it is one of a section that nobody holds it is that
-want_same : (d : McuDriver) (held : Holds) (f g : ℕ → ℕ) (k : ℕ) → f k ≡ g k → want d held f k ≡ want d held g k
+want_same : (d : McuDriver) (held : Reservations) (f g : ℕ → ℕ) (k : ℕ) → f k ≡ g k → want d held f k ≡ want d held g k
 want_same d [] f g k e = e
 want_same d (h ∷ hs) f g k e = ap (λ y. done_by (section_of d h.what.section) h.what.upto y k) (want_same d hs f g k e)
 
-want_apart : (d : McuDriver) → FitsMcu d → (held : Holds) (f : ℕ → ℕ) (n k : ℕ) (x : Section) → section_of d n ≡ Some x → is_within x k ≡ true → Free n held → want d held f k ≡ f k
+want_apart : (d : McuDriver) → FitsMcu d → (held : Reservations) (f : ℕ → ℕ) (n k : ℕ) (x : Section) → section_of d n ≡ Some x → is_within x k ≡ true → Free n held → want d held f k ≡ f k
 want_apart d fits [] f n k x e in_it free = refl
 want_apart d fits (h ∷ hs) f n k x e in_it free = by (section_of d h.what.section) refl ∙ want_apart d fits hs f n k x e in_it free.1
   where
     by : (y : Option Section) → section_of d h.what.section ≡ y → done_by y h.what.upto (want d hs f k) k ≡ want d hs f k
     by None i = refl
-    by (Some y) i = if_false (is_done y h.what.upto k) y.default_value (want d hs f k) (not_done y h.what.upto k (fits.apart n h.what.section k x y e i (differs n h.what.section free.0) in_it))
+    by (Some y) i = if_false (is_done y h.what.upto k) y.default_value (want d hs f k) (not_done y h.what.upto k (fits.apart n h.what.section k x y e i (eq_isnt n h.what.section free.0) in_it))
 
 -- ---- the act
 
 module _ (d : McuDriver) (fits : FitsMcu d) where
-  want_filled : (below : Holds) (fs : List Section) (r : Fill) (k : ℕ) → section_of d r.section ≡ Some (section_in r) → Free r.section below → done_by (section_of d r.section) r.size (want d below (word_in fs) k) k ≡ want d below (word_in (fills_with (section_of d r.section) fs)) k
+  want_filled : (below : Reservations) (fs : List Section) (r : Fill) (k : ℕ) → section_of d r.section ≡ Some (section_in r) → Free r.section below → done_by (section_of d r.section) r.size (want d below (word_in fs) k) k ≡ want d below (word_in (fills_with (section_of d r.section) fs)) k
   want_filled below fs r k e free = ap (λ y. done_by y r.size (want d below (word_in fs) k) k) e ∙ (ap (λ q. if q then r.value else want d below (word_in fs) k) (all_done x k) ∙ (by (is_within x k) refl ∙ ap (λ y. want d below (word_in (fills_with y fs)) k) (sym e)))
     where
       x : Section
@@ -134,7 +103,7 @@ module _ (d : McuDriver) (fits : FitsMcu d) where
       by true i = if_true (is_within x k) r.value (want d below (word_in fs) k) i ∙ sym (want_apart d fits below (word_in (x ∷ fs)) r.section k x e i free ∙ if_true (is_within x k) r.value (word_in fs k) i)
       by false i = if_false (is_within x k) r.value (want d below (word_in fs) k) i ∙ sym (want_same d below (word_in (x ∷ fs)) (word_in fs) k (if_false (is_within x k) r.value (word_in fs k) i))
 
-  full : (held : Held Call Part) (below : Holds) (chip : Chip) (w : World) (s : McuState) (r : Fill) → section_of d r.section ≡ Some (section_in r) → Free r.section below → McuAgrees d (record held { what = record { section = r.section; upto = r.size } } ∷ below) chip w s → McuAgrees d below chip w (filled (section_of d r.section) s)
+  full : (held : ReservedBy Call Part) (below : Reservations) (chip : Chip) (w : World) (s : McuState) (r : Fill) → section_of d r.section ≡ Some (section_in r) → Free r.section below → McuRepresents d (record held { what = record { section = r.section; upto = r.size } } ∷ below) chip w s → McuRepresents d below chip w (filled (section_of d r.section) s)
   full held below chip w s r e free h = record {
     right = h.right.2;
     all = h.all;
@@ -146,8 +115,8 @@ module _ (d : McuDriver) (fits : FitsMcu d) where
     ram = λ k lt. h.ram k lt ∙ want_filled below s.fills r k e free;
   }
 
-  filled_steps : (below : Holds) (chip : Chip) (w : World) (s : McuState) (k : bodies.FilledBody) (o : Origin Call) (y : ℕ) (t : Past) (m : ℕ → Bool) → Stand (mcu_basis d) (filled_bodies d) below chip w s k o t → Right (mcu_basis d) (filled_bodies d) below chip w s k o y t m
-  filled_steps below chip w s (fills.Act r) o y t m (h, (Is_being, known, free)) = acted d (filled_bodies d) below chip chip w s (filled (section_of d r.section) s) (InitRamSection r.section) (Load STATE) false (value_of chip (Load STATE)) y _ (fills.Act r) (named EOk) (fill_passes d s r.section (section_in r) known h.right.1) refl tt refl (full (record { by = o; what = record { section = 0; upto = 0 }; acted = None }) below chip w s r known free h)
+  filled_steps : (below : Reservations) (chip : Chip) (w : World) (s : McuState) (k : bodies.FilledBody) (o : Origin Call) (y : ℕ) (t : FrameHistory) (m : ℕ → Bool) → AssertedAt (mcu_basis d) (filled_bodies d) below chip w s k o t → Right (mcu_basis d) (filled_bodies d) below chip w s k o y t m
+  filled_steps below chip w s (fills.Act r) o y t m (h, (Is_this_frame, known, free)) = acted d (filled_bodies d) below chip chip w s (filled (section_of d r.section) s) (InitRamSection r.section) (Load STATE) false (value_of chip (Load STATE)) y _ (fills.Act r) (named EOk) (fill_passes d s r.section (section_in r) known h.right.1) refl tt refl (full (record { by = o; what = record { section = 0; upto = 0 }; acted = None }) below chip w s r known free h)
 
   filled_right : AreLong (mcu_basis d) (filled_bodies d)
   filled_right = record {
@@ -163,7 +132,7 @@ module _ (d : McuDriver) (fits : FitsMcu d) where
       turns : (k : bodies.FilledBody) (x : ℕ) → TurnsTo (filled_bodies d) 32 k (filled_takes k x)
       turns (fills.Act r) x = omega arith
 
-      stays : (below : Holds) (w w1 : World) (s : McuState) (k : bodies.FilledBody) (o : Origin Call) (t : Past) → place_at (filled_spot d k) below tt w s o t → place_at (filled_spot d k) below tt w1 s o t
+      stays : (below : Reservations) (w w1 : World) (s : McuState) (k : bodies.FilledBody) (o : Origin Call) (t : FrameHistory) → place_at (filled_spot d k) below tt w s o t → place_at (filled_spot d k) below tt w1 s o t
       stays below w w1 s (fills.Act r) o t h = h
 
   -- ---- the sweep
@@ -172,7 +141,7 @@ module _ (d : McuDriver) (fits : FitsMcu d) where
   fits_in r i e lt = let le : r.base + r.size ≤ 512 = fits.inside r.section (section_in r) e in omega (arith, lt, le)
 
   -- a write leaves the other words
-  grown : (held : Held Call Part) (below : Holds) (chip : Chip) (w : World) (s : McuState) (r : Fill) (i : ℕ) → section_of d r.section ≡ Some (section_in r) → i < r.size → McuAgrees d (record held { what = record { section = r.section; upto = i } } ∷ below) chip w s → McuAgrees d (record held { what = record { section = r.section; upto = i + 1 } } ∷ below) (chip_after chip (fill_move r i) 0) w s
+  grown : (held : ReservedBy Call Part) (below : Reservations) (chip : Chip) (w : World) (s : McuState) (r : Fill) (i : ℕ) → section_of d r.section ≡ Some (section_in r) → i < r.size → McuRepresents d (record held { what = record { section = r.section; upto = i } } ∷ below) chip w s → McuRepresents d (record held { what = record { section = r.section; upto = i + 1 } } ∷ below) (chip_after chip (fill_move r i) 0) w s
   grown held below chip w s r i e lt h = record {
     right = h.right;
     all = all_moved chip (fill_move r i) 0 h.all;
@@ -199,7 +168,7 @@ module _ (d : McuDriver) (fits : FitsMcu d) where
           let within : j < length chip.ram = omega (arith, h.all.ram, fits_in r i e lt) in
           ap (λ n. slice_index (chip_after chip (fill_move r i) 0).ram n) same ∙ (get_or-set_same chip.ram j r.value 0 within ∙ sym (ap (λ z. done_by z (i + 1) (old k) k) e ∙ if_true (is_done x (i + 1) k) r.value (old k) (one_done x i k lt same)))
       by k there false is =
-          let ne : k ≢ j = differs k j is in
+          let ne : k ≢ j = eq_isnt k j is in
           get_or-set_other chip.ram j k r.value 0 ne ∙ (h.ram k there ∙ (ap (λ z. done_by z i (old k) k) e ∙ (ap (λ q. if q then r.value else old k) (others_done x i k ne) ∙ sym (ap (λ z. done_by z (i + 1) (old k) k) e))))
 
   named_there : (j : ℕ) → j < 512 → nat_lt j 512 ≡ true
@@ -220,11 +189,11 @@ module _ (d : McuDriver) (fits : FitsMcu d) where
 -- ---- the beginning
 
 -- what lets a call of the section begin holds nothing of it
-pub free_by : (d : McuDriver) (on : Bool) (n : ℕ) (below : Holds) → AllRight on below → AllLet (mcu_setting d) (class_of (InitRamSection n)) below → Free n below
+pub free_by : (d : McuDriver) (on : Bool) (n : ℕ) (below : Reservations) → AllRight on below → AllLet (mcu_setting d) (class_of (InitRamSection n)) below → Free n below
 free_by d on n [] right let_all = tt
 free_by d on n (h ∷ hs) right let_all = (subst (λ q. blocks (class_of (InitRamSection n)) (mark_of (mcu_setting d) q) ≡ false) right.0 let_all.0, free_by d on n hs right.2 let_all.1)
 
-pub begun : (d : McuDriver) (below : Holds) (chip : Chip) (w : World) (s : McuState) (n : ℕ) (x : Section) → section_of d n ≡ Some x → s.initialised ≡ true → McuAgrees d below chip w s → McuAgrees d (record { by = Called (InitRamSection n); what = record { section = n; upto = 0 }; acted = None } ∷ below) chip w s
+pub begun : (d : McuDriver) (below : Reservations) (chip : Chip) (w : World) (s : McuState) (n : ℕ) (x : Section) → section_of d n ≡ Some x → s.initialised ≡ true → McuRepresents d below chip w s → McuRepresents d (record { by = Called (InitRamSection n); what = record { section = n; upto = 0 }; acted = None } ∷ below) chip w s
 begun d below chip w s n x e on h = record {
   right = (refl, on, h.right);
   all = h.all;

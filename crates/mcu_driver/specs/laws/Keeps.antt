@@ -1,19 +1,12 @@
 -- The driver keeps to its module: registers, words and lines of others are nothing to it.
-use Rattle.std.proofs.Common.{◌≡◌, ℕ, ◌&&◌, nat_lt, Bool, true, false, Some, refl, ap, arith}
-use Rattle.std.specs.Prelude.{if◌then◌else◌}
-use Rattle.std.proofs.lemmas.Bool.Decides.{nat_tests}
-use Rattle.mcal_base.specs.declared.module_name.ModuleName.TheVariants.{Mcu}
-use Rattle.mcal_base.specs.declared.moves.Move.{Move}
-use Rattle.mcal_base.specs.declared.moves.Move.TheVariants.{Read, Write, Load, Store}
-use Rattle.mcal_base.specs.declared.register.Reg.{Reg}
-use Rattle.mcal_base.specs.declared.register.Reg.TheVariants.{EnableSet, EnableClear, ClockPll, ClockLock, ClockRate, ResetReason, ResetRequest, Ram}
-use Rattle.service_outline.specs.Services.{services_driver}
-use Rattle.service_outline.specs.There.{names_there}
-use Rattle.step_runner.specs.Lifts.{and-left}
-use Rattle.step_runner.specs.Whose.{only, is_of, module_of_register, module_of_word, WritesWithin, NamesWithin, WritesOthers, NamesOthers, KeepsTo}
-use Rattle.step_runner.proofs.Whose.{not-unless}
-use Rattle.mcu_driver.specs.Bounds.{is_register, is_own_word, owns}
-use Rattle.mcu_driver.specs.declared.driver.McuDriver.{McuDriver}
+-- From Lawful.
+-- Used by mcal_drivers: proofs/Joining.
+use Rattle.std.proofs.Common.{◌≡◌, ◌&&◌, if◌then◌else◌}
+use Rattle.mcu_driver.specs.Terms
+use Terms.{and_first, arith, ClockLock, ClockPll, ClockRate, EnableClear, EnableSet, false, is_of, is_own_word}
+use Terms.{is_register, KeepsTo, Load, Mcu, McuDriver, module_of_register, module_of_word, Move, names_there}
+use Terms.{NamesOthers, NamesWithin, nat_lt, nat_tests, not-unless, only, owns, Ram, Read, refl, Reg, ResetReason}
+use Terms.{ResetRequest, services_driver, Store, true, Write, WritesOthers, WritesWithin, ℕ}
 use Rattle.mcu_driver.specs.laws.Lawful.{mcu}
 
 own_register : (r : Reg) → is_register r ≡ true → is_of (only Mcu) (module_of_register r) ≡ true
@@ -55,7 +48,7 @@ others _ h = refl
 -- it is the clock's alone
 pub keeps_clock : (d : McuDriver) → KeepsTo (only Mcu) (services_driver (mcu d))
 keeps_clock d = record {
-  may = λ o made h. within made (and-left (owns made) (names_there made) h);
+  may = λ o made h. within made (and_first (owns made) (names_there made) h);
   owns = λ o made h. others made h;
   handlers = λ l h. cc;
   polls = λ w s c. refl;

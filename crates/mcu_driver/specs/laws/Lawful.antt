@@ -1,55 +1,23 @@
 -- The driver of clock, RAM and resets, as the outline and the runner see it, and that it owes nothing.
-use Rattle.std.proofs.Common.{◌≡◌, ℕ, ◌+◌, ◌≤◌, Bool, true, false, not, nat_lt, List, [], ◌∷◌, Option, Some, None, refl, sym, ◌∙◌, ap, subst, arith}
-use Rattle.std.specs.Prelude.{is_some, if◌then◌else◌}
-use Rattle.std.proofs.lemmas.Bool.Decides.{nat_tests}
-use Rattle.chip_model.specs.Chip.{Chip, word_of}
-use Rattle.mcal_base.specs.declared.error_name.ErrorName.{ErrorName}
-use Rattle.mcal_base.specs.declared.moves.Event.TheVariants.{Act}
-use Rattle.mcal_base.specs.declared.moves.Move.{Move}
-use Rattle.mcal_base.specs.declared.moves.Move.TheVariants.{Read, Write}
-use Rattle.mcal_base.specs.declared.register.Reg.TheVariants.{TimerHigh, PulseCommit, PulseIdle, CaptureCountHigh, CaptureTimeHigh}
-use Rattle.service_outline.specs.Seen.{is_windowed, Plain}
-use Rattle.service_outline.specs.laws.Duties.{no_duties, no_units}
-use Rattle.service_outline.specs.laws.Seen.{free_windows}
-use Rattle.step_runner.specs.Lifts.{and-left}
-use Rattle.run_model.specs.World.{World}
-use Rattle.run_model.specs.Machine.{outcome}
-use Rattle.run_model.specs.Frame.{Called, Open, asks_reset}
-use Rattle.service_outline.specs.Both.{both}
-use Rattle.service_outline.specs.Done.{tells_error}
-use Rattle.service_outline.specs.Past.{Is_being}
-use Rattle.service_outline.specs.Services.{LongBodies, AreLong, Services, AreServices, Decides, Beside, AllLet, services_driver}
-use Rattle.service_outline.specs.declared.body.Looked.{Looked}
-use Rattle.service_outline.specs.declared.body.Looked.TheVariants.{Goes}
-use Rattle.service_outline.specs.declared.body.Or.{Or}
-use Rattle.service_outline.specs.declared.short.Short.{Short}
-use Rattle.service_outline.specs.declared.short.Short.TheVariants.{Calling, Loading, Entering, Inside, Opening, Telling, Returning}
-use Rattle.service_outline.specs.laws.Both.{both_right}
-use Rattle.service_outline.specs.laws.Reports.{error_told}
-use Rattle.service_outline.specs.There.{names_there}
-use Rattle.mcu_driver.specs.Bounds.{class_of, size_of, owns, call_steps, mcu_setting}
-use Rattle.mcu_driver.specs.Checks.{error_by, answer_refused}
-use Rattle.mcu_driver.specs.Ground.{Holds, McuAgrees, mcu_basis}
-use Rattle.mcu_driver.specs.Machine.{McuState, is_locked, acts_by, mcu_machine}
-use Rattle.mcu_driver.specs.Table.{multiplier_of, section_of, FitsMcu}
-use Rattle.mcu_driver.specs.declared.asked.Asked.{Asked}
-use Rattle.mcu_driver.specs.declared.call.Call.{Call}
-use Rattle.mcu_driver.specs.declared.call.Call.TheVariants.{Init, InitRamSection, Clock, GetPllStatus, GetResetReason, PerformReset, SetMode}
-use Rattle.mcu_driver.specs.declared.call.ClockCall.TheVariants.{InitClock, DistributePllClock}
-use Rattle.mcu_driver.specs.declared.driver.McuDriver.{McuDriver}
-use Rattle.mcu_driver.specs.declared.driver.Section.{Section}
-use Rattle.mcu_driver.specs.declared.service.clock.ClockBody.{ClockBody}
-use Rattle.mcu_driver.specs.declared.service.query.QueryBody.{QueryBody}
-use Rattle.mcu_driver.specs.declared.service.state.StateBody.{StateBody}
-use Rattle.mcu_driver.specs.declared.words.TheConstants.{STATE}
-use Rattle.mcu_driver.specs.laws.Bodies.{McuBody, fill_body}
-use Rattle.mcu_driver.specs.laws.Clock.{clock_bodies, clock_right}
-use Rattle.mcu_driver.specs.laws.Fill.{fill_bodies, fill_right, free_by, begun}
-use Rattle.mcu_driver.specs.laws.Ground.{basis_right}
-use Rattle.mcu_driver.specs.laws.Look.{mcu_looked, looked_by, begins, begun_filling, begun_starting, narrow, fill, Passed, on_of, section_there, multiplier_there, unhindered, distribute_by, early, asked_word}
-use Rattle.mcu_driver.specs.laws.Query.{query_bodies, query_right}
-use Rattle.mcu_driver.specs.laws.Reset.{reset_bodies, reset_right}
-use Rattle.mcu_driver.specs.laws.State.{state_bodies, state_right}
+-- From Look, Fill, Bodies, Clock, Query and 3 more.
+-- Used by mcal_drivers: Laws, frames/rt, mcal_system: proofs/Resting, mcal_drivers: proofs/Sources and 3 more.
+use Rattle.std.proofs.Common.{◌≡◌, ◌+◌, ◌≤◌, [], ◌∷◌, ◌∙◌, if◌then◌else◌}
+use Rattle.mcu_driver.specs.Terms
+use Terms.{Act, acts_by, AllLet, and_first, answer_refused, ap, AreLong, AreServices, arith, Asked, asks_reset, Beside}
+use Terms.{Bool, both, both_right, Call, call_steps, Called, Calling, CaptureCountHigh, CaptureTimeHigh, Chip, class_of}
+use Terms.{Clock, ClockBody, Decides, DistributePllClock, Entering, error_by, error_told, ErrorName, false, FitsMcu}
+use Terms.{free_windows, GetPllStatus, GetResetReason, Goes, Init, InitClock, InitRamSection, Inside, is_locked}
+use Terms.{is_some, Is_this_frame, is_windowed, List, Loading, LongBodies, Looked, mcu_basis, mcu_machine, mcu_setting}
+use Terms.{McuDriver, McuRepresents, McuState, Move, multiplier_of, names_there, nat_lt, nat_tests, no_duties, no_units}
+use Terms.{None, not, Open, Opening, Option, Or, outcome, owns, PerformReset, Plain, PulseCommit, PulseIdle, QueryBody}
+use Terms.{Read, refl, Reservations, Returning, Section, section_of, Services, services_driver, SetMode, Short, size_of}
+use Terms.{Some, STATE, StateBody, subst, sym, Telling, tells_error, TimerHigh, true, word_of, World, Write, ℕ}
+use Rattle.mcu_driver.specs.laws.{Bodies.{McuBody, fill_body}, Clock.{clock_bodies, clock_right}, Fill.{fill_bodies}}
+use Rattle.mcu_driver.specs.laws.{Fill.{fill_right, free_by, begun}, RefinementRight.{basis_right}, Look.{mcu_looked}}
+use Rattle.mcu_driver.specs.laws.{Look.{looked_by, begins, begun_filling, begun_starting, narrow, fill, Passed, on_of}}
+use Rattle.mcu_driver.specs.laws.{Look.{section_there, multiplier_there, unhindered, distribute_by, early, asked_word}}
+use Rattle.mcu_driver.specs.laws.{Query.{query_bodies, query_right}, Reset.{reset_bodies, reset_right}}
+use Rattle.mcu_driver.specs.laws.{State.{state_bodies, state_right}}
 
 abbrev pub plain_bodies : (d : McuDriver) → LongBodies (mcu_basis d) (Or StateBody (Or QueryBody ClockBody))
 plain_bodies d = both (state_bodies d) (both (query_bodies d) (clock_bodies d))
@@ -103,14 +71,14 @@ fill_same n x le = ap (λ b. record { section = n; base = b; size = narrow x.siz
 not_none : {A : Type 0} (k : Option A) → k ≡ None → is_some k ≡ true → ⊥
 not_none k e i = let f : is_some k ≡ false = ap (λ x. is_some x) e in cc
 
-module _ (d : McuDriver) (fits : FitsMcu d) (below : Holds) (chip : Chip) (w : World) (s : McuState) (h : McuAgrees d below chip w s) where
+module _ (d : McuDriver) (fits : FitsMcu d) (below : Reservations) (chip : Chip) (w : World) (s : McuState) (h : McuRepresents d below chip w s) where
   abbrev Looks : Call → Looked McuBody → Type 0
   Looks call l = Decides (mcu d) below chip w s call l
 
   fills : (n : ℕ) (k : Option Section) → section_of d n ≡ k → AllLet (mcu_setting d) (class_of (InitRamSection n)) below → Passed d s (InitRamSection n) → Looks (InitRamSection n) (begun_filling n k)
   fills n None e l pass = absurd (not_none (section_of d n) e (section_there d s n pass))
   fills n (Some x) e l pass = subst (λ r. Looks (InitRamSection n) (Goes (fill_body r))) (sym (fill_same n x (fits.inside n x e))) (record {
-    at = (begun d below chip w s n x e (on_of d s n pass) h, (Is_being, e, free_by d s.initialised n below h.right l));
+    at = (begun d below chip w s n x e (on_of d s n pass) h, (Is_this_frame, e, free_by d s.initialised n below h.right l));
     closed = refl;
     fuel = subst (λ q. 3 + (x.size + 1) ≤ 4 + size_of q) (sym e) (omega arith);
     room = omega arith;
@@ -119,21 +87,21 @@ module _ (d : McuDriver) (fits : FitsMcu d) (below : Holds) (chip : Chip) (w : W
   starts : (n : ℕ) (k : Option ℕ) → multiplier_of d n ≡ k → Passed d s (Clock (InitClock n)) → Looks (Clock (InitClock n)) (begun_starting k)
   starts n None e pass = absurd (not_none (multiplier_of d n) e (multiplier_there d s n pass))
   starts n (Some m) e pass = record {
-    at = (h, (n, Is_being, record { known = e; positive = (fits.multiplier n m e).0; slow = (fits.multiplier n m e).1; pass = unhindered d s (Clock (InitClock n)) refl pass }));
+    at = (h, (n, Is_this_frame, record { known = e; positive = (fits.multiplier n m e).0; slow = (fits.multiplier n m e).1; pass = unhindered d s (Clock (InitClock n)) refl pass }));
     closed = refl;
     fuel = omega arith;
     room = omega arith;
   }
 
   goes_on : (call : Call) → Beside (mcu_setting d) (Called call) below → Passed d s call → Looks call (begins d call)
-  goes_on Init l pass = record { at = (h, Is_being); closed = refl; fuel = omega arith; room = omega arith }
+  goes_on Init l pass = record { at = (h, Is_this_frame); closed = refl; fuel = omega arith; room = omega arith }
   goes_on (InitRamSection n) l pass = fills n (section_of d n) refl l pass
   goes_on (Clock (InitClock n)) l pass = starts n (multiplier_of d n) refl pass
-  goes_on (Clock DistributePllClock) l pass = record { at = (h, ((Is_being, distribute_by d s pass), refl)); closed = refl; fuel = omega arith; room = omega arith }
-  goes_on GetPllStatus l pass = record { at = (h, (Is_being, unhindered d s GetPllStatus refl pass)); closed = refl; fuel = omega arith; room = omega arith }
-  goes_on GetResetReason l pass = record { at = (h, (Is_being, unhindered d s GetResetReason refl pass)); closed = refl; fuel = omega arith; room = omega arith }
-  goes_on PerformReset l pass = record { at = (h, (Is_being, unhindered d s PerformReset refl pass)); closed = refl; fuel = omega arith; room = omega arith }
-  goes_on (SetMode m) l pass = record { at = (h, (Is_being, unhindered d s (SetMode m) refl pass)); closed = refl; fuel = omega arith; room = omega arith }
+  goes_on (Clock DistributePllClock) l pass = record { at = (h, ((Is_this_frame, distribute_by d s pass), refl)); closed = refl; fuel = omega arith; room = omega arith }
+  goes_on GetPllStatus l pass = record { at = (h, (Is_this_frame, unhindered d s GetPllStatus refl pass)); closed = refl; fuel = omega arith; room = omega arith }
+  goes_on GetResetReason l pass = record { at = (h, (Is_this_frame, unhindered d s GetResetReason refl pass)); closed = refl; fuel = omega arith; room = omega arith }
+  goes_on PerformReset l pass = record { at = (h, (Is_this_frame, unhindered d s PerformReset refl pass)); closed = refl; fuel = omega arith; room = omega arith }
+  goes_on (SetMode m) l pass = record { at = (h, (Is_this_frame, unhindered d s (SetMode m) refl pass)); closed = refl; fuel = omega arith; room = omega arith }
 
   -- an error asks for no reset
   stays_on : (call : Call) (x : ErrorName) → asks_reset (mcu_machine d) (Called call) (Some Act) (Some (outcome s (tells_error (answer_refused call) x))) ≡ false
@@ -173,7 +141,7 @@ pub lawful : (d : McuDriver) → FitsMcu d → AreServices (mcu d)
 lawful d fits = record {
   basis = basis_right d;
   bodies = bodies_right d fits;
-  windows = free_windows (mcu d) (bodies_right d fits) (λ k. refl) (λ o made h. no_windows made (and-left (owns made) (names_there made) h));
+  windows = free_windows (mcu d) (bodies_right d fits) (λ k. refl) (λ o made h. no_windows made (and_first (owns made) (names_there made) h));
   unseen = λ below chip w s k call h. tt;
   writes = no_duties (mcu d) (λ k call writes. tt) (λ call. refl);
   starts = no_units (mcu d) (λ w s line. refl);

@@ -1,34 +1,17 @@
 -- The load of the state word: what it decides for each call, and what that shows.
-use Rattle.std.proofs.Common.{◌≡◌, ℕ, ◌<◌, Bool, true, false, ◌==◌, not, nat_lt, length, List, [], ◌∷◌, Option, Some, None, refl, arith}
-use Rattle.std.specs.Prelude.{if◌then◌else◌, is_some, slice_index_or}
-use Rattle.det_errors.proofs.RowLaws.{none_holds}
-use Rattle.det_errors.specs.Rows.{first_error, errors_of}
-use Rattle.mcal_base.specs.declared.error_name.ErrorName.{ErrorName}
-use Rattle.mcal_base.specs.declared.error_name.ErrorName.TheVariants.{McuPllNotLocked}
-use Rattle.mcal_base.specs.declared.service.Service.TheVariants as services
-use Rattle.run_model.specs.Machine.{no_answer}
-use Rattle.service_outline.specs.Done.{owed_error}
-use Rattle.service_outline.specs.declared.body.Looked.{Looked}
-use Rattle.service_outline.specs.declared.body.Looked.TheVariants.{Refused, Goes}
-use Rattle.service_outline.specs.declared.done.Done.{Done}
-use Rattle.service_outline.specs.declared.done.Owed.{Owed}
-use Rattle.service_outline.specs.declared.done.Owed.TheVariants.{Nothing}
-use Rattle.mcu_driver.specs.Checks.{facts_by, error_by, service_of, answer_refused, reporting}
-use Rattle.mcu_driver.specs.Ground.{state_word}
-use Rattle.mcu_driver.specs.Machine.{McuState}
-use Rattle.mcu_driver.specs.Table.{multiplier_of, section_of}
-use Rattle.mcu_driver.specs.declared.asked.Asked.{Asked}
-use Rattle.mcu_driver.specs.declared.call.Call.{Call}
-use Rattle.mcu_driver.specs.declared.call.Call.TheVariants.{Init, InitRamSection, Clock, GetPllStatus, GetResetReason, PerformReset, SetMode}
-use Rattle.mcu_driver.specs.declared.call.ClockCall.TheVariants.{InitClock, DistributePllClock}
-use Rattle.mcu_driver.specs.declared.driver.McuDriver.{McuDriver}
-use Rattle.mcu_driver.specs.declared.driver.Section.{Section}
-use Rattle.mcu_driver.specs.declared.service.clock.ClockBody.TheVariants.{Start, Look}
-use Rattle.mcu_driver.specs.declared.service.fill.Fill as fills
-use Rattle.mcu_driver.specs.declared.service.query.QueryBody.TheVariants.{Status, Reason}
-use Rattle.mcu_driver.specs.declared.service.reset.ResetBody.TheVariants.{Reset}
-use Rattle.mcu_driver.specs.declared.service.state.StateBody.TheVariants.{Initialise, Keep}
+-- From Bodies.
+-- Used by Lawful, Clock, asked/rt, Query, State and 3 more.
+use Rattle.std.proofs.Common.{◌≡◌, ◌<◌, ◌==◌, [], ◌∷◌, if◌then◌else◌}
+use Rattle.mcu_driver.specs.Terms
+use Terms.{answer_refused, arith, Asked, Bool, Call, Clock, DistributePllClock, Done, Epilogue, error_by, ErrorName}
+use Terms.{errors_of, facts_by, false, first_error, GetPllStatus, GetResetReason, Goes, Init, InitClock, Initialise}
+use Terms.{InitRamSection, is_some, Keep, length, List, Look, Looked, McuDriver, McuPllNotLocked, McuState}
+use Terms.{multiplier_of, nat_lt, no_answer, None, none_holds, not, not-false, Nothing, Option, owed_error}
+use Terms.{PerformReset, Reason, refl, Refused, reporting, Reset, Section, section_of, service_of, SetMode}
+use Terms.{slice_index_or, Some, Start, state_word, Status, true, ℕ}
 use Rattle.mcu_driver.specs.laws.Bodies.{McuBody, state_body, query_body, clock_body, reset_body, fill_body}
+use Rattle.mcal_base.specs.declared.service.Service.TheVariants as services
+use Rattle.mcu_driver.specs.declared.service.fill.Fill as fills
 
 -- ---- what it decides
 
@@ -58,7 +41,7 @@ begun_starting None = let_be
 begun_starting (Some m) = Goes (clock_body (Start m))
 
 -- what the call owes where the PLL isn't locked
-abbrev pub unlocked_owed : McuDriver → Owed
+abbrev pub unlocked_owed : McuDriver → Epilogue
 unlocked_owed d = owed_error (reporting d) services.McuDistributePllClock McuPllNotLocked
 
 -- what a call without an error so far goes on with
@@ -95,18 +78,14 @@ MayAct d s call = (unlocked : Bool) → error_by d call (not s.initialised) unlo
 no_error : (d : McuDriver) (s : McuState) (call : Call) → Passed d s call → (k : ℕ) → k < length (errors_of (service_of call)) → slice_index_or (facts_by d call (not s.initialised) false) k false ≡ false
 no_error d s call pass k lt = none_holds (errors_of (service_of call)) (facts_by d call (not s.initialised) false) pass k lt
 
-yes : (b : Bool) → not b ≡ false → b ≡ true
-yes true e = refl
-yes false e = absurd (cc)
-
 pub on_of : (d : McuDriver) (s : McuState) (n : ℕ) → Passed d s (InitRamSection n) → s.initialised ≡ true
-on_of d s n pass = yes s.initialised (no_error d s (InitRamSection n) pass 0 (omega arith))
+on_of d s n pass = not-false s.initialised (no_error d s (InitRamSection n) pass 0 (omega arith))
 
 pub section_there : (d : McuDriver) (s : McuState) (n : ℕ) → Passed d s (InitRamSection n) → is_some (section_of d n) ≡ true
-section_there d s n pass = yes (is_some (section_of d n)) (no_error d s (InitRamSection n) pass 1 (omega arith))
+section_there d s n pass = not-false (is_some (section_of d n)) (no_error d s (InitRamSection n) pass 1 (omega arith))
 
 pub multiplier_there : (d : McuDriver) (s : McuState) (n : ℕ) → Passed d s (Clock (InitClock n)) → is_some (multiplier_of d n) ≡ true
-multiplier_there d s n pass = yes (is_some (multiplier_of d n)) (no_error d s (Clock (InitClock n)) pass 1 (omega arith))
+multiplier_there d s n pass = not-false (is_some (multiplier_of d n)) (no_error d s (Clock (InitClock n)) pass 1 (omega arith))
 
 -- the lock counts for one call alone, and there only where the module is initialised
 abbrev pub is_distributing : Call → Bool
@@ -122,7 +101,7 @@ abbrev pub locks : Bool → Option ErrorName
 locks unlocked = if unlocked then Some McuPllNotLocked else None
 
 pub distribute_by : (d : McuDriver) (s : McuState) → Passed d s (Clock DistributePllClock) → (unlocked : Bool) → error_by d (Clock DistributePllClock) (not s.initialised) unlocked ≡ locks unlocked
-distribute_by d s pass unlocked = by s.initialised (yes s.initialised (no_error d s (Clock DistributePllClock) pass 0 (omega arith))) unlocked
+distribute_by d s pass unlocked = by s.initialised (not-false s.initialised (no_error d s (Clock DistributePllClock) pass 0 (omega arith))) unlocked
   where
     by : (on : Bool) → on ≡ true → (q : Bool) → error_by d (Clock DistributePllClock) (not on) q ≡ locks q
     by true e true = refl

@@ -1,38 +1,17 @@
 -- Mcu_GetPllStatus and Mcu_GetResetReason: their step, and that it is right.
-use Rattle.std.proofs.Common.{◌≡◌, ℕ, ◌+◌, ◌-◌, Bool, true, false, ◌==◌, nat_le, Option, Some, None, refl, sym, ◌∙◌, ap, arith}
-use Rattle.std.specs.Prelude.{if◌then◌else◌}
-use Rattle.std.proofs.lemmas.Bool.Decides.{nat_tests}
-use Rattle.chip_model.specs.Chip.{Chip, value_of, register_of}
-use Rattle.chip_units.specs.Clock.{is_locked as locked_in, is_locked_at, number_of}
-use Rattle.mcal_base.specs.Bits.{bit_of}
-use Rattle.mcal_base.specs.declared.answer_name.AnswerName.{AnswerName}
-use Rattle.mcal_base.specs.declared.answer_name.AnswerName.TheVariants.{McuPllLocked, McuPllUnlocked, McuPowerOnReset, McuWatchdogReset, McuSwReset}
+-- From Base, Look.
+-- Used by service/query/rt, Lawful, Clock.
+use Rattle.std.proofs.Common.{◌≡◌, ◌+◌, ◌-◌, ◌==◌, ◌∙◌, if◌then◌else◌}
+use Rattle.mcu_driver.specs.Terms
+use Terms.{Act, AnswerName, answers, ap, AreLong, arith, begins_word, bit_of, BodyTaken, Bool, Call, Called, Chip}
+use Terms.{ClockLock, ends, false, FrameHistory, fresh_history, GetPllStatus, GetResetReason, is_locked, is_locked_at}
+use Terms.{Is_this_frame, IsThisFrame, locked_in, LongBodies, may, mcu_basis, McuDriver, McuPllLocked, McuPllUnlocked}
+use Terms.{McuPowerOnReset, McuRepresents, McuState, McuSwReset, McuWatchdogReset, Move, named, nat_le, nat_tests}
+use Terms.{never_clean, None, Nothing, number_of, Option, Origin, outcome, Pll, pll_of, PowerOn, QueryBody, Read}
+use Terms.{Reason, reason_name, refl, register_of, Reservations, ResetReason, resets_chip, Shortens, Software, Some}
+use Terms.{Status, status_name, sym, true, value_of, Watchdog, World, ℕ}
+use Rattle.mcu_driver.specs.laws.{Base.{plain, WorksTo, plain_right, acted}, Look.{MayAct}}
 use Rattle.mcal_base.specs.declared.directive.Reason as resets
-use Rattle.mcal_base.specs.declared.directive.Reason.TheVariants.{PowerOn, Watchdog, Software}
-use Rattle.mcal_base.specs.declared.moves.Event.TheVariants.{Act}
-use Rattle.mcal_base.specs.declared.moves.Move.{Move}
-use Rattle.mcal_base.specs.declared.moves.Move.TheVariants.{Read}
-use Rattle.mcal_base.specs.declared.register.Reg.TheVariants.{ClockLock, ResetReason}
-use Rattle.run_model.specs.World.{World}
-use Rattle.run_model.specs.Frame.{Origin, Called, resets_chip, begins_word}
-use Rattle.run_model.specs.Machine.{outcome}
-use Rattle.service_outline.specs.Done.{ends, named, answers}
-use Rattle.service_outline.specs.Fuel.{Shortens}
-use Rattle.service_outline.specs.Past.{Past, nothing_yet, Being, Is_being}
-use Rattle.service_outline.specs.Services.{LongBodies, AreLong}
-use Rattle.service_outline.specs.declared.done.BodyTaken.{BodyTaken}
-use Rattle.service_outline.specs.declared.done.Owed.TheVariants.{Nothing}
-use Rattle.service_outline.specs.laws.Acts.{never_clean}
-use Rattle.mcu_driver.specs.Bounds.{may}
-use Rattle.mcu_driver.specs.Ground.{Holds, pll_of, McuAgrees, mcu_basis}
-use Rattle.mcu_driver.specs.Machine.{Pll, McuState, is_locked, reason_name, status_name}
-use Rattle.mcu_driver.specs.declared.call.Call.{Call}
-use Rattle.mcu_driver.specs.declared.call.Call.TheVariants.{GetPllStatus, GetResetReason}
-use Rattle.mcu_driver.specs.declared.driver.McuDriver.{McuDriver}
-use Rattle.mcu_driver.specs.declared.service.query.QueryBody.{QueryBody}
-use Rattle.mcu_driver.specs.declared.service.query.QueryBody.TheVariants.{Status, Reason}
-use Rattle.mcu_driver.specs.laws.Base.{plain, WorksTo, plain_right, acted}
-use Rattle.mcu_driver.specs.laws.Look.{MayAct}
 
 abbrev pub query_work : QueryBody → Move
 query_work Status = Read ClockLock
@@ -53,8 +32,8 @@ abbrev pub query_call : QueryBody → Call
 query_call Status = GetPllStatus
 query_call Reason = GetResetReason
 
-abbrev pub query_holds : McuDriver → World → McuState → QueryBody → Origin Call → Past → Type 0
-query_holds d w s k o t = Being (Called (query_call k)) nothing_yet o t × MayAct d s (query_call k)
+abbrev pub query_holds : McuDriver → World → McuState → QueryBody → Origin Call → FrameHistory → Type 0
+query_holds d w s k o t = IsThisFrame (Called (query_call k)) fresh_history o t × MayAct d s (query_call k)
 
 abbrev pub query_bodies : (d : McuDriver) → LongBodies (mcu_basis d) QueryBody
 query_bodies d = plain d query_work query_takes (λ k. 1) (λ k. false) (query_holds d)
@@ -68,7 +47,7 @@ locked_by : (w : World) (p : Option Pll) → is_locked_at (pll_of p) w.osc ≡ i
 locked_by w None = refl
 locked_by w (Some p) = hundred_since p.started w.osc
 
-pub lock_here : (d : McuDriver) (held : Holds) (chip : Chip) (w : World) (s : McuState) → McuAgrees d held chip w s → register_of chip ClockLock ≡ bit_of (is_locked w s.pll)
+pub lock_here : (d : McuDriver) (held : Reservations) (chip : Chip) (w : World) (s : McuState) → McuRepresents d held chip w s → register_of chip ClockLock ≡ bit_of (is_locked w s.pll)
 lock_here d held chip w s h = ap (λ c. bit_of (locked_in c)) h.clock ∙ ap bit_of (locked_by w s.pll)
 
 status_of : (b : Bool) → status (bit_of b) ≡ status_name b
@@ -81,9 +60,9 @@ reason_of Watchdog = refl
 reason_of Software = refl
 
 module _ (d : McuDriver) where
-  steps : (below : Holds) (chip : Chip) (w : World) (s : McuState) (k : QueryBody) (o : Origin Call) (y : ℕ) (t : Past) (m : ℕ → Bool) → McuAgrees d below chip w s → query_holds d w s k o t → WorksTo d (query_bodies d) below chip w s k o (value_of chip (query_work k)) y t m (query_takes k (value_of chip (query_work k)))
-  steps below chip w s Status o y t m h (Is_being, pass) = acted d (query_bodies d) below chip chip w s s GetPllStatus (Read ClockLock) false _ y m Status (named (status (register_of chip ClockLock))) pass (ap (λ n. outcome s (answers (named n))) (sym (ap status (lock_here d below chip w s h) ∙ status_of (is_locked w s.pll)))) tt refl h
-  steps below chip w s Reason o y t m h (Is_being, pass) = acted d (query_bodies d) below chip chip w s s GetResetReason (Read ResetReason) false _ y m Reason (named (reason (register_of chip ResetReason))) pass (ap (λ n. outcome s (answers (named n))) (sym (ap (λ c. reason (number_of c.reason)) h.clock ∙ reason_of s.reason))) tt refl h
+  steps : (below : Reservations) (chip : Chip) (w : World) (s : McuState) (k : QueryBody) (o : Origin Call) (y : ℕ) (t : FrameHistory) (m : ℕ → Bool) → McuRepresents d below chip w s → query_holds d w s k o t → WorksTo d (query_bodies d) below chip w s k o (value_of chip (query_work k)) y t m (query_takes k (value_of chip (query_work k)))
+  steps below chip w s Status o y t m h (Is_this_frame, pass) = acted d (query_bodies d) below chip chip w s s GetPllStatus (Read ClockLock) false _ y m Status (named (status (register_of chip ClockLock))) pass (ap (λ n. outcome s (answers (named n))) (sym (ap status (lock_here d below chip w s h) ∙ status_of (is_locked w s.pll)))) tt refl h
+  steps below chip w s Reason o y t m h (Is_this_frame, pass) = acted d (query_bodies d) below chip chip w s s GetResetReason (Read ResetReason) false _ y m Reason (named (reason (register_of chip ResetReason))) pass (ap (λ n. outcome s (answers (named n))) (sym (ap (λ c. reason (number_of c.reason)) h.clock ∙ reason_of s.reason))) tt refl h
 
   own : (k : QueryBody) → may (query_work k) ≡ true
   own Status = refl

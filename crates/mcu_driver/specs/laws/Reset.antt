@@ -1,31 +1,14 @@
 -- Mcu_PerformReset: its step, and that it is right.
-use Rattle.std.proofs.Common.{◌≡◌, ℕ, Bool, true, false, Some, None, refl, arith}
-use Rattle.chip_model.specs.Chip.{Chip, value_of}
-use Rattle.mcal_base.specs.declared.moves.Event.TheVariants.{Act}
-use Rattle.mcal_base.specs.declared.moves.Move.{Move}
-use Rattle.mcal_base.specs.declared.moves.Move.TheVariants.{Write}
-use Rattle.mcal_base.specs.declared.register.Reg.TheVariants.{ResetRequest}
-use Rattle.run_model.specs.World.{World}
-use Rattle.run_model.specs.Machine.{no_answer}
-use Rattle.run_model.specs.Frame.{Origin, Called, resets_chip, begins_word}
-use Rattle.service_outline.specs.Done.{ends}
-use Rattle.service_outline.specs.Fuel.{Shortens}
-use Rattle.service_outline.specs.Past.{Past, nothing_yet, Being, Is_being}
-use Rattle.service_outline.specs.Services.{LongBodies, AreLong}
-use Rattle.service_outline.specs.declared.done.BodyTaken.{BodyTaken}
-use Rattle.service_outline.specs.declared.done.Owed.TheVariants.{Nothing}
-use Rattle.service_outline.specs.laws.Acts.{never_clean}
-use Rattle.mcu_driver.specs.Bounds.{may}
-use Rattle.mcu_driver.specs.Ground.{Holds, McuAgrees, mcu_basis}
-use Rattle.mcu_driver.specs.Machine.{McuState}
-use Rattle.mcu_driver.specs.declared.call.Call.{Call}
-use Rattle.mcu_driver.specs.declared.call.Call.TheVariants.{PerformReset}
-use Rattle.mcu_driver.specs.declared.driver.McuDriver.{McuDriver}
-use Rattle.mcu_driver.specs.declared.service.reset.ResetBody.{ResetBody}
-use Rattle.mcu_driver.specs.declared.service.reset.ResetBody.TheVariants.{Reset}
-use Rattle.mcu_driver.specs.laws.Base.{plain, WorksTo, plain_right, acted}
-use Rattle.mcu_driver.specs.laws.Ground.{same_agrees, all_moved}
-use Rattle.mcu_driver.specs.laws.Look.{MayAct}
+-- From Base, RefinementRight, Look.
+-- Used by service/reset/rt, Lawful.
+use Rattle.std.proofs.Common.{◌≡◌}
+use Rattle.mcu_driver.specs.Terms
+use Terms.{Act, AreLong, arith, begins_word, BodyTaken, Bool, Call, Called, Chip, ends, false, FrameHistory}
+use Terms.{fresh_history, Is_this_frame, IsThisFrame, LongBodies, may, mcu_basis, McuDriver, McuRepresents, McuState}
+use Terms.{Move, never_clean, no_answer, None, Nothing, Origin, PerformReset, refl, Reservations, Reset, ResetBody}
+use Terms.{ResetRequest, resets_chip, Shortens, Some, true, value_of, World, Write, ℕ}
+use Rattle.mcu_driver.specs.laws.{Base.{plain, WorksTo, plain_right, acted}, RefinementRight.{same_agrees, all_moved}}
+use Rattle.mcu_driver.specs.laws.{Look.{MayAct}}
 
 abbrev pub reset_work : ResetBody → Move
 reset_work Reset = Write ResetRequest 1
@@ -33,16 +16,16 @@ reset_work Reset = Write ResetRequest 1
 abbrev pub reset_takes : ResetBody → ℕ → ResetBody × BodyTaken
 reset_takes Reset x = (Reset, ends (Some Act) no_answer Nothing)
 
-abbrev pub reset_holds : McuDriver → World → McuState → ResetBody → Origin Call → Past → Type 0
-reset_holds d w s k o t = Being (Called PerformReset) nothing_yet o t × MayAct d s PerformReset
+abbrev pub reset_holds : McuDriver → World → McuState → ResetBody → Origin Call → FrameHistory → Type 0
+reset_holds d w s k o t = IsThisFrame (Called PerformReset) fresh_history o t × MayAct d s PerformReset
 
 abbrev pub reset_bodies : (d : McuDriver) → LongBodies (mcu_basis d) ResetBody
 reset_bodies d = plain d reset_work reset_takes (λ k. 1) (λ k. false) (reset_holds d)
 
 module _ (d : McuDriver) where
   -- the request changes nothing itself: the reset follows
-  steps : (below : Holds) (chip : Chip) (w : World) (s : McuState) (k : ResetBody) (o : Origin Call) (y : ℕ) (t : Past) (m : ℕ → Bool) → McuAgrees d below chip w s → reset_holds d w s k o t → WorksTo d (reset_bodies d) below chip w s k o (value_of chip (reset_work k)) y t m (reset_takes k (value_of chip (reset_work k)))
-  steps below chip w s Reset o y t m h (Is_being, pass) = acted d (reset_bodies d) below chip _ w s s PerformReset (Write ResetRequest 1) false 0 y m Reset no_answer pass refl tt refl (same_agrees d below chip _ w w s (all_moved chip (Write ResetRequest 1) y h.all) h.clock refl (λ k own. refl) h)
+  steps : (below : Reservations) (chip : Chip) (w : World) (s : McuState) (k : ResetBody) (o : Origin Call) (y : ℕ) (t : FrameHistory) (m : ℕ → Bool) → McuRepresents d below chip w s → reset_holds d w s k o t → WorksTo d (reset_bodies d) below chip w s k o (value_of chip (reset_work k)) y t m (reset_takes k (value_of chip (reset_work k)))
+  steps below chip w s Reset o y t m h (Is_this_frame, pass) = acted d (reset_bodies d) below chip _ w s s PerformReset (Write ResetRequest 1) false 0 y m Reset no_answer pass refl tt refl (same_agrees d below chip _ w w s (all_moved chip (Write ResetRequest 1) y h.all) h.clock refl (λ k own. refl) h)
 
   own : (k : ResetBody) → may (reset_work k) ≡ true
   own Reset = refl

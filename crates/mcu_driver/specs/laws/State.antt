@@ -1,31 +1,13 @@
 -- Mcu_Init and Mcu_SetMode: their step, and that it is right.
-use Rattle.std.proofs.Common.{◌≡◌, ℕ, Bool, true, false, [], ◌∷◌, Some, refl, sym, ◌∙◌, subst, arith}
-use Rattle.chip_model.specs.Chip.{Chip, chip_after, value_of}
-use Rattle.mcal_base.specs.declared.moves.Move.{Move}
-use Rattle.mcal_base.specs.declared.moves.Move.TheVariants.{Store}
-use Rattle.mcal_base.specs.declared.moves.Event.TheVariants.{Act}
-use Rattle.run_model.specs.World.{World}
-use Rattle.run_model.specs.Machine.{no_answer}
-use Rattle.run_model.specs.Frame.{Origin, Called}
-use Rattle.service_outline.specs.Done.{ends}
-use Rattle.service_outline.specs.Past.{Past, nothing_yet, Being, Is_being}
-use Rattle.service_outline.specs.Services.{LongBodies, AreLong}
-use Rattle.service_outline.specs.declared.done.BodyTaken.{BodyTaken}
-use Rattle.service_outline.specs.declared.done.Owed.TheVariants.{Nothing}
-use Rattle.service_outline.specs.laws.Acts.{never_clean}
-use Rattle.service_outline.specs.laws.Words.{stored_same, stored_other}
-use Rattle.mcu_driver.specs.Bounds.{may}
-use Rattle.mcu_driver.specs.Ground.{Holds, AllRight, McuAgrees, mcu_basis}
-use Rattle.mcu_driver.specs.Machine.{McuState}
-use Rattle.mcu_driver.specs.declared.call.Call.{Call}
-use Rattle.mcu_driver.specs.declared.call.Call.TheVariants.{Init, SetMode}
-use Rattle.mcu_driver.specs.declared.driver.McuDriver.{McuDriver}
-use Rattle.mcu_driver.specs.declared.service.state.StateBody.{StateBody}
-use Rattle.mcu_driver.specs.declared.service.state.StateBody.TheVariants.{Initialise, Keep}
-use Rattle.mcu_driver.specs.declared.words.TheConstants.{STATE, MODE}
-use Rattle.mcu_driver.specs.laws.Base.{plain, WorksTo, plain_right, acted}
-use Rattle.mcu_driver.specs.laws.Ground.{all_moved}
-use Rattle.mcu_driver.specs.laws.Look.{MayAct}
+-- From Base, RefinementRight, Look.
+-- Used by service/state/rt, Lawful.
+use Rattle.std.proofs.Common.{◌≡◌, [], ◌∷◌, ◌∙◌}
+use Rattle.mcu_driver.specs.Terms
+use Terms.{Act, AllRight, AreLong, arith, BodyTaken, Bool, Call, Called, Chip, chip_after, ends, false, FrameHistory}
+use Terms.{fresh_history, Init, Initialise, Is_this_frame, IsThisFrame, Keep, LongBodies, may, mcu_basis, McuDriver}
+use Terms.{McuRepresents, McuState, MODE, Move, never_clean, no_answer, Nothing, Origin, refl, Reservations, SetMode}
+use Terms.{Some, STATE, StateBody, Store, stored_other, stored_same, subst, sym, true, value_of, World, ℕ}
+use Rattle.mcu_driver.specs.laws.{Base.{plain, WorksTo, plain_right, acted}, RefinementRight.{all_moved}, Look.{MayAct}}
 
 abbrev pub state_work : StateBody → Move
 state_work Initialise = Store STATE 1
@@ -34,20 +16,20 @@ state_work (Keep m) = Store MODE m
 abbrev pub state_takes : StateBody → ℕ → StateBody × BodyTaken
 state_takes k x = (k, ends (Some Act) no_answer Nothing)
 
-abbrev pub state_holds : McuDriver → World → McuState → StateBody → Origin Call → Past → Type 0
-state_holds d w s Initialise o t = Being (Called Init) nothing_yet o t
-state_holds d w s (Keep m) o t = Being (Called (SetMode m)) nothing_yet o t × MayAct d s (SetMode m)
+abbrev pub state_holds : McuDriver → World → McuState → StateBody → Origin Call → FrameHistory → Type 0
+state_holds d w s Initialise o t = IsThisFrame (Called Init) fresh_history o t
+state_holds d w s (Keep m) o t = IsThisFrame (Called (SetMode m)) fresh_history o t × MayAct d s (SetMode m)
 
 abbrev pub state_bodies : (d : McuDriver) → LongBodies (mcu_basis d) StateBody
 state_bodies d = plain d state_work state_takes (λ k. 1) (λ k. false) (state_holds d)
 
 -- what is held stays right once the module is initialised
-right_on : (on : Bool) (held : Holds) → AllRight on held → AllRight true held
+right_on : (on : Bool) (held : Reservations) → AllRight on held → AllRight true held
 right_on on [] h = tt
 right_on on (x ∷ xs) h = (h.0, refl, right_on on xs h.2)
 
 module _ (d : McuDriver) where
-  initialised : (held : Holds) (chip : Chip) (w : World) (s : McuState) (y : ℕ) → McuAgrees d held chip w s → McuAgrees d held (chip_after chip (Store STATE 1) y) w (record s { initialised = true })
+  initialised : (held : Reservations) (chip : Chip) (w : World) (s : McuState) (y : ℕ) → McuRepresents d held chip w s → McuRepresents d held (chip_after chip (Store STATE 1) y) w (record s { initialised = true })
   initialised held chip w s y h = record {
     right = right_on s.initialised held h.right;
     all = all_moved chip (Store STATE 1) y h.all;
@@ -59,7 +41,7 @@ module _ (d : McuDriver) where
     ram = h.ram;
   }
 
-  kept : (held : Holds) (chip : Chip) (w : World) (s : McuState) (m y : ℕ) → McuAgrees d held chip w s → McuAgrees d held (chip_after chip (Store MODE m) y) w (record s { mode = Some m })
+  kept : (held : Reservations) (chip : Chip) (w : World) (s : McuState) (m y : ℕ) → McuRepresents d held chip w s → McuRepresents d held (chip_after chip (Store MODE m) y) w (record s { mode = Some m })
   kept held chip w s m y h = record {
     right = h.right;
     all = all_moved chip (Store MODE m) y h.all;
@@ -71,15 +53,15 @@ module _ (d : McuDriver) where
     ram = h.ram;
   }
 
-  steps : (below : Holds) (chip : Chip) (w : World) (s : McuState) (k : StateBody) (o : Origin Call) (y : ℕ) (t : Past) (n : ℕ → Bool) → McuAgrees d below chip w s → state_holds d w s k o t → WorksTo d (state_bodies d) below chip w s k o 0 y t n (state_takes k 0)
-  steps below chip w s Initialise o y t n h Is_being = acted d (state_bodies d) below chip _ w s (record s { initialised = true }) Init (Store STATE 1) false 0 y n Initialise no_answer (λ q. refl) refl tt refl (initialised below chip w s y h)
-  steps below chip w s (Keep m) o y t n h (Is_being, pass) = acted d (state_bodies d) below chip _ w s (record s { mode = Some m }) (SetMode m) (Store MODE m) false 0 y n (Keep m) no_answer pass refl tt refl (kept below chip w s m y h)
+  steps : (below : Reservations) (chip : Chip) (w : World) (s : McuState) (k : StateBody) (o : Origin Call) (y : ℕ) (t : FrameHistory) (n : ℕ → Bool) → McuRepresents d below chip w s → state_holds d w s k o t → WorksTo d (state_bodies d) below chip w s k o 0 y t n (state_takes k 0)
+  steps below chip w s Initialise o y t n h Is_this_frame = acted d (state_bodies d) below chip _ w s (record s { initialised = true }) Init (Store STATE 1) false 0 y n Initialise no_answer (λ q. refl) refl tt refl (initialised below chip w s y h)
+  steps below chip w s (Keep m) o y t n h (Is_this_frame, pass) = acted d (state_bodies d) below chip _ w s (record s { mode = Some m }) (SetMode m) (Store MODE m) false 0 y n (Keep m) no_answer pass refl tt refl (kept below chip w s m y h)
 
-  own : (w : World) (s : McuState) (k : StateBody) (o : Origin Call) (t : Past) → state_holds d w s k o t → may (state_work k) ≡ true
+  own : (w : World) (s : McuState) (k : StateBody) (o : Origin Call) (t : FrameHistory) → state_holds d w s k o t → may (state_work k) ≡ true
   own w s Initialise o t h = refl
   own w s (Keep m) o t h = refl
 
-  later : (w w1 : World) (s : McuState) (k : StateBody) (o : Origin Call) (t : Past) → state_holds d w s k o t → state_holds d w1 s k o t
+  later : (w w1 : World) (s : McuState) (k : StateBody) (o : Origin Call) (t : FrameHistory) → state_holds d w s k o t → state_holds d w1 s k o t
   later w w1 s Initialise o t h = h
   later w w1 s (Keep m) o t h = h
 

@@ -1,5 +1,5 @@
 use mcal_base::{AnswerName, Move, Reg};
-use service_outline::{Body, BodyTaken, Owed, acts_with, goes, named};
+use service_outline::{Body, BodyTaken, Epilogue, acts_with, goes, named};
 
 /// `Mcu_InitClock` and `Mcu_DistributePllClock`, from the load of the state word on.
 #[derive(Clone, Copy)]
@@ -7,7 +7,7 @@ pub enum ClockBody {
     /// It acts, and the PLL starts with this multiplier.
     Start(u32),
     /// It looks whether the PLL is locked. Where it isn't it acts, and owes this.
-    Look(Owed),
+    Look(Epilogue),
     /// It acts, and the rate is the multiplier.
     Take,
 }
@@ -39,7 +39,7 @@ impl Body for ClockBody {
             }
             ClockBody::Start(_) | ClockBody::Take => acts_with(
                 named(AnswerName::EOk),
-                Owed::Nothing,
+                Epilogue::Nothing,
             ),
         }
     }

@@ -1,6 +1,6 @@
 use crate::words::STATE;
 use mcal_base::{AnswerName, Move, Reg};
-use service_outline::{Body, BodyTaken, Objects, Owed, acts_with, named};
+use service_outline::{Body, BodyTaken, Epilogue, Objects, acts_with, named};
 
 /// A section that is filled word by word, with the mask open.
 #[derive(Clone, Copy)]
@@ -62,7 +62,7 @@ impl Body for FilledBody {
 
     fn took(&mut self, _value: u32) -> BodyTaken {
         match *self {
-            FilledBody::Act(_) => acts_with(named(AnswerName::EOk), Owed::Nothing),
+            FilledBody::Act(_) => acts_with(named(AnswerName::EOk), Epilogue::Nothing),
         }
     }
 }

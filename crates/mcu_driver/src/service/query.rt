@@ -2,7 +2,7 @@ ghost use Rattle.std.specs.Prelude.{◌≡◌};
 ghost use Rattle.mcu_driver.specs.laws.Query as spec;
 
 use mcal_base::{AnswerName, Move, Reg};
-use service_outline::{Body, BodyTaken, Owed, acts_with, named};
+use service_outline::{Body, BodyTaken, Epilogue, acts_with, named};
 
 /// `Mcu_GetPllStatus` and `Mcu_GetResetReason`, from the load of the state word on.
 #[derive(Clone, Copy)]
@@ -32,7 +32,7 @@ impl Body for QueryBody {
             QueryBody::Status => status(value),
             QueryBody::Reason => reason(value),
         };
-        acts_with(named(name), Owed::Nothing)
+        acts_with(named(name), Epilogue::Nothing)
     }
 }
 

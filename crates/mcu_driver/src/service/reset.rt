@@ -1,5 +1,5 @@
 use mcal_base::{Move, Reg};
-use service_outline::{Body, BodyTaken, Owed, acts_with, nothing};
+use service_outline::{Body, BodyTaken, Epilogue, acts_with, nothing};
 
 /// `Mcu_PerformReset`, from the load of the state word on.
 #[derive(Clone, Copy)]
@@ -23,7 +23,7 @@ impl Body for ResetBody {
 
     fn took(&mut self, _value: u32) -> BodyTaken {
         match *self {
-            ResetBody::Reset => acts_with(nothing(), Owed::Nothing),
+            ResetBody::Reset => acts_with(nothing(), Epilogue::Nothing),
         }
     }
 }

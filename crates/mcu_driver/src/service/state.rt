@@ -1,6 +1,6 @@
 use crate::words::{MODE, STATE};
 use mcal_base::Move;
-use service_outline::{Body, BodyTaken, Owed, acts_with, nothing};
+use service_outline::{Body, BodyTaken, Epilogue, acts_with, nothing};
 
 /// `Mcu_Init` and `Mcu_SetMode`, from the load of the state word on.
 #[derive(Clone, Copy)]
@@ -26,6 +26,6 @@ impl Body for StateBody {
     }
 
     fn took(&mut self, _value: u32) -> BodyTaken {
-        acts_with(nothing(), Owed::Nothing)
+        acts_with(nothing(), Epilogue::Nothing)
     }
 }

@@ -1,12 +1,7 @@
 -- Each body as one of the driver's bodies.
-use Rattle.service_outline.specs.declared.body.Or.{Or}
-use Rattle.service_outline.specs.declared.body.Or.TheVariants.{First, Second}
-use Rattle.service_outline.specs.declared.sweep.Place.TheVariants.{Opens}
-use Rattle.service_outline.specs.declared.sweep.Sweep.{Sweep}
-use Rattle.port_driver.specs.declared.service.init.InitDone.{InitDone}
-use Rattle.port_driver.specs.declared.service.init.Setup.{Setup}
-use Rattle.port_driver.specs.declared.service.pin.PinBody.{PinBody}
-use Rattle.port_driver.specs.declared.service.refresh.RefreshBody.{RefreshBody}
+-- Used by Look, Lawful, service/rt, mcal_drivers: Frames.
+use Rattle.port_driver.specs.Terms
+use Terms.{First, InitDone, Opens, Or, PinBody, RefreshBody, Second, Setup, Sweep}
 
 -- a place in any body of the driver
 abbrev pub PortBody : Type 0

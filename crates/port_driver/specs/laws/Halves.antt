@@ -1,14 +1,11 @@
 -- What a write by halves leaves of the bits of all pins, and what the four of a side leave.
-use Rattle.std.proofs.Common.{◌≡◌, ◌≢◌, ℕ, ◌+◌, ◌*◌, ◌/◌, ◌%◌, ◌<◌, ◌^◌, ◌==◌, Bool, true, false, ◌&&◌, nat_lt, List, length, Option, Some, None, refl, sym, ◌∙◌, ap, subst, arith, length-set, inl, inr}
-use Rattle.std.specs.Prelude.{if◌then◌else◌, slice_index, bit_or}
-use Rattle.std.proofs.lemmas.Bool.Decides.{nat_tests}
-use Rattle.std.proofs.lemmas.Nat.{pow_below}
-use Rattle.chip_units.specs.Pins.{bit_at, ones_set, ones_clear}
-use Rattle.chip_units.proofs.WriteLaws.{bit_at-set, bit_at-clear, set-spared, clear-spared}
-use Rattle.mcal_base.specs.Bits.{has_bit, without}
-use Rattle.mcal_base.proofs.BitLaws.{has_bit-bits_of, bits_of-lt, has_bit-pow_same, has_bit-pow_other}
-use Rattle.port_driver.specs.Ground.{turn, put}
-use Rattle.port_driver.specs.Writes.{chosen, asks, sets, ones}
+-- Used by Init, Refresh, Pins, RefinementRight, Latches.
+use Rattle.std.proofs.Common.{◌≡◌, ◌≢◌, ◌+◌, ◌*◌, ◌/◌, ◌%◌, ◌<◌, ◌^◌, ◌==◌, ◌&&◌, ◌∙◌, if◌then◌else◌}
+use Rattle.port_driver.specs.Terms
+use Terms.{and_false, ap, arith, asks, bit_at, bit_at-clear, bit_at-set, bit_or, bits_of-lt, Bool, chosen, clear-spared}
+use Terms.{false, has_bit, has_bit-bits_of, has_bit-pow_other, has_bit-pow_same, inl, inr, length, length-set, List}
+use Terms.{nat_lt, nat_tests, None, ones, ones_clear, ones_set, Option, pow_below, put, refl, set-spared, sets}
+use Terms.{slice_index, Some, subst, sym, true, turn, without, ℕ}
 
 abbrev pub halves_after : (set : Bool) → List ℕ → (half bits : ℕ) → List ℕ
 halves_after true hs half bits = ones_set hs half bits
@@ -89,11 +86,6 @@ put_whole (Some high) p old lt = ap (λ q. if q then high else old) (within high
     within true = let e : 2 * (p / 32) + 0 < 4 = omega (arith, lt) in grind (arith, nat_tests)
     within false = let e : 2 * (p / 32) + 1 < 4 = omega (arith, lt) in grind (arith, nat_tests)
 
--- one more
-not_and : (b : Bool) → b && false ≡ false
-not_and true = refl
-not_and false = refl
-
 here_turn : (n k : ℕ) (set old : Bool) → nat_lt k (n + 1) ≡ true → set ≡ (if nat_lt k (n + 1) then set else old)
 here_turn n k set old e = ap (λ q. if q then set else old) (sym e)
 
@@ -113,8 +105,8 @@ its_turn n p high = by high (sets n) refl
   where
     by : (high q : Bool) → (n % 2 == 0) ≡ q → (n / 2 == p / 32 && asks q (Some high)) ≡ (turn p high == n)
     by true true e = grind (arith, nat_tests)
-    by true false e = not_and (n / 2 == p / 32) ∙ grind (arith, nat_tests)
-    by false true e = not_and (n / 2 == p / 32) ∙ grind (arith, nat_tests)
+    by true false e = and_false (n / 2 == p / 32) ∙ grind (arith, nat_tests)
+    by false true e = and_false (n / 2 == p / 32) ∙ grind (arith, nat_tests)
     by false false e = grind (arith, nat_tests)
 
 -- and it writes what is wanted
@@ -124,13 +116,13 @@ its_value n high it old half e = by high (sets n) half it e
     by : (high q half it : Bool) → half && asks q (Some high) ≡ it → chosen it q old ≡ chosen it high old
     by true true half it e = refl
     by false false half it e = refl
-    by true false half true e = absurd (let f = sym (not_and half) ∙ e in cc)
+    by true false half true e = absurd (let f = sym (and_false half) ∙ e in cc)
     by true false half false e = refl
-    by false true half true e = absurd (let f = sym (not_and half) ∙ e in cc)
+    by false true half true e = absurd (let f = sym (and_false half) ∙ e in cc)
     by false true half false e = refl
 
 put_next : (want : Option Bool) (n p : ℕ) (old : Bool) → chosen (n / 2 == p / 32 && asks (sets n) want) (sets n) (put want p n old) ≡ put want p (n + 1) old
-put_next None n p old = ap (λ q. chosen q (sets n) old) (not_and (n / 2 == p / 32))
+put_next None n p old = ap (λ q. chosen q (sets n) old) (and_false (n / 2 == p / 32))
 put_next (Some high) n p old =
     let it = n / 2 == p / 32 && asks (sets n) (Some high) in
     its_value n high it (put (Some high) p n old) (n / 2 == p / 32) refl ∙ step_turn n (turn p high) high old it (its_turn n p high)

@@ -1,45 +1,23 @@
 -- Port_Init: its sweep of writes, what it holds meanwhile, its act, and that they are right.
-use Rattle.std.proofs.Common.{◌≡◌, ◌≢◌, ℕ, ◌+◌, ◌-◌, ◌/◌, ◌<◌, ◌≤◌, Bool, true, false, nat_lt, List, [], ◌∷◌, length, Option, Some, None, refl, sym, ◌∙◌, ap, subst, arith, length-set, get_or-set_same, get_or-set_other}
-use Rattle.std.specs.Prelude.{if◌then◌else◌, is_some, slice_index_or, slice_set}
-use Rattle.std.proofs.lemmas.Bool.Decides.{nat_tests}
-use Rattle.chip_model.specs.Chip.{Chip, chip_after, value_of}
-use Rattle.chip_model.specs.Histories.{Made}
-use Rattle.chip_model.proofs.WholeLaws.{all-step}
-use Rattle.mcal_base.specs.declared.config.port.PortPinMode.{PortPinMode}
-use Rattle.mcal_base.specs.declared.config.port.PortPinMode.TheVariants.{Adc}
-use Rattle.mcal_base.specs.declared.moves.Event.TheVariants.{Act}
-use Rattle.mcal_base.specs.declared.moves.Move.{Move}
-use Rattle.mcal_base.specs.declared.moves.Move.TheVariants.{Store as Stores}
-use Rattle.mcal_base.specs.declared.register.Reg.TheVariants.{PinMode}
-use Rattle.run_model.specs.World.{World, world_after}
-use Rattle.run_model.specs.Machine.{tells_nothing, no_answer}
-use Rattle.run_model.specs.Frame.{Origin, Called, is_shared, resets_chip, begins_word}
-use Rattle.service_outline.specs.declared.done.BodyTaken.{BodyTaken}
-use Rattle.service_outline.specs.declared.done.Owed.TheVariants.{Nothing}
-use Rattle.service_outline.specs.declared.sweep.Sweep.{Sweep}
-use Rattle.service_outline.specs.Done.{ends}
-use Rattle.service_outline.specs.Past.{Past, nothing_yet, past_wrote, Being, Is_being}
-use Rattle.service_outline.specs.Services.{Held, LongBodies, Spot, Within, Stand, AreLong, Right, TurnsTo, with_holds, place_at}
-use Rattle.service_outline.specs.Sweeping.{Sweeping, sweep}
-use Rattle.service_outline.specs.laws.StepKinds.{or_true}
-use Rattle.service_outline.specs.laws.Sweep.{each_but}
-use Rattle.service_outline.specs.laws.Sweeping.{sweep_right}
-use Rattle.service_outline.specs.laws.Words.{stored_same}
-use Rattle.port_driver.specs.Bounds.{may, writes_latches, port_may}
-use Rattle.port_driver.specs.Ground.{Written, written, Holds, written_in, HeldRight, Alone, Is_alone, put, put_mode, LatchesAgree, ModesAgree, DirectionsAgree, PortAgrees, port_basis}
-use Rattle.port_driver.specs.Machine.{PinState, PortState, pin_at, is_out, initial, work}
-use Rattle.port_driver.specs.Table.{pin_of}
-use Rattle.port_driver.specs.Writes.{wanted_of, wants, sets, ones, half_write, mode_of, mode_number, initial_mode, mode_write, is_configured, configured, rank_of, ranked}
-use Rattle.port_driver.specs.declared.call.Call.{Call}
-use Rattle.port_driver.specs.declared.call.Call.TheVariants.{Init}
-use Rattle.port_driver.specs.declared.driver.Pin.{Pin}
-use Rattle.port_driver.specs.declared.driver.PortDriver.{PortDriver}
-use Rattle.port_driver.specs.declared.service.init.InitDone.{InitDone}
+-- From RefinementRight, Halves, Ranks.
+-- Used by service/init/rt, Lawful, Latches.
+use Rattle.std.proofs.Common.{◌≡◌, ◌≢◌, ◌+◌, ◌-◌, ◌/◌, ◌<◌, ◌≤◌, [], ◌∷◌, ◌∙◌, if◌then◌else◌}
+use Rattle.port_driver.specs.Terms
+use Terms.{Act, Adc, all-step, Alone, ap, AreLong, arith, AssertedAt, begins_word, BodyTaken, Bool, Call, Called, Chip}
+use Terms.{chip_after, configured, Directions, DirectionsAgree, each_but, ends, false, Fixed, FrameHistory}
+use Terms.{fresh_history, get_or-set_other, get_or-set_same, half_write, HeldRight, Init, InitDone, initial}
+use Terms.{initial_mode, Is_alone, is_configured, is_out, is_shared, is_some, Is_this_frame, IsThisFrame, LatchesAgree}
+use Terms.{length, length-set, Levels, List, LongBodies, lt_is, lt_isnt, Made, may, mode_number, mode_of, mode_write}
+use Terms.{ModesAgree, Move, nat_lt, nat_tests, no_answer, None, Nothing, ones, Option, or_true, Origin, past_wrote}
+use Terms.{Pin, pin_at, pin_of, PinMode, PinState, place_at, PointAssertion, port_basis, port_may, PortDriver}
+use Terms.{PortPinMode, PortRepresents, PortState, put, put_mode, rank_of, ranked, refl, Reservations, ReservedBy}
+use Terms.{resets_chip, Right, sets, Setup, slice_index_or, slice_set, Some, STATE, stored_same, Stores, subst, Sweep}
+use Terms.{sweep, sweep_right, Sweeping, sym, tells_nothing, true, TurnsTo, value_of, wanted_of, wants, with_holds}
+use Terms.{Within, work, World, world_after, writes_latches, Written, written, written_in, ℕ}
 use Rattle.port_driver.specs.declared.service.init.InitDone.TheVariants.{Store}
-use Rattle.port_driver.specs.declared.service.init.Setup.{Setup}
-use Rattle.port_driver.specs.declared.words.TheConstants.{STATE}
-use Rattle.port_driver.specs.declared.writes.Side.TheVariants.{Levels, Directions, Fixed}
-use Rattle.port_driver.specs.laws.Ground.{basis_right, put_mode_none, written_agrees, with_latches, with_directions, with_mode, may_halves, may_mode, IsCalm, calm_halves, past_halves, may_dry, may_at_init}
+use Rattle.port_driver.specs.laws.RefinementRight.{basis_right, put_mode_none, written_agrees, with_latches}
+use Rattle.port_driver.specs.laws.RefinementRight.{with_directions, with_mode, may_halves, may_mode, IsSilentMove}
+use Rattle.port_driver.specs.laws.RefinementRight.{calm_halves, past_halves, may_dry, may_at_init}
 use Rattle.port_driver.specs.laws.Halves.{halves_after, length-after, put_none, put_whole, put_written}
 use Rattle.port_driver.specs.laws.Ranks.{IsRanked, with_rank-found, same_rank, counted-lt}
 
@@ -70,8 +48,8 @@ done_takes k x = (k, ends (Some Act) no_answer Nothing)
 pub data IsSetUp (d : PortDriver) : Setup → Type 0 where
   Is_setup : IsSetUp d (record { driver = d })
 
-abbrev pub IsInit : Holds → Origin Call → Past → Type 0
-IsInit below o t = Being (Called Init) nothing_yet o t × Alone below
+abbrev pub IsInit : Reservations → Origin Call → FrameHistory → Type 0
+IsInit below o t = IsThisFrame (Called Init) fresh_history o t × Alone below
 
 abbrev pub part : PortDriver → ℕ → List Written
 part d i = written d i ∷ []
@@ -79,23 +57,23 @@ part d i = written d i ∷ []
 abbrev pub setting_up : (d : PortDriver) → Sweeping (port_basis d) Setup InitDone
 setting_up d = record { count = setup_count; move = setup_move; after = setup_after; hold = λ a i. part d i; place = λ a below o t. IsSetUp d a × IsInit below o t }
 
-abbrev pub done_spot : (d : PortDriver) → InitDone → Spot (port_basis d)
+abbrev pub done_spot : (d : PortDriver) → InitDone → PointAssertion (port_basis d)
 done_spot d Store = Within 0 (part d (8 + configured d)) (λ below f w s o t. IsInit below o t)
 
 abbrev pub done_bodies : (d : PortDriver) → LongBodies (port_basis d) InitDone
-done_bodies d = record { work_of = done_work; takes = done_takes; fuel = λ k. 1; room = λ k. 1; clean = λ k. false; spot = done_spot d }
+done_bodies d = record { work_of = done_work; takes = done_takes; fuel = λ k. 1; room = λ k. 1; clean = λ k. false; assertion = done_spot d }
 
 abbrev pub init_bodies : (d : PortDriver) → LongBodies (port_basis d) (Sweep Setup InitDone)
 init_bodies d = sweep (setting_up d) (done_bodies d)
 
 -- ---- a write of it
 
-module _ (d : PortDriver) (held held1 : Holds) (chip : Chip) (w : World) (s : PortState) (received : ℕ) (right : HeldRight held1) (h : PortAgrees d held 0 chip w s) where
+module _ (d : PortDriver) (held held1 : Reservations) (chip : Chip) (w : World) (s : PortState) (received : ℕ) (right : HeldRight held1) (h : PortRepresents d held 0 chip w s) where
   -- so many are made
-  abbrev Made1 : ℕ → ℕ → ℕ → Holds → Type 0
+  abbrev Made1 : ℕ → ℕ → ℕ → Reservations → Type 0
   Made1 a m c x = ((written_in x).levels ≡ a) × ((written_in x).modes ≡ m) × ((written_in x).directions ≡ c)
 
-  pub wrote_levels : (a m c : ℕ) → Made1 a m c held → Made1 (a + 1) m c held1 → PortAgrees d held1 0 (chip_after chip (half_write d Levels a) received) w s
+  pub wrote_levels : (a m c : ℕ) → Made1 a m c held → Made1 (a + 1) m c held1 → PortRepresents d held1 0 (chip_after chip (half_write d Levels a) received) w s
   wrote_levels a m c was is =
       let b = record chip.pins { latches = halves_after (sets a) chip.pins.latches (a / 2) (ones (wants d Levels) a) } in
       written_agrees d held held1 0 0 chip w s s _ _ received b (with_latches chip (sets a) (a / 2) (ones (wants d Levels) a) received) right refl
@@ -105,7 +83,7 @@ module _ (d : PortDriver) (held held1 : Holds) (chip : Chip) (w : World) (s : Po
       (subst (λ n. DirectionsAgree d n 0 b s) (was.2 ∙ sym is.2) h.directions)
       h
 
-  pub wrote_directions : (a m c : ℕ) → Made1 a m c held → Made1 a m (c + 1) held1 → PortAgrees d held1 0 (chip_after chip (half_write d Directions c) received) w s
+  pub wrote_directions : (a m c : ℕ) → Made1 a m c held → Made1 a m (c + 1) held1 → PortRepresents d held1 0 (chip_after chip (half_write d Directions c) received) w s
   wrote_directions a m c was is =
       let b = record chip.pins { out = halves_after (sets c) chip.pins.out (c / 2) (ones (wants d Directions) c) } in
       written_agrees d held held1 0 0 chip w s s _ _ received b (with_directions chip (sets c) (c / 2) (ones (wants d Directions) c) received) right refl
@@ -132,7 +110,7 @@ module _ (d : PortDriver) (held held1 : Holds) (chip : Chip) (w : World) (s : Po
       below : nat_lt rank (r + 1) ≡ true
       below = grind (arith, nat_tests)
 
-  pub wrote_mode : (a m c : ℕ) → m < configured d → Made1 a m c held → Made1 a (m + 1) c held1 → PortAgrees d held1 0 (chip_after chip (mode_write d m) received) w s
+  pub wrote_mode : (a m c : ℕ) → m < configured d → Made1 a m c held → Made1 a (m + 1) c held1 → PortRepresents d held1 0 (chip_after chip (mode_write d m) received) w s
   wrote_mode a m c lt was is =
       let p = ranked d m in
       let b = record chip.pins { modes = slice_set chip.pins.modes p (initial_mode d p) } in
@@ -160,49 +138,43 @@ module _ (d : PortDriver) (held held1 : Holds) (chip : Chip) (w : World) (s : Po
 
 -- ---- the sweep's steps
 
-above : (i n : ℕ) → nat_lt i n ≡ false → n ≤ i
-above i n e = grind (arith, nat_tests)
-
-under : (i n : ℕ) → nat_lt i n ≡ true → i < n
-under i n e = grind (arith, nat_tests)
-
 module _ (d : PortDriver) where
-  abbrev one : Origin Call → ℕ → Held Call Written
+  abbrev one : Origin Call → ℕ → ReservedBy Call Written
   one o i = record { by = o; what = written d i; acted = None }
 
-  step_by : (i : ℕ) (chip : Chip) (w : World) (s : PortState) → i < 8 + configured d → PortAgrees d (one (Called Init) i ∷ []) 0 chip w s → (q : Bool) → nat_lt i 4 ≡ q → (r : Bool) → nat_lt i (4 + configured d) ≡ r → PortAgrees d (one (Called Init) (i + 1) ∷ []) 0 (chip_after chip (setup_at d i q r) 0) w s
+  step_by : (i : ℕ) (chip : Chip) (w : World) (s : PortState) → i < 8 + configured d → PortRepresents d (one (Called Init) i ∷ []) 0 chip w s → (q : Bool) → nat_lt i 4 ≡ q → (r : Bool) → nat_lt i (4 + configured d) ≡ r → PortRepresents d (one (Called Init) (i + 1) ∷ []) 0 (chip_after chip (setup_at d i q r) 0) w s
   step_by i chip w s lt h true e r f =
-      let low = under i 4 e in
+      let low = lt_is i 4 e in
       wrote_levels d (one (Called Init) i ∷ []) (one (Called Init) (i + 1) ∷ []) chip w s 0 (refl, refl) h i 0 0
       (omega (arith, low), omega (arith, low), omega (arith, low)) (omega (arith, low), omega (arith, low), omega (arith, low))
   step_by i chip w s lt h false e true f =
-      let past = above i 4 e in
-      let low = under i (4 + configured d) f in
+      let past = lt_isnt i 4 e in
+      let low = lt_is i (4 + configured d) f in
       wrote_mode d (one (Called Init) i ∷ []) (one (Called Init) (i + 1) ∷ []) chip w s 0 (refl, refl) h 4 (i - 4) 0 (omega (arith, past, low))
       (omega (arith, past), omega (arith, past, low), omega (arith, low)) (omega (arith, past), omega (arith, past, low), omega (arith, low))
   step_by i chip w s lt h false e false f =
-      let past = above i (4 + configured d) f in
+      let past = lt_isnt i (4 + configured d) f in
       wrote_directions d (one (Called Init) i ∷ []) (one (Called Init) (i + 1) ∷ []) chip w s 0 (refl, refl) h 4 (configured d) (i - (4 + configured d))
       (omega (arith, past), omega (arith, past), refl) (omega (arith, past), omega (arith, past), omega (arith, past))
 
   own_by : (i : ℕ) → i < 8 + configured d → (q : Bool) → nat_lt i 4 ≡ q → (r : Bool) → nat_lt i (4 + configured d) ≡ r → may (setup_at d i q r) ≡ true
-  own_by i lt true e r f = may_halves Levels (sets i) (i / 2) (ones (wants d Levels) i) (let low = under i 4 e in omega (arith, low))
+  own_by i lt true e r f = may_halves Levels (sets i) (i / 2) (ones (wants d Levels) i) (let low = lt_is i 4 e in omega (arith, low))
   own_by i lt false e true f =
-      let past = above i 4 e in
-      let low = under i (4 + configured d) f in
+      let past = lt_isnt i 4 e in
+      let low = lt_is i (4 + configured d) f in
       let found = with_rank-found (is_configured d) (i - 4) 64 (omega (arith, past, low)) in
       may_mode (ranked d (i - 4)) (mode_number (initial_mode d (ranked d (i - 4)))) found.below
   own_by i lt false e false f =
-      let past = above i (4 + configured d) f in
+      let past = lt_isnt i (4 + configured d) f in
       may_halves Directions (sets (i - (4 + configured d))) ((i - (4 + configured d)) / 2) (ones (wants d Directions) (i - (4 + configured d))) (omega (arith, past, lt))
 
-  calm_by : (i : ℕ) (q r : Bool) → IsCalm (setup_at d i q r)
+  calm_by : (i : ℕ) (q r : Bool) → IsSilentMove (setup_at d i q r)
   calm_by i true r = calm_halves Levels (sets i) (i / 2) (ones (wants d Levels) i)
   calm_by i false true = record { still = refl; silent = refl }
   calm_by i false false = calm_halves Directions (sets (i - (4 + configured d))) ((i - (4 + configured d)) / 2) (ones (wants d Directions) (i - (4 + configured d)))
 
 -- a write of pins commits nothing
-past_by : (d : PortDriver) (w : World) (i : ℕ) (q r : Bool) (t : Past) → past_wrote w (setup_at d i q r) t ≡ t
+past_by : (d : PortDriver) (w : World) (i : ℕ) (q r : Bool) (t : FrameHistory) → past_wrote w (setup_at d i q r) t ≡ t
 past_by d w i true r t = past_halves w Levels (sets i) (i / 2) (ones (wants d Levels) i) t
 past_by d w i false true t = refl
 past_by d w i false false t = past_halves w Directions (sets (i - (4 + configured d))) ((i - (4 + configured d)) / 2) (ones (wants d Directions) (i - (4 + configured d))) t
@@ -225,7 +197,7 @@ mode_done (Some k) rank n x lt = ap (λ q. if q then k.initial_mode else x.mode)
     yes : rank < n → nat_lt rank n ≡ true
     yes low = grind (arith, nat_tests)
 
-acted : (d : PortDriver) (held : Held Call Written) (chip : Chip) (w : World) (s : PortState) (received : ℕ) → held.what ≡ written d (8 + configured d) → PortAgrees d (held ∷ []) 0 chip w s → PortAgrees d [] 0 (chip_after chip (Stores STATE 1) received) w (work d s Init)
+acted : (d : PortDriver) (held : ReservedBy Call Written) (chip : Chip) (w : World) (s : PortState) (received : ℕ) → held.what ≡ written d (8 + configured d) → PortRepresents d (held ∷ []) 0 chip w s → PortRepresents d [] 0 (chip_after chip (Stores STATE 1) received) w (work d s Init)
 acted d held chip w s received is h = record {
   right = tt;
   all = all-step chip (Made (Stores STATE 1) received) tt h.all;
@@ -246,8 +218,8 @@ acted d held chip w s received is h = record {
     directions = ap (λ (x : Written). x.directions) is ∙ omega arith
 
 module _ (d : PortDriver) where
-  done_steps : (below : Holds) (chip : Chip) (w : World) (s : PortState) (k : InitDone) (o : Origin Call) (y : ℕ) (t : Past) (m : ℕ → Bool) → Stand (port_basis d) (done_bodies d) below chip w s k o t → Right (port_basis d) (done_bodies d) below chip w s k o y t m
-  done_steps below chip w s Store o y t m (h, (Is_being, Is_alone)) = record {
+  done_steps : (below : Reservations) (chip : Chip) (w : World) (s : PortState) (k : InitDone) (o : Origin Call) (y : ℕ) (t : FrameHistory) (m : ℕ → Bool) → AssertedAt (port_basis d) (done_bodies d) below chip w s k o t → Right (port_basis d) (done_bodies d) below chip w s k o y t m
+  done_steps below chip w s Store o y t m (h, (Is_this_frame, Is_alone)) = record {
     may = refl;
     stands = tt;
     state = work d s Init;
@@ -283,17 +255,17 @@ module _ (d : PortDriver) where
       calm : (k : InitDone) → (resets_chip (done_work k) ≡ false) × (begins_word (done_work k) ≡ false)
       calm Store = (refl, refl)
 
-      stays : (below : Holds) (w w1 : World) (s : PortState) (k : InitDone) (o : Origin Call) (t : Past) → place_at ((done_bodies d).spot k) below tt w s o t → place_at ((done_bodies d).spot k) below tt w1 s o t
+      stays : (below : Reservations) (w w1 : World) (s : PortState) (k : InitDone) (o : Origin Call) (t : FrameHistory) → place_at ((done_bodies d).assertion k) below tt w s o t → place_at ((done_bodies d).assertion k) below tt w1 s o t
       stays below w w1 s Store o t h = h
 
   -- what the sweep owes of its objects
-  own : (a : Setup) (i : ℕ) (below : Holds) (o : Origin Call) (t : Past) → i < setup_count a → (setting_up d).place a below o t → port_may o (setup_move a i) ≡ true
-  own a i below o t lt (Is_setup, (Is_being, alone)) = may_at_init (setup_move a i) (own_by d i lt (nat_lt i 4) refl (nat_lt i (4 + configured d)) refl)
+  own : (a : Setup) (i : ℕ) (below : Reservations) (o : Origin Call) (t : FrameHistory) → i < setup_count a → (setting_up d).place a below o t → port_may o (setup_move a i) ≡ true
+  own a i below o t lt (Is_setup, (Is_this_frame, alone)) = may_at_init (setup_move a i) (own_by d i lt (nat_lt i 4) refl (nat_lt i (4 + configured d)) refl)
 
-  step : (a : Setup) (i : ℕ) (below : Holds) (chip : Chip) (w : World) (s : PortState) (o : Origin Call) (t : Past) → i < setup_count a → (setting_up d).place a below o t → PortAgrees d (with_holds o t.acted (part d i) below) 0 chip w s → PortAgrees d (with_holds o t.acted (part d (i + 1)) below) 0 (chip_after chip (setup_move a i) 0) w s
-  step a i below chip w s o t lt (Is_setup, (Is_being, Is_alone)) h = step_by d i chip w s lt h (nat_lt i 4) refl (nat_lt i (4 + configured d)) refl
+  step : (a : Setup) (i : ℕ) (below : Reservations) (chip : Chip) (w : World) (s : PortState) (o : Origin Call) (t : FrameHistory) → i < setup_count a → (setting_up d).place a below o t → PortRepresents d (with_holds o t.acted (part d i) below) 0 chip w s → PortRepresents d (with_holds o t.acted (part d (i + 1)) below) 0 (chip_after chip (setup_move a i) 0) w s
+  step a i below chip w s o t lt (Is_setup, (Is_this_frame, Is_alone)) h = step_by d i chip w s lt h (nat_lt i 4) refl (nat_lt i (4 + configured d)) refl
 
-  follows : (a : Setup) (below : Holds) (chip : Chip) (w : World) (s : PortState) (o : Origin Call) (t : Past) → (setting_up d).place a below o t → PortAgrees d (with_holds o t.acted (part d (setup_count a)) below) 0 chip w s → Stand (port_basis d) (done_bodies d) below chip w s Store o t
+  follows : (a : Setup) (below : Reservations) (chip : Chip) (w : World) (s : PortState) (o : Origin Call) (t : FrameHistory) → (setting_up d).place a below o t → PortRepresents d (with_holds o t.acted (part d (setup_count a)) below) 0 chip w s → AssertedAt (port_basis d) (done_bodies d) below chip w s Store o t
   follows a below chip w s o t (Is_setup, f) h = (h, f)
 
   pub init_right : AreLong (port_basis d) (init_bodies d)
@@ -309,7 +281,7 @@ module _ (d : PortDriver) where
   })
 
   -- none of its writes is made yet
-  pub begins_init : (chip : Chip) (w : World) (s : PortState) → PortAgrees d [] 0 chip w s → PortAgrees d (one d (Called Init) 0 ∷ []) 0 chip w s
+  pub begins_init : (chip : Chip) (w : World) (s : PortState) → PortRepresents d [] 0 chip w s → PortRepresents d (one d (Called Init) 0 ∷ []) 0 chip w s
   begins_init chip w s h = record {
     right = (refl, refl);
     all = h.all;

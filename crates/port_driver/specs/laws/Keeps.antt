@@ -1,19 +1,13 @@
 -- The driver keeps to its module: registers, words and lines of others are nothing to it.
-use Rattle.std.proofs.Common.{◌≡◌, ℕ, ◌&&◌, ◌||◌, not, nat_lt, Bool, true, false, Some, refl, ap, arith}
-use Rattle.std.specs.Prelude.{if◌then◌else◌}
-use Rattle.std.proofs.lemmas.Bool.Decides.{nat_tests}
-use Rattle.mcal_base.specs.declared.module_name.ModuleName.TheVariants.{Port}
-use Rattle.mcal_base.specs.declared.moves.Move.{Move}
-use Rattle.mcal_base.specs.declared.moves.Move.TheVariants.{Read, Write, Load, Store}
-use Rattle.mcal_base.specs.declared.register.Reg.{Reg}
-use Rattle.mcal_base.specs.declared.register.Reg.TheVariants.{EnableSet, EnableClear, PinDirectionSet, PinDirectionClear, PinOutSet, PinOutClear, PinMode, PortPut, PinFlip}
-use Rattle.service_outline.specs.Services.{services_driver}
-use Rattle.service_outline.specs.There.{names_there}
-use Rattle.step_runner.specs.Lifts.{and-left}
-use Rattle.step_runner.specs.Whose.{only, is_of, module_of_register, module_of_word, WritesWithin, NamesWithin, WritesOthers, NamesOthers, KeepsTo}
-use Rattle.step_runner.proofs.Whose.{not-unless}
-use Rattle.port_driver.specs.Bounds.{is_register, is_own_word, owns, may, is_of_init, writes_latches}
-use Rattle.port_driver.specs.declared.driver.PortDriver.{PortDriver}
+-- From Lawful.
+-- Used by mcal_drivers: proofs/Joining.
+use Rattle.std.proofs.Common.{◌≡◌, ◌&&◌, ◌||◌, if◌then◌else◌}
+use Rattle.port_driver.specs.Terms
+use Terms.{and_first, arith, EnableClear, EnableSet, false, is_of, is_of_init, is_own_word, is_register, KeepsTo, Load}
+use Terms.{may, module_of_register, module_of_word, Move, names_there, NamesOthers, NamesWithin, nat_lt, nat_tests, not}
+use Terms.{not-unless, only, owns, PinDirectionClear, PinDirectionSet, PinFlip, PinMode, PinOutClear, PinOutSet, Port}
+use Terms.{PortDriver, PortPut, Read, refl, Reg, services_driver, Store, true, Write, writes_latches, WritesOthers}
+use Terms.{WritesWithin, ℕ}
 use Rattle.port_driver.specs.laws.Lawful.{port}
 
 own_register : (r : Reg) → is_register r ≡ true → is_of (only Port) (module_of_register r) ≡ true
@@ -59,7 +53,7 @@ others _ h = refl
 -- it is the pins' alone
 pub keeps_pins : (d : PortDriver) → KeepsTo (only Port) (services_driver (port d))
 keeps_pins d = record {
-  may = λ o made h. within made (and-left (owns made) (names_there made) (and-left (may made) (is_of_init o || not (writes_latches made)) h));
+  may = λ o made h. within made (and_first (owns made) (names_there made) (and_first (may made) (is_of_init o || not (writes_latches made)) h));
   owns = λ o made h. others made h;
   handlers = λ l h. cc;
   polls = λ w s c. refl;

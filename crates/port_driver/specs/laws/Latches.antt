@@ -1,26 +1,13 @@
 -- Port_Init writes the latch of each configured pin: the sweep has made each of its first four writes.
-use Rattle.std.proofs.Common.{◌≡◌, ℕ, zero, suc, ◌+◌, ◌/◌, ◌%◌, ◌<◌, ◌≤◌, ◌==◌, nat_lt, Bool, true, false, ◌&&◌, List, ◌++◌, Option, Some, None, refl, sym, ◌∙◌, ap, subst, arith}
-use Rattle.std.specs.Prelude.{if◌then◌else◌}
-use Rattle.std.specs.List.{list_any}
-use Rattle.std.proofs.lemmas.Bool.Decides.{nat_tests}
-use Rattle.mcal_base.specs.Bits.{has_bit}
-use Rattle.mcal_base.specs.declared.moves.Move.{Move}
-use Rattle.run_model.specs.Frame.{writes_after}
-use Rattle.run_model.specs.Legal.{AllMade}
-use Rattle.service_outline.specs.declared.sweep.Place.{Place}
-use Rattle.service_outline.specs.declared.sweep.Place.TheVariants.{Opens, At, Closes, Follows}
-use Rattle.service_outline.specs.Sweep.{place_of}
-use Rattle.service_outline.specs.laws.Duties.{made_on, made_here}
-use Rattle.service_outline.specs.laws.Sweep.{next_by}
-use Rattle.port_driver.specs.Bounds.{puts_latch, latch_duty, latch_duties}
-use Rattle.port_driver.specs.Table.{pin_of}
-use Rattle.port_driver.specs.Writes.{wants, asks, sets, ones, half_write}
-use Rattle.port_driver.specs.declared.driver.Pin.{Pin}
-use Rattle.port_driver.specs.declared.driver.PortDriver.{PortDriver}
-use Rattle.port_driver.specs.declared.service.init.InitDone.{InitDone}
-use Rattle.port_driver.specs.declared.writes.Side.TheVariants.{Levels}
-use Rattle.port_driver.specs.laws.Halves.{asked_bit}
-use Rattle.port_driver.specs.laws.Init.{setup_at}
+-- From Halves, Init.
+-- Used by Lawful.
+use Rattle.std.proofs.Common.{◌≡◌, ◌+◌, ◌/◌, ◌%◌, ◌<◌, ◌≤◌, ◌==◌, ◌&&◌, ◌++◌, ◌∙◌, if◌then◌else◌}
+use Rattle.port_driver.specs.Terms
+use Terms.{AllMade, ap, arith, asks, At, Bool, Closes, false, Follows, half_write, has_bit, InitDone, latch_duties}
+use Terms.{latch_duty, Levels, List, list_any, made_here, made_on, Move, nat_lt, nat_tests, next_by, None, ones, Opens}
+use Terms.{Option, Pin, pin_of, Place, place_of, PortDriver, puts_latch, refl, sets, Some, subst, suc, sym, true, wants}
+use Terms.{writes_after, zero, ℕ}
+use Rattle.port_driver.specs.laws.{Halves.{asked_bit}, Init.{setup_at}}
 
 -- ---- a write that was made
 

@@ -1,60 +1,27 @@
 -- The driver of the pins, as the outline and the runner see it, and that it is lawful.
-use Rattle.std.proofs.Common.{◌≡◌, ℕ, List, ◌+◌, ◌≤◌, true, false, ◌==◌, nat_lt, ◌||◌, not, [], ◌∷◌, Option, Some, None, refl, sym, ◌∙◌, ap, subst, arith}
-use Rattle.chip_model.specs.Chip.{Chip, value_of, word_of}
-use Rattle.mcal_base.specs.declared.error_name.ErrorName.{ErrorName}
-use Rattle.mcal_base.specs.declared.moves.Event.TheVariants.{Act}
-use Rattle.run_model.specs.Causes.{blocks}
-use Rattle.run_model.specs.World.{World}
-use Rattle.run_model.specs.Machine.{no_answer, outcome}
-use Rattle.run_model.specs.Frame.{Origin, Open, Called, writes_after, asks_reset}
-use Rattle.run_model.specs.Legal.{AllMade, MadeUnless}
-use Rattle.service_outline.specs.declared.short.Short.{Short}
-use Rattle.service_outline.specs.Both.{both}
-use Rattle.service_outline.specs.Done.{tells_error}
-use Rattle.service_outline.specs.Past.{Past, Is_being}
-use Rattle.service_outline.specs.Services.{Services, LongBodies, Stand, AreLong, WritesOn, MakesWrites, AreServices, AllLet, Beside, Decides, mark_of, services_driver}
-use Rattle.service_outline.specs.Short.{short_move, short_left, short_gave}
-use Rattle.service_outline.specs.declared.body.Looked.TheVariants.{Refused, Goes}
-use Rattle.service_outline.specs.declared.body.Or.TheVariants.{First, Second}
-use Rattle.service_outline.specs.declared.done.Done.{Done}
-use Rattle.service_outline.specs.declared.sweep.Place.{Place}
-use Rattle.service_outline.specs.declared.sweep.Place.TheVariants.{Opens, At, Closes, Follows}
-use Rattle.service_outline.specs.laws.Both.{both_right}
-use Rattle.service_outline.specs.laws.Duties.{none_unless, none_on, no_units}
-use Rattle.service_outline.specs.laws.Lawful.{services_lawful}
-use Rattle.service_outline.specs.laws.Reports.{error_told}
-use Rattle.step_runner.specs.Driver.{IsLawful}
-use Rattle.mcal_base.specs.declared.moves.Move.{Move}
-use Rattle.mcal_base.specs.declared.moves.Move.TheVariants.{Read, Write, Load}
-use Rattle.mcal_base.specs.declared.register.Reg.TheVariants.{TimerHigh, PulseCommit, PulseIdle, CaptureCountHigh, CaptureTimeHigh}
-use Rattle.service_outline.specs.Seen.{is_windowed, Plain}
-use Rattle.service_outline.specs.laws.Seen.{free_windows}
-use Rattle.step_runner.specs.Lifts.{and-left}
-use Rattle.service_outline.specs.There.{names_there}
-use Rattle.port_driver.specs.Bounds.{class_of, owns, may, is_of_init, writes_latches, call_steps, must_by, port_setting}
-use Rattle.port_driver.specs.Checks.{error_by}
-use Rattle.port_driver.specs.Ground.{Holds, HeldRight, Alone, Is_alone, PortAgrees, port_basis}
-use Rattle.port_driver.specs.Machine.{PortState, acts_by, port_machine}
-use Rattle.port_driver.specs.Table.{FitsPort}
-use Rattle.port_driver.specs.Writes.{configured}
-use Rattle.port_driver.specs.declared.asked.Asked.{Asked}
-use Rattle.port_driver.specs.declared.call.Call.{Call}
-use Rattle.port_driver.specs.declared.call.Call.TheVariants.{Init, RefreshPortDirection}
+-- From Look, Init, Latches, Refresh, Bodies and 3 more.
+-- Used by frames/rt, mcal_drivers: Laws, caller/rt, Keeps, mcal_system: proofs/Resting and 2 more.
+use Rattle.std.proofs.Common.{◌≡◌, ◌+◌, ◌≤◌, ◌==◌, ◌||◌, [], ◌∷◌, ◌∙◌}
+use Rattle.port_driver.specs.Terms
+use Terms.{Act, acts_by, AllLet, AllMade, Alone, and_first, ap, AreLong, AreServices, arith, Asked, asks_reset}
+use Terms.{AssertedAt, At, Beside, blocks, both, both_right, Call, call_steps, Called, CaptureCountHigh}
+use Terms.{CaptureTimeHigh, Chip, class_of, Closes, configured, Decides, Done, error_by, error_told, ErrorName, false}
+use Terms.{First, FitsPort, Follows, FrameHistory, free_windows, Goes, HeldRight, Init, InitDone, Is_alone, is_of_init}
+use Terms.{Is_this_frame, is_windowed, IsLawful, List, Load, LongBodies, MadeUnless, MakesWrites, mark_of, may, Move}
+use Terms.{must_by, names_there, nat_lt, no_answer, no_units, None, none_on, none_unless, not, Open, Opens, Option}
+use Terms.{Origin, outcome, owns, Place, Plain, port_basis, port_machine, port_setting, PortDriver, PortRepresents}
+use Terms.{PortState, PulseCommit, PulseIdle, Read, refl, RefreshPortDirection, Refused, Reservations, Second, Services}
+use Terms.{services_driver, services_lawful, SetPinDirection, SetPinMode, Setup, Short, short_gave, short_left}
+use Terms.{short_move, Some, STATE, subst, sym, tells_error, TimerHigh, true, value_of, word_of, World, Write}
+use Terms.{writes_after, writes_latches, WritesOn, ℕ}
+use Rattle.port_driver.specs.laws.{Bodies.{PortBody, init_body}, RefinementRight.{basis_right, may_dry}}
+use Rattle.port_driver.specs.laws.{Init.{init_bodies, init_right, begins_init, setup_at, Is_setup}}
+use Rattle.port_driver.specs.laws.{Latches.{written_at, next_written, level_more, all_latches}, Look.{port_looked}}
+use Rattle.port_driver.specs.laws.{Look.{looked_by, begins, direction_within, mode_within, mode_given, asked_word}}
+use Rattle.port_driver.specs.laws.{Pins.{pin_bodies, pin_right}, Ranks.{configured_few}, Refresh.{refresh_bodies}}
+use Rattle.port_driver.specs.laws.{Refresh.{refresh_right, Is_same}}
 use Rattle.port_driver.specs.declared.call.Call.TheVariants as calls
-use Rattle.port_driver.specs.declared.call.PinCall.TheVariants.{SetPinDirection, SetPinMode}
-use Rattle.port_driver.specs.declared.driver.PortDriver.{PortDriver}
-use Rattle.port_driver.specs.declared.words.TheConstants.{STATE}
-use Rattle.port_driver.specs.declared.service.init.InitDone.{InitDone}
 use Rattle.port_driver.specs.declared.service.init.InitDone.TheVariants as inits
-use Rattle.port_driver.specs.declared.service.init.Setup.{Setup}
-use Rattle.port_driver.specs.laws.Bodies.{PortBody, init_body}
-use Rattle.port_driver.specs.laws.Ground.{basis_right, may_dry}
-use Rattle.port_driver.specs.laws.Init.{init_bodies, init_right, begins_init, setup_at, Is_setup}
-use Rattle.port_driver.specs.laws.Latches.{written_at, next_written, level_more, all_latches}
-use Rattle.port_driver.specs.laws.Look.{port_looked, looked_by, begins, direction_within, mode_within, mode_given, asked_word}
-use Rattle.port_driver.specs.laws.Pins.{pin_bodies, pin_right}
-use Rattle.port_driver.specs.laws.Ranks.{configured_few}
-use Rattle.port_driver.specs.laws.Refresh.{refresh_bodies, refresh_right, Is_same}
 
 abbrev pub port_bodies : (d : PortDriver) → LongBodies (port_basis d) PortBody
 port_bodies d = both (init_bodies d) (both (refresh_bodies d) (pin_bodies d))
@@ -97,7 +64,7 @@ blocked d call o e = ap (λ (x : Origin Call). blocks (class_of call) (mark_of (
     by RefreshPortDirection = refl
     by (calls.Pin p call) = refl
 
-alone : (d : PortDriver) (call : Call) (below : Holds) → HeldRight below → AllLet (port_setting d) (class_of call) below → Alone below
+alone : (d : PortDriver) (call : Call) (below : Reservations) → HeldRight below → AllLet (port_setting d) (class_of call) below → Alone below
 alone d call [] right lets = Is_alone
 alone d call (h ∷ hs) right lets = absurd (let f = sym (blocked d call h.by right.0) ∙ lets.0 in cc)
 
@@ -107,14 +74,14 @@ asks_none d RefreshPortDirection s e = refl
 asks_none d (calls.Pin p (SetPinDirection x)) s e = refl
 asks_none d (calls.Pin p (SetPinMode m)) s e = refl
 
-goes_on : (d : PortDriver) (below : Holds) (chip : Chip) (w : World) (s : PortState) (call : Call) → Alone below → PortAgrees d below 0 chip w s → error_by d call (not s.initialised) ≡ None → Decides (port d) below chip w s call (begins d call)
-goes_on d below chip w s Init Is_alone h pass = record { at = (begins_init d chip w s h, (Is_setup, (Is_being, Is_alone))); closed = refl; fuel = omega arith; room = omega arith }
-goes_on d below chip w s RefreshPortDirection Is_alone h pass = record { at = (h, (Is_same, Is_being, Is_alone, omega arith, pass)); closed = refl; fuel = omega arith; room = omega arith }
-goes_on d below chip w s (calls.Pin p (SetPinDirection x)) Is_alone h pass = record { at = (h, (Is_being, Is_alone, direction_within d p x (not s.initialised) pass, pass)); closed = refl; fuel = omega arith; room = omega arith }
-goes_on d below chip w s (calls.Pin p (SetPinMode (Some m))) Is_alone h pass = record { at = (h, (Is_being, Is_alone, mode_within d p (Some m) (not s.initialised) pass, pass)); closed = refl; fuel = omega arith; room = omega arith }
+goes_on : (d : PortDriver) (below : Reservations) (chip : Chip) (w : World) (s : PortState) (call : Call) → Alone below → PortRepresents d below 0 chip w s → error_by d call (not s.initialised) ≡ None → Decides (port d) below chip w s call (begins d call)
+goes_on d below chip w s Init Is_alone h pass = record { at = (begins_init d chip w s h, (Is_setup, (Is_this_frame, Is_alone))); closed = refl; fuel = omega arith; room = omega arith }
+goes_on d below chip w s RefreshPortDirection Is_alone h pass = record { at = (h, (Is_same, Is_this_frame, Is_alone, omega arith, pass)); closed = refl; fuel = omega arith; room = omega arith }
+goes_on d below chip w s (calls.Pin p (SetPinDirection x)) Is_alone h pass = record { at = (h, (Is_this_frame, Is_alone, direction_within d p x (not s.initialised) pass, pass)); closed = refl; fuel = omega arith; room = omega arith }
+goes_on d below chip w s (calls.Pin p (SetPinMode (Some m))) Is_alone h pass = record { at = (h, (Is_this_frame, Is_alone, mode_within d p (Some m) (not s.initialised) pass, pass)); closed = refl; fuel = omega arith; room = omega arith }
 goes_on d below chip w s (calls.Pin p (SetPinMode None)) a h pass = absurd (mode_given d p (not s.initialised) pass)
 
-module _ (d : PortDriver) (below : Holds) (chip : Chip) (w : World) (s : PortState) (h : PortAgrees d below 0 chip w s) where
+module _ (d : PortDriver) (below : Reservations) (chip : Chip) (w : World) (s : PortState) (h : PortRepresents d below 0 chip w s) where
   look_by : (call : Call) → Alone below → (e : Option ErrorName) → error_by d call (not s.initialised) ≡ e → Decides (port d) below chip w s call (looked_by (record { call = call; driver = d }) e)
   look_by call a None e = goes_on d below chip w s call a h e
   look_by call a (Some x) e = record {
@@ -160,20 +127,20 @@ module _ (d : PortDriver) where
   refused_written RefreshPortDirection x n error e = none_unless error [] [] refl
   refused_written (calls.Pin p call) x n error e = none_unless error [] [] refl
 
-  init_steps : (below : Holds) (chip : Chip) (w : World) (s : PortState) (a : Setup) (p : Place InitDone) (c : Call) (past : Past) (writes : List Move) → Stand (port_basis d) (init_bodies d) below chip w s (record { objects = a; place = p }) (Called c) past → c ≡ Init → written_at d p writes → let x = (init_bodies d).takes (record { objects = a; place = p }) (value_of chip ((init_bodies d).work_of (record { objects = a; place = p }))) in WritesOn (port d) c (writes_after writes ((init_bodies d).work_of (record { objects = a; place = p }))) (First x.0) x.1.done
+  init_steps : (below : Reservations) (chip : Chip) (w : World) (s : PortState) (a : Setup) (p : Place InitDone) (c : Call) (past : FrameHistory) (writes : List Move) → AssertedAt (port_basis d) (init_bodies d) below chip w s (record { objects = a; place = p }) (Called c) past → c ≡ Init → written_at d p writes → let x = (init_bodies d).takes (record { objects = a; place = p }) (value_of chip ((init_bodies d).work_of (record { objects = a; place = p }))) in WritesOn (port d) c (writes_after writes ((init_bodies d).work_of (record { objects = a; place = p }))) (First x.0) x.1.done
   init_steps below chip w s a Opens c past writes h is has = (is, next_written d (8 + configured a.driver) 0 writes (omega arith) (omega arith) (λ j lt four. absurd (omega (arith, lt))))
-  init_steps below chip w s a (At i) c past writes (agrees, ((Is_setup, held), lt)) is has = (is, next_written d (8 + configured d) (i + 1) (writes_after writes (setup_at d i (nat_lt i 4) (nat_lt i (4 + configured d)))) (omega arith) (omega (arith, lt)) (level_more d i (nat_lt i (4 + configured d)) writes has))
+  init_steps below chip w s a (At i) c past writes (represents, ((Is_setup, held), lt)) is has = (is, next_written d (8 + configured d) (i + 1) (writes_after writes (setup_at d i (nat_lt i 4) (nat_lt i (4 + configured d)))) (omega arith) (omega (arith, lt)) (level_more d i (nat_lt i (4 + configured d)) writes has))
   init_steps below chip w s a Closes c past writes h is has = (is, has)
   init_steps below chip w s a (Follows inits.Store) c past writes h is has = subst (λ x. AllMade (must_by d x) writes) (sym is) (all_latches d writes has)
 
-  steps_at : (below : Holds) (chip : Chip) (w : World) (s : PortState) (k : PortBody) (c : Call) (past : Past) (writes : List Move) → Stand (port_basis d) (port_bodies d) below chip w s k (Called c) past → port_written d k c writes → let p = (port_bodies d).takes k (value_of chip ((port_bodies d).work_of k)) in WritesOn (port d) c (writes_after writes ((port_bodies d).work_of k)) p.0 p.1.done
+  steps_at : (below : Reservations) (chip : Chip) (w : World) (s : PortState) (k : PortBody) (c : Call) (past : FrameHistory) (writes : List Move) → AssertedAt (port_basis d) (port_bodies d) below chip w s k (Called c) past → port_written d k c writes → let p = (port_bodies d).takes k (value_of chip ((port_bodies d).work_of k)) in WritesOn (port d) c (writes_after writes ((port_bodies d).work_of k)) p.0 p.1.done
   steps_at below chip w s (First k) c past writes h has = init_steps below chip w s k.objects k.place c past writes h has.0 has.1
   steps_at below chip w s (Second k) c past writes h has = let p = (both (refresh_bodies d) (pin_bodies d)).takes k (value_of chip ((both (refresh_bodies d) (pin_bodies d)).work_of k)) in none_on (port d) c (writes_after writes ((both (refresh_bodies d) (pin_bodies d)).work_of k)) (Second p.0) p.1.done has has
 
   port_writes : MakesWrites (port d) (λ k. None)
   port_writes = record {
     begins = λ c x k can looks. begun_written c (error_by d c (x == 0)) k looks;
-    refuses = λ below chip w s c n told can agrees looks is. refused_written c (value_of chip (Load STATE)) n told.error looks;
+    refuses = λ below chip w s c n told can represents looks is. refused_written c (value_of chip (Load STATE)) n told.error looks;
     steps = steps_at;
     stops = λ below chip w s k c past writes a at has ends. let none : None ≡ Some a = ends in absurd (cc);
   }
@@ -182,7 +149,7 @@ module _ (d : PortDriver) where
   port_right = record {
     basis = basis_right d;
     bodies = bodies_right;
-    windows = free_windows (port d) bodies_right (λ k. refl) (λ o made h. no_windows made (and-left (owns made) (names_there made) (and-left (may made) (is_of_init o || not (writes_latches made)) h)));
+    windows = free_windows (port d) bodies_right (λ k. refl) (λ o made h. no_windows made (and_first (owns made) (names_there made) (and_first (may made) (is_of_init o || not (writes_latches made)) h)));
     unseen = λ below chip w s k c h. tt;
     writes = port_writes;
     starts = no_units (port d) (λ w s line. refl);

@@ -1,12 +1,10 @@
 -- Where the pins are the machine's, so are their levels.
-use Rattle.std.proofs.Common.{◌≡◌, ℕ, ◌<◌, Bool, Option, refl}
-use Rattle.std.specs.Prelude.{if◌then◌else◌, unwrap_or}
+-- Used by mcal_drivers: proofs/Levels.
+use Rattle.std.proofs.Common.{◌≡◌, ◌<◌, if◌then◌else◌}
+use Rattle.port_driver.specs.Terms
+use Terms.{Adc, Bool, Dio, Icu, is_pulse, level_at, Option, pin_at, PinsAgree, PortPinMode, PortState, Pwm, refl, Spi}
+use Terms.{World, ℕ}
 use Rattle.chip_units.specs.Pins as pins
-use Rattle.mcal_base.specs.declared.config.port.PortPinMode.{PortPinMode}
-use Rattle.mcal_base.specs.declared.config.port.PortPinMode.TheVariants.{Adc, Dio, Icu, Pwm, Spi}
-use Rattle.run_model.specs.World.{World}
-use Rattle.port_driver.specs.Bounds.{PinsAgree}
-use Rattle.port_driver.specs.Machine.{PortState, pin_at, is_pulse, level_at}
 
 same_pulse : (m : PortPinMode) → pins.is_pulse m ≡ is_pulse m
 same_pulse Adc = refl

@@ -1,31 +1,16 @@
 -- The load of the state word: what it decides for each call.
-use Rattle.std.proofs.Common.{◌≡◌, ℕ, ◌<◌, Bool, true, false, ◌==◌, not, length, nat_lt, List, Option, Some, None, refl, arith}
-use Rattle.std.specs.Prelude.{if◌then◌else◌, is_some, slice_index_or}
-use Rattle.std.proofs.lemmas.Bool.Decides.{nat_tests}
-use Rattle.det_errors.proofs.RowLaws.{none_holds}
-use Rattle.det_errors.specs.Rows.{errors_of}
-use Rattle.mcal_base.specs.Bits.{bit_of}
-use Rattle.mcal_base.specs.declared.config.port.PortPinDirection.{PortPinDirection}
-use Rattle.mcal_base.specs.declared.config.port.PortPinMode.{PortPinMode}
-use Rattle.mcal_base.specs.declared.error_name.ErrorName.{ErrorName}
-use Rattle.run_model.specs.Machine.{no_answer}
-use Rattle.service_outline.specs.Done.{owed_error}
-use Rattle.service_outline.specs.declared.done.Done.{Done}
-use Rattle.service_outline.specs.declared.done.Owed.TheVariants.{Nothing}
-use Rattle.service_outline.specs.declared.body.Looked.{Looked}
-use Rattle.service_outline.specs.declared.body.Looked.TheVariants.{Refused, Goes}
-use Rattle.port_driver.specs.Checks.{service_of, facts_by, error_by, reporting, has_mode}
-use Rattle.port_driver.specs.Table.{pin_of}
-use Rattle.port_driver.specs.declared.asked.Asked.{Asked}
-use Rattle.port_driver.specs.declared.call.Call.{Call}
-use Rattle.port_driver.specs.declared.call.Call.TheVariants.{Init, RefreshPortDirection}
-use Rattle.port_driver.specs.declared.call.Call.TheVariants as calls
-use Rattle.port_driver.specs.declared.call.PinCall.TheVariants.{SetPinDirection, SetPinMode}
-use Rattle.port_driver.specs.declared.driver.Pin.{Pin}
-use Rattle.port_driver.specs.declared.driver.PortDriver.{PortDriver}
-use Rattle.port_driver.specs.declared.service.pin.PinBody.TheVariants.{Direction, Mode}
+-- From Bodies.
+-- Used by Lawful, asked/rt.
+use Rattle.std.proofs.Common.{◌≡◌, ◌<◌, ◌==◌, if◌then◌else◌}
+use Rattle.port_driver.specs.Terms
+use Terms.{arith, Asked, bit_of, Bool, Call, Direction, Done, error_by, ErrorName, errors_of, facts_by, false, Goes}
+use Terms.{has_mode, Init, is_some, length, List, Looked, Mode, nat_lt, nat_tests, no_answer, None, none_holds, not}
+use Terms.{not-false, Nothing, Option, owed_error, Pin, pin_of, PortDriver, PortPinDirection, PortPinMode, refl}
+use Terms.{RefreshPortDirection, Refused, reporting, service_of, SetPinDirection, SetPinMode, slice_index_or, Some}
+use Terms.{true, ℕ}
 use Rattle.port_driver.specs.declared.service.refresh.RefreshBody.TheVariants.{Write}
 use Rattle.port_driver.specs.laws.Bodies.{PortBody, init_body, refresh_body, pin_body}
+use Rattle.port_driver.specs.declared.call.Call.TheVariants as calls
 
 abbrev pub facts_of : Asked → ℕ → List Bool
 facts_of q word = facts_by q.driver q.call (word == 0)
@@ -59,10 +44,6 @@ port_looked q word = looked_by q (error_by q.driver q.call (word == 0))
 no_error : (d : PortDriver) (call : Call) (uninit : Bool) → error_by d call uninit ≡ None → (k : ℕ) → k < length (errors_of (service_of call)) → slice_index_or (facts_by d call uninit) k false ≡ false
 no_error d call uninit pass k lt = none_holds (errors_of (service_of call)) (facts_by d call uninit) pass k lt
 
-yes : (b : Bool) → not b ≡ false → b ≡ true
-yes true e = refl
-yes false e = absurd (cc)
-
 -- a configured pin is one of the 64
 within : (d : PortDriver) (p : ℕ) → is_some (pin_of d p) ≡ true → p < 64
 within d p h = by (nat_lt p 64) (slice_index_or d.pins p None) refl h
@@ -72,10 +53,10 @@ within d p h = by (nat_lt p 64) (slice_index_or d.pins p None) refl h
     by false k e h = absurd (cc)
 
 pub direction_within : (d : PortDriver) (p : ℕ) (x : PortPinDirection) (uninit : Bool) → error_by d (calls.Pin p (SetPinDirection x)) uninit ≡ None → p < 64
-direction_within d p x uninit pass = within d p (yes _ (no_error d (calls.Pin p (SetPinDirection x)) uninit pass 1 (omega arith)))
+direction_within d p x uninit pass = within d p (not-false _ (no_error d (calls.Pin p (SetPinDirection x)) uninit pass 1 (omega arith)))
 
 pub mode_within : (d : PortDriver) (p : ℕ) (m : Option PortPinMode) (uninit : Bool) → error_by d (calls.Pin p (SetPinMode m)) uninit ≡ None → p < 64
-mode_within d p m uninit pass = within d p (yes _ (no_error d (calls.Pin p (SetPinMode m)) uninit pass 1 (omega arith)))
+mode_within d p m uninit pass = within d p (not-false _ (no_error d (calls.Pin p (SetPinMode m)) uninit pass 1 (omega arith)))
 
 -- and what is no mode is refused
 pub mode_given : (d : PortDriver) (p : ℕ) (uninit : Bool) → error_by d (calls.Pin p (SetPinMode None)) uninit ≡ None → ⊥

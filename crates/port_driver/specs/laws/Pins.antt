@@ -1,42 +1,21 @@
 -- Port_SetPinDirection and Port_SetPinMode: their one write, and that it is right.
-use Rattle.std.proofs.Common.{◌≡◌, ◌≢◌, ℕ, ◌/◌, ◌%◌, ◌<◌, ◌^◌, ◌==◌, cond, Bool, true, false, not, [], length, Some, None, refl, sym, ◌∙◌, ap, arith, length-set, get_or-set_same, get_or-set_other}
-use Rattle.std.specs.Prelude.{slice_index_or, slice_set}
-use Rattle.std.proofs.lemmas.Bool.Decides.{nat_tests}
-use Rattle.chip_model.specs.Chip.{Chip, chip_after, value_of}
-use Rattle.mcal_base.specs.declared.config.port.PortPinDirection.{PortPinDirection}
-use Rattle.mcal_base.specs.declared.config.port.PortPinMode.{PortPinMode}
-use Rattle.mcal_base.specs.declared.config.port.PortPinMode.TheVariants.{Adc}
-use Rattle.mcal_base.specs.declared.moves.Event.TheVariants.{Act}
-use Rattle.mcal_base.specs.declared.moves.Move.{Move}
-use Rattle.mcal_base.specs.declared.moves.Move.TheVariants.{Write}
-use Rattle.mcal_base.specs.declared.register.Reg.TheVariants.{PinMode}
-use Rattle.run_model.specs.World.{World, with_at}
-use Rattle.run_model.specs.Machine.{tells_nothing, no_answer}
-use Rattle.run_model.specs.Frame.{Origin, Called, is_shared}
-use Rattle.service_outline.specs.declared.done.BodyTaken.{BodyTaken}
-use Rattle.service_outline.specs.declared.done.Owed.TheVariants.{Nothing}
-use Rattle.service_outline.specs.Done.{ends}
-use Rattle.service_outline.specs.Past.{Past, nothing_yet, Being, Is_being}
-use Rattle.service_outline.specs.Services.{LongBodies, Spot, Within, Stand, AreLong, Right, TurnsTo}
-use Rattle.service_outline.specs.laws.Acts.{never_clean}
-use Rattle.service_outline.specs.laws.StepKinds.{or_true}
-use Rattle.service_outline.specs.laws.Sweep.{each_but}
-use Rattle.port_driver.specs.Bounds.{may, writes_latches}
-use Rattle.port_driver.specs.Checks.{error_by}
-use Rattle.port_driver.specs.Ground.{Holds, Alone, Is_alone, put, put_mode, PortAgrees, port_basis}
-use Rattle.port_driver.specs.Machine.{PinState, PortState, pin_at, is_out, changed, work, acts_by}
-use Rattle.port_driver.specs.Table.{pin_of}
-use Rattle.port_driver.specs.Writes.{chosen, wants, register, mode_number, rank_of}
-use Rattle.port_driver.specs.declared.call.Call.{Call}
-use Rattle.port_driver.specs.declared.call.Call.TheVariants as calls
-use Rattle.port_driver.specs.declared.call.PinCall.{PinCall}
-use Rattle.port_driver.specs.declared.call.PinCall.TheVariants.{SetPinDirection, SetPinMode}
-use Rattle.port_driver.specs.declared.driver.PortDriver.{PortDriver}
-use Rattle.port_driver.specs.declared.service.pin.PinBody.{PinBody}
-use Rattle.port_driver.specs.declared.service.pin.PinBody.TheVariants.{Direction, Mode}
-use Rattle.port_driver.specs.declared.writes.Side.TheVariants.{Levels, Directions, Fixed}
-use Rattle.port_driver.specs.laws.Ground.{put_mode_none, written_agrees, with_directions, with_mode, may_halves, may_mode, IsCalm, calm_halves, sends_halves, may_dry, dry_halves}
+-- From RefinementRight, Halves.
+-- Used by service/pin/rt, Lawful.
+use Rattle.std.proofs.Common.{◌≡◌, ◌≢◌, ◌/◌, ◌%◌, ◌<◌, ◌^◌, ◌==◌, [], ◌∙◌}
+use Rattle.port_driver.specs.Terms
+use Terms.{Act, acts_by, Adc, Alone, ap, AreLong, arith, AssertedAt, BodyTaken, Bool, Call, Called, changed, Chip}
+use Terms.{chip_after, chosen, cond, Direction, Directions, each_but, ends, eq_other, eq_self, error_by, false, Fixed}
+use Terms.{FrameHistory, fresh_history, get_or-set_other, get_or-set_same, Is_alone, is_out, is_shared, Is_this_frame}
+use Terms.{IsThisFrame, length, length-set, Levels, LongBodies, may, Mode, mode_number, Move, never_clean, no_answer}
+use Terms.{None, not, Nothing, or_true, Origin, pin_at, pin_of, PinBody, PinCall, PinMode, PinState, PointAssertion}
+use Terms.{port_basis, PortDriver, PortPinDirection, PortPinMode, PortRepresents, PortState, put, put_mode, rank_of}
+use Terms.{refl, register, Reservations, Right, SetPinDirection, SetPinMode, slice_index_or, slice_set, Some, sym}
+use Terms.{tells_nothing, true, TurnsTo, value_of, wants, with_at, Within, work, World, Write, writes_latches, ℕ}
+use Rattle.port_driver.specs.laws.RefinementRight.{put_mode_none, written_agrees, with_directions, with_mode}
+use Rattle.port_driver.specs.laws.RefinementRight.{may_halves, may_mode, IsSilentMove, calm_halves, sends_halves}
+use Rattle.port_driver.specs.laws.RefinementRight.{may_dry, dry_halves}
 use Rattle.port_driver.specs.laws.Halves.{halves_after, length-after, put_none, single_after}
+use Rattle.port_driver.specs.declared.call.Call.TheVariants as calls
 
 abbrev pub pin_work : PinBody → Move
 pin_work (Direction p x) = Write (register Directions (is_out x) (p / 32)) (2 ^ (p % 32))
@@ -54,37 +33,31 @@ abbrev pub number_in : PinBody → ℕ
 number_in (Direction p x) = p
 number_in (Mode p m) = p
 
-abbrev pub pin_spot : (d : PortDriver) → PinBody → Spot (port_basis d)
-pin_spot d k = Within 0 [] (λ below f w s o t. Being (Called (call_by k)) nothing_yet o t × Alone below × (number_in k < 64) × (error_by d (call_by k) (not s.initialised) ≡ None))
+abbrev pub pin_spot : (d : PortDriver) → PinBody → PointAssertion (port_basis d)
+pin_spot d k = Within 0 [] (λ below f w s o t. IsThisFrame (Called (call_by k)) fresh_history o t × Alone below × (number_in k < 64) × (error_by d (call_by k) (not s.initialised) ≡ None))
 
 abbrev pub pin_bodies : (d : PortDriver) → LongBodies (port_basis d) PinBody
-pin_bodies d = record { work_of = pin_work; takes = pin_takes; fuel = λ k. 1; room = λ k. 1; clean = λ k. false; spot = pin_spot d }
-
-same_yes : (p : ℕ) → (p == p) ≡ true
-same_yes p = grind (arith, nat_tests)
-
-other_no : (q p : ℕ) → q ≢ p → (q == p) ≡ false
-other_no q p ne = grind (arith, nat_tests)
+pin_bodies d = record { work_of = pin_work; takes = pin_takes; fuel = λ k. 1; room = λ k. 1; clean = λ k. false; assertion = pin_spot d }
 
 -- what a call leaves of the pins, by what is looked at
 module _ {A : Type 0} (see : PinState → A) (f : ℕ → PinState) (p : ℕ) (x : PinState) where
   seen_same : see (with_at f p x p) ≡ see x
-  seen_same = ap (λ q. see (cond q x (f p))) (same_yes p)
+  seen_same = ap (λ q. see (cond q x (f p))) (eq_self p)
 
   seen_other : (q : ℕ) → q ≢ p → see (with_at f p x q) ≡ see (f q)
-  seen_other q ne = ap (λ b. see (cond b x (f q))) (other_no q p ne)
+  seen_other q ne = ap (λ b. see (cond b x (f q))) (eq_other q p ne)
 
   seen_kept : see x ≡ see (f p) → (q : ℕ) → see (f q) ≡ see (with_at f p x q)
   seen_kept e q = each_but (λ i. see (f i) ≡ see (with_at f p x i)) p (sym e ∙ sym seen_same) q (λ ne. sym (seen_other q ne))
 
   seen_chosen : (q : ℕ) → chosen (q == p) (see x) (see (f q)) ≡ see (with_at f p x q)
-  seen_chosen q = each_but (λ i. chosen (i == p) (see x) (see (f i)) ≡ see (with_at f p x i)) p (ap (λ b. chosen b (see x) (see (f p))) (same_yes p) ∙ sym seen_same) q (λ ne. ap (λ b. chosen b (see x) (see (f q))) (other_no q p ne) ∙ sym (seen_other q ne))
+  seen_chosen q = each_but (λ i. chosen (i == p) (see x) (see (f i)) ≡ see (with_at f p x i)) p (ap (λ b. chosen b (see x) (see (f p))) (eq_self p) ∙ sym seen_same) q (λ ne. ap (λ b. chosen b (see x) (see (f q))) (eq_other q p ne) ∙ sym (seen_other q ne))
 
-module _ (d : PortDriver) (chip : Chip) (w : World) (s : PortState) (h : PortAgrees d [] 0 chip w s) (p : ℕ) (low : p < 64) (received : ℕ) where
+module _ (d : PortDriver) (chip : Chip) (w : World) (s : PortState) (h : PortRepresents d [] 0 chip w s) (p : ℕ) (low : p < 64) (received : ℕ) where
   latches_kept : (call : PinCall) → (changed call (pin_at s p)).latch ≡ (pin_at s p).latch → (q : ℕ) → put (wants d Levels q) q 0 (pin_at s q).latch ≡ put (wants d Levels q) q 0 (with_at (λ i. pin_at s i) p (changed call (pin_at s p)) q).latch
   latches_kept call e q = ap (λ b. put (wants d Levels q) q 0 b) (seen_kept (λ x. x.latch) (λ i. pin_at s i) p (changed call (pin_at s p)) e q)
 
-  turned : (x : PortPinDirection) → PortAgrees d [] 0 (chip_after chip (Write (register Directions (is_out x) (p / 32)) (2 ^ (p % 32))) received) w (work d s (calls.Pin p (SetPinDirection x)))
+  turned : (x : PortPinDirection) → PortRepresents d [] 0 (chip_after chip (Write (register Directions (is_out x) (p / 32)) (2 ^ (p % 32))) received) w (work d s (calls.Pin p (SetPinDirection x)))
   turned x =
       let b = record chip.pins { out = halves_after (is_out x) chip.pins.out (p / 32) (2 ^ (p % 32)) } in
       let new = changed (SetPinDirection x) (pin_at s p) in
@@ -100,13 +73,13 @@ module _ (d : PortDriver) (chip : Chip) (w : World) (s : PortState) (h : PortAgr
 
   modes_after : (m : PortPinMode) (q : ℕ) → slice_index_or (slice_set chip.pins.modes p m) q Adc ≡ chosen (q == p) m (slice_index_or chip.pins.modes q Adc)
   modes_after m q = each_but (λ i. slice_index_or (slice_set chip.pins.modes p m) i Adc ≡ chosen (i == p) m (slice_index_or chip.pins.modes i Adc)) p
-      (get_or-set_same chip.pins.modes p m Adc within ∙ sym (ap (λ b. chosen b m (slice_index_or chip.pins.modes p Adc)) (same_yes p))) q
-      (λ ne. get_or-set_other chip.pins.modes p q m Adc ne ∙ sym (ap (λ b. chosen b m (slice_index_or chip.pins.modes q Adc)) (other_no q p ne)))
+      (get_or-set_same chip.pins.modes p m Adc within ∙ sym (ap (λ b. chosen b m (slice_index_or chip.pins.modes p Adc)) (eq_self p))) q
+      (λ ne. get_or-set_other chip.pins.modes p q m Adc ne ∙ sym (ap (λ b. chosen b m (slice_index_or chip.pins.modes q Adc)) (eq_other q p ne)))
     where
       within : p < length chip.pins.modes
       within = let size = h.whole.modes in omega (arith, size, low)
 
-  muxed : (m : PortPinMode) → PortAgrees d [] 0 (chip_after chip (Write (PinMode p) (mode_number m)) received) w (work d s (calls.Pin p (SetPinMode (Some m))))
+  muxed : (m : PortPinMode) → PortRepresents d [] 0 (chip_after chip (Write (PinMode p) (mode_number m)) received) w (work d s (calls.Pin p (SetPinMode (Some m))))
   muxed m =
       let b = record chip.pins { modes = slice_set chip.pins.modes p m } in
       let new = changed (SetPinMode (Some m)) (pin_at s p) in
@@ -121,8 +94,8 @@ module _ (d : PortDriver) (chip : Chip) (w : World) (s : PortState) (h : PortAgr
       h
 
 module _ (d : PortDriver) where
-  steps : (below : Holds) (chip : Chip) (w : World) (s : PortState) (k : PinBody) (o : Origin Call) (y : ℕ) (t : Past) (m : ℕ → Bool) → Stand (port_basis d) (pin_bodies d) below chip w s k o t → Right (port_basis d) (pin_bodies d) below chip w s k o y t m
-  steps below chip w s (Direction p x) o y t m (h, (Is_being, Is_alone, lt, pass)) = record {
+  steps : (below : Reservations) (chip : Chip) (w : World) (s : PortState) (k : PinBody) (o : Origin Call) (y : ℕ) (t : FrameHistory) (m : ℕ → Bool) → AssertedAt (port_basis d) (pin_bodies d) below chip w s k o t → Right (port_basis d) (pin_bodies d) below chip w s k o y t m
+  steps below chip w s (Direction p x) o y t m (h, (Is_this_frame, Is_alone, lt, pass)) = record {
     may = refl;
     stands = tt;
     state = work d s (calls.Pin p (SetPinDirection x));
@@ -134,7 +107,7 @@ module _ (d : PortDriver) where
     reset = (calm_halves Directions (is_out x) (p / 32) (2 ^ (p % 32))).still;
     next = (turned d chip w s h p lt y x, record { may = (refl, refl); served = false; owed = refl; shown = λ e. absurd (cc); report = refl });
   }
-  steps below chip w s (Mode p x) o y t m (h, (Is_being, Is_alone, lt, pass)) = record {
+  steps below chip w s (Mode p x) o y t m (h, (Is_this_frame, Is_alone, lt, pass)) = record {
     may = refl;
     stands = tt;
     state = work d s (calls.Pin p (SetPinMode (Some x)));
@@ -155,7 +128,7 @@ module _ (d : PortDriver) where
   dry (Direction p x) = dry_halves Directions (is_out x) (p / 32) (2 ^ (p % 32)) (λ e. absurd (cc))
   dry (Mode p m) = refl
 
-  calm : (k : PinBody) → IsCalm (pin_work k)
+  calm : (k : PinBody) → IsSilentMove (pin_work k)
   calm (Direction p x) = calm_halves Directions (is_out x) (p / 32) (2 ^ (p % 32))
   calm (Mode p m) = record { still = refl; silent = refl }
 

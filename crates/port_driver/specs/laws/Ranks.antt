@@ -1,13 +1,10 @@
 -- How many below a number pass a test, and the one of a rank among them.
-use Rattle.std.proofs.Common.{◌≡◌, ◌≢◌, ℕ, zero, suc, ◌+◌, ◌<◌, ◌≤◌, ◌==◌, Bool, true, false, ◌&&◌, nat_lt, List, [], ◌∷◌, Option, None, refl, sym, ◌∙◌, ap, subst, arith, add-one}
-use Rattle.std.specs.Prelude.{if◌then◌else◌, is_some, slice_index_or, sum_by}
-use Rattle.std.proofs.lemmas.Bool.Decides.{nat_tests}
-use Rattle.std.proofs.lemmas.List.Sums.{sum_by-cons}
-use Rattle.mcal_base.specs.Bits.{bit_of}
-use Rattle.port_driver.specs.Bounds.{pin_count}
-use Rattle.port_driver.specs.Writes.{counted, with_rank, is_configured, configured}
-use Rattle.port_driver.specs.declared.driver.Pin.{Pin}
-use Rattle.port_driver.specs.declared.driver.PortDriver.{PortDriver}
+-- Used by proofs/driver/PortDriver/ranked/Answers, proofs/driver/PortDriver/configured/Answers, Init and 2 more.
+use Rattle.std.proofs.Common.{◌≡◌, ◌≢◌, ◌+◌, ◌<◌, ◌≤◌, ◌==◌, ◌&&◌, [], ◌∷◌, ◌∙◌, if◌then◌else◌}
+use Rattle.port_driver.specs.Terms
+use Terms.{add-one, ap, arith, bit_of, Bool, configured, counted, false, is_configured, is_some, List, nat_lt}
+use Terms.{nat_tests, None, Option, Pin, pin_count, PortDriver, refl, slice_index_or, subst, suc, sum_by, sum_by-cons}
+use Terms.{sym, true, with_rank, zero, ℕ}
 
 pub counted-zero : (test : ℕ → Bool) → counted test 0 ≡ 0
 unfolding counted

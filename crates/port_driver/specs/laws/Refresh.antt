@@ -1,36 +1,20 @@
 -- Port_RefreshPortDirection: its writes, what holds at each, and that they are right.
-use Rattle.std.proofs.Common.{◌≡◌, ℕ, ◌+◌, ◌-◌, ◌/◌, ◌<◌, Bool, true, false, not, nat_lt, [], Option, Some, None, refl, sym, ◌∙◌, ap, subst, arith}
-use Rattle.std.specs.Prelude.{if◌then◌else◌}
-use Rattle.std.proofs.lemmas.Bool.Decides.{nat_tests}
-use Rattle.chip_model.specs.Chip.{Chip, chip_after, value_of}
-use Rattle.mcal_base.specs.declared.moves.Event.TheVariants.{Act}
-use Rattle.mcal_base.specs.declared.moves.Move.{Move}
-use Rattle.run_model.specs.World.{World, world_after}
-use Rattle.run_model.specs.Machine.{tells_nothing, no_answer}
-use Rattle.run_model.specs.Frame.{Origin, Called, missed_after, is_shared}
-use Rattle.service_outline.specs.declared.done.BodyTaken.{BodyTaken}
-use Rattle.service_outline.specs.declared.done.Owed.TheVariants.{Nothing}
-use Rattle.service_outline.specs.Done.{goes, ends}
-use Rattle.service_outline.specs.Fuel.{Shortens}
-use Rattle.service_outline.specs.Past.{Past, nothing_yet, past_wrote, Being, Is_being}
-use Rattle.service_outline.specs.Services.{LongBodies, Spot, Within, Stand, AreLong, Right, MakesTo, TurnsTo, place_at}
-use Rattle.service_outline.specs.laws.Acts.{never_clean}
-use Rattle.service_outline.specs.laws.StepKinds.{or_true}
-use Rattle.port_driver.specs.Bounds.{may, writes_latches}
-use Rattle.port_driver.specs.Checks.{error_by}
-use Rattle.port_driver.specs.Ground.{Holds, Alone, Is_alone, put, put_mode, PortAgrees, port_basis}
-use Rattle.port_driver.specs.Machine.{PinState, PortState, pin_at, is_out, refreshed, work, acts_by, port_machine}
-use Rattle.port_driver.specs.Table.{pin_of}
-use Rattle.port_driver.specs.Writes.{wanted_of, wants, sets, ones, half_write, rank_of}
-use Rattle.port_driver.specs.declared.call.Call.{Call}
-use Rattle.port_driver.specs.declared.call.Call.TheVariants.{RefreshPortDirection}
-use Rattle.port_driver.specs.declared.driver.Pin.{Pin}
-use Rattle.port_driver.specs.declared.driver.PortDriver.{PortDriver}
-use Rattle.port_driver.specs.declared.service.refresh.RefreshBody.{RefreshBody}
-use Rattle.port_driver.specs.declared.service.refresh.RefreshBody.TheVariants as bodies
-use Rattle.port_driver.specs.declared.writes.Side.TheVariants.{Levels, Directions, Fixed}
-use Rattle.port_driver.specs.laws.Ground.{written_agrees, with_fixed, may_halves, IsCalm, calm_halves, past_halves, sends_halves, may_dry, dry_halves}
+-- From RefinementRight, Halves.
+-- Used by Lawful, service/refresh/rt.
+use Rattle.std.proofs.Common.{◌≡◌, ◌+◌, ◌-◌, ◌/◌, ◌<◌, [], ◌∙◌, if◌then◌else◌}
+use Rattle.port_driver.specs.Terms
+use Terms.{Act, acts_by, Alone, ap, AreLong, arith, AssertedAt, BodyTaken, Bool, Call, Called, Chip, chip_after}
+use Terms.{Directions, ends, error_by, false, Fixed, FrameHistory, fresh_history, goes, half_write, Is_alone, is_out}
+use Terms.{is_shared, Is_this_frame, IsThisFrame, Levels, LongBodies, MakesTo, may, missed_after, Move, nat_lt}
+use Terms.{nat_tests, never_clean, no_answer, None, not, Nothing, ones, Option, or_true, Origin, past_wrote, Pin}
+use Terms.{pin_at, pin_of, PinState, place_at, PointAssertion, port_basis, port_machine, PortDriver, PortRepresents}
+use Terms.{PortState, put, put_mode, rank_of, refl, RefreshBody, refreshed, RefreshPortDirection, Reservations, Right}
+use Terms.{sets, Shortens, Some, subst, sym, tells_nothing, true, TurnsTo, value_of, wanted_of, wants, Within, work}
+use Terms.{World, world_after, writes_latches, ℕ}
+use Rattle.port_driver.specs.laws.RefinementRight.{written_agrees, with_fixed, may_halves, IsSilentMove, calm_halves}
+use Rattle.port_driver.specs.laws.RefinementRight.{past_halves, sends_halves, may_dry, dry_halves}
 use Rattle.port_driver.specs.laws.Halves.{halves_after, length-after, put_none, put_whole, put_written}
+use Rattle.port_driver.specs.declared.service.refresh.RefreshBody.TheVariants as bodies
 
 abbrev pub refresh_work : RefreshBody → Move
 refresh_work (bodies.Write d n) = half_write d Fixed n
@@ -45,11 +29,11 @@ refresh_left (bodies.Write d n) = 1 + (3 - n)
 pub data Same (d : PortDriver) : PortDriver → Type 0 where
   Is_same : Same d d
 
-abbrev pub refresh_spot : (d : PortDriver) → RefreshBody → Spot (port_basis d)
-refresh_spot d (bodies.Write e n) = Within n [] (λ below f w s o t. Same d e × Being (Called RefreshPortDirection) nothing_yet o t × Alone below × (n < 4) × (error_by d RefreshPortDirection (not s.initialised) ≡ None))
+abbrev pub refresh_spot : (d : PortDriver) → RefreshBody → PointAssertion (port_basis d)
+refresh_spot d (bodies.Write e n) = Within n [] (λ below f w s o t. Same d e × IsThisFrame (Called RefreshPortDirection) fresh_history o t × Alone below × (n < 4) × (error_by d RefreshPortDirection (not s.initialised) ≡ None))
 
 abbrev pub refresh_bodies : (d : PortDriver) → LongBodies (port_basis d) RefreshBody
-refresh_bodies d = record { work_of = refresh_work; takes = refresh_takes; fuel = refresh_left; room = refresh_left; clean = λ k. false; spot = refresh_spot d }
+refresh_bodies d = record { work_of = refresh_work; takes = refresh_takes; fuel = refresh_left; room = refresh_left; clean = λ k. false; assertion = refresh_spot d }
 
 under : (n : ℕ) → nat_lt n 3 ≡ true → n < 3
 under n e = grind (arith, nat_tests)
@@ -84,7 +68,7 @@ same_latch (Some k) x = by k.direction_changeable
 
 module _ (d : PortDriver) where
   -- one more of its writes
-  wrote : (chip : Chip) (w : World) (s : PortState) (n received : ℕ) → PortAgrees d [] n chip w s → PortAgrees d [] (n + 1) (chip_after chip (half_write d Fixed n) received) w s
+  wrote : (chip : Chip) (w : World) (s : PortState) (n received : ℕ) → PortRepresents d [] n chip w s → PortRepresents d [] (n + 1) (chip_after chip (half_write d Fixed n) received) w s
   wrote chip w s n received h =
       let b = record chip.pins { out = halves_after (sets n) chip.pins.out (n / 2) (ones (wants d Fixed) n) } in
       written_agrees d [] [] n (n + 1) chip w s s _ _ received b (with_fixed chip (sets n) (n / 2) (ones (wants d Fixed) n) received) tt refl
@@ -94,7 +78,7 @@ module _ (d : PortDriver) where
       (λ p lt. put_written (wants d Fixed) chip.pins.out n p _ h.whole.out lt (h.directions p lt))
       h
 
-  refreshed_all : (chip : Chip) (w : World) (s : PortState) → PortAgrees d [] 4 chip w s → PortAgrees d [] 0 chip w (work d s RefreshPortDirection)
+  refreshed_all : (chip : Chip) (w : World) (s : PortState) → PortRepresents d [] 4 chip w s → PortRepresents d [] 0 chip w (work d s RefreshPortDirection)
   refreshed_all chip w s h = record {
     right = tt;
     all = h.all;
@@ -105,8 +89,8 @@ module _ (d : PortDriver) where
     directions = λ p lt. h.directions p lt ∙ (ap (λ b. put (wants d Fixed p) p 4 b) (put_none (wants d Directions p) p (is_out (pin_at s p).direction)) ∙ (direction_done (pin_of d p) p (pin_at s p) lt ∙ sym (put_none (wants d Fixed p) p _ ∙ put_none (wants d Directions p) p _)));
   }
 
-  steps : (below : Holds) (chip : Chip) (w : World) (s : PortState) (k : RefreshBody) (o : Origin Call) (y : ℕ) (t : Past) (m : ℕ → Bool) → Stand (port_basis d) (refresh_bodies d) below chip w s k o t → Right (port_basis d) (refresh_bodies d) below chip w s k o y t m
-  steps below chip w s (bodies.Write e n) o y t m (h, (Is_same, Is_being, Is_alone, lt, pass)) = by (nat_lt n 3) refl
+  steps : (below : Reservations) (chip : Chip) (w : World) (s : PortState) (k : RefreshBody) (o : Origin Call) (y : ℕ) (t : FrameHistory) (m : ℕ → Bool) → AssertedAt (port_basis d) (refresh_bodies d) below chip w s k o t → Right (port_basis d) (refresh_bodies d) below chip w s k o y t m
+  steps below chip w s (bodies.Write e n) o y t m (h, (Is_same, Is_this_frame, Is_alone, lt, pass)) = by (nat_lt n 3) refl
     where
       made : Move
       made = half_write d Fixed n
@@ -114,14 +98,14 @@ module _ (d : PortDriver) where
       after : Chip
       after = chip_after chip made y
 
-      now : PortAgrees d [] (n + 1) after w s
+      now : PortRepresents d [] (n + 1) after w s
       now = wrote chip w s n y h
 
-      same : nothing_yet ≡ past_wrote w made nothing_yet
-      same = sym (past_halves w Fixed (sets n) (n / 2) (ones (wants d Fixed) n) nothing_yet)
+      same : fresh_history ≡ past_wrote w made fresh_history
+      same = sym (past_halves w Fixed (sets n) (n / 2) (ones (wants d Fixed) n) fresh_history)
 
-      by : (q : Bool) → nat_lt n 3 ≡ q → MakesTo (port_basis d) (refresh_bodies d) [] chip after w s (Called RefreshPortDirection) made false 0 y nothing_yet (missed_after (port_machine d) w s m) (if q then (bodies.Write d (n + 1), goes) else (bodies.Write d n, ends (Some Act) no_answer Nothing))
-      by true i = (now, (Is_same, subst (λ x. Being (Called RefreshPortDirection) nothing_yet (Called RefreshPortDirection) x) same Is_being, Is_alone, (let low = under n i in omega (arith, low)), pass))
+      by : (q : Bool) → nat_lt n 3 ≡ q → MakesTo (port_basis d) (refresh_bodies d) [] chip after w s (Called RefreshPortDirection) made false 0 y fresh_history (missed_after (port_machine d) w s m) (if q then (bodies.Write d (n + 1), goes) else (bodies.Write d n, ends (Some Act) no_answer Nothing))
+      by true i = (now, (Is_same, subst (λ x. IsThisFrame (Called RefreshPortDirection) fresh_history (Called RefreshPortDirection) x) same Is_this_frame, Is_alone, (let low = under n i in omega (arith, low)), pass))
       by false i = record {
         may = refl;
         stands = tt;
@@ -132,16 +116,16 @@ module _ (d : PortDriver) where
         sends = sends_halves chip Fixed (sets n) (n / 2) (ones (wants d Fixed) n);
         acts = tt;
         reset = (calm_halves Fixed (sets n) (n / 2) (ones (wants d Fixed) n)).still;
-        next = (refreshed_all after w s (subst (λ j. PortAgrees d [] j after w s) (let is = last n lt i in omega (arith, is)) now), record { may = (refl, refl); served = false; owed = refl; shown = λ x. absurd (cc); report = refl });
+        next = (refreshed_all after w s (subst (λ j. PortRepresents d [] j after w s) (let is = last n lt i in omega (arith, is)) now), record { may = (refl, refl); served = false; owed = refl; shown = λ x. absurd (cc); report = refl });
       }
 
-  own : (below : Holds) (chip : Chip) (w : World) (s : PortState) (k : RefreshBody) (o : Origin Call) (t : Past) → Stand (port_basis d) (refresh_bodies d) below chip w s k o t → may (refresh_work k) ≡ true
+  own : (below : Reservations) (chip : Chip) (w : World) (s : PortState) (k : RefreshBody) (o : Origin Call) (t : FrameHistory) → AssertedAt (port_basis d) (refresh_bodies d) below chip w s k o t → may (refresh_work k) ≡ true
   own below chip w s (bodies.Write e n) o t (h, (same, being, alone, lt, pass)) = may_halves Fixed (sets n) (n / 2) (ones (wants e Fixed) n) (omega (arith, lt))
 
   dry : (k : RefreshBody) → writes_latches (refresh_work k) ≡ false
   dry (bodies.Write e n) = dry_halves Fixed (sets n) (n / 2) (ones (wants e Fixed) n) (λ e. absurd (cc))
 
-  calm : (k : RefreshBody) → IsCalm (refresh_work k)
+  calm : (k : RefreshBody) → IsSilentMove (refresh_work k)
   calm (bodies.Write e n) = calm_halves Fixed (sets n) (n / 2) (ones (wants e Fixed) n)
 
   turns : (k : RefreshBody) (x : ℕ) → TurnsTo (refresh_bodies d) 32 k (refresh_takes k x)
@@ -158,7 +142,7 @@ module _ (d : PortDriver) where
       by true i = let low = under n i in omega (arith, low)
       by false i = omega arith
 
-  stays : (below : Holds) (w w1 : World) (s : PortState) (k : RefreshBody) (o : Origin Call) (t : Past) → place_at ((refresh_bodies d).spot k) below tt w s o t → place_at ((refresh_bodies d).spot k) below tt w1 s o t
+  stays : (below : Reservations) (w w1 : World) (s : PortState) (k : RefreshBody) (o : Origin Call) (t : FrameHistory) → place_at ((refresh_bodies d).assertion k) below tt w s o t → place_at ((refresh_bodies d).assertion k) below tt w1 s o t
   stays below w w1 s (bodies.Write e n) o t h = h
 
   pub refresh_right : AreLong (port_basis d) (refresh_bodies d)

@@ -2,7 +2,7 @@ use crate::driver::PortDriver;
 use crate::words::STATE;
 use crate::writes::Side;
 use mcal_base::Move;
-use service_outline::{Body, BodyTaken, Objects, Owed, acts_with, nothing};
+use service_outline::{Body, BodyTaken, Epilogue, Objects, acts_with, nothing};
 
 /// The writes of `Port_Init`, with the mask open: levels and modes before directions, so that a pin drives nothing but
 /// its configured level.
@@ -65,7 +65,7 @@ impl Body for InitDone {
 
     fn took(&mut self, _value: u32) -> BodyTaken {
         match *self {
-            InitDone::Store => acts_with(nothing(), Owed::Nothing),
+            InitDone::Store => acts_with(nothing(), Epilogue::Nothing),
         }
     }
 }

@@ -1,6 +1,6 @@
 use crate::writes::{Side, bit, is_out, mode_number};
 use mcal_base::{Move, PortPinDirection, PortPinMode, Reg};
-use service_outline::{Body, BodyTaken, Owed, acts_with, nothing};
+use service_outline::{Body, BodyTaken, Epilogue, acts_with, nothing};
 
 /// A call about a pin, from the load of the state word on.
 #[derive(Clone, Copy)]
@@ -29,6 +29,6 @@ impl Body for PinBody {
     }
 
     fn took(&mut self, _value: u32) -> BodyTaken {
-        acts_with(nothing(), Owed::Nothing)
+        acts_with(nothing(), Epilogue::Nothing)
     }
 }

@@ -1,7 +1,7 @@
 use crate::driver::PortDriver;
 use crate::writes::Side;
 use mcal_base::Move;
-use service_outline::{Body, BodyTaken, Owed, acts_with, goes, nothing};
+use service_outline::{Body, BodyTaken, Epilogue, acts_with, goes, nothing};
 
 /// `Port_RefreshPortDirection`, from the load of the state word on.
 #[derive(Clone, Copy)]
@@ -30,7 +30,7 @@ impl Body for RefreshBody {
                     *self = RefreshBody::Write(driver, write + 1);
                     goes()
                 } else {
-                    acts_with(nothing(), Owed::Nothing)
+                    acts_with(nothing(), Epilogue::Nothing)
                 }
             }
         }

@@ -1,30 +1,16 @@
 -- What a family of short bodies owes: they hold nothing, and run in one window.
-use Rattle.std.proofs.Common.{◌≡◌, ℕ, ◌≤◌, Bool, true, false, [], Option, refl, sym, subst, arith}
-use Rattle.chip_model.specs.Chip.{Chip, happened}
-use Rattle.chip_model.proofs.HistoryLaws.{level_leaves}
-use Rattle.chip_pulses.specs.Pulses.{Pulses}
-use Rattle.mcal_base.specs.declared.directive.Order.{Order}
-use Rattle.mcal_base.specs.declared.directive.Order.TheVariants.{Tick, Level}
-use Rattle.mcal_base.specs.declared.moves.Move.{Move}
-use Rattle.run_model.specs.World.{World, world_after}
-use Rattle.run_model.specs.Machine.{Told}
-use Rattle.run_model.specs.Frame.{Origin, Called, Entered, is_reset_service}
-use Rattle.service_outline.specs.Fuel.{Shortens}
-use Rattle.service_outline.specs.Outline.{Bodies, At, AreRight, RightAt}
-use Rattle.service_outline.specs.Services.{AreLong, LongBodies, over}
-use Rattle.service_outline.specs.ShortServices.{above, short, AsksNone}
-use Rattle.service_outline.specs.declared.done.BodyTaken.{BodyTaken}
-use Rattle.service_outline.specs.laws.Acts.{never_clean}
-use Rattle.service_outline.specs.laws.ShortServices.{short_right}
-use Rattle.pwm_driver.specs.Bounds.{pwm_may}
-use Rattle.pwm_driver.specs.Checks.{service_of}
-use Rattle.pwm_driver.specs.Ground.{Gap, Holds, pwm_basis}
-use Rattle.pwm_driver.specs.Machine.{PwmState}
-use Rattle.pwm_driver.specs.declared.call.Call.{Call}
-use Rattle.pwm_driver.specs.declared.call.Call.TheVariants.{Init, DeInit, GetOutputState, Channel}
-use Rattle.pwm_driver.specs.declared.call.ChannelCall.TheVariants.{SetDutyCycle, SetPeriodAndDuty, SetOutputToIdle, EnableNotification, DisableNotification}
-use Rattle.pwm_driver.specs.declared.driver.PwmDriver.{PwmDriver}
-use Rattle.pwm_driver.specs.laws.Ground.{basis_right, plain_move}
+-- From RefinementRight.
+-- Used by Output, DeInit, Serve, Notify, Rest and 2 more.
+use Rattle.std.proofs.Common.{◌≡◌, ◌≤◌, []}
+use Rattle.pwm_driver.specs.Terms
+use Terms.{above, AreLong, AreRight, arith, AsksNone, Bodies, BodyTaken, Bool, Call, Called, Chip, DeInit}
+use Terms.{DisableNotification, EnableNotification, Entered, false, GetOutputState, happened, Init, is_reset_service}
+use Terms.{Lag, Level, level_leaves, LongBodies, Move, never_clean, Option, Order, Origin, over, Pulses, pwm_basis}
+use Terms.{pwm_may, PwmDriver, PwmState, refl, Reservations, RightAt, service_of, SetDutyCycle, SetOutputToIdle}
+use Terms.{SetPeriodAndDuty, short, short_right, Shortens, subst, sym, Tick, Told, true, World, world_after, ℕ}
+use Rattle.service_outline.specs.Outline.{At}
+use Rattle.pwm_driver.specs.declared.call.Call.TheVariants.{Channel}
+use Rattle.pwm_driver.specs.laws.RefinementRight.{basis_right, plain_move}
 
 -- what holds at a place, at a time
 abbrev pub HoldsAt : Type 0 → Type 1
@@ -56,25 +42,25 @@ module _ (d : PwmDriver) where
   asks (Called c) = (asks_none c, λ w s. refl)
   asks (Entered l) = λ n held chip w s h. tt
 
-  abbrev pub steady : {Body : Type 0} → (Body → Move) → (Body → ℕ → Body × BodyTaken) → (Body → ℕ) → (Body → Gap) → HoldsAt Body → Bodies (over (pwm_basis d) []) Body
+  abbrev pub steady : {Body : Type 0} → (Body → Move) → (Body → ℕ → Body × BodyTaken) → (Body → ℕ) → (Body → Lag) → HoldsAt Body → Bodies (over (pwm_basis d) []) Body
   steady work takes fuel gap holds = record { work_of = work; takes = takes; fuel = fuel; gap_of = gap; clean = λ k. false; place = λ f w s k o t. holds f w.now s k o t }
 
   -- such bodies above what is held, and as bodies of services
-  abbrev pub steady_above : {Body : Type 0} → (Body → Move) → (Body → ℕ → Body × BodyTaken) → (Body → ℕ) → (Body → Gap) → HoldsAt Body → (below : Holds) → Bodies (over (pwm_basis d) below) Body
+  abbrev pub steady_above : {Body : Type 0} → (Body → Move) → (Body → ℕ → Body × BodyTaken) → (Body → ℕ) → (Body → Lag) → HoldsAt Body → (below : Reservations) → Bodies (over (pwm_basis d) below) Body
   steady_above work takes fuel gap holds below = above (pwm_basis d) (steady work takes fuel gap holds) (λ held f w s k o t. holds f w.now s k o t) below
 
-  abbrev pub family : {Body : Type 0} → (Body → Move) → (Body → ℕ → Body × BodyTaken) → (Body → ℕ) → (Body → Gap) → HoldsAt Body → LongBodies (pwm_basis d) Body
+  abbrev pub family : {Body : Type 0} → (Body → Move) → (Body → ℕ → Body × BodyTaken) → (Body → ℕ) → (Body → Lag) → HoldsAt Body → LongBodies (pwm_basis d) Body
   family work takes fuel gap holds = short (pwm_basis d) (steady work takes fuel gap holds) (λ held f w s k o t. holds f w.now s k o t)
 
   -- a step at a place: a move that its frame may make, and a right one
-  abbrev pub Good : {Body : Type 0} (below : Holds) → Bodies (over (pwm_basis d) below) Body → Chip → World → PwmState → Body → Origin Call → Option Told → (ℕ → Bool) → Type 0
+  abbrev pub Good : {Body : Type 0} (below : Reservations) → Bodies (over (pwm_basis d) below) Body → Chip → World → PwmState → Body → Origin Call → Option Told → (ℕ → Bool) → Type 0
   Good below b chip w s k o t m = (pwm_may (b.work_of k) ≡ true) × RightAt (over (pwm_basis d) below) b chip w s k o t m
 
-  abbrev pub AllGood : {Body : Type 0} → ((below : Holds) → Bodies (over (pwm_basis d) below) Body) → Type 0
-  AllGood {Body} b = (below : Holds) (chip : Chip) (w : World) (s : PwmState) (k : Body) (o : Origin Call) (t : Option Told) (m : ℕ → Bool) → At (over (pwm_basis d) below) (b below) chip w s k o t → Good below (b below) chip w s k o t m
+  abbrev pub AllGood : {Body : Type 0} → ((below : Reservations) → Bodies (over (pwm_basis d) below) Body) → Type 0
+  AllGood {Body} b = (below : Reservations) (chip : Chip) (w : World) (s : PwmState) (k : Body) (o : Origin Call) (t : Option Told) (m : ℕ → Bool) → At (over (pwm_basis d) below) (b below) chip w s k o t → Good below (b below) chip w s k o t m
 
-  module _ {Body : Type 0} (work : Body → Move) (takes : Body → ℕ → Body × BodyTaken) (fuel : Body → ℕ) (gap : Body → Gap) (holds : HoldsAt Body) (shortens : (k : Body) (x : ℕ) → Shortens fuel k (takes k x)) (later : (f : Pulses) (now now1 : ℕ) (s : PwmState) (k : Body) (o : Origin Call) (t : Option Told) → now ≤ now1 → holds f now s k o t → holds f now1 s k o t) (steps : AllGood (steady_above work takes fuel gap holds)) where
-    rights : (below : Holds) → AreRight (over (pwm_basis d) below) (steady_above work takes fuel gap holds below)
+  module _ {Body : Type 0} (work : Body → Move) (takes : Body → ℕ → Body × BodyTaken) (fuel : Body → ℕ) (gap : Body → Lag) (holds : HoldsAt Body) (shortens : (k : Body) (x : ℕ) → Shortens fuel k (takes k x)) (later : (f : Pulses) (now now1 : ℕ) (s : PwmState) (k : Body) (o : Origin Call) (t : Option Told) → now ≤ now1 → holds f now s k o t → holds f now1 s k o t) (steps : AllGood (steady_above work takes fuel gap holds)) where
+    rights : (below : Reservations) → AreRight (over (pwm_basis d) below) (steady_above work takes fuel gap holds below)
     rights below = record {
       own = λ chip w s k o t h. (steps below chip w s k o t (λ l. false) h).0;
       steps = λ chip w s k o t m h. (steps below chip w s k o t m h).1;

@@ -1,15 +1,7 @@
 -- Each body as one of the driver's bodies.
-use Rattle.service_outline.specs.declared.body.Or.{Or}
-use Rattle.service_outline.specs.declared.body.Or.TheVariants.{First, Second}
-use Rattle.service_outline.specs.declared.sweep.Place.TheVariants.{Opens}
-use Rattle.service_outline.specs.declared.sweep.Sweep.{Sweep}
-use Rattle.pwm_driver.specs.declared.service.deinit.DeInitBody.{DeInitBody}
-use Rattle.pwm_driver.specs.declared.service.init.InitBody.{InitBody}
-use Rattle.pwm_driver.specs.declared.service.init.Setup.{Setup}
-use Rattle.pwm_driver.specs.declared.service.notify.NotifyBody.{NotifyBody}
-use Rattle.pwm_driver.specs.declared.service.output.OutputBody.{OutputBody}
-use Rattle.pwm_driver.specs.declared.service.rest.RestBody.{RestBody}
-use Rattle.pwm_driver.specs.declared.service.serve.ServeBody.{ServeBody}
+-- Used by Look, Lawful, service/rt, Windows, mcal_drivers: Frames.
+use Rattle.pwm_driver.specs.Terms
+use Terms.{DeInitBody, First, InitBody, NotifyBody, Opens, Or, OutputBody, RestBody, Second, ServeBody, Setup, Sweep}
 
 -- a place in any body of the driver
 abbrev pub PwmBody : Type 0

@@ -1,9 +1,9 @@
 -- A change of a level within so many units of time, against the time at which it comes.
-use Rattle.std.proofs.Common.{◌≡◌, ℕ, zero, suc, ◌+◌, ◌-◌, ◌<◌, Bool, true, false, ◌||◌, ◌⊎◌, inl, inr, refl, sym, ◌∙◌, ap, arith}
-use Rattle.service_outline.specs.laws.StepKinds.{or_true}
-use Rattle.pwm_driver.specs.Output.{turns, turns_within, turns_between}
-use Rattle.pwm_driver.specs.Runs.{TurnsBetween}
-use Rattle.pwm_driver.specs.declared.call.PwmEdge.{PwmEdge}
+-- Used by proofs/StayLaws, proofs/laws/changes_by_times/Answers, Relation, Flags.
+use Rattle.std.proofs.Common.{◌≡◌, ◌+◌, ◌-◌, ◌<◌, ◌||◌, ◌⊎◌, ◌∙◌}
+use Rattle.pwm_driver.specs.Terms
+use Terms.{ap, arith, Bool, false, inl, inr, or_true, PwmEdge, refl, suc, sym, true, turns, turns_between, turns_within}
+use Terms.{TurnsBetween, zero, ℕ}
 
 module _ (edge : PwmEdge) (level : ℕ → Bool) (after : ℕ) where
   widened : (n : ℕ) → TurnsBetween edge level after (after + n) → TurnsBetween edge level after (after + suc n)

@@ -1,47 +1,25 @@
 -- Pwm_DeInit: its steps, what holds at each, and that they are right.
-use Rattle.std.proofs.Common.{◌≡◌, ◌≢◌, ℕ, ◌+◌, ◌-◌, ◌<◌, ◌≤◌, Bool, true, false, ◌&&◌, not, nat_lt, [], ◌∷◌, Option, Some, None, refl, sym, ◌∙◌, ap, subst, arith, length-set}
-use Rattle.std.specs.Prelude.{if◌then◌else◌, is_some}
-use Rattle.std.proofs.lemmas.Bool.Decides.{nat_tests}
-use Rattle.chip_model.specs.Chip.{Chip, chip_after}
+-- From Units, Parts, Base, Look.
+-- Used by Lawful, Windows, service/deinit/rt, Made.
+use Rattle.std.proofs.Common.{◌≡◌, ◌≢◌, ◌+◌, ◌-◌, ◌<◌, ◌≤◌, ◌&&◌, [], ◌∷◌, ◌∙◌, if◌then◌else◌}
+use Rattle.pwm_driver.specs.Terms
+use Terms.{acts, acts_by, After, AllRight, ap, AreLong, arith, Before, below_test, BodyTaken, Bool, Call, Called}
+use Terms.{Channel, channel_of, Chip, chip_after, DeInitBody, Disable, each_but, EnableClear, ended, ends, eq_self}
+use Terms.{false, goes, has_bit-zero, Idle, Is_after, Is_before, Is_own, is_some, IsBegun, IsQuiet, KindAgrees, KINDS}
+use Terms.{Lag, length-set, level, LINES, Load, LongBodies, MarksAgree, missed_after, Move, nat_lt, nat_tests}
+use Terms.{no_answer, None, not, Nothing, only, Option, Origin, output_in, over, Own, period_word, polarity_of, Pulse}
+use Terms.{pulse_at, pulse_at-other, pulse_at-same, PulseEdges, PulseIdle, Pulses, pwm_basis, pwm_machine, pwm_may}
+use Terms.{PwmDriver, PwmRepresents, PwmState, refl, Reservations, settled, Shortens, Some, stands-move, StandsIn}
+use Terms.{STATE, StepsTo, stored_other, stored_same, Stores, subst, sym, table, table_at, tells_nothing, Told, true}
+use Terms.{UnitAgrees, World, Write, ℕ}
+use Rattle.pwm_driver.specs.declared.service.deinit.DeInitBody.TheVariants.{Store, Choose, Keep, Rest}
+use Rattle.pwm_driver.specs.laws.{Base.{AllGood, steady_above, family, family_right}, Look.{Passed}, Units.{chip_with}}
+use Rattle.pwm_driver.specs.laws.{Units.{none_held, setup_kept, waved_at, off_lines, never, kinds_not_state}}
+use Rattle.pwm_driver.specs.laws.{Units.{kinds_not_period, idle_written}}
 use Rattle.chip_pulses.specs.Pulses as pulses
-use Rattle.chip_pulses.specs.Pulses.{Pulses}
 use Rattle.chip_pulses.specs.declared.pulse.Output.TheVariants as units
 use Rattle.chip_pulses.specs.declared.pulse.Pulse as unit
-use Rattle.chip_pulses.proofs.PulseLaws.{pulse_at-same, pulse_at-other}
-use Rattle.mcal_base.proofs.BitLaws.{has_bit-zero}
-use Rattle.mcal_base.specs.declared.moves.Move.{Move}
-use Rattle.mcal_base.specs.declared.moves.Move.TheVariants.{Write, Load, Store as Stores}
-use Rattle.mcal_base.specs.declared.register.Reg.TheVariants.{PulseIdle, PulseEdges, EnableClear}
-use Rattle.run_model.specs.Machine.{Told, no_answer, tells_nothing}
-use Rattle.run_model.specs.Frame.{Origin, Called, missed_after}
-use Rattle.run_model.specs.Outside.{StandsIn}
-use Rattle.run_model.specs.World.{World}
-use Rattle.run_model.proofs.OutsideLaws.{stands-move}
-use Rattle.service_outline.specs.Done.{goes, acts, ends}
-use Rattle.service_outline.specs.Fuel.{Shortens}
-use Rattle.service_outline.specs.Outline.{Before, Is_before, After, Is_after, StepsTo}
-use Rattle.service_outline.specs.Services.{LongBodies, AreLong, over}
-use Rattle.service_outline.specs.laws.Sweep.{each_but}
-use Rattle.service_outline.specs.laws.Words.{stored_same, stored_other}
-use Rattle.service_outline.specs.declared.done.BodyTaken.{BodyTaken}
-use Rattle.service_outline.specs.declared.done.Owed.TheVariants.{Nothing}
-use Rattle.pwm_driver.specs.Bounds.{pwm_may}
-use Rattle.pwm_driver.specs.Ground.{Gap, settled, only, Holds, AllRight, output_in, IsBegun, MarksAgree, UnitAgrees, KindAgrees, IsQuiet, PwmAgrees, pwm_basis}
-use Rattle.pwm_driver.specs.Machine.{Pulse, PwmState, pulse_at, table, ended, acts_by, pwm_machine}
-use Rattle.pwm_driver.specs.Output.{Idle}
-use Rattle.pwm_driver.specs.Table.{channel_of, polarity_of}
-use Rattle.pwm_driver.specs.declared.call.Call.{Call}
 use Rattle.pwm_driver.specs.declared.call.Call.TheVariants as calls
-use Rattle.pwm_driver.specs.Words.{level, period_word}
-use Rattle.pwm_driver.specs.declared.driver.Channel.{Channel}
-use Rattle.pwm_driver.specs.declared.driver.PwmDriver.{PwmDriver}
-use Rattle.pwm_driver.specs.declared.service.deinit.DeInitBody.{DeInitBody}
-use Rattle.pwm_driver.specs.declared.service.deinit.DeInitBody.TheVariants.{Store, Disable, Choose, Keep, Rest}
-use Rattle.pwm_driver.specs.declared.words.TheConstants.{STATE, KINDS, LINES}
-use Rattle.pwm_driver.specs.laws.Base.{AllGood, steady_above, family, family_right}
-use Rattle.pwm_driver.specs.laws.Look.{Passed}
-use Rattle.pwm_driver.specs.laws.Parts.{Own, Is_own, table_at, below_test, same_yes}
-use Rattle.pwm_driver.specs.laws.Units.{chip_with, none_held, setup_kept, waved_at, off_lines, never, kinds_not_state, kinds_not_period, idle_written}
 
 abbrev pub rest_of : ℕ → Option Channel → Move
 rest_of c None = Load STATE
@@ -75,7 +53,7 @@ deinit_left (Rest d c) = 1 + (7 - c)
 abbrev pub from : PwmDriver → ℕ → ℕ → Bool
 from d c k = is_some (channel_of d k) && not (nat_lt k c)
 
-abbrev pub deinit_gap : PwmDriver → DeInitBody → Gap
+abbrev pub deinit_gap : PwmDriver → DeInitBody → Lag
 deinit_gap d (Store e) = settled
 deinit_gap d (Disable e) = record settled { units = from d 0; kinds = λ k. true }
 deinit_gap d (Choose e) = record settled { units = from d 0; kinds = λ k. true }
@@ -103,7 +81,7 @@ deinit_bodies d = family d deinit_work deinit_takes deinit_left (deinit_gap d) (
 
 -- ---- what is held, and the machine's channels
 
-right_any : (held : Holds) (on on1 : Bool) → on ≡ true → AllRight on held → AllRight on1 held
+right_any : (held : Reservations) (on on1 : Bool) → on ≡ true → AllRight on held → AllRight on1 held
 right_any [] on on1 e h = tt
 right_any (x ∷ xs) on on1 e h = absurd (let f = h.1 in cc)
 
@@ -132,7 +110,7 @@ state_not_period : (c : ℕ) → period_word c ≢ STATE
 state_not_period c e = absurd (omega (arith, e))
 
 module _ (d : PwmDriver) where
-  switched_off : (below : Holds) (chip : Chip) (w : World) (s : PwmState) → s.initialised ≡ true → PwmAgrees d below settled chip w s → PwmAgrees d below (deinit_gap d (Disable d)) (chip_after chip (Stores STATE 0) 0) w (ended_state d w s)
+  switched_off : (below : Reservations) (chip : Chip) (w : World) (s : PwmState) → s.initialised ≡ true → PwmRepresents d below settled chip w s → PwmRepresents d below (deinit_gap d (Disable d)) (chip_after chip (Stores STATE 0) 0) w (ended_state d w s)
   switched_off below chip w s on h = record {
     right = right_any below s.initialised false on h.right;
     setup = none_held d below s.initialised (chip_after chip (Stores STATE 0) 0) on h.right;
@@ -150,7 +128,7 @@ module _ (d : PwmDriver) where
     unused = λ k l e. subst IsQuiet (sym (table_at (λ c. ended (channel_of d c) w.now (pulse_at s c)) k l)) (ended_quiet (channel_of d k) w.now (pulse_at s k) (λ f. h.unused k l f));
   }
 
-  disabled : (below : Holds) (chip : Chip) (w : World) (s : PwmState) → s.initialised ≡ false → PwmAgrees d below (deinit_gap d (Disable d)) chip w s → PwmAgrees d below (deinit_gap d (Choose d)) (chip_after chip (Write EnableClear LINES) 0) w s
+  disabled : (below : Reservations) (chip : Chip) (w : World) (s : PwmState) → s.initialised ≡ false → PwmRepresents d below (deinit_gap d (Disable d)) chip w s → PwmRepresents d below (deinit_gap d (Choose d)) (chip_after chip (Write EnableClear LINES) 0) w s
   disabled below chip w s off h = record {
     right = h.right;
     setup = setup_kept d below chip (chip_after chip (Write EnableClear LINES) 0) (λ c lt. refl) (λ c lt. refl) h.setup;
@@ -164,7 +142,7 @@ module _ (d : PwmDriver) where
     unused = h.unused;
   }
 
-  none_chosen : (below : Holds) (chip : Chip) (w : World) (s : PwmState) → s.initialised ≡ false → PwmAgrees d below (deinit_gap d (Choose d)) chip w s → PwmAgrees d below (deinit_gap d (Keep d)) (chip_after chip (Write PulseEdges 0) 0) w s
+  none_chosen : (below : Reservations) (chip : Chip) (w : World) (s : PwmState) → s.initialised ≡ false → PwmRepresents d below (deinit_gap d (Choose d)) chip w s → PwmRepresents d below (deinit_gap d (Keep d)) (chip_after chip (Write PulseEdges 0) 0) w s
   none_chosen below chip w s off h = record {
     right = h.right;
     setup = setup_kept d below chip (chip_after chip (Write PulseEdges 0) 0) (λ c lt. refl) (λ c lt. refl) h.setup;
@@ -172,13 +150,13 @@ module _ (d : PwmDriver) where
     size = h.size;
     units = h.units;
     kinds = λ k l g. subst (λ n. KindAgrees 0 k n) (sym (h.clean off k l).off) (record { rising = has_bit-zero k; falling = has_bit-zero (k + 8) });
-    words = record { state = λ g. h.words.state refl; kinds = λ g. absurd (let e = same_yes KINDS in cc); periods = λ e. never s.initialised off e };
+    words = record { state = λ g. h.words.state refl; kinds = λ g. absurd (let e = eq_self KINDS in cc); periods = λ e. never s.initialised off e };
     lines = off_lines s.initialised _ off;
     clean = h.clean;
     unused = h.unused;
   }
 
-  none_kept : (below : Holds) (chip : Chip) (w : World) (s : PwmState) → s.initialised ≡ false → chip.pulses.edges ≡ 0 → PwmAgrees d below (deinit_gap d (Keep d)) chip w s → PwmAgrees d below (deinit_gap d (Rest d 0)) (chip_after chip (Stores KINDS 0) 0) w s
+  none_kept : (below : Reservations) (chip : Chip) (w : World) (s : PwmState) → s.initialised ≡ false → chip.pulses.edges ≡ 0 → PwmRepresents d below (deinit_gap d (Keep d)) chip w s → PwmRepresents d below (deinit_gap d (Rest d 0)) (chip_after chip (Stores KINDS 0) 0) w s
   none_kept below chip w s off is h = record {
     right = h.right;
     setup = setup_kept d below chip (chip_after chip (Stores KINDS 0) 0) (λ c lt. refl) (λ c lt. stored_other chip KINDS 0 0 (period_word c) (kinds_not_period c)) h.setup;
@@ -201,11 +179,11 @@ module _ (d : PwmDriver) where
   fewer c k true ne e = grind (arith, nat_tests)
   fewer c k false ne e = refl
 
-  idle_now : (below : Holds) (chip : Chip) (w : World) (s : PwmState) (c : ℕ) (k : Channel) → c < 8 → s.initialised ≡ false → IsEnded k w.now (pulse_at s c) → PwmAgrees d below (deinit_gap d (Rest d c)) chip w s → PwmAgrees d below (deinit_gap d (Rest d (c + 1))) (chip_after chip (Write (PulseIdle c) (level k.idle_high)) 0) w s
+  idle_now : (below : Reservations) (chip : Chip) (w : World) (s : PwmState) (c : ℕ) (k : Channel) → c < 8 → s.initialised ≡ false → IsEnded k w.now (pulse_at s c) → PwmRepresents d below (deinit_gap d (Rest d c)) chip w s → PwmRepresents d below (deinit_gap d (Rest d (c + 1))) (chip_after chip (Write (PulseIdle c) (level k.idle_high)) 0) w s
   idle_now below chip w s c k lt off i h =
       let p = pulses.put_out (units.Idle k.idle_high) chip.pulses.time (pulses.pulse_at chip.pulses c) in
       let e = idle_written chip c k.idle_high in
-      subst (λ z. PwmAgrees d below (deinit_gap d (Rest d (c + 1))) z w s) (sym e) (record {
+      subst (λ z. PwmRepresents d below (deinit_gap d (Rest d (c + 1))) z w s) (sym e) (record {
         right = h.right;
         setup = setup_kept d below chip (chip_with chip c p) (λ j l. waved_at chip c j p h.size lt refl) (λ j l. refl) h.setup;
         outside = subst (λ z. StandsIn z w) e (stands-move chip w (Write (PulseIdle c) (level k.idle_high)) 0 h.outside);
@@ -220,7 +198,7 @@ module _ (d : PwmDriver) where
         unused = h.unused;
       })
 
-  unused_now : (below : Holds) (chip : Chip) (w : World) (s : PwmState) (c : ℕ) → channel_of d c ≡ None → PwmAgrees d below (deinit_gap d (Rest d c)) chip w s → PwmAgrees d below (deinit_gap d (Rest d (c + 1))) chip w s
+  unused_now : (below : Reservations) (chip : Chip) (w : World) (s : PwmState) (c : ℕ) → channel_of d c ≡ None → PwmRepresents d below (deinit_gap d (Rest d c)) chip w s → PwmRepresents d below (deinit_gap d (Rest d (c + 1))) chip w s
   unused_now below chip w s c e h = record {
     right = h.right;
     setup = h.setup;
@@ -234,7 +212,7 @@ module _ (d : PwmDriver) where
     unused = h.unused;
   }
 
-  rested_by : (below : Holds) (chip : Chip) (w : World) (s : PwmState) (c : ℕ) → c < 8 → AreEnded d w.now s → PwmAgrees d below (deinit_gap d (Rest d c)) chip w s → (o : Option Channel) → channel_of d c ≡ o → PwmAgrees d below (deinit_gap d (Rest d (c + 1))) (chip_after chip (rest_of c o) 0) w s
+  rested_by : (below : Reservations) (chip : Chip) (w : World) (s : PwmState) (c : ℕ) → c < 8 → AreEnded d w.now s → PwmRepresents d below (deinit_gap d (Rest d c)) chip w s → (o : Option Channel) → channel_of d c ≡ o → PwmRepresents d below (deinit_gap d (Rest d (c + 1))) (chip_after chip (rest_of c o) 0) w s
   rested_by below chip w s c lt a h None e = unused_now below chip w s c e h
   rested_by below chip w s c lt a h (Some k) e = idle_now below chip w s c k lt a.0 (a.1 c k lt e) h
 
@@ -242,7 +220,7 @@ module _ (d : PwmDriver) where
   all_closed true k c lt le = grind (arith, nat_tests)
   all_closed false k c lt le = refl
 
-  all_rest : (below : Holds) (chip : Chip) (w : World) (s : PwmState) (c : ℕ) → 8 ≤ c → PwmAgrees d below (deinit_gap d (Rest d c)) chip w s → PwmAgrees d below settled chip w s
+  all_rest : (below : Reservations) (chip : Chip) (w : World) (s : PwmState) (c : ℕ) → 8 ≤ c → PwmRepresents d below (deinit_gap d (Rest d c)) chip w s → PwmRepresents d below settled chip w s
   all_rest below chip w s c le h = record {
     right = h.right;
     setup = h.setup;
@@ -260,7 +238,7 @@ module _ (d : PwmDriver) where
   may_rest c None lt = refl
   may_rest c (Some k) lt = below_test c lt
 
-  rest_next : (below : Holds) (chip1 : Chip) (w : World) (s : PwmState) (m : ℕ → Bool) (c : ℕ) → c < 8 → AreEnded d w.now s → PwmAgrees d below (deinit_gap d (Rest d (c + 1))) chip1 w s → (q : Bool) → nat_lt c 7 ≡ q → StepsTo (over (pwm_basis d) below) (steady_above d deinit_work deinit_takes deinit_left (deinit_gap d) (deinit_holds d) below) chip1 w s (Called calls.DeInit) (rest d c) false (Some tells_nothing) m (if q then (Rest d (c + 1), goes) else (Rest d c, ends None no_answer Nothing))
+  rest_next : (below : Reservations) (chip1 : Chip) (w : World) (s : PwmState) (m : ℕ → Bool) (c : ℕ) → c < 8 → AreEnded d w.now s → PwmRepresents d below (deinit_gap d (Rest d (c + 1))) chip1 w s → (q : Bool) → nat_lt c 7 ≡ q → StepsTo (over (pwm_basis d) below) (steady_above d deinit_work deinit_takes deinit_left (deinit_gap d) (deinit_holds d) below) chip1 w s (Called calls.DeInit) (rest d c) false (Some tells_nothing) m (if q then (Rest d (c + 1), goes) else (Rest d c, ends None no_answer Nothing))
   rest_next below chip1 w s m c lt a h true e = let more : c + 1 < 8 = grind (arith, nat_tests) in (h, (Is_after, Is_own, a, more))
   rest_next below chip1 w s m c lt a h false e = let last : 8 ≤ c + 1 = grind (arith, nat_tests) in (all_rest below chip1 w s (c + 1) last h, (refl, refl, refl))
 

@@ -1,31 +1,18 @@
 -- The flags of all channels: what a read gives, and what a write clears.
-use Rattle.std.proofs.Common.{◌≡◌, ◌≢◌, ℕ, ◌+◌, ◌*◌, ◌/◌, ◌%◌, ◌<◌, ◌≤◌, ◌^◌, Bool, true, false, ◌&&◌, ◌||◌, ◌==◌, Option, Some, None, length, refl, sym, ◌∙◌, ap, subst, arith}
-use Rattle.std.specs.Prelude.{if◌then◌else◌, is_some}
-use Rattle.chip_model.specs.Chip.{Chip, chip_after, word_of}
-use Rattle.chip_pulses.specs.Accesses.{HasChannel}
+-- From Parts, Changes, Units.
+-- Used by Serve, Notify.
+use Rattle.std.proofs.Common.{◌≡◌, ◌≢◌, ◌+◌, ◌*◌, ◌/◌, ◌%◌, ◌<◌, ◌≤◌, ◌^◌, ◌&&◌, ◌||◌, ◌==◌, ◌∙◌, if◌then◌else◌}
+use Rattle.pwm_driver.specs.Terms
+use Terms.{after_write, ap, arith, bits_of-lt, Bool, Both, both, both_falling, both_other, both_rising, by_eight}
+use Terms.{channel_of, channel_other, channel_same, Chip, chip_after, chosen, cleared, each_but, Falling, false}
+use Terms.{flags_of, flags_to, GivesWay, has_bit, has_bit-bits_of, has_channel-cleared, HasChannel, Idle, is_flagged}
+use Terms.{is_marked_by, is_some, IsBegun, IsQuiet, KindAgrees, length, level_of, MarksAgree, None, not_it, not_low}
+use Terms.{Option, Output, past_it, period_word, polarity_of, Pulse, pulse_at, pulse_at-cleared, PulseFlags, Pulses}
+use Terms.{PwmDriver, PwmEdge, PwmRepresents, PwmState, refl, Reservations, Rising, Runs, settled, Some, stands}
+use Terms.{stands-move, subst, sym, true, turns_between, TurnsBetween, UnitAgrees, with_pulse, word_of, World, Write, ℕ}
+use Rattle.pwm_driver.specs.laws.{Changes.{times_of, of_times}, Units.{none_held}}
 use Rattle.chip_pulses.specs.Pulses as pulses
-use Rattle.chip_pulses.specs.Pulses.{Pulses, flags_to, flags_of, is_flagged, cleared, after_write}
 use Rattle.chip_pulses.specs.declared.pulse.Pulse as unit
-use Rattle.chip_pulses.proofs.PulseLaws.{pulse_at-cleared, has_channel-cleared}
-use Rattle.mcal_base.specs.Bits.{has_bit}
-use Rattle.mcal_base.proofs.BitLaws.{bits_of-lt, has_bit-bits_of}
-use Rattle.mcal_base.specs.declared.moves.Move.TheVariants.{Write}
-use Rattle.mcal_base.specs.declared.register.Reg.TheVariants.{PulseFlags}
-use Rattle.run_model.proofs.OutsideLaws.{stands-move}
-use Rattle.run_model.specs.World.{World}
-use Rattle.service_outline.specs.laws.Sweep.{each_but}
-use Rattle.pwm_driver.specs.Ground.{settled, Holds, IsBegun, chosen, UnitAgrees, MarksAgree, KindAgrees, IsQuiet, PwmAgrees}
-use Rattle.pwm_driver.specs.Machine.{Pulse, PwmState, pulse_at, with_pulse, is_marked_by}
-use Rattle.pwm_driver.specs.Output.{Output, Idle, Runs, GivesWay, level_of, turns_between}
-use Rattle.pwm_driver.specs.Runs.{TurnsBetween}
-use Rattle.pwm_driver.specs.Table.{channel_of, polarity_of}
-use Rattle.pwm_driver.specs.Words.{both, stands, period_word}
-use Rattle.pwm_driver.specs.declared.call.PwmEdge.{PwmEdge}
-use Rattle.pwm_driver.specs.declared.call.PwmEdge.TheVariants.{Rising, Falling, Both}
-use Rattle.pwm_driver.specs.declared.driver.PwmDriver.{PwmDriver}
-use Rattle.pwm_driver.specs.laws.Changes.{times_of, of_times}
-use Rattle.pwm_driver.specs.laws.Parts.{by_eight, channel_same, channel_other, both_rising, both_falling, both_other, past_it, not_it, not_low}
-use Rattle.pwm_driver.specs.laws.Units.{none_held}
 
 -- ---- bits
 
@@ -95,7 +82,7 @@ unflagged_agrees high now time p x n at h = record { output = h.output; begun = 
     by None = tt
     by (Some edge) = record { rising = at; falling = at; kept = neither edge }
 
-pub flags_cleared : (d : PwmDriver) (below : Holds) (chip : Chip) (w : World) (s : PwmState) (c : ℕ) (x : Pulse) (kinds words : ℕ → Bool) → c < 8 → s.initialised ≡ true → is_some (channel_of d c) ≡ true → x.period ≡ (pulse_at s c).period → ((k : ℕ) → k ≢ c → kinds k ≡ false) → KindAgrees chip.pulses.edges c x.notified → UnitAgrees (polarity_of (channel_of d c)) w.now (unflagged chip.pulses.time (pulses.pulse_at chip.pulses c)) x → PwmAgrees d below (record settled { kinds = kinds; words = words }) chip w s → PwmAgrees d below (record settled { words = words }) (chip_after chip (Write PulseFlags (both c)) 0) w (with_pulse s c x)
+pub flags_cleared : (d : PwmDriver) (below : Reservations) (chip : Chip) (w : World) (s : PwmState) (c : ℕ) (x : Pulse) (kinds words : ℕ → Bool) → c < 8 → s.initialised ≡ true → is_some (channel_of d c) ≡ true → x.period ≡ (pulse_at s c).period → ((k : ℕ) → k ≢ c → kinds k ≡ false) → KindAgrees chip.pulses.edges c x.notified → UnitAgrees (polarity_of (channel_of d c)) w.now (unflagged chip.pulses.time (pulses.pulse_at chip.pulses c)) x → PwmRepresents d below (record settled { kinds = kinds; words = words }) chip w s → PwmRepresents d below (record settled { words = words }) (chip_after chip (Write PulseFlags (both c)) 0) w (with_pulse s c x)
 flags_cleared d below chip w s c x kinds words lt on there period rest kind new h = record {
   right = h.right;
   setup = none_held d below s.initialised (chip_after chip (Write PulseFlags (both c)) 0) on h.right;

@@ -1,38 +1,18 @@
 -- Pwm_Init: its steps, and what holds at each.
-use Rattle.std.proofs.Common.{◌≡◌, ℕ, zero, suc, ◌+◌, ◌-◌, ◌/◌, ◌%◌, ◌<◌, ◌≤◌, Bool, true, false, ◌&&◌, nat_lt, List, [], ◌∷◌, Option, Some, None, refl, ◌∙◌, ap, arith}
-use Rattle.std.specs.Prelude.{if◌then◌else◌, is_some}
+-- From Parts.
+-- Used by InitRight, service/init/rt, Lawful, Windows, InitWrites and 1 more.
+use Rattle.std.proofs.Common.{◌≡◌, ◌+◌, ◌-◌, ◌/◌, ◌%◌, ◌<◌, ◌≤◌, ◌&&◌, [], ◌∷◌, ◌∙◌, if◌then◌else◌}
+use Rattle.pwm_driver.specs.Terms
+use Terms.{absolute, Act, ap, arith, begins_word, below_test, BodyTaken, Bool, by_eight, Call, Called, Channel}
+use Terms.{channel_of, Commit, committed_after, Enable, EnableSet, ends, false, FrameHistory, fresh_history, goes}
+use Terms.{InitBody, is_some, IsThisFrame, Lag, level, LINES, List, Load, LongBodies, Move, nat_lt, no_answer, None}
+use Terms.{Nothing, Option, Origin, Own, Part, period_word, PointAssertion, PulseCommit, PulseDuty, PulsePeriod}
+use Terms.{PulsePolarity, Pulses, pwm_basis, pwm_may, PwmDriver, PwmState, refl, Reservations, resets_chip, settled}
+use Terms.{Setup, Some, STATE, Stores, suc, Sweep, sweep, Sweeping, true, Within, World, Write, zero, ℕ}
+use Rattle.pwm_driver.specs.declared.service.init.InitBody.TheVariants.{Store}
 use Rattle.chip_pulses.specs.Pulses as pulses
-use Rattle.chip_pulses.specs.Pulses.{Pulses}
 use Rattle.chip_pulses.specs.declared.pulse.Output.TheVariants as units
-use Rattle.mcal_base.specs.declared.moves.Event.TheVariants.{Act}
-use Rattle.mcal_base.specs.declared.moves.Move.{Move}
-use Rattle.mcal_base.specs.declared.moves.Move.TheVariants.{Write, Load, Store as Stores}
-use Rattle.mcal_base.specs.declared.register.Reg.TheVariants.{PulsePeriod, PulseDuty, PulsePolarity, PulseCommit, EnableSet}
-use Rattle.run_model.specs.Machine.{no_answer}
-use Rattle.run_model.specs.Frame.{Origin, Called, resets_chip, begins_word, committed_after}
-use Rattle.run_model.specs.World.{World}
-use Rattle.service_outline.specs.Done.{goes, ends}
-use Rattle.service_outline.specs.declared.done.BodyTaken.{BodyTaken}
-use Rattle.service_outline.specs.declared.done.Owed.TheVariants.{Nothing}
-use Rattle.service_outline.specs.Past.{Past, nothing_yet, Being}
-use Rattle.service_outline.specs.Services.{Spot, Within, LongBodies}
-use Rattle.service_outline.specs.Sweeping.{Sweeping, sweep}
-use Rattle.service_outline.specs.declared.sweep.Sweep.{Sweep}
-use Rattle.pwm_driver.specs.Bounds.{pwm_may}
-use Rattle.pwm_driver.specs.Ground.{Gap, Part, Holds, settled, pwm_basis}
-use Rattle.pwm_driver.specs.Machine.{PwmState}
-use Rattle.pwm_driver.specs.declared.call.Call.{Call}
 use Rattle.pwm_driver.specs.declared.call.Call.TheVariants as calls
-use Rattle.pwm_driver.specs.Output.{absolute}
-use Rattle.pwm_driver.specs.Table.{channel_of}
-use Rattle.pwm_driver.specs.Words.{period_word, level}
-use Rattle.pwm_driver.specs.declared.driver.Channel.{Channel}
-use Rattle.pwm_driver.specs.declared.driver.PwmDriver.{PwmDriver}
-use Rattle.pwm_driver.specs.declared.service.init.InitBody.{InitBody}
-use Rattle.pwm_driver.specs.declared.service.init.InitBody.TheVariants.{Commit, Enable, Store}
-use Rattle.pwm_driver.specs.declared.service.init.Setup.{Setup}
-use Rattle.pwm_driver.specs.declared.words.TheConstants.{STATE, LINES}
-use Rattle.pwm_driver.specs.laws.Parts.{Own, by_eight, below_test}
 
 -- ---- the defaults, with the mask open
 
@@ -90,7 +70,7 @@ abbrev pub written : ℕ → List Part
 written i = record { upto = i } ∷ []
 
 -- it runs above nothing that is held, since beside it no call of the module begins
-pub data Alone : Holds → Type 0 where
+pub data Alone : Reservations → Type 0 where
   Is_alone : Alone []
 
 -- the defaults are this driver's
@@ -98,8 +78,8 @@ pub data IsSetup (d : PwmDriver) : Setup → Type 0 where
   Is_setup : IsSetup d (record { driver = d })
 
 -- a call that has done nothing yet but write defaults
-abbrev pub IsSetting : PwmDriver → Setup → Holds → Origin Call → Past → Type 0
-IsSetting d r below o t = Being (Called calls.Init) nothing_yet o t × Alone below × IsSetup d r
+abbrev pub IsSetting : PwmDriver → Setup → Reservations → Origin Call → FrameHistory → Type 0
+IsSetting d r below o t = IsThisFrame (Called calls.Init) fresh_history o t × Alone below × IsSetup d r
 
 abbrev pub setting_up : (d : PwmDriver) → Sweeping (pwm_basis d) Setup InitBody
 setting_up d = record { count = setup_count; move = setup_move; after = setup_after; hold = λ r i. written i; place = λ r below o t. IsSetting d r below o t }
@@ -116,24 +96,24 @@ abbrev pub HaveBegun : PwmDriver → ℕ → Pulses → ℕ → (ℕ → Option 
 HaveBegun d upto f now times = (c : ℕ) (k : Channel) → c < 8 → c < upto → channel_of d c ≡ Some k → Runs k now (times c) f c
 
 -- the past of the call with these commits
-abbrev pub with_commits : (ℕ → Option ℕ) → Past
-with_commits times = record nothing_yet { committed = times }
+abbrev pub with_commits : (ℕ → Option ℕ) → FrameHistory
+with_commits times = record fresh_history { committed = times }
 
 -- a call that has made the commits below this channel
-abbrev pub IsBeginning : PwmDriver → ℕ → Holds → Pulses → ℕ → PwmState → Origin Call → Past → Type 0
-IsBeginning d upto below f now s o t = (times : ℕ → Option ℕ) × Being (Called calls.Init) (with_commits times) o t × Alone below × (s.initialised ≡ false) × HaveBegun d upto f now times
+abbrev pub IsBeginning : PwmDriver → ℕ → Reservations → Pulses → ℕ → PwmState → Origin Call → FrameHistory → Type 0
+IsBeginning d upto below f now s o t = (times : ℕ → Option ℕ) × IsThisFrame (Called calls.Init) (with_commits times) o t × Alone below × (s.initialised ≡ false) × HaveBegun d upto f now times
 
 -- the units of configured channels below this one run already
-abbrev pub begun_below : PwmDriver → ℕ → Gap
+abbrev pub begun_below : PwmDriver → ℕ → Lag
 begun_below d upto = record settled { units = λ k. is_some (channel_of d k) && nat_lt k upto }
 
-abbrev pub init_spot : (d : PwmDriver) → InitBody → Spot (pwm_basis d)
+abbrev pub init_spot : (d : PwmDriver) → InitBody → PointAssertion (pwm_basis d)
 init_spot d (Commit e c) = Within (begun_below d c) (written 32) (λ below f w s o t. IsBeginning d c below f w.now s o t × Own d e × (c < 8))
 init_spot d Enable = Within (begun_below d 8) (written 32) (λ below f w s o t. IsBeginning d 8 below f w.now s o t)
 init_spot d Store = Within (record (begun_below d 8) { lines = Some true }) (written 32) (λ below f w s o t. IsBeginning d 8 below f w.now s o t)
 
 abbrev pub init_bodies : (d : PwmDriver) → LongBodies (pwm_basis d) InitBody
-init_bodies d = record { work_of = init_work; takes = init_takes; fuel = init_left; room = init_left; clean = λ k. false; spot = init_spot d }
+init_bodies d = record { work_of = init_work; takes = init_takes; fuel = init_left; room = init_left; clean = λ k. false; assertion = init_spot d }
 
 abbrev pub begin_bodies : (d : PwmDriver) → LongBodies (pwm_basis d) (Sweep Setup InitBody)
 begin_bodies d = sweep (setting_up d) (init_bodies d)

@@ -1,57 +1,30 @@
 -- The commits of Pwm_Init, its act, and that its steps are right.
-use Rattle.std.proofs.Common.{◌≡◌, ℕ, ◌+◌, ◌*◌, ◌/◌, ◌%◌, ◌<◌, ◌≤◌, Bool, true, false, not, ◌&&◌, ◌||◌, nat_lt, cond, [], Option, Some, None, refl, sym, ◌∙◌, ap, subst, arith}
-use Rattle.std.specs.Prelude.{if◌then◌else◌, is_some}
-use Rattle.std.proofs.lemmas.Bool.Decides.{nat_tests}
-use Rattle.chip_model.specs.Chip.{Chip, value_of, chip_after, word_of}
+-- From Init, Parts, Units, Base, InitWrites and 2 more.
+-- Used by Lawful.
+use Rattle.std.proofs.Common.{◌≡◌, ◌+◌, ◌*◌, ◌/◌, ◌%◌, ◌<◌, ◌≤◌, ◌&&◌, ◌||◌, [], ◌∙◌, if◌then◌else◌}
+use Rattle.pwm_driver.specs.Terms
+use Terms.{absolute, Act, acts_by, ap, AreLong, arith, AssertedAt, below_test, BodyTaken, Bool, by_eight, Call, Called}
+use Terms.{Channel, channel_of, Chip, chip_after, Commit, committed_after, cond, each_but, Enable, EnableSet, ends}
+use Terms.{eq_other, eq_self, error_by, false, FrameHistory, fresh_history, goes, has_bit, has_bit-or, InitBody}
+use Terms.{is_closed, Is_own, is_shared, is_some, Is_this_frame, IsQuiet, IsSetUp, KindAgrees, KINDS, LINES, Load}
+use Terms.{MakesTo, missed_after, Move, nat_lt, nat_tests, never_clean, no_answer, None, not, Nothing, Option, or_true}
+use Terms.{Origin, output_in, period_in, period_word, place_at, plain_makes, plain_turns, polarity_of, pulse_at}
+use Terms.{pulse_at-other, pulse_at-same, PulseCommit, Pulses, pwm_basis, pwm_machine, pwm_may, PwmDriver}
+use Terms.{PwmRepresents, PwmState, refl, Reservations, Right, settled, Setup, Shortens, Some, stands-move, started}
+use Terms.{STATE, stored_other, stored_same, Stores, subst, sweep_right, sym, table, table_at, tells_nothing, time_or}
+use Terms.{true, TurnsMask, TurnsTo, UnitAgrees, value_of, with_at, with_holds, word_of, World, world_after, Write, ℕ}
+use Rattle.pwm_driver.specs.declared.service.init.InitBody.TheVariants.{Store}
+use Rattle.pwm_driver.specs.laws.{Base.{pulses_of, foot_later, now_later}, RefinementRight.{basis_right}}
+use Rattle.pwm_driver.specs.laws.{Init.{IsPlain, Is_alone, Is_setup, IsSetting, Runs, HaveBegun, with_commits}}
+use Rattle.pwm_driver.specs.laws.{Init.{IsBeginning, begun_below, written, commit_of, commit, init_work, init_takes}}
+use Rattle.pwm_driver.specs.laws.{Init.{init_left, init_spot, init_bodies, begin_bodies, setting_up, setup_move}}
+use Rattle.pwm_driver.specs.laws.{Init.{setup_is, setup_may, setup_plain, setup_commits}, InitWrites.{less, one}}
+use Rattle.pwm_driver.specs.laws.{InitWrites.{step_by}, Output.{wave_is}, Units.{chip_with, off_set, setup_kept}}
+use Rattle.pwm_driver.specs.laws.{Units.{waved_at}}
 use Rattle.chip_pulses.specs.Pulses as pulses
-use Rattle.chip_pulses.specs.Pulses.{Pulses}
 use Rattle.chip_pulses.specs.declared.pulse.Output.TheVariants as units
 use Rattle.chip_pulses.specs.declared.pulse.Pulse as unit
-use Rattle.chip_pulses.proofs.PulseLaws.{pulse_at-same, pulse_at-other}
-use Rattle.mcal_base.specs.Bits.{has_bit}
-use Rattle.mcal_base.proofs.BitLaws.{has_bit-or}
-use Rattle.mcal_base.specs.declared.moves.Event.TheVariants.{Act}
-use Rattle.mcal_base.specs.declared.moves.Move.{Move}
-use Rattle.mcal_base.specs.declared.moves.Move.TheVariants.{Write, Load, Store as Stores}
-use Rattle.mcal_base.specs.declared.register.Reg.TheVariants.{PulseCommit, EnableSet}
-use Rattle.run_model.specs.Frame.{Origin, Called, committed_after, time_or, is_shared, missed_after}
-use Rattle.run_model.specs.Machine.{no_answer, tells_nothing}
-use Rattle.run_model.specs.World.{World, with_at, world_after}
-use Rattle.run_model.proofs.OutsideLaws.{stands-move}
-use Rattle.service_outline.specs.Done.{goes, ends}
-use Rattle.service_outline.specs.Fuel.{Shortens}
-use Rattle.service_outline.specs.Past.{Past, nothing_yet, Is_being}
-use Rattle.service_outline.specs.Services.{AreLong, MakesTo, Right, Stand, TurnsMask, TurnsTo, is_closed, place_at, with_holds}
-use Rattle.service_outline.specs.declared.done.BodyTaken.{BodyTaken}
-use Rattle.service_outline.specs.declared.done.Owed.TheVariants.{Nothing}
-use Rattle.service_outline.specs.laws.Acts.{never_clean}
-use Rattle.service_outline.specs.laws.ShortServices.{plain_makes, plain_turns}
-use Rattle.service_outline.specs.laws.StepKinds.{or_true}
-use Rattle.service_outline.specs.laws.Sweep.{each_but}
-use Rattle.service_outline.specs.laws.Sweeping.{sweep_right}
-use Rattle.service_outline.specs.laws.Words.{stored_same, stored_other}
-use Rattle.pwm_driver.specs.Bounds.{pwm_may}
-use Rattle.pwm_driver.specs.Checks.{error_by}
-use Rattle.pwm_driver.specs.Ground.{settled, Holds, period_in, IsSetUp, output_in, UnitAgrees, KindAgrees, IsQuiet, PwmAgrees, pwm_basis}
-use Rattle.pwm_driver.specs.Machine.{PwmState, pulse_at, table, started, acts_by, pwm_machine}
-use Rattle.pwm_driver.specs.Output.{absolute}
-use Rattle.pwm_driver.specs.Table.{channel_of, polarity_of}
-use Rattle.pwm_driver.specs.Words.{period_word}
-use Rattle.pwm_driver.specs.declared.call.Call.{Call}
 use Rattle.pwm_driver.specs.declared.call.Call.TheVariants as calls
-use Rattle.pwm_driver.specs.declared.driver.Channel.{Channel}
-use Rattle.pwm_driver.specs.declared.driver.PwmDriver.{PwmDriver}
-use Rattle.pwm_driver.specs.declared.service.init.InitBody.{InitBody}
-use Rattle.pwm_driver.specs.declared.service.init.InitBody.TheVariants.{Commit, Enable, Store}
-use Rattle.pwm_driver.specs.declared.service.init.Setup.{Setup}
-use Rattle.pwm_driver.specs.declared.words.TheConstants.{STATE, KINDS, LINES}
-use Rattle.pwm_driver.specs.laws.Base.{pulses_of, foot_later, now_later}
-use Rattle.pwm_driver.specs.laws.Ground.{basis_right}
-use Rattle.pwm_driver.specs.laws.Init.{IsPlain, Is_alone, Is_setup, IsSetting, Runs, HaveBegun, with_commits, IsBeginning, begun_below, written, commit_of, commit, init_work, init_takes, init_left, init_spot, init_bodies, begin_bodies, setting_up, setup_move, setup_is, setup_may, setup_plain, setup_commits}
-use Rattle.pwm_driver.specs.laws.InitWrites.{less, one, step_by}
-use Rattle.pwm_driver.specs.laws.Output.{wave_is}
-use Rattle.pwm_driver.specs.laws.Parts.{Is_own, by_eight, below_test, same_yes, other_no, table_at}
-use Rattle.pwm_driver.specs.laws.Units.{chip_with, off_set, setup_kept, waved_at}
 
 -- ---- a commit
 
@@ -74,16 +47,16 @@ module _ (d : PwmDriver) where
   fewer true c k e = grind (arith, nat_tests)
   fewer false c k e = refl
 
-  module _ (c : ℕ) (chip : Chip) (w : World) (s : PwmState) (lt : c < 8) (h : PwmAgrees d (one 32) (begun_below d c) chip w s) where
+  module _ (c : ℕ) (chip : Chip) (w : World) (s : PwmState) (lt : c < 8) (h : PwmRepresents d (one 32) (begun_below d c) chip w s) where
     abbrev q : unit.Pulse
     q = pulses.taken chip.pulses.time (pulses.pulse_at chip.pulses c)
 
-    committed_now : (k : Channel) (received : ℕ) → channel_of d c ≡ Some k → PwmAgrees d (one 32) (begun_below d (c + 1)) (chip_after chip (Write (PulseCommit c) 1) received) w s
+    committed_now : (k : Channel) (received : ℕ) → channel_of d c ≡ Some k → PwmRepresents d (one 32) (begun_below d (c + 1)) (chip_after chip (Write (PulseCommit c) 1) received) w s
     committed_now k received e = off_set d (one 32) (one 32) chip w s c q (begun_below d c).units (begun_below d (c + 1)).units lt h.right.1 h.right
         (setup_kept d (one 32) chip (chip_with chip c q) (λ j l. waved_at chip c j q h.size lt refl) (λ j l. refl) h.setup)
         (stands-move chip w (Write (PulseCommit c) 1) received h.outside) (λ g. absurd (let f = sym (opened_here c k e) ∙ g in cc)) (λ j ne g. fewer (is_some (channel_of d j)) c j g) h
 
-    none_committed : channel_of d c ≡ None → PwmAgrees d (one 32) (begun_below d (c + 1)) chip w s
+    none_committed : channel_of d c ≡ None → PwmRepresents d (one 32) (begun_below d (c + 1)) chip w s
     none_committed e = record {
       right = h.right;
       setup = h.setup;
@@ -112,13 +85,13 @@ module _ (d : PwmDriver) where
     begun_more k times e b j x l under known = each_but (λ n. n < 8 → n < c + 1 → (x : Channel) → channel_of d n ≡ Some x → Runs x w.now (with_at times c (Some w.now) n) (pulses_of (chip_with chip c q)) n) c
         (λ n u y known. record {
           start = w.now;
-          is = ap (λ z. cond z (Some w.now) (times c)) (same_yes c);
+          is = ap (λ z. cond z (Some w.now) (times c)) (eq_self c);
           past = omega arith;
           output = ap (λ z. z.output) (pulse_at-same chip.pulses c q (record { all = h.size; within = lt })) ∙ begins_now y known;
         }) j
         (λ ne n u y known. let r = b j y n (less j c u ne) known in record {
           start = r.start;
-          is = ap (λ z. cond z (Some w.now) (times j)) (other_no j c ne) ∙ r.is;
+          is = ap (λ z. cond z (Some w.now) (times j)) (eq_other j c ne) ∙ r.is;
           past = r.past;
           output = ap (λ z. z.output) (pulse_at-other chip.pulses c j q ne) ∙ r.output;
         }) l under x known
@@ -130,7 +103,7 @@ module _ (d : PwmDriver) where
 
 -- ---- the act
 
-module _ (d : PwmDriver) (times : ℕ → Option ℕ) (chip : Chip) (w : World) (s : PwmState) (received : ℕ) (b : HaveBegun d 8 (pulses_of chip) w.now times) (h : PwmAgrees d (one 32) (record (begun_below d 8) { lines = Some true }) chip w s) where
+module _ (d : PwmDriver) (times : ℕ → Option ℕ) (chip : Chip) (w : World) (s : PwmState) (received : ℕ) (b : HaveBegun d 8 (pulses_of chip) w.now times) (h : PwmRepresents d (one 32) (record (begun_below d 8) { lines = Some true }) chip w s) where
   abbrev now_of : ℕ → ℕ
   now_of c = time_or w.now (times c)
 
@@ -165,7 +138,7 @@ module _ (d : PwmDriver) (times : ℕ → Option ℕ) (chip : Chip) (w : World) 
   quiet_by c None e q = q
   quiet_by c (Some k) e q = absurd (cc)
 
-  acted : PwmAgrees d [] settled (chip_after chip (Stores STATE 1) received) w begun_state
+  acted : PwmRepresents d [] settled (chip_after chip (Stores STATE 1) received) w begun_state
   acted = record {
     right = tt;
     setup = tt;
@@ -186,7 +159,7 @@ module _ (d : PwmDriver) (times : ℕ → Option ℕ) (chip : Chip) (w : World) 
 -- ---- the steps of the window
 
 module _ (d : PwmDriver) (chip : Chip) (w : World) (s : PwmState) where
-  lines_set : (received : ℕ) → PwmAgrees d (one 32) (begun_below d 8) chip w s → PwmAgrees d (one 32) (record (begun_below d 8) { lines = Some true }) (chip_after chip (Write EnableSet LINES) received) w s
+  lines_set : (received : ℕ) → PwmRepresents d (one 32) (begun_below d 8) chip w s → PwmRepresents d (one 32) (record (begun_below d 8) { lines = Some true }) (chip_after chip (Write EnableSet LINES) received) w s
   lines_set received h = record {
     right = h.right;
     setup = setup_kept d (one 32) chip (chip_after chip (Write EnableSet LINES) received) (λ c lt. refl) (λ c lt. refl) h.setup;
@@ -205,18 +178,18 @@ module _ (d : PwmDriver) (chip : Chip) (w : World) (s : PwmState) where
     To after made k = MakesTo (pwm_basis d) (init_bodies d) [] chip after w s (Called calls.Init) made false x y (with_commits times) m k
 
     -- a commit leads to the next one, and the last one to the enabling
-    next_by : (after : Chip) (made : Move) (c : ℕ) → is_shared made ≡ false → c < 8 → PwmAgrees d (one 32) (begun_below d (c + 1)) after w s → HaveBegun d (c + 1) (pulses_of after) w.now (committed_after w times made) → (q : Bool) → nat_lt c 7 ≡ q → To after made (if q then (Commit d (c + 1), goes) else (Enable, goes))
-    next_by after made c plain lt h b true e = let more : c + 1 < 8 = grind (arith, nat_tests) in plain_makes (pwm_basis d) (init_bodies d) [] chip after w s (Called calls.Init) false x y (with_commits times) m (Commit d (c + 1)) None None made plain (h, ((committed_after w times made, Is_being, Is_alone, off, b), Is_own, more))
+    next_by : (after : Chip) (made : Move) (c : ℕ) → is_shared made ≡ false → c < 8 → PwmRepresents d (one 32) (begun_below d (c + 1)) after w s → HaveBegun d (c + 1) (pulses_of after) w.now (committed_after w times made) → (q : Bool) → nat_lt c 7 ≡ q → To after made (if q then (Commit d (c + 1), goes) else (Enable, goes))
+    next_by after made c plain lt h b true e = let more : c + 1 < 8 = grind (arith, nat_tests) in plain_makes (pwm_basis d) (init_bodies d) [] chip after w s (Called calls.Init) false x y (with_commits times) m (Commit d (c + 1)) None None made plain (h, ((committed_after w times made, Is_this_frame, Is_alone, off, b), Is_own, more))
     next_by after made c plain lt h b false e =
         let last : c + 1 ≡ 8 = grind (arith, nat_tests) in
         plain_makes (pwm_basis d) (init_bodies d) [] chip after w s (Called calls.Init) false x y (with_commits times) m Enable None None made plain
-        (subst (λ n. PwmAgrees d (one 32) (begun_below d n) after w s) last h, (committed_after w times made, Is_being, Is_alone, off, subst (λ n. HaveBegun d n (pulses_of after) w.now (committed_after w times made)) last b))
+        (subst (λ n. PwmRepresents d (one 32) (begun_below d n) after w s) last h, (committed_after w times made, Is_this_frame, Is_alone, off, subst (λ n. HaveBegun d n (pulses_of after) w.now (committed_after w times made)) last b))
 
-    commits : (c : ℕ) → c < 8 → PwmAgrees d (one 32) (begun_below d c) chip w s → HaveBegun d c (pulses_of chip) w.now times → (o : Option Channel) → channel_of d c ≡ o → To (chip_after chip (commit_of c o) y) (commit_of c o) (if nat_lt c 7 then (Commit d (c + 1), goes) else (Enable, goes))
+    commits : (c : ℕ) → c < 8 → PwmRepresents d (one 32) (begun_below d c) chip w s → HaveBegun d c (pulses_of chip) w.now times → (o : Option Channel) → channel_of d c ≡ o → To (chip_after chip (commit_of c o) y) (commit_of c o) (if nat_lt c 7 then (Commit d (c + 1), goes) else (Enable, goes))
     commits c lt h b None e = next_by chip (Load STATE) c refl lt (none_committed d c chip w s lt h e) (begun_same d c chip w s lt h times e b) (nat_lt c 7) refl
     commits c lt h b (Some k) e = next_by (chip_after chip (Write (PulseCommit c) 1) y) (Write (PulseCommit c) 1) c refl lt (committed_now d c chip w s lt h k y e) (begun_more d c chip w s lt h k times e b) (nat_lt c 7) refl
 
-    acts_now : HaveBegun d 8 (pulses_of chip) w.now times → PwmAgrees d (one 32) (record (begun_below d 8) { lines = Some true }) chip w s → To (chip_after chip (Stores STATE 1) y) (Stores STATE 1) (Store, ends (Some Act) no_answer Nothing)
+    acts_now : HaveBegun d 8 (pulses_of chip) w.now times → PwmRepresents d (one 32) (record (begun_below d 8) { lines = Some true }) chip w s → To (chip_after chip (Stores STATE 1) y) (Stores STATE 1) (Store, ends (Some Act) no_answer Nothing)
     acts_now b h = record {
       may = refl;
       stands = tt;
@@ -231,16 +204,16 @@ module _ (d : PwmDriver) (chip : Chip) (w : World) (s : PwmState) where
     }
 
 module _ (d : PwmDriver) where
-  steps : (below : Holds) (chip : Chip) (w : World) (s : PwmState) (k : InitBody) (o : Origin Call) (y : ℕ) (t : Past) (m : ℕ → Bool) → Stand (pwm_basis d) (init_bodies d) below chip w s k o t → Right (pwm_basis d) (init_bodies d) below chip w s k o y t m
-  steps below chip w s (Commit e c) o y t m (h, ((times, Is_being, Is_alone, off, b), Is_own, lt)) = commits d chip w s (value_of chip (commit d c)) y times (missed_after (pwm_machine d) w s m) off c lt h b (channel_of d c) refl
-  steps below chip w s Enable o y t m (h, (times, Is_being, Is_alone, off, b)) = (lines_set d chip w s y h, (times, Is_being, Is_alone, off, b))
-  steps below chip w s Store o y t m (h, (times, Is_being, Is_alone, off, b)) = acts_now d chip w s (value_of chip (Stores STATE 1)) y times (missed_after (pwm_machine d) w s m) off b h
+  steps : (below : Reservations) (chip : Chip) (w : World) (s : PwmState) (k : InitBody) (o : Origin Call) (y : ℕ) (t : FrameHistory) (m : ℕ → Bool) → AssertedAt (pwm_basis d) (init_bodies d) below chip w s k o t → Right (pwm_basis d) (init_bodies d) below chip w s k o y t m
+  steps below chip w s (Commit e c) o y t m (h, ((times, Is_this_frame, Is_alone, off, b), Is_own, lt)) = commits d chip w s (value_of chip (commit d c)) y times (missed_after (pwm_machine d) w s m) off c lt h b (channel_of d c) refl
+  steps below chip w s Enable o y t m (h, (times, Is_this_frame, Is_alone, off, b)) = (lines_set d chip w s y h, (times, Is_this_frame, Is_alone, off, b))
+  steps below chip w s Store o y t m (h, (times, Is_this_frame, Is_alone, off, b)) = acts_now d chip w s (value_of chip (Stores STATE 1)) y times (missed_after (pwm_machine d) w s m) off b h
 
   commit_may : (c : ℕ) (o : Option Channel) → c < 8 → pwm_may (commit_of c o) ≡ true
   commit_may c None lt = refl
   commit_may c (Some k) lt = below_test c lt
 
-  may : (below : Holds) (chip : Chip) (w : World) (s : PwmState) (k : InitBody) (o : Origin Call) (t : Past) → Stand (pwm_basis d) (init_bodies d) below chip w s k o t → pwm_may (init_work k) ≡ true
+  may : (below : Reservations) (chip : Chip) (w : World) (s : PwmState) (k : InitBody) (o : Origin Call) (t : FrameHistory) → AssertedAt (pwm_basis d) (init_bodies d) below chip w s k o t → pwm_may (init_work k) ≡ true
   may below chip w s (Commit e c) o t (h, (b, own, lt)) = commit_may c (channel_of e c) lt
   may below chip w s Enable o t h = refl
   may below chip w s Store o t h = refl
@@ -282,10 +255,10 @@ module _ (d : PwmDriver) where
   runs_later : (k : Channel) (now now1 : ℕ) (time : Option ℕ) (f : Pulses) (c : ℕ) → now ≤ now1 → Runs k now time f c → Runs k now1 time f c
   runs_later k now now1 time f c le r = let past = r.past in record { start = r.start; is = r.is; past = omega (arith, past, le); output = r.output }
 
-  stays : (upto : ℕ) (below : Holds) (f : Pulses) (now now1 : ℕ) (s : PwmState) (o : Origin Call) (t : Past) → now ≤ now1 → IsBeginning d upto below f now s o t → IsBeginning d upto below f now1 s o t
+  stays : (upto : ℕ) (below : Reservations) (f : Pulses) (now now1 : ℕ) (s : PwmState) (o : Origin Call) (t : FrameHistory) → now ≤ now1 → IsBeginning d upto below f now s o t → IsBeginning d upto below f now1 s o t
   stays upto below f now now1 s o t le (times, being, alone, off, b) = (times, being, alone, off, λ c k lt under e. runs_later k now now1 (times c) f c le (b c k lt under e))
 
-  later : (k : InitBody) (below : Holds) (f : Pulses) (w w1 : World) (s : PwmState) (o : Origin Call) (t : Past) → w.now ≤ w1.now → place_at (init_spot d k) below f w s o t → place_at (init_spot d k) below f w1 s o t
+  later : (k : InitBody) (below : Reservations) (f : Pulses) (w w1 : World) (s : PwmState) (o : Origin Call) (t : FrameHistory) → w.now ≤ w1.now → place_at (init_spot d k) below f w s o t → place_at (init_spot d k) below f w1 s o t
   later (Commit e c) below f w w1 s o t le h = (stays c below f w.now w1.now s o t le h.0, h.1, h.2)
   later Enable below f w w1 s o t le h = stays 8 below f w.now w1.now s o t le h
   later Store below f w w1 s o t le h = stays 8 below f w.now w1.now s o t le h
@@ -303,16 +276,16 @@ module _ (d : PwmDriver) where
 
   -- ---- the sweep
 
-  step : (r : Setup) (i : ℕ) (below : Holds) (chip : Chip) (w : World) (s : PwmState) (o : Origin Call) (t : Past) → i < 32 → IsSetting d r below o t → PwmAgrees d (with_holds o t.acted (written i) below) settled chip w s → PwmAgrees d (with_holds o t.acted (written (i + 1)) below) settled (chip_after chip (setup_move r i) 0) w s
-  step r i below chip w s o t lt (Is_being, Is_alone, Is_setup) h =
+  step : (r : Setup) (i : ℕ) (below : Reservations) (chip : Chip) (w : World) (s : PwmState) (o : Origin Call) (t : FrameHistory) → i < 32 → IsSetting d r below o t → PwmRepresents d (with_holds o t.acted (written i) below) settled chip w s → PwmRepresents d (with_holds o t.acted (written (i + 1)) below) settled (chip_after chip (setup_move r i) 0) w s
+  step r i below chip w s o t lt (Is_this_frame, Is_alone, Is_setup) h =
       let q : Setup = record { driver = d } in
       let few : i / 4 < 8 = omega (arith, lt) in
       let low : i % 4 < 4 = omega arith in
       let whole : i ≡ 4 * (i / 4) + i % 4 = omega arith in
-      subst (λ made. PwmAgrees d (one (i + 1)) settled (chip_after chip made 0) w s) (sym (setup_is q i lt)) (step_by d i (i / 4) chip w s refl few h (i % 4) 0 low whole)
+      subst (λ made. PwmRepresents d (one (i + 1)) settled (chip_after chip made 0) w s) (sym (setup_is q i lt)) (step_by d i (i / 4) chip w s refl few h (i % 4) 0 low whole)
 
-  follows : (r : Setup) (below : Holds) (chip : Chip) (w : World) (s : PwmState) (o : Origin Call) (t : Past) → IsSetting d r below o t → PwmAgrees d (with_holds o t.acted (written 32) below) settled chip w s → Stand (pwm_basis d) (init_bodies d) below chip w s (Commit r.driver 0) o t
-  follows r below chip w s o t (Is_being, Is_alone, Is_setup) h = (
+  follows : (r : Setup) (below : Reservations) (chip : Chip) (w : World) (s : PwmState) (o : Origin Call) (t : FrameHistory) → IsSetting d r below o t → PwmRepresents d (with_holds o t.acted (written 32) below) settled chip w s → AssertedAt (pwm_basis d) (init_bodies d) below chip w s (Commit r.driver 0) o t
+  follows r below chip w s o t (Is_this_frame, Is_alone, Is_setup) h = (
     record {
       right = h.right;
       setup = h.setup;
@@ -325,7 +298,7 @@ module _ (d : PwmDriver) where
       clean = h.clean;
       unused = h.unused;
     },
-    ((nothing_yet.committed, Is_being, Is_alone, h.right.1, λ c k lt under e. absurd (omega (arith, under))), Is_own, omega arith),
+    ((fresh_history.committed, Is_this_frame, Is_alone, h.right.1, λ c k lt under e. absurd (omega (arith, under))), Is_own, omega arith),
   )
 
   pub init_right : AreLong (pwm_basis d) (begin_bodies d)
@@ -341,7 +314,7 @@ module _ (d : PwmDriver) where
   })
 
   -- none of its writes is made yet
-  pub begins_setup : (chip : Chip) (w : World) (s : PwmState) → s.initialised ≡ false → PwmAgrees d [] settled chip w s → PwmAgrees d (one 0) settled chip w s
+  pub begins_setup : (chip : Chip) (w : World) (s : PwmState) → s.initialised ≡ false → PwmRepresents d [] settled chip w s → PwmRepresents d (one 0) settled chip w s
   begins_setup chip w s off h = record {
     right = (refl, off, tt);
     setup = (λ c lt. record { kept = λ l. absurd (omega (arith, l)); period = λ l. absurd (omega (arith, l)); duty = λ l. absurd (omega (arith, l)); high = λ l. absurd (omega (arith, l)) }, tt);

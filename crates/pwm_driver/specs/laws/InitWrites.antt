@@ -1,30 +1,19 @@
 -- A write of the defaults of Pwm_Init, of those that are held.
-use Rattle.std.proofs.Common.{◌≡◌, ◌≢◌, ℕ, zero, suc, ◌+◌, ◌*◌, ◌/◌, ◌<◌, not, ◌==◌, [], ◌∷◌, Option, Some, None, refl, sym, ◌∙◌, subst, arith}
-use Rattle.chip_model.specs.Chip.{Chip, chip_after, word_of}
+-- From Units, Init, Output.
+-- Used by InitRight.
+use Rattle.std.proofs.Common.{◌≡◌, ◌≢◌, ◌+◌, ◌*◌, ◌/◌, ◌<◌, ◌==◌, [], ◌∷◌, ◌∙◌}
+use Rattle.pwm_driver.specs.Terms
+use Terms.{absolute, arith, Called, Channel, channel_of, Chip, chip_after, duty_in, each_but, IsSetUp, KINDS, level}
+use Terms.{None, none, not, Option, period_in, period_word, polarity_of, pulse_at, pulse_at-other, pulse_at-same}
+use Terms.{PulseDuty, PulsePeriod, PulsePolarity, PwmDriver, PwmRepresents, PwmState, refl, Reservations, settled, Some}
+use Terms.{stands-move, StandsIn, STATE, stored_other, stored_same, Stores, subst, suc, sym, Wave, word_of, World}
+use Terms.{Write, zero, ℕ}
+use Rattle.pwm_driver.specs.laws.{Init.{defaults, part}, Output.{level_set}, Units.{chip_with, never, off_lines}}
+use Rattle.pwm_driver.specs.laws.{Units.{off_set, period_below, period_not_kinds, period_not_state, period_other}}
+use Rattle.pwm_driver.specs.laws.{Units.{waved}}
 use Rattle.chip_pulses.specs.Pulses as pulses
 use Rattle.chip_pulses.specs.declared.pulse.Pulse as unit
-use Rattle.chip_pulses.specs.declared.regime.Wave.{Wave}
-use Rattle.chip_pulses.proofs.PulseLaws.{pulse_at-same, pulse_at-other}
-use Rattle.mcal_base.specs.declared.moves.Move.TheVariants.{Write, Store as Stores}
-use Rattle.mcal_base.specs.declared.register.Reg.TheVariants.{PulsePeriod, PulseDuty, PulsePolarity}
-use Rattle.run_model.specs.Frame.{Called}
-use Rattle.run_model.specs.Outside.{StandsIn}
-use Rattle.run_model.specs.World.{World}
-use Rattle.run_model.proofs.OutsideLaws.{stands-move}
-use Rattle.service_outline.specs.laws.Sweep.{each_but}
-use Rattle.service_outline.specs.laws.Words.{stored_same, stored_other}
-use Rattle.pwm_driver.specs.Ground.{settled, none, Holds, period_in, duty_in, IsSetUp, PwmAgrees}
-use Rattle.pwm_driver.specs.Machine.{PwmState, pulse_at}
-use Rattle.pwm_driver.specs.Output.{absolute}
-use Rattle.pwm_driver.specs.Table.{channel_of, polarity_of}
-use Rattle.pwm_driver.specs.Words.{period_word, level}
 use Rattle.pwm_driver.specs.declared.call.Call.TheVariants as calls
-use Rattle.pwm_driver.specs.declared.driver.Channel.{Channel}
-use Rattle.pwm_driver.specs.declared.driver.PwmDriver.{PwmDriver}
-use Rattle.pwm_driver.specs.declared.words.TheConstants.{STATE, KINDS}
-use Rattle.pwm_driver.specs.laws.Init.{defaults, part}
-use Rattle.pwm_driver.specs.laws.Output.{level_set}
-use Rattle.pwm_driver.specs.laws.Units.{chip_with, never, off_lines, off_set, period_below, period_not_kinds, period_not_state, period_other, waved}
 
 -- ---- one more default is written
 
@@ -67,15 +56,15 @@ module _ (k : Option Channel) (i c word : ℕ) (v : Wave) (h : IsSetUp k i c wor
   one_high e = record { kept = λ l. h.kept (omega (arith, e)); period = λ l. h.period (omega (arith, e)); duty = λ l. h.duty (omega (arith, e)); high = λ l. default_high k }
 
 -- so many are held as written
-abbrev pub one : ℕ → Holds
+abbrev pub one : ℕ → Reservations
 one i = record { by = Called calls.Init; what = record { upto = i }; acted = None } ∷ []
 
 module _ (d : PwmDriver) where
-  module _ (i c : ℕ) (chip : Chip) (w : World) (s : PwmState) (at : i / 4 ≡ c) (lt : c < 8) (h : PwmAgrees d (one i) settled chip w s) where
+  module _ (i c : ℕ) (chip : Chip) (w : World) (s : PwmState) (at : i / 4 ≡ c) (lt : c < 8) (h : PwmRepresents d (one i) settled chip w s) where
     abbrev p : unit.Pulse
     p = pulses.pulse_at chip.pulses c
 
-    word_written : (x received : ℕ) → IsSetUp (channel_of d c) (i + 1) c x p.wave → PwmAgrees d (one (i + 1)) settled (chip_after chip (Stores (period_word c) x) received) w s
+    word_written : (x received : ℕ) → IsSetUp (channel_of d c) (i + 1) c x p.wave → PwmRepresents d (one (i + 1)) settled (chip_after chip (Stores (period_word c) x) received) w s
     word_written x received new = record {
       right = (refl, h.right.1, tt);
       setup = (
@@ -98,7 +87,7 @@ module _ (d : PwmDriver) where
       unused = h.unused;
     }
 
-    wave_written : (v : Wave) → StandsIn (chip_with chip c (record p { wave = v })) w → IsSetUp (channel_of d c) (i + 1) c (word_of chip (period_word c)) v → PwmAgrees d (one (i + 1)) settled (chip_with chip c (record p { wave = v })) w s
+    wave_written : (v : Wave) → StandsIn (chip_with chip c (record p { wave = v })) w → IsSetUp (channel_of d c) (i + 1) c (word_of chip (period_word c)) v → PwmRepresents d (one (i + 1)) settled (chip_with chip c (record p { wave = v })) w s
     wave_written v outside new = off_set d (one i) (one (i + 1)) chip w s c (record p { wave = v }) none none lt h.right.1 (refl, h.right.1, tt) (
       λ j l. each_but (λ n. n < 8 → IsSetUp (channel_of d n) (i + 1) n (word_of chip (period_word n)) (pulses.pulse_at (pulses.with_pulse chip.pulses c (record p { wave = v })) n).wave) c
           (λ n. subst (λ y. IsSetUp (channel_of d c) (i + 1) c (word_of chip (period_word c)) y.wave) (sym (pulse_at-same chip.pulses c (record p { wave = v }) (record { all = h.size; within = lt }))) new) j
@@ -107,7 +96,7 @@ module _ (d : PwmDriver) where
     )
         outside (λ g. waved (polarity_of (channel_of d c)) w.now p (pulse_at s c) v (h.units c lt refl)) (λ k ne g. refl) h
 
-    pub step_by : (n received : ℕ) → n < 4 → i ≡ 4 * c + n → PwmAgrees d (one (i + 1)) settled (chip_after chip (part n c (channel_of d c)) received) w s
+    pub step_by : (n received : ℕ) → n < 4 → i ≡ 4 * c + n → PwmRepresents d (one (i + 1)) settled (chip_after chip (part n c (channel_of d c)) received) w s
     step_by zero received few e = word_written (defaults (channel_of d c)).0 received (one_kept (channel_of d c) i c (word_of chip (period_word c)) p.wave (h.setup.0 c lt) (omega (arith, e)))
     step_by (suc zero) received few e =
         let x = (defaults (channel_of d c)).0 in

@@ -1,27 +1,16 @@
 -- The driver keeps to its module: registers, words and lines of others are nothing to it.
-use Rattle.std.proofs.Common.{◌≡◌, ℕ, ◌+◌, ◌-◌, ◌/◌, ◌%◌, ◌<◌, ◌≤◌, ◌^◌, ◌==◌, ◌&&◌, ◌||◌, not, nat_lt, Bool, true, false, Option, Some, None, refl, ap, arith}
-use Rattle.std.specs.Prelude.{if◌then◌else◌, is_some}
-use Rattle.std.proofs.lemmas.Bool.Decides.{nat_tests}
-use Rattle.mcal_base.specs.Bits.{has_bit}
-use Rattle.mcal_base.specs.declared.module_name.ModuleName.TheVariants.{Pwm}
-use Rattle.mcal_base.specs.declared.moves.Move.{Move}
-use Rattle.mcal_base.specs.declared.moves.Move.TheVariants.{Read, Write, Load, Store}
-use Rattle.mcal_base.specs.declared.register.Reg.{Reg}
-use Rattle.mcal_base.specs.declared.register.Reg.TheVariants.{EnableSet, EnableClear, PulsePeriod, PulseDuty, PulsePolarity, PulseCommit, PulseIdle, PulseOut, PulseEdges, PulseFlags}
-use Rattle.service_outline.specs.Services.{entering, services_driver}
-use Rattle.service_outline.specs.There.{names_there}
-use Rattle.step_runner.specs.Lifts.{and-left}
-use Rattle.step_runner.specs.Whose.{only, is_of, module_of_register, module_of_line, module_of_word, EnablesWithin, WritesWithin, NamesWithin, EnablesOthers, WritesOthers, NamesOthers, KeepsTo}
-use Rattle.step_runner.proofs.Whose.{not-unless}
-use Rattle.pwm_driver.specs.Bounds.{is_pulse, is_own_word, is_for_lines, may_write, may_name}
-use Rattle.pwm_driver.specs.Ground.{has_lines, owns_written, pwm_owns}
-use Rattle.pwm_driver.specs.Table.{channel_of, channel_of_line}
-use Rattle.pwm_driver.specs.declared.asked.Asked.{Asked}
-use Rattle.pwm_driver.specs.declared.driver.Channel.{Channel}
-use Rattle.pwm_driver.specs.declared.driver.PwmDriver.{PwmDriver}
-use Rattle.pwm_driver.specs.laws.Ground.{lines_parts, other_line}
-use Rattle.pwm_driver.specs.laws.Lawful.{pwm, body_by}
-use Rattle.pwm_driver.specs.laws.Parts.{within as within_eight}
+-- From RefinementRight, Lawful, Parts.
+-- Used by mcal_drivers: proofs/Joining.
+use Rattle.std.proofs.Common.{◌≡◌, ◌+◌, ◌-◌, ◌/◌, ◌%◌, ◌<◌, ◌≤◌, ◌^◌, ◌==◌, ◌&&◌, ◌||◌, if◌then◌else◌}
+use Rattle.pwm_driver.specs.Terms
+use Terms.{and_first, arith, Asked, Bool, Channel, channel_of, channel_of_line, EnableClear, EnableSet, EnablesOthers}
+use Terms.{EnablesWithin, entering, false, has_bit, has_lines, is_for_lines, is_of, is_own_word, is_pulse, is_some}
+use Terms.{KeepsTo, Load, may_name, may_write, module_of_line, module_of_register, module_of_word, Move, names_there}
+use Terms.{NamesOthers, NamesWithin, nat_lt, nat_tests, None, not, not-unless, Option, owns_written, PulseCommit}
+use Terms.{PulseDuty, PulseEdges, PulseFlags, PulseIdle, PulseOut, PulsePeriod, PulsePolarity, Pwm, pwm_owns, PwmDriver}
+use Terms.{Read, refl, Reg, services_driver, Some, Store, true, within_eight, Write, WritesOthers, WritesWithin, ℕ}
+use Rattle.step_runner.specs.Whose.{only}
+use Rattle.pwm_driver.specs.laws.{RefinementRight.{lines_parts, other_line}, Lawful.{pwm, body_by}}
 
 own_register : (r : Reg) → is_pulse r ≡ true → is_of (only Pwm) (module_of_register r) ≡ true
 own_register (PulsePeriod c) e = refl
@@ -132,7 +121,7 @@ line_of d l h = by (nat_lt l 8) refl h
 -- it is the pulses' alone
 pub keeps_pulses : (d : PwmDriver) → KeepsTo (only Pwm) (services_driver (pwm d))
 keeps_pulses d = record {
-  may = λ o made h. within made (and-left (may_name made) (names_there made) h);
+  may = λ o made h. within made (and_first (may_name made) (names_there made) h);
   owns = λ o made h. others made h;
   handlers = λ l h. line_of d l (handled (channel_of_line d l) h);
   polls = λ w s c. refl;

@@ -1,76 +1,37 @@
 -- The pulse driver, as the outline and the runner see it, and that it is lawful.
-use Rattle.std.proofs.Common.{◌≡◌, ℕ, ◌+◌, ◌-◌, ◌<◌, ◌≤◌, ◌==◌, Bool, true, false, not, nat_lt, List, [], ◌∷◌, Option, Some, None, refl, sym, ◌∙◌, ap, subst, arith}
-use Rattle.std.specs.Prelude.{if◌then◌else◌, is_some}
-use Rattle.std.proofs.lemmas.Bool.Decides.{nat_tests}
-use Rattle.chip_model.specs.Chip.{Chip, value_of, word_of}
-use Rattle.mcal_base.specs.declared.error_name.ErrorName.{ErrorName}
-use Rattle.mcal_base.specs.declared.moves.Event.TheVariants.{Act}
-use Rattle.run_model.specs.Causes.{blocks}
-use Rattle.run_model.specs.World.{World}
-use Rattle.run_model.specs.Machine.{Acts, Told, Outcome, no_answer, outcome}
-use Rattle.run_model.specs.Frame.{Origin, Open, Called, Entered, writes_after}
-use Rattle.run_model.specs.Legal.{MadeUnless}
-use Rattle.mcal_base.specs.declared.moves.Move.{Move}
-use Rattle.mcal_base.specs.declared.moves.Move.TheVariants.{Write}
-use Rattle.mcal_base.specs.declared.register.Reg.TheVariants.{EnableSet}
-use Rattle.service_outline.specs.declared.body.Looked.TheVariants.{Refused, Goes}
-use Rattle.service_outline.specs.declared.done.BodyTaken.{BodyTaken}
-use Rattle.service_outline.specs.declared.done.Done.{Done}
-use Rattle.service_outline.specs.declared.done.Owed.TheVariants.{Nothing}
-use Rattle.service_outline.specs.declared.sweep.Place.{Place}
-use Rattle.service_outline.specs.declared.sweep.Place.TheVariants.{Opens, At, Closes, Follows}
-use Rattle.service_outline.specs.declared.sweep.Sweep.{Sweep}
-use Rattle.service_outline.specs.laws.Duties.{none_unless, none_on, no_units}
-use Rattle.service_outline.specs.declared.body.Looked.{Looked}
-use Rattle.service_outline.specs.declared.short.Short.{Short}
+-- From Look, Made, Windows, DeInit, Init and 9 more.
+-- Used by frames/rt, Keeps, mcal_drivers: Laws, caller/rt, mcal_system: proofs/Resting and 3 more.
+use Rattle.std.proofs.Common.{◌≡◌, ◌+◌, ◌-◌, ◌<◌, ◌≤◌, ◌==◌, [], ◌∷◌, ◌∙◌, if◌then◌else◌}
+use Rattle.pwm_driver.specs.Terms
+use Terms.{Act, Acts, acts_by, AllLet, AllRight, answer_refused, ap, AreLong, AreServices, arith, Asked, asks_no}
+use Terms.{AssertedAt, At, begun_after, Beside, blocks, BodyTaken, Bool, both_right, Call, Called, CanBegin, Channel}
+use Terms.{channel_of, channel_of_line, ChannelCall, Chip, class_of, Closes, commits_at, Decides, DeInitBody}
+use Terms.{DisableNotification, Done, EnableNotification, EnableSet, ends, Entered, error_by, error_told, ErrorName}
+use Terms.{false, First, FitsPwm, Follows, FrameHistory, fresh_history, Goes, goes, idles_at, InitBody, Is_before}
+use Terms.{is_closed, Is_own, Is_serving, is_some, Is_this_frame, IsLawful, Kinds, known_within, LINES, List}
+use Terms.{LongBodies, Looked, MadeUnless, MakesWrites, mark_of, Move, must_by, nat_lt, nat_tests, no_answer, no_units}
+use Terms.{None, none_on, none_unless, not, Nothing, Open, Opens, Option, Origin, Outcome, outcome, Place, plain_sees}
+use Terms.{pwm_basis, pwm_machine, pwm_setting, PwmDriver, PwmRepresents, PwmState, refl, Refused, Reservations, Second}
+use Terms.{SeesTo, Services, services_driver, services_lawful, SetDutyCycle, SetOutputToIdle, SetPeriodAndDuty, settled}
+use Terms.{Setup, Short, short_gave, short_left, short_move, Some, Starts, STATE, steps_of, subst, Sweep, sym}
+use Terms.{tells_error, Told, true, value_of, word_of, World, Write, writes_after, WritesOn, ℕ}
 use Rattle.service_outline.specs.Both.{both}
-use Rattle.service_outline.specs.Done.{goes, ends, tells_error}
-use Rattle.service_outline.specs.Outline.{Is_before, Is_serving}
-use Rattle.service_outline.specs.Past.{Past, nothing_yet, Is_being}
-use Rattle.service_outline.specs.Seen.{Starts, SeesTo}
-use Rattle.service_outline.specs.declared.body.Or.TheVariants.{First, Second}
-use Rattle.service_outline.specs.Services.{Services, LongBodies, Stand, is_closed, AreLong, WritesOn, MakesWrites, AreServices, AllLet, Beside, CanBegin, Decides, mark_of, services_driver}
-use Rattle.service_outline.specs.Short.{short_move, short_left, short_gave}
-use Rattle.service_outline.specs.laws.Both.{both_right}
-use Rattle.service_outline.specs.laws.Lawful.{services_lawful}
-use Rattle.service_outline.specs.laws.Reports.{error_told}
-use Rattle.service_outline.specs.laws.StepKinds.{asks_no}
-use Rattle.service_outline.specs.laws.Seen.{plain_sees, begun_after}
-use Rattle.step_runner.specs.Driver.{IsLawful}
-use Rattle.pwm_driver.specs.Bounds.{class_of, steps_of, commits_at, idles_at, must_by, pwm_setting}
-use Rattle.pwm_driver.specs.Checks.{error_by, answer_refused}
-use Rattle.pwm_driver.specs.Ground.{settled, Holds, AllRight, PwmAgrees, pwm_basis}
-use Rattle.pwm_driver.specs.Machine.{PwmState, acts_by, pwm_machine}
-use Rattle.pwm_driver.specs.Table.{channel_of, channel_of_line, FitsPwm}
-use Rattle.pwm_driver.specs.declared.asked.Asked.{Asked}
-use Rattle.pwm_driver.specs.declared.call.Call.{Call}
+use Rattle.pwm_driver.specs.laws.{Base.{asks_none}, Bodies.{PwmBody, serve_body}, DeInit.{rest, deinit_work}}
+use Rattle.pwm_driver.specs.laws.{DeInit.{deinit_takes, deinit_holds, deinit_bodies, deinit_right}}
+use Rattle.pwm_driver.specs.laws.{RefinementRight.{basis_right}, Init.{Alone, Is_alone, Is_setup, setup_move, commit}}
+use Rattle.pwm_driver.specs.laws.{Init.{begin_bodies}, Made.{HaveBelow, none_below, below_on, commit_more, rest_more}}
+use Rattle.pwm_driver.specs.laws.{Made.{to_last, all_made, init_written, deinit_written, next_unwritten}}
+use Rattle.pwm_driver.specs.laws.{InitRight.{init_right, begins_setup}, Look.{pwm_looked, looked_by, begins}}
+use Rattle.pwm_driver.specs.laws.{Look.{begun_with, begun_on, begun_asking, Passed, MayAct, off_of, on_of, asked_there}}
+use Rattle.pwm_driver.specs.laws.{Look.{channel_there, asked_word}, Notify.{notify_work, notify_takes, notify_bodies}}
+use Rattle.pwm_driver.specs.laws.{Notify.{notify_right}, Output.{output_bodies, output_right}, Rest.{rest_bodies}}
+use Rattle.pwm_driver.specs.laws.{Rest.{rest_right}, Serve.{serve_work, serve_takes, serve_bodies, serve_right}}
+use Rattle.pwm_driver.specs.laws.{Windows.{pwm_seen, setup_sees, setup_unseen, deinit_sees, output_sees, rest_sees}}
+use Rattle.pwm_driver.specs.laws.{Windows.{notify_plain, serve_plain}}
 use Rattle.pwm_driver.specs.declared.call.Call.TheVariants as calls
-use Rattle.pwm_driver.specs.declared.call.ChannelCall.{ChannelCall}
-use Rattle.pwm_driver.specs.declared.call.ChannelCall.TheVariants.{SetDutyCycle, SetPeriodAndDuty, SetOutputToIdle, EnableNotification, DisableNotification}
-use Rattle.pwm_driver.specs.declared.driver.Channel.{Channel}
-use Rattle.pwm_driver.specs.declared.driver.PwmDriver.{PwmDriver}
 use Rattle.pwm_driver.specs.declared.service.deinit.DeInitBody.TheVariants as deinits
 use Rattle.pwm_driver.specs.declared.service.output.OutputBody.TheVariants as outputs
-use Rattle.pwm_driver.specs.declared.service.serve.ServeBody.TheVariants.{Kinds}
-use Rattle.pwm_driver.specs.declared.words.TheConstants.{STATE, LINES}
-use Rattle.pwm_driver.specs.laws.Base.{asks_none}
-use Rattle.pwm_driver.specs.laws.Bodies.{PwmBody, serve_body}
-use Rattle.pwm_driver.specs.declared.service.deinit.DeInitBody.{DeInitBody}
-use Rattle.pwm_driver.specs.declared.service.init.InitBody.{InitBody}
 use Rattle.pwm_driver.specs.declared.service.init.InitBody.TheVariants as inits
-use Rattle.pwm_driver.specs.declared.service.init.Setup.{Setup}
-use Rattle.pwm_driver.specs.laws.DeInit.{rest, deinit_work, deinit_takes, deinit_holds, deinit_bodies, deinit_right}
-use Rattle.pwm_driver.specs.laws.Ground.{basis_right}
-use Rattle.pwm_driver.specs.laws.Init.{Alone, Is_alone, Is_setup, setup_move, commit, begin_bodies}
-use Rattle.pwm_driver.specs.laws.Made.{HaveBelow, none_below, below_on, commit_more, rest_more, to_last, all_made, init_written, deinit_written, next_unwritten}
-use Rattle.pwm_driver.specs.laws.InitRight.{init_right, begins_setup}
-use Rattle.pwm_driver.specs.laws.Look.{pwm_looked, looked_by, begins, begun_with, begun_on, begun_asking, Passed, MayAct, off_of, on_of, asked_there, channel_there, asked_word}
-use Rattle.pwm_driver.specs.laws.Notify.{notify_work, notify_takes, notify_bodies, notify_right}
-use Rattle.pwm_driver.specs.laws.Output.{output_bodies, output_right}
-use Rattle.pwm_driver.specs.laws.Parts.{Is_own, known_within}
-use Rattle.pwm_driver.specs.laws.Rest.{rest_bodies, rest_right}
-use Rattle.pwm_driver.specs.laws.Serve.{serve_work, serve_takes, serve_bodies, serve_right}
-use Rattle.pwm_driver.specs.laws.Windows.{pwm_seen, setup_sees, setup_unseen, deinit_sees, output_sees, rest_sees, notify_plain, serve_plain}
 
 abbrev pub pwm_bodies : (d : PwmDriver) → LongBodies (pwm_basis d) PwmBody
 pwm_bodies d = both (both (begin_bodies d) (deinit_bodies d)) (both (both (output_bodies d) (both (rest_bodies d) (notify_bodies d))) (serve_bodies d))
@@ -120,7 +81,7 @@ bodies_right d =
 
 -- ---- windows
 
-sees : (d : PwmDriver) (k : PwmBody) (x : ℕ) → SeesTo pwm_seen (is_closed ((pwm_bodies d).spot k)) ((pwm_bodies d).work_of k) k ((pwm_bodies d).takes k x)
+sees : (d : PwmDriver) (k : PwmBody) (x : ℕ) → SeesTo pwm_seen (is_closed ((pwm_bodies d).assertion k)) ((pwm_bodies d).work_of k) k ((pwm_bodies d).takes k x)
 sees d (First (First k)) x = setup_sees d k x
 sees d (First (Second k)) x = deinit_sees k x
 sees d (Second (First (First k))) x = output_sees k x
@@ -129,7 +90,7 @@ sees d (Second (First (Second (Second k)))) x = let p = notify_takes k x in plai
 sees d (Second (Second k)) x = let p = serve_takes k x in plain_sees true (serve_work k) p.1.event p.1.done (serve_plain k)
 
 -- a call that begins hasn't acted
-unseen : (d : PwmDriver) (below : Holds) (chip : Chip) (w : World) (s : PwmState) (k : PwmBody) (call : Call) → Stand (pwm_basis d) (pwm_bodies d) below chip w s k (Called call) nothing_yet → Starts (pwm_seen k)
+unseen : (d : PwmDriver) (below : Reservations) (chip : Chip) (w : World) (s : PwmState) (k : PwmBody) (call : Call) → AssertedAt (pwm_basis d) (pwm_bodies d) below chip w s k (Called call) fresh_history → Starts (pwm_seen k)
 unseen d below chip w s (First (First k)) call h = setup_unseen k.place
 unseen d below chip w s (First (Second (deinits.Store e))) call h = tt
 unseen d below chip w s (First (Second (deinits.Disable e))) call h = begun_after (pwm_machine d) (Called call) h.1.told _ h.1.is h.1.at.0
@@ -152,14 +113,14 @@ error_in_out (Some out) = out.told.error
 blocked : (d : PwmDriver) (o : Origin Call) → o ≡ Called calls.Init → blocks (class_of calls.Init) (mark_of (pwm_setting d) o) ≡ true
 blocked d o e = ap (λ (x : Origin Call). blocks (class_of calls.Init) (mark_of (pwm_setting d) x)) e
 
-alone : (d : PwmDriver) (on : Bool) (below : Holds) → AllRight on below → AllLet (pwm_setting d) (class_of calls.Init) below → Alone below
+alone : (d : PwmDriver) (on : Bool) (below : Reservations) → AllRight on below → AllLet (pwm_setting d) (class_of calls.Init) below → Alone below
 alone d on [] right lets = Is_alone
 alone d on (h ∷ hs) right lets = absurd (let f = sym (blocked d h.by right.0) ∙ lets.0 in cc)
 
 not_none : (k : Option Channel) → k ≡ None → is_some k ≡ true → ⊥
 not_none k e i = let f : is_some k ≡ false = ap (λ x. is_some x) e in cc
 
-module _ (d : PwmDriver) (fits : FitsPwm d) (below : Holds) (chip : Chip) (w : World) (s : PwmState) (h : PwmAgrees d below settled chip w s) where
+module _ (d : PwmDriver) (fits : FitsPwm d) (below : Reservations) (chip : Chip) (w : World) (s : PwmState) (h : PwmRepresents d below settled chip w s) where
   abbrev Looks : Call → Looked PwmBody → Type 0
   Looks call l = Decides (pwm d) below chip w s call l
 
@@ -186,8 +147,8 @@ module _ (d : PwmDriver) (fits : FitsPwm d) (below : Holds) (chip : Chip) (w : W
   goes_on : (call : Call) → Beside (pwm_setting d) (Called call) below → Passed d s call → Looks call (begins d call)
   goes_on calls.Init lets pass = by_alone below h (alone d s.initialised below h.right lets)
     where
-      by_alone : (below : Holds) → PwmAgrees d below settled chip w s → Alone below → Decides (pwm d) below chip w s calls.Init (begins d calls.Init)
-      by_alone below a Is_alone = record { at = (begins_setup d chip w s (off_of d s pass) a, (Is_being, Is_alone, Is_setup)); closed = refl; fuel = omega arith; room = omega arith }
+      by_alone : (below : Reservations) → PwmRepresents d below settled chip w s → Alone below → Decides (pwm d) below chip w s calls.Init (begins d calls.Init)
+      by_alone below a Is_alone = record { at = (begins_setup d chip w s (off_of d s pass) a, (Is_this_frame, Is_alone, Is_setup)); closed = refl; fuel = omega arith; room = omega arith }
   goes_on calls.DeInit lets pass = record { at = (h, record { told = None; is = refl; at = (Is_before, Is_own, pass, on_of d s calls.DeInit (λ i. absurd (cc)) pass) }); closed = refl; fuel = omega arith; room = omega arith }
   goes_on (calls.GetOutputState c) lets pass = asks c (channel_of d c) refl pass
   goes_on (calls.Channel c call) lets pass = on_channel c call (channel_of d c) refl pass
@@ -279,7 +240,7 @@ module _ (d : PwmDriver) (fits : FitsPwm d) where
       let error : Some x ≡ told.error = ap (λ o. error_in_out o) out in
       subst (λ y. MadeUnless y (must_by d c) []) error tt
 
-  refused_written : (below : Holds) (chip : Chip) (w : World) (s : PwmState) (c : Call) (n : Done) (told : Told) → PwmAgrees d below settled chip w s → pwm_looked (record { call = c; driver = d }) (word_of chip STATE) ≡ Refused n → ((times : ℕ → ℕ) → (pwm_machine d).happens w s (Acts c times) ≡ Some (outcome s told)) → MadeUnless told.error (must_by d c) []
+  refused_written : (below : Reservations) (chip : Chip) (w : World) (s : PwmState) (c : Call) (n : Done) (told : Told) → PwmRepresents d below settled chip w s → pwm_looked (record { call = c; driver = d }) (word_of chip STATE) ≡ Refused n → ((times : ℕ → ℕ) → (pwm_machine d).happens w s (Acts c times) ≡ Some (outcome s told)) → MadeUnless told.error (must_by d c) []
   refused_written below chip w s calls.Init n told h e is = refused_error w s calls.Init _ n told (error_by d calls.Init (not s.initialised)) refl refl (sym (asked_word d calls.Init s.initialised) ∙ (sym (ap (λ v. pwm_looked (record { call = calls.Init; driver = d }) v) (h.words.state refl)) ∙ e)) is
   refused_written below chip w s calls.DeInit n told h e is = refused_error w s calls.DeInit _ n told (error_by d calls.DeInit (not s.initialised)) refl refl (sym (asked_word d calls.DeInit s.initialised) ∙ (sym (ap (λ v. pwm_looked (record { call = calls.DeInit; driver = d }) v) (h.words.state refl)) ∙ e)) is
   refused_written below chip w s (calls.GetOutputState c) n told h e is = none_unless told.error [] [] refl
@@ -290,11 +251,11 @@ module _ (d : PwmDriver) (fits : FitsPwm d) where
   commit_goes a c writes lt h true e = (refl, h)
   commit_goes a c writes lt h false e = (refl, to_last d commits_at c writes lt e h)
 
-  init_steps : (below : Holds) (chip : Chip) (w : World) (s : PwmState) (a : Setup) (p : Place InitBody) (past : Past) (writes : List Move) → Stand (pwm_basis d) (begin_bodies d) below chip w s (record { objects = a; place = p }) (Called calls.Init) past → init_written d p writes → let x = (begin_bodies d).takes (record { objects = a; place = p }) (value_of chip ((begin_bodies d).work_of (record { objects = a; place = p }))) in WritesOn (pwm d) calls.Init (writes_after writes ((begin_bodies d).work_of (record { objects = a; place = p }))) (First (First x.0)) x.1.done
+  init_steps : (below : Reservations) (chip : Chip) (w : World) (s : PwmState) (a : Setup) (p : Place InitBody) (past : FrameHistory) (writes : List Move) → AssertedAt (pwm_basis d) (begin_bodies d) below chip w s (record { objects = a; place = p }) (Called calls.Init) past → init_written d p writes → let x = (begin_bodies d).takes (record { objects = a; place = p }) (value_of chip ((begin_bodies d).work_of (record { objects = a; place = p }))) in WritesOn (pwm d) calls.Init (writes_after writes ((begin_bodies d).work_of (record { objects = a; place = p }))) (First (First x.0)) x.1.done
   init_steps below chip w s a Opens past writes h has = (refl, next_unwritten d 32 0 writes)
   init_steps below chip w s a (At i) past writes h has = (refl, next_unwritten d 32 (i + 1) (writes_after writes (setup_move a i)))
   init_steps below chip w s a Closes past writes h has = (refl, none_below d commits_at writes)
-  init_steps below chip w s a (Follows (inits.Commit e c)) past writes (agrees, (begun, Is_own, lt)) has = commit_goes a c (writes_after writes (commit d c)) lt (commit_more d c writes has) (nat_lt c 7) refl
+  init_steps below chip w s a (Follows (inits.Commit e c)) past writes (represents, (begun, Is_own, lt)) has = commit_goes a c (writes_after writes (commit d c)) lt (commit_more d c writes has) (nat_lt c 7) refl
   init_steps below chip w s a (Follows inits.Enable) past writes h has = (refl, below_on d commits_at 8 writes (Write EnableSet LINES) has)
   init_steps below chip w s a (Follows inits.Store) past writes h has = all_made d commits_at writes has
 
@@ -310,18 +271,18 @@ module _ (d : PwmDriver) (fits : FitsPwm d) where
   deinit_at chip w s (deinits.Keep e) told writes x at has = (refl, none_below d idles_at writes)
   deinit_at chip w s (deinits.Rest e c) told writes x (after, Is_own, ended, lt) has = rest_goes c (writes_after writes (rest d c)) lt (rest_more d c writes has) (nat_lt c 7) refl
 
-  steps_init : (below : Holds) (chip : Chip) (w : World) (s : PwmState) (k : Sweep Setup InitBody) (c : Call) (past : Past) (writes : List Move) → c ≡ calls.Init → Stand (pwm_basis d) (begin_bodies d) below chip w s k (Called c) past → init_written d k.place writes → let p = (begin_bodies d).takes k (value_of chip ((begin_bodies d).work_of k)) in WritesOn (pwm d) c (writes_after writes ((begin_bodies d).work_of k)) (First (First p.0)) p.1.done
+  steps_init : (below : Reservations) (chip : Chip) (w : World) (s : PwmState) (k : Sweep Setup InitBody) (c : Call) (past : FrameHistory) (writes : List Move) → c ≡ calls.Init → AssertedAt (pwm_basis d) (begin_bodies d) below chip w s k (Called c) past → init_written d k.place writes → let p = (begin_bodies d).takes k (value_of chip ((begin_bodies d).work_of k)) in WritesOn (pwm d) c (writes_after writes ((begin_bodies d).work_of k)) (First (First p.0)) p.1.done
   steps_init below chip w s k c past writes is h has =
       let p = (begin_bodies d).takes k (value_of chip ((begin_bodies d).work_of k)) in
-      subst (λ x. WritesOn (pwm d) x (writes_after writes ((begin_bodies d).work_of k)) (First (First p.0)) p.1.done) (sym is) (init_steps below chip w s k.objects k.place past writes (subst (λ x. Stand (pwm_basis d) (begin_bodies d) below chip w s k (Called x) past) is h) has)
+      subst (λ x. WritesOn (pwm d) x (writes_after writes ((begin_bodies d).work_of k)) (First (First p.0)) p.1.done) (sym is) (init_steps below chip w s k.objects k.place past writes (subst (λ x. AssertedAt (pwm_basis d) (begin_bodies d) below chip w s k (Called x) past) is h) has)
 
-  steps_deinit : (below : Holds) (chip : Chip) (w : World) (s : PwmState) (k : DeInitBody) (c : Call) (past : Past) (writes : List Move) → c ≡ calls.DeInit → Stand (pwm_basis d) (deinit_bodies d) below chip w s k (Called c) past → deinit_written d k writes → let p = deinit_takes k (value_of chip (deinit_work k)) in WritesOn (pwm d) c (writes_after writes (deinit_work k)) (First (Second p.0)) p.1.done
+  steps_deinit : (below : Reservations) (chip : Chip) (w : World) (s : PwmState) (k : DeInitBody) (c : Call) (past : FrameHistory) (writes : List Move) → c ≡ calls.DeInit → AssertedAt (pwm_basis d) (deinit_bodies d) below chip w s k (Called c) past → deinit_written d k writes → let p = deinit_takes k (value_of chip (deinit_work k)) in WritesOn (pwm d) c (writes_after writes (deinit_work k)) (First (Second p.0)) p.1.done
   steps_deinit below chip w s k c past writes is h has =
       let p = deinit_takes k (value_of chip (deinit_work k)) in
-      let h1 = subst (λ x. Stand (pwm_basis d) (deinit_bodies d) below chip w s k (Called x) past) is h in
+      let h1 = subst (λ x. AssertedAt (pwm_basis d) (deinit_bodies d) below chip w s k (Called x) past) is h in
       subst (λ x. WritesOn (pwm d) x (writes_after writes (deinit_work k)) (First (Second p.0)) p.1.done) (sym is) (deinit_at chip w s k h1.1.told writes (value_of chip (deinit_work k)) h1.1.at has)
 
-  steps_at : (below : Holds) (chip : Chip) (w : World) (s : PwmState) (k : PwmBody) (c : Call) (past : Past) (writes : List Move) → Stand (pwm_basis d) (pwm_bodies d) below chip w s k (Called c) past → pwm_written d k c writes → let p = (pwm_bodies d).takes k (value_of chip ((pwm_bodies d).work_of k)) in WritesOn (pwm d) c (writes_after writes ((pwm_bodies d).work_of k)) p.0 p.1.done
+  steps_at : (below : Reservations) (chip : Chip) (w : World) (s : PwmState) (k : PwmBody) (c : Call) (past : FrameHistory) (writes : List Move) → AssertedAt (pwm_basis d) (pwm_bodies d) below chip w s k (Called c) past → pwm_written d k c writes → let p = (pwm_bodies d).takes k (value_of chip ((pwm_bodies d).work_of k)) in WritesOn (pwm d) c (writes_after writes ((pwm_bodies d).work_of k)) p.0 p.1.done
   steps_at below chip w s (First (First k)) c past writes h has = steps_init below chip w s k c past writes has.0 h has.1
   steps_at below chip w s (First (Second k)) c past writes h has = steps_deinit below chip w s k c past writes has.0 h has.1
   steps_at below chip w s (Second k) c past writes h has =
@@ -332,7 +293,7 @@ module _ (d : PwmDriver) (fits : FitsPwm d) where
   pwm_writes : MakesWrites (pwm d) (λ k. None)
   pwm_writes = record {
     begins = λ c x k can looks. begun_written c (error_by d c (x == 0)) k looks;
-    refuses = λ below chip w s c n told can agrees looks is. refused_written below chip w s c n told agrees looks is;
+    refuses = λ below chip w s c n told can represents looks is. refused_written below chip w s c n told represents looks is;
     steps = steps_at;
     stops = λ below chip w s k c past writes a at has ends. let none : None ≡ Some a = ends in absurd (cc);
   }

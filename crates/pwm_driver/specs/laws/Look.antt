@@ -1,31 +1,18 @@
 -- The load of the state word: what it decides for each call, and what a call shows that has no error.
-use Rattle.std.proofs.Common.{◌≡◌, ℕ, ◌<◌, Bool, true, false, ◌==◌, not, length, List, Option, Some, None, refl, arith}
-use Rattle.std.specs.Prelude.{is_some, slice_index_or}
-use Rattle.det_errors.proofs.RowLaws.{none_holds}
-use Rattle.det_errors.specs.Rows.{errors_of}
-use Rattle.mcal_base.specs.declared.error_name.ErrorName.{ErrorName}
-use Rattle.run_model.specs.Machine.{no_answer}
-use Rattle.service_outline.specs.Done.{owed_error}
-use Rattle.service_outline.specs.declared.body.Looked.{Looked}
-use Rattle.service_outline.specs.declared.body.Looked.TheVariants.{Refused, Goes}
-use Rattle.service_outline.specs.declared.done.Done.{Done}
-use Rattle.service_outline.specs.declared.done.Owed.TheVariants.{Nothing}
-use Rattle.pwm_driver.specs.Checks.{facts_by, error_by, service_of, has_notification, answer_refused, reporting}
-use Rattle.pwm_driver.specs.Ground.{state_word}
-use Rattle.pwm_driver.specs.Machine.{PwmState}
-use Rattle.pwm_driver.specs.Table.{channel_of}
-use Rattle.pwm_driver.specs.declared.asked.Asked.{Asked}
-use Rattle.pwm_driver.specs.declared.call.Call.{Call}
+-- From Bodies.
+-- Used by Lawful, asked/rt, Rest, Output, DeInit and 1 more.
+use Rattle.std.proofs.Common.{◌≡◌, ◌<◌, ◌==◌}
+use Rattle.pwm_driver.specs.Terms
+use Terms.{answer_refused, arith, Ask, Asked, Bool, Call, Channel, channel_of, ChannelCall, DisableNotification, Done}
+use Terms.{EnableNotification, error_by, ErrorName, errors_of, facts_by, false, Goes, has_notification, is_some, length}
+use Terms.{List, Looked, no_answer, None, none_holds, not, not-false, Nothing, Option, owed_error, PwmDriver, PwmState}
+use Terms.{refl, Refused, reporting, Rest, service_of, SetDutyCycle, SetOutputToIdle, SetPeriodAndDuty, slice_index_or}
+use Terms.{Some, state_word, true, ℕ}
+use Rattle.pwm_driver.specs.laws.Bodies.{PwmBody, init_body, deinit_body, output_body, rest_body, notify_body}
 use Rattle.pwm_driver.specs.declared.call.Call.TheVariants as calls
-use Rattle.pwm_driver.specs.declared.call.ChannelCall.{ChannelCall}
-use Rattle.pwm_driver.specs.declared.call.ChannelCall.TheVariants.{SetDutyCycle, SetPeriodAndDuty, SetOutputToIdle, EnableNotification, DisableNotification}
-use Rattle.pwm_driver.specs.declared.driver.Channel.{Channel}
-use Rattle.pwm_driver.specs.declared.driver.PwmDriver.{PwmDriver}
 use Rattle.pwm_driver.specs.declared.service.deinit.DeInitBody.TheVariants as deinits
 use Rattle.pwm_driver.specs.declared.service.notify.NotifyBody.TheVariants as notices
 use Rattle.pwm_driver.specs.declared.service.output.OutputBody.TheVariants as outputs
-use Rattle.pwm_driver.specs.declared.service.rest.RestBody.TheVariants.{Rest, Ask}
-use Rattle.pwm_driver.specs.laws.Bodies.{PwmBody, init_body, deinit_body, output_body, rest_body, notify_body}
 
 -- ---- what it decides
 
@@ -86,10 +73,6 @@ pub record MayAct (d : PwmDriver) (s : PwmState) (c : ℕ) (call : Call) (k : Ch
 no_error : (d : PwmDriver) (s : PwmState) (call : Call) → Passed d s call → (k : ℕ) → k < length (errors_of (service_of call)) → slice_index_or (facts_by d call (not s.initialised)) k false ≡ false
 no_error d s call pass k lt = none_holds (errors_of (service_of call)) (facts_by d call (not s.initialised)) pass k lt
 
-yes : (b : Bool) → not b ≡ false → b ≡ true
-yes true e = refl
-yes false e = absurd (cc)
-
 no : (b : Bool) → not (not b) ≡ false → b ≡ false
 no true e = absurd (cc)
 no false e = refl
@@ -99,26 +82,26 @@ off_of d s pass = no s.initialised (no_error d s calls.Init pass 0 (omega arith)
 
 pub on_of : (d : PwmDriver) (s : PwmState) (call : Call) → (call ≡ calls.Init → ⊥) → Passed d s call → s.initialised ≡ true
 on_of d s calls.Init n pass = absurd (n refl)
-on_of d s (calls.Channel c (SetDutyCycle duty)) n pass = yes s.initialised (no_error d s (calls.Channel c (SetDutyCycle duty)) pass 0 (omega arith))
-on_of d s (calls.Channel c (SetPeriodAndDuty period duty)) n pass = yes s.initialised (no_error d s (calls.Channel c (SetPeriodAndDuty period duty)) pass 0 (omega arith))
-on_of d s (calls.Channel c SetOutputToIdle) n pass = yes s.initialised (no_error d s (calls.Channel c SetOutputToIdle) pass 0 (omega arith))
-on_of d s (calls.Channel c (EnableNotification edge)) n pass = yes s.initialised (no_error d s (calls.Channel c (EnableNotification edge)) pass 0 (omega arith))
-on_of d s (calls.Channel c DisableNotification) n pass = yes s.initialised (no_error d s (calls.Channel c DisableNotification) pass 0 (omega arith))
-on_of d s call n pass = yes s.initialised (no_error d s call pass 0 (omega arith))
+on_of d s (calls.Channel c (SetDutyCycle duty)) n pass = not-false s.initialised (no_error d s (calls.Channel c (SetDutyCycle duty)) pass 0 (omega arith))
+on_of d s (calls.Channel c (SetPeriodAndDuty period duty)) n pass = not-false s.initialised (no_error d s (calls.Channel c (SetPeriodAndDuty period duty)) pass 0 (omega arith))
+on_of d s (calls.Channel c SetOutputToIdle) n pass = not-false s.initialised (no_error d s (calls.Channel c SetOutputToIdle) pass 0 (omega arith))
+on_of d s (calls.Channel c (EnableNotification edge)) n pass = not-false s.initialised (no_error d s (calls.Channel c (EnableNotification edge)) pass 0 (omega arith))
+on_of d s (calls.Channel c DisableNotification) n pass = not-false s.initialised (no_error d s (calls.Channel c DisableNotification) pass 0 (omega arith))
+on_of d s call n pass = not-false s.initialised (no_error d s call pass 0 (omega arith))
 
 pub asked_there : (d : PwmDriver) (s : PwmState) (c : ℕ) → Passed d s (calls.GetOutputState c) → is_some (channel_of d c) ≡ true
-asked_there d s c pass = yes (is_some (channel_of d c)) (no_error d s (calls.GetOutputState c) pass 1 (omega arith))
+asked_there d s c pass = not-false (is_some (channel_of d c)) (no_error d s (calls.GetOutputState c) pass 1 (omega arith))
 
 some_noticed : (k : Option Channel) → has_notification k ≡ true → is_some k ≡ true
 some_noticed None e = absurd (cc)
 some_noticed (Some k) e = refl
 
 pub channel_there : (d : PwmDriver) (s : PwmState) (c : ℕ) (call : ChannelCall) → Passed d s (calls.Channel c call) → is_some (channel_of d c) ≡ true
-channel_there d s c (SetDutyCycle duty) pass = yes (is_some (channel_of d c)) (no_error d s (calls.Channel c (SetDutyCycle duty)) pass 1 (omega arith))
-channel_there d s c (SetPeriodAndDuty period duty) pass = yes (is_some (channel_of d c)) (no_error d s (calls.Channel c (SetPeriodAndDuty period duty)) pass 1 (omega arith))
-channel_there d s c SetOutputToIdle pass = yes (is_some (channel_of d c)) (no_error d s (calls.Channel c SetOutputToIdle) pass 1 (omega arith))
-channel_there d s c (EnableNotification edge) pass = some_noticed (channel_of d c) (yes (has_notification (channel_of d c)) (no_error d s (calls.Channel c (EnableNotification edge)) pass 1 (omega arith)))
-channel_there d s c DisableNotification pass = some_noticed (channel_of d c) (yes (has_notification (channel_of d c)) (no_error d s (calls.Channel c DisableNotification) pass 1 (omega arith)))
+channel_there d s c (SetDutyCycle duty) pass = not-false (is_some (channel_of d c)) (no_error d s (calls.Channel c (SetDutyCycle duty)) pass 1 (omega arith))
+channel_there d s c (SetPeriodAndDuty period duty) pass = not-false (is_some (channel_of d c)) (no_error d s (calls.Channel c (SetPeriodAndDuty period duty)) pass 1 (omega arith))
+channel_there d s c SetOutputToIdle pass = not-false (is_some (channel_of d c)) (no_error d s (calls.Channel c SetOutputToIdle) pass 1 (omega arith))
+channel_there d s c (EnableNotification edge) pass = some_noticed (channel_of d c) (not-false (has_notification (channel_of d c)) (no_error d s (calls.Channel c (EnableNotification edge)) pass 1 (omega arith)))
+channel_there d s c DisableNotification pass = some_noticed (channel_of d c) (not-false (has_notification (channel_of d c)) (no_error d s (calls.Channel c DisableNotification) pass 1 (omega arith)))
 
 pub asked_word : (d : PwmDriver) (call : Call) (on : Bool) → pwm_looked (record { call = call; driver = d }) (state_word on) ≡ looked_by (record { call = call; driver = d }) (error_by d call (not on))
 asked_word d call true = refl

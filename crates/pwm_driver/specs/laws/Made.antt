@@ -1,28 +1,15 @@
 -- Pwm_Init commits the output of each configured channel, and Pwm_DeInit idles it.
-use Rattle.std.proofs.Common.{◌≡◌, ℕ, zero, suc, ◌+◌, ◌<◌, ◌≤◌, ◌==◌, nat_lt, Bool, true, false, List, ◌++◌, Option, Some, None, refl, sym, subst, arith}
-use Rattle.std.specs.Prelude.{if◌then◌else◌}
-use Rattle.std.specs.List.{list_any}
-use Rattle.std.proofs.lemmas.Bool.Decides.{nat_tests}
-use Rattle.mcal_base.specs.declared.moves.Move.{Move}
-use Rattle.mcal_base.specs.declared.moves.Move.TheVariants.{Write}
-use Rattle.mcal_base.specs.declared.register.Reg.TheVariants.{PulseCommit, PulseIdle}
-use Rattle.run_model.specs.Frame.{writes_after}
-use Rattle.run_model.specs.Legal.{AllMade}
-use Rattle.service_outline.specs.declared.sweep.Place.{Place}
-use Rattle.service_outline.specs.declared.sweep.Place.TheVariants.{Opens, At, Closes, Follows}
-use Rattle.service_outline.specs.Sweep.{place_of}
-use Rattle.service_outline.specs.laws.Duties.{made_on, made_here}
-use Rattle.pwm_driver.specs.Bounds.{commits_at, idles_at, duty_of, duties}
-use Rattle.pwm_driver.specs.Table.{channel_of}
-use Rattle.pwm_driver.specs.Words.{level}
-use Rattle.pwm_driver.specs.declared.driver.Channel.{Channel}
-use Rattle.pwm_driver.specs.declared.driver.PwmDriver.{PwmDriver}
-use Rattle.pwm_driver.specs.declared.service.deinit.DeInitBody.{DeInitBody}
+-- From DeInit, Init.
+-- Used by Lawful.
+use Rattle.std.proofs.Common.{◌≡◌, ◌+◌, ◌<◌, ◌≤◌, ◌==◌, ◌++◌, if◌then◌else◌}
+use Rattle.pwm_driver.specs.Terms
+use Terms.{AllMade, arith, At, Bool, Channel, channel_of, Closes, commits_at, DeInitBody, duties, duty_of, eq_self}
+use Terms.{false, Follows, idles_at, InitBody, level, List, list_any, made_here, made_on, Move, nat_lt, nat_tests, None}
+use Terms.{Opens, Option, Place, place_of, PulseCommit, PulseIdle, PwmDriver, refl, Some, subst, suc, sym, true, Write}
+use Terms.{writes_after, zero, ℕ}
+use Rattle.pwm_driver.specs.laws.{DeInit.{rest_of, rest}, Init.{commit_of, commit}}
 use Rattle.pwm_driver.specs.declared.service.deinit.DeInitBody.TheVariants as deinits
-use Rattle.pwm_driver.specs.declared.service.init.InitBody.{InitBody}
 use Rattle.pwm_driver.specs.declared.service.init.InitBody.TheVariants as inits
-use Rattle.pwm_driver.specs.laws.DeInit.{rest_of, rest}
-use Rattle.pwm_driver.specs.laws.Init.{commit_of, commit}
 
 -- each configured channel below this one has a write of the kind
 abbrev pub HaveBelow : PwmDriver → (kind : ℕ → Move → Bool) → ℕ → List Move → Type 0
@@ -37,9 +24,6 @@ below_on d kind n writes next h c k lt e = made_on (kind c) writes next (h c k l
 under : (j c : ℕ) → j < c + 1 → (j == c) ≡ false → j < c
 under j c lt e = grind (arith, nat_tests)
 
-same : (c : ℕ) → (c == c) ≡ true
-same c = grind (arith, nat_tests)
-
 below_more : (d : PwmDriver) (kind : ℕ → Move → Bool) (c : ℕ) (writes : List Move) (next : Move) → ((k : Channel) → channel_of d c ≡ Some k → list_any (kind c) (writes_after writes next) ≡ true) → HaveBelow d kind c writes → HaveBelow d kind (c + 1) (writes_after writes next)
 below_more d kind c writes next here h = λ j k lt e. by j k lt e (j == c) refl
   where
@@ -49,11 +33,11 @@ below_more d kind c writes next here h = λ j k lt e. by j k lt e (j == c) refl
 
 commit_here : (c : ℕ) (o : Option Channel) (k : Channel) (writes : List Move) → o ≡ Some k → list_any (commits_at c) (writes_after writes (commit_of c o)) ≡ true
 commit_here c None k writes e = absurd (cc)
-commit_here c (Some j) k writes e = made_here (commits_at c) writes (Write (PulseCommit c) 1) (same c)
+commit_here c (Some j) k writes e = made_here (commits_at c) writes (Write (PulseCommit c) 1) (eq_self c)
 
 rest_here : (c : ℕ) (o : Option Channel) (k : Channel) (writes : List Move) → o ≡ Some k → list_any (idles_at c) (writes_after writes (rest_of c o)) ≡ true
 rest_here c None k writes e = absurd (cc)
-rest_here c (Some j) k writes e = made_here (idles_at c) writes (Write (PulseIdle c) (level j.idle_high)) (same c)
+rest_here c (Some j) k writes e = made_here (idles_at c) writes (Write (PulseIdle c) (level j.idle_high)) (eq_self c)
 
 pub commit_more : (d : PwmDriver) (c : ℕ) (writes : List Move) → HaveBelow d commits_at c writes → HaveBelow d commits_at (c + 1) (writes_after writes (commit d c))
 commit_more d c writes h = below_more d commits_at c writes (commit d c) (λ k e. commit_here c (channel_of d c) k writes e) h

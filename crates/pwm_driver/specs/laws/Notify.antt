@@ -1,46 +1,24 @@
 -- Pwm_EnableNotification and Pwm_DisableNotification: their steps, what holds at each, and that they are right.
-use Rattle.std.proofs.Common.{◌≡◌, ◌≢◌, ℕ, ◌+◌, ◌<◌, ◌≤◌, ◌^◌, Bool, true, false, ◌&&◌, ◌||◌, not, Option, Some, None, refl, sym, ◌∙◌, ap, subst, arith}
-use Rattle.std.specs.Prelude.{is_some}
-use Rattle.chip_model.specs.Chip.{Chip, chip_after, word_of}
+-- From Parts, Base, Flags, Units, Look.
+-- Used by Lawful, service/notify/rt, Windows.
+use Rattle.std.proofs.Common.{◌≡◌, ◌≢◌, ◌+◌, ◌<◌, ◌≤◌, ◌^◌, ◌&&◌, ◌||◌, ◌∙◌}
+use Rattle.pwm_driver.specs.Terms
+use Terms.{acts, acts_by, After, ap, AreLong, arith, Before, behind, BodyTaken, Bool, Both, both, both_falling}
+use Terms.{both_other, both_rising, by_eight, Call, Channel, channel_of, channel_other, channel_same, channel_work}
+use Terms.{Chip, chip_after, Choose, Clear, clear_apart, DisableNotification, Drop, each_but, EnableNotification, ends}
+use Terms.{eq_other, eq_self, Falling, falls, false, Find, goes, has_bit, has_bit-or, has_bit-without, has_one}
+use Terms.{has_other, Is_after, Is_before, is_some, IsQuiet, KindAgrees, KINDS, kinds, Lag, Loads, LongBodies, Move}
+use Terms.{no_answer, None, not, not_it, not_low, Nothing, NotifyBody, only, Option, Origin, outcome, past_it}
+use Terms.{period_word, polarity_of, pulse_at, PulseEdges, PulseFlags, Pulses, pwm_basis, PwmDriver, PwmEdge}
+use Terms.{PwmRepresents, PwmState, refl, Reservations, rises, Rising, set_apart, settled, Shortens, Some, stands-move}
+use Terms.{STATE, Store, stored_other, stored_same, subst, switched, sym, tells_nothing, Told, true, UnitAgrees}
+use Terms.{with_kinds, with_pulse, without, word_of, World, Write, ℕ}
+use Rattle.pwm_driver.specs.declared.service.notify.NotifyBody.TheVariants.{Load, Keep}
+use Rattle.pwm_driver.specs.laws.{Base.{AllGood, steady_above, family, family_right}, Flags.{begun_later}}
+use Rattle.pwm_driver.specs.laws.{Flags.{unflagged_agrees, flags_cleared}, Look.{MayAct}, Units.{none_held}}
+use Rattle.pwm_driver.specs.laws.{Units.{kinds_not_state, kinds_not_period}}
 use Rattle.chip_pulses.specs.Pulses as pulses
-use Rattle.chip_pulses.specs.Pulses.{Pulses}
-use Rattle.mcal_base.specs.Bits.{has_bit}
-use Rattle.mcal_base.proofs.BitLaws.{has_bit-or, has_bit-without}
-use Rattle.mcal_base.specs.Bits.{without}
-use Rattle.mcal_base.specs.declared.moves.Move.{Move}
-use Rattle.mcal_base.specs.declared.moves.Move.TheVariants.{Write, Load as Loads, Store}
-use Rattle.mcal_base.specs.declared.register.Reg.TheVariants.{PulseEdges, PulseFlags}
-use Rattle.run_model.specs.Machine.{Told, no_answer, tells_nothing, outcome}
-use Rattle.run_model.specs.Frame.{Origin}
-use Rattle.run_model.specs.World.{World}
-use Rattle.run_model.proofs.OutsideLaws.{stands-move}
-use Rattle.service_outline.specs.Done.{goes, acts, ends}
-use Rattle.service_outline.specs.Fuel.{Shortens}
-use Rattle.service_outline.specs.Outline.{Before, Is_before, After, Is_after}
-use Rattle.service_outline.specs.Services.{LongBodies, AreLong}
-use Rattle.service_outline.specs.laws.Sweep.{each_but}
-use Rattle.service_outline.specs.laws.Words.{stored_same, stored_other}
-use Rattle.service_outline.specs.declared.done.BodyTaken.{BodyTaken}
-use Rattle.service_outline.specs.declared.done.Owed.TheVariants.{Nothing}
-use Rattle.pwm_driver.specs.Ground.{Gap, settled, only, behind, Holds, UnitAgrees, rises, falls, KindAgrees, IsQuiet, PwmAgrees, pwm_basis}
-use Rattle.pwm_driver.specs.Machine.{PwmState, pulse_at, with_pulse, switched, channel_work, acts_by}
-use Rattle.pwm_driver.specs.Table.{channel_of, polarity_of}
-use Rattle.pwm_driver.specs.Words.{both, kinds, with_kinds, period_word}
-use Rattle.pwm_driver.specs.declared.call.Call.{Call}
 use Rattle.pwm_driver.specs.declared.call.Call.TheVariants as calls
-use Rattle.pwm_driver.specs.declared.call.ChannelCall.TheVariants.{EnableNotification, DisableNotification}
-use Rattle.pwm_driver.specs.declared.call.PwmEdge.{PwmEdge}
-use Rattle.pwm_driver.specs.declared.call.PwmEdge.TheVariants.{Rising, Falling, Both}
-use Rattle.pwm_driver.specs.declared.driver.Channel.{Channel}
-use Rattle.pwm_driver.specs.declared.driver.PwmDriver.{PwmDriver}
-use Rattle.pwm_driver.specs.declared.service.notify.NotifyBody.{NotifyBody}
-use Rattle.pwm_driver.specs.declared.service.notify.NotifyBody.TheVariants.{Load, Choose, Clear, Find, Drop, Keep}
-use Rattle.pwm_driver.specs.declared.words.TheConstants.{STATE, KINDS}
-use Rattle.pwm_driver.specs.laws.Base.{AllGood, steady_above, family, family_right}
-use Rattle.pwm_driver.specs.laws.Flags.{begun_later, unflagged_agrees, flags_cleared}
-use Rattle.pwm_driver.specs.laws.Look.{MayAct}
-use Rattle.pwm_driver.specs.laws.Parts.{by_eight, channel_same, channel_other, other_no, same_yes, has_one, has_other, both_rising, both_falling, both_other, past_it, not_it, not_low}
-use Rattle.pwm_driver.specs.laws.Units.{none_held, kinds_not_state, kinds_not_period}
 
 abbrev pub notify_work : NotifyBody → Move
 notify_work (Load c edge) = Loads KINDS
@@ -66,10 +44,10 @@ notify_left (Find c) = 3
 notify_left (Drop k) = 2
 notify_left (Keep k) = 1
 
-abbrev pub choosing : ℕ → Gap
+abbrev pub choosing : ℕ → Lag
 choosing c = record settled { kinds = only c; words = only KINDS }
 
-abbrev pub notify_gap : NotifyBody → Gap
+abbrev pub notify_gap : NotifyBody → Lag
 notify_gap (Clear c k) = choosing c
 notify_gap (Keep k) = behind KINDS
 notify_gap _ = settled
@@ -103,15 +81,11 @@ left_out : (a b : Bool) → b ≡ true → a && not b ≡ false
 left_out true b e = ap not e
 left_out false b e = refl
 
-left_in : (a b : Bool) → b ≡ false → a && not b ≡ a
-left_in true b e = ap not e
-left_in false b e = refl
-
 pub without_here : (e c k : ℕ) → c < 8 → k < 16 → has_bit (both c) k ≡ true → has_bit (without e (both c)) k ≡ false
 without_here e c k lt few i = has_bit-without e (both c) k (both_small c lt) (omega (arith, few)) ∙ left_out (has_bit e k) (has_bit (both c) k) i
 
 pub without_other : (e c k : ℕ) → c < 8 → k < 16 → has_bit (both c) k ≡ false → has_bit (without e (both c)) k ≡ has_bit e k
-without_other e c k lt few i = has_bit-without e (both c) k (both_small c lt) (omega (arith, few)) ∙ left_in (has_bit e k) (has_bit (both c) k) i
+without_other e c k lt few i = has_bit-without e (both c) k (both_small c lt) (omega (arith, few)) ∙ clear_apart (has_bit e k) (has_bit (both c) k) i
 
 rising_at : (c : ℕ) (edge : PwmEdge) → c < 8 → has_bit (kinds c edge) c ≡ rises (Some edge)
 rising_at c Rising lt = has_one c (omega (arith, lt))
@@ -128,10 +102,6 @@ kinds_other c k Rising lt ne nf = has_other c k (omega (arith, lt)) ne
 kinds_other c k Falling lt ne nf = has_other (c + 8) k (omega (arith, lt)) nf
 kinds_other c k Both lt ne nf = both_other c k lt ne nf
 
-or_none : (a b : Bool) → b ≡ false → a || b ≡ a
-or_none true b e = refl
-or_none false b e = e
-
 with_here : (e c : ℕ) (edge : PwmEdge) → c < 8 → KindAgrees (with_kinds e c edge) c (Some edge)
 with_here e c edge lt = record {
   rising = has_bit-or (without e (both c)) (kinds c edge) c ∙ (ap (λ q. q || has_bit (kinds c edge) c) (without_here e c c lt (omega (arith, lt)) (both_rising c lt)) ∙ rising_at c edge lt);
@@ -139,14 +109,14 @@ with_here e c edge lt = record {
 }
 
 with_other : (e c k : ℕ) (edge : PwmEdge) → c < 8 → k < 16 → k ≢ c → k ≢ c + 8 → has_bit (with_kinds e c edge) k ≡ has_bit e k
-with_other e c k edge lt few ne nf = has_bit-or (without e (both c)) (kinds c edge) k ∙ (or_none _ _ (kinds_other c k edge lt ne nf) ∙ without_other e c k lt few (both_other c k lt ne nf))
+with_other e c k edge lt few ne nf = has_bit-or (without e (both c)) (kinds c edge) k ∙ (set_apart _ _ (kinds_other c k edge lt ne nf) ∙ without_other e c k lt few (both_other c k lt ne nf))
 
 others_same : (e e1 c k : ℕ) (n : Option PwmEdge) → k < 8 → k ≢ c → ((j : ℕ) → j < 16 → j ≢ c → j ≢ c + 8 → has_bit e1 j ≡ has_bit e j) → c < 8 → KindAgrees e k n → KindAgrees e1 k n
 others_same e e1 c k n lt ne same here h = record { rising = same k (omega (arith, lt)) ne (past_it c k lt) ∙ h.rising; falling = same (k + 8) (omega (arith, lt)) (not_low c k here) (not_it c k ne) ∙ h.falling }
 
 module _ (d : PwmDriver) where
   -- the changes of a channel are chosen
-  chosen_now : (below : Holds) (chip : Chip) (w : World) (s : PwmState) (c : ℕ) (edge : PwmEdge) → c < 8 → s.initialised ≡ true → PwmAgrees d below settled chip w s → PwmAgrees d below (choosing c) (chip_after chip (Write PulseEdges (with_kinds chip.pulses.edges c edge)) 0) w s
+  chosen_now : (below : Reservations) (chip : Chip) (w : World) (s : PwmState) (c : ℕ) (edge : PwmEdge) → c < 8 → s.initialised ≡ true → PwmRepresents d below settled chip w s → PwmRepresents d below (choosing c) (chip_after chip (Write PulseEdges (with_kinds chip.pulses.edges c edge)) 0) w s
   chosen_now below chip w s c edge lt on h = record {
     right = h.right;
     setup = none_held d below s.initialised (chip_after chip (Write PulseEdges (with_kinds chip.pulses.edges c edge)) 0) on h.right;
@@ -154,16 +124,16 @@ module _ (d : PwmDriver) where
     size = h.size;
     units = h.units;
     kinds = λ k l g. each_but (λ i. i < 8 → only c i ≡ false → KindAgrees (with_kinds chip.pulses.edges c edge) i (pulse_at s i).notified) c
-        (λ i f. absurd (let e = same_yes c in cc)) k
+        (λ i f. absurd (let e = eq_self c in cc)) k
         (λ ne i f. others_same chip.pulses.edges (with_kinds chip.pulses.edges c edge) c k (pulse_at s k).notified i ne (λ j few nj nf. with_other chip.pulses.edges c j edge lt few nj nf) lt (h.kinds k i refl)) l g;
-    words = record { state = λ g. h.words.state refl; kinds = λ g. absurd (let e = same_yes KINDS in cc); periods = λ e k l u g. h.words.periods on k l u refl };
+    words = record { state = λ g. h.words.state refl; kinds = λ g. absurd (let e = eq_self KINDS in cc); periods = λ e k l u g. h.words.periods on k l u refl };
     lines = h.lines;
     clean = h.clean;
     unused = h.unused;
   }
 
   -- and none of them any more
-  dropped_now : (below : Holds) (chip : Chip) (w : World) (s : PwmState) (c : ℕ) → c < 8 → s.initialised ≡ true → is_some (channel_of d c) ≡ true → PwmAgrees d below settled chip w s → PwmAgrees d below (behind KINDS) (chip_after chip (Write PulseEdges (without chip.pulses.edges (both c))) 0) w (with_pulse s c (switched w.now None (pulse_at s c)))
+  dropped_now : (below : Reservations) (chip : Chip) (w : World) (s : PwmState) (c : ℕ) → c < 8 → s.initialised ≡ true → is_some (channel_of d c) ≡ true → PwmRepresents d below settled chip w s → PwmRepresents d below (behind KINDS) (chip_after chip (Write PulseEdges (without chip.pulses.edges (both c))) 0) w (with_pulse s c (switched w.now None (pulse_at s c)))
   dropped_now below chip w s c lt on there h =
       let x = switched w.now None (pulse_at s c) in
       let e1 = without chip.pulses.edges (both c) in
@@ -182,7 +152,7 @@ module _ (d : PwmDriver) where
             (λ ne i. subst (λ y. KindAgrees e1 k y.notified) (sym (channel_other s c k x i ne)) (others_same chip.pulses.edges e1 c k (pulse_at s k).notified i ne (λ j few nj nf. without_other chip.pulses.edges c j lt few (both_other c j lt nj nf)) lt (h.kinds k i refl))) l;
         words = record {
           state = λ g. h.words.state refl;
-          kinds = λ g. absurd (let e = same_yes KINDS in cc);
+          kinds = λ g. absurd (let e = eq_self KINDS in cc);
           periods = λ e k l u g. each_but (λ i. i < 8 → is_some (channel_of d i) ≡ true → word_of chip (period_word i) ≡ (pulse_at (with_pulse s c x) i).period) c
               (λ i v. h.words.periods on c lt v refl ∙ sym (ap (λ y. y.period) (channel_same s c x lt))) k
               (λ ne i v. h.words.periods on k i v refl ∙ sym (ap (λ y. y.period) (channel_other s c k x i ne))) l u;
@@ -194,7 +164,7 @@ module _ (d : PwmDriver) where
             (λ ne i e. subst IsQuiet (sym (channel_other s c k x i ne)) (h.unused k i e)) l;
       }
 
-  kinds_kept : (below : Holds) (chip : Chip) (w : World) (s : PwmState) (v : ℕ) → s.initialised ≡ true → chip.pulses.edges ≡ v → PwmAgrees d below (behind KINDS) chip w s → PwmAgrees d below settled (chip_after chip (Store KINDS v) 0) w s
+  kinds_kept : (below : Reservations) (chip : Chip) (w : World) (s : PwmState) (v : ℕ) → s.initialised ≡ true → chip.pulses.edges ≡ v → PwmRepresents d below (behind KINDS) chip w s → PwmRepresents d below settled (chip_after chip (Store KINDS v) 0) w s
   kinds_kept below chip w s v on is h = record {
     right = h.right;
     setup = none_held d below s.initialised (chip_after chip (Store KINDS v) 0) on h.right;
@@ -205,7 +175,7 @@ module _ (d : PwmDriver) where
     words = record {
       state = λ g. stored_other chip KINDS v 0 STATE kinds_not_state ∙ h.words.state refl;
       kinds = λ g. stored_same chip KINDS v 0 (omega arith) h.outside.all.words ∙ sym is;
-      periods = λ e k l u g. stored_other chip KINDS v 0 (period_word k) (kinds_not_period k) ∙ h.words.periods on k l u (other_no (period_word k) KINDS (kinds_not_period k));
+      periods = λ e k l u g. stored_other chip KINDS v 0 (period_word k) (kinds_not_period k) ∙ h.words.periods on k l u (eq_other (period_word k) KINDS (kinds_not_period k));
     };
     lines = h.lines;
     clean = h.clean;
@@ -214,7 +184,7 @@ module _ (d : PwmDriver) where
 
   steps : AllGood d (steady_above d notify_work notify_takes notify_left notify_gap (notify_holds d))
   steps below chip w s (Load c edge) o t m (h, (b, k, i)) = (refl, (h, (edge, (b, k, i), ap (λ v. with_kinds v c edge) (h.words.kinds refl))))
-  steps below chip w s (Choose c v) o t m (h, (edge, (b, k, i), is)) = (refl, (subst (λ z. PwmAgrees d below (choosing c) (chip_after chip (Write PulseEdges z) 0) w s) (sym is) (chosen_now below chip w s c edge i.lt i.on h), (edge, (b, k, i), refl, subst (λ z. KindAgrees z c (Some edge)) (sym is) (with_here chip.pulses.edges c edge i.lt))))
+  steps below chip w s (Choose c v) o t m (h, (edge, (b, k, i), is)) = (refl, (subst (λ z. PwmRepresents d below (choosing c) (chip_after chip (Write PulseEdges z) 0) w s) (sym is) (chosen_now below chip w s c edge i.lt i.on h), (edge, (b, k, i), refl, subst (λ z. KindAgrees z c (Some edge)) (sym is) (with_here chip.pulses.edges c edge i.lt))))
   steps below chip w s (Clear c v) o t m (h, (edge, (Is_before, k, i), is, kind)) =
       let x = pulse_at s c in (
         refl,
@@ -224,7 +194,7 @@ module _ (d : PwmDriver) where
           told = tells_nothing;
           is = λ b. ap (λ z. Some (acts_by d w s (on_call c edge) b.committed z)) i.pass ∙ ap (λ z. Some (outcome (with_pulse s c (channel_work z w.now (EnableNotification edge) x)) tells_nothing)) i.known;
           acts = tt;
-          next = (flags_cleared d below chip w s c (switched w.now (Some edge) x) (only c) (only KINDS) i.lt i.on (ap (λ z. is_some z) i.known) refl (λ j ne. other_no j c ne) kind (unflagged_agrees (polarity_of (channel_of d c)) w.now chip.pulses.time (pulses.pulse_at chip.pulses c) x (Some edge) (h.outside.together.pulses ∙ h.outside.now) (h.units c i.lt refl)) h, (on_call c edge, Is_after, is, i.on));
+          next = (flags_cleared d below chip w s c (switched w.now (Some edge) x) (only c) (only KINDS) i.lt i.on (ap (λ z. is_some z) i.known) refl (λ j ne. eq_other j c ne) kind (unflagged_agrees (polarity_of (channel_of d c)) w.now chip.pulses.time (pulses.pulse_at chip.pulses c) x (Some edge) (h.outside.together.pulses ∙ h.outside.now) (h.units c i.lt refl)) h, (on_call c edge, Is_after, is, i.on));
         },
       )
   steps below chip w s (Find c) o t m (h, (b, k, i)) = (refl, (h, (c, (b, k, i), ap (λ v. without v (both c)) (h.words.kinds refl))))
@@ -237,7 +207,7 @@ module _ (d : PwmDriver) where
           told = tells_nothing;
           is = λ b. ap (λ z. Some (acts_by d w s (off_call c) b.committed z)) i.pass ∙ ap (λ z. Some (outcome (with_pulse s c (channel_work z w.now DisableNotification x)) tells_nothing)) i.known;
           acts = tt;
-          next = (subst (λ z. PwmAgrees d below (behind KINDS) (chip_after chip (Write PulseEdges z) 0) w (with_pulse s c (switched w.now None x))) (sym is) (dropped_now below chip w s c i.lt i.on (ap (λ z. is_some z) i.known) h), (off_call c, Is_after, refl, i.on));
+          next = (subst (λ z. PwmRepresents d below (behind KINDS) (chip_after chip (Write PulseEdges z) 0) w (with_pulse s c (switched w.now None x))) (sym is) (dropped_now below chip w s c i.lt i.on (ap (λ z. is_some z) i.known) h), (off_call c, Is_after, refl, i.on));
         },
       )
   steps below chip w s (Keep v) o t m (h, (call, Is_after, is, on)) = (refl, (kinds_kept below chip w s v on is h, (refl, refl, refl)))

@@ -1,46 +1,22 @@
 -- Pwm_SetDutyCycle and Pwm_SetPeriodAndDuty: their steps, what holds at each, and that they are right.
-use Rattle.std.proofs.Common.{◌≡◌, ℕ, ◌<◌, ◌≤◌, Bool, true, false, not, ◌==◌, Option, Some, None, refl, sym, ◌∙◌, ap, subst, arith}
-use Rattle.std.specs.Prelude.{if◌then◌else◌}
-use Rattle.chip_model.specs.Chip.{Chip, chip_after}
+-- From Units, Base, Parts, Look.
+-- Used by service/output/rt, Lawful, Windows, InitWrites, InitRight.
+use Rattle.std.proofs.Common.{◌≡◌, ◌<◌, ◌≤◌, ◌==◌, ◌∙◌, if◌then◌else◌}
+use Rattle.pwm_driver.specs.Terms
+use Terms.{absolute, Act, acts, acts_by, After, ap, AreLong, arith, Before, behind, below_test, BodyTaken, Bool}
+use Terms.{by_eight, Call, Channel, channel_of, channel_same, channel_work, ChannelCall, Chip, chip_after, Duty, ends}
+use Terms.{eq_self, false, goes, Is_after, Is_before, Keep, Lag, level, Loads, LongBodies, missed_after, Move}
+use Terms.{no_answer, None, none, not, Nothing, only, Option, Origin, outcome, OutputBody, over, Period, period_word}
+use Terms.{Polarity, polarity_of, Pulse, pulse_at, pulse_at-same, PulseCommit, PulseDuty, PulsePeriod, PulsePolarity}
+use Terms.{Pulses, put_out, pwm_basis, pwm_machine, pwm_may, PwmDriver, PwmRepresents, PwmState, refl, Reservations}
+use Terms.{set_to, SetDutyCycle, SetPeriodAndDuty, settled, Shortens, Some, some_is, stands-move, StandsIn, StepsTo}
+use Terms.{Store, subst, sym, tells_nothing, Told, true, UnitAgrees, Want, Wave, with_new, with_pulse, World, Write, ℕ}
+use Rattle.pwm_driver.specs.declared.service.output.OutputBody.TheVariants.{Load, Commit}
+use Rattle.pwm_driver.specs.laws.{Base.{AllGood, steady_above, family, family_right, pulses_of}, Look.{MayAct}}
+use Rattle.pwm_driver.specs.laws.{Units.{chip_with, unit_set, both_set, waved, perioded, commit_agrees, period_kept}}
 use Rattle.chip_pulses.specs.Pulses as pulses
-use Rattle.chip_pulses.specs.Pulses.{Pulses}
 use Rattle.chip_pulses.specs.declared.pulse.Pulse as unit
-use Rattle.chip_pulses.specs.declared.regime.Wave.{Wave}
-use Rattle.chip_pulses.proofs.PulseLaws.{pulse_at-same}
-use Rattle.mcal_base.specs.declared.moves.Event.TheVariants.{Act}
-use Rattle.mcal_base.specs.declared.moves.Move.{Move}
-use Rattle.mcal_base.specs.declared.moves.Move.TheVariants.{Write, Load as Loads, Store}
-use Rattle.mcal_base.specs.declared.register.Reg.TheVariants.{PulsePeriod, PulseDuty, PulsePolarity, PulseCommit}
-use Rattle.run_model.specs.Machine.{Told, no_answer, tells_nothing, outcome}
-use Rattle.run_model.specs.Frame.{Origin, missed_after}
-use Rattle.run_model.specs.Outside.{StandsIn}
-use Rattle.run_model.specs.World.{World}
-use Rattle.run_model.proofs.OutsideLaws.{stands-move}
-use Rattle.service_outline.specs.Done.{goes, acts, ends}
-use Rattle.service_outline.specs.Fuel.{Shortens}
-use Rattle.service_outline.specs.Outline.{Before, Is_before, After, Is_after, StepsTo}
-use Rattle.service_outline.specs.Services.{LongBodies, AreLong, over}
-use Rattle.service_outline.specs.declared.done.BodyTaken.{BodyTaken}
-use Rattle.service_outline.specs.declared.done.Owed.TheVariants.{Nothing}
-use Rattle.pwm_driver.specs.Bounds.{pwm_may}
-use Rattle.pwm_driver.specs.Ground.{Gap, settled, none, only, behind, Holds, UnitAgrees, PwmAgrees, pwm_basis}
-use Rattle.pwm_driver.specs.Machine.{Pulse, PwmState, pulse_at, with_pulse, put_out, set_to, channel_work, acts_by, pwm_machine}
-use Rattle.pwm_driver.specs.Output.{absolute, with_new}
-use Rattle.pwm_driver.specs.Table.{channel_of, polarity_of}
-use Rattle.pwm_driver.specs.Words.{period_word, level}
-use Rattle.pwm_driver.specs.declared.call.Call.{Call}
 use Rattle.pwm_driver.specs.declared.call.Call.TheVariants as calls
-use Rattle.pwm_driver.specs.declared.call.ChannelCall.{ChannelCall}
-use Rattle.pwm_driver.specs.declared.call.ChannelCall.TheVariants.{SetDutyCycle, SetPeriodAndDuty}
-use Rattle.pwm_driver.specs.declared.driver.Channel.{Channel}
-use Rattle.pwm_driver.specs.declared.driver.PwmDriver.{PwmDriver}
-use Rattle.pwm_driver.specs.declared.service.output.OutputBody.{OutputBody}
-use Rattle.pwm_driver.specs.declared.service.output.OutputBody.TheVariants.{Load, Period, Duty, Polarity, Commit, Keep}
-use Rattle.pwm_driver.specs.declared.service.output.Want.{Want}
-use Rattle.pwm_driver.specs.laws.Base.{AllGood, steady_above, family, family_right, pulses_of}
-use Rattle.pwm_driver.specs.laws.Look.{MayAct}
-use Rattle.pwm_driver.specs.laws.Parts.{by_eight, below_test, same_yes, channel_same, some_is}
-use Rattle.pwm_driver.specs.laws.Units.{chip_with, unit_set, both_set, waved, perioded, commit_agrees, period_kept}
 
 abbrev pub output_work : OutputBody → Move
 output_work (Load r) = Loads (period_word r.channel)
@@ -66,7 +42,7 @@ output_left (Polarity r) = 3
 output_left (Commit r) = 2
 output_left (Keep r) = 1
 
-abbrev pub output_gap : OutputBody → Gap
+abbrev pub output_gap : OutputBody → Lag
 output_gap (Keep r) = behind (period_word r.channel)
 output_gap _ = settled
 
@@ -124,19 +100,19 @@ loaded d s r o t k x false g e b i h is = record {
   last = subst (λ z. IsLast z x (pulse_at s r.channel)) (sym e) is;
 }
 
-module _ (d : PwmDriver) (below : Holds) (chip : Chip) (w : World) (s : PwmState) (r : Want) (o : Origin Call) (t : Option Told) (i : Wants d s r o t) (h : PwmAgrees d below settled chip w s) where
+module _ (d : PwmDriver) (below : Reservations) (chip : Chip) (w : World) (s : PwmState) (r : Want) (o : Origin Call) (t : Option Told) (i : Wants d s r o t) (h : PwmRepresents d below settled chip w s) where
   abbrev p : unit.Pulse
   p = pulses.pulse_at chip.pulses r.channel
 
   -- a waiting register is written
-  wrote : (v : Wave) → StandsIn (chip_with chip r.channel (record p { wave = v })) w → PwmAgrees d below settled (chip_with chip r.channel (record p { wave = v })) w s
+  wrote : (v : Wave) → StandsIn (chip_with chip r.channel (record p { wave = v })) w → PwmRepresents d below settled (chip_with chip r.channel (record p { wave = v })) w s
   wrote v outside = unit_set d below chip w s r.channel i.may.lt i.may.on (some_is _ i.channel i.may.known) (record p { wave = v }) outside (waved (polarity_of (channel_of d r.channel)) w.now p (pulse_at s r.channel) v (h.units r.channel i.may.lt refl)) h
 
   stands_there : (v : Wave) → wave_at (pulses_of (chip_with chip r.channel (record p { wave = v }))) r.channel ≡ v
   stands_there v = ap (λ x. x.wave) (pulse_at-same chip.pulses r.channel (record p { wave = v }) (record { all = h.size; within = i.may.lt }))
 
   -- they are committed
-  committed_at : (after : ℕ → Bool) → (after (period_word r.channel) ≡ false → r.period ≡ (pulse_at s r.channel).period) → p.wave ≡ record { period = r.period; duty = absolute r.period r.duty; high = r.high } → PwmAgrees d below (record settled { words = after }) (chip_after chip (Write (PulseCommit r.channel) 1) 0) w (with_pulse s r.channel (set_to (Some i.channel) w.now r.period r.duty (pulse_at s r.channel)))
+  committed_at : (after : ℕ → Bool) → (after (period_word r.channel) ≡ false → r.period ≡ (pulse_at s r.channel).period) → p.wave ≡ record { period = r.period; duty = absolute r.period r.duty; high = r.high } → PwmRepresents d below (record settled { words = after }) (chip_after chip (Write (PulseCommit r.channel) 1) 0) w (with_pulse s r.channel (set_to (Some i.channel) w.now r.period r.duty (pulse_at s r.channel)))
   committed_at after same is =
       let x = pulse_at s r.channel in
       let here = subst (λ z. UnitAgrees (polarity_of z) w.now p x) i.may.known (h.units r.channel i.may.lt refl) in
@@ -146,10 +122,10 @@ module _ (d : PwmDriver) (below : Holds) (chip : Chip) (w : World) (s : PwmState
       both_set d below chip w s r.channel i.may.lt i.may.on (some_is _ i.channel i.may.known) (pulses.taken chip.pulses.time p) (set_to (Some i.channel) w.now r.period r.duty x) after same refl (stands-move chip w (Write (PulseCommit r.channel) 1) 0 h.outside) (subst (λ z. UnitAgrees (polarity_of z) w.now (pulses.taken chip.pulses.time p) (set_to (Some i.channel) w.now r.period r.duty x)) (sym i.may.known) whole) h
 
 module _ (d : PwmDriver) where
-  abbrev Commits : Holds → Chip → World → PwmState → Want → Origin Call → Option Told → (ℕ → Bool) → Bool → Type 0
+  abbrev Commits : Reservations → Chip → World → PwmState → Want → Origin Call → Option Told → (ℕ → Bool) → Bool → Type 0
   Commits below chip w s r o t m q = StepsTo (over (pwm_basis d) below) (steady_above d output_work output_takes output_left output_gap (output_holds d) below) (chip_after chip (Write (PulseCommit r.channel) 1) 0) w s o (Write (PulseCommit r.channel) 1) false t m (if q then (Keep r, acts) else (Commit r, ends (Some Act) no_answer Nothing))
 
-  commit_by : (below : Holds) (chip : Chip) (w : World) (s : PwmState) (r : Want) (o : Origin Call) (t : Option Told) (m : ℕ → Bool) → PwmAgrees d below settled chip w s → (i : Wants d s r o t) → (pulses.pulse_at chip.pulses r.channel).wave ≡ record { period = r.period; duty = absolute r.period r.duty; high = r.high } → (q : Bool) → r.keeps ≡ q → Before (calls.Channel r.channel (asked_by q r.period r.duty)) o t → IsLast q r.period (pulse_at s r.channel) → MayAct d s r.channel (calls.Channel r.channel (asked_by q r.period r.duty)) i.channel → Commits below chip w s r o t m q
+  commit_by : (below : Reservations) (chip : Chip) (w : World) (s : PwmState) (r : Want) (o : Origin Call) (t : Option Told) (m : ℕ → Bool) → PwmRepresents d below settled chip w s → (i : Wants d s r o t) → (pulses.pulse_at chip.pulses r.channel).wave ≡ record { period = r.period; duty = absolute r.period r.duty; high = r.high } → (q : Bool) → r.keeps ≡ q → Before (calls.Channel r.channel (asked_by q r.period r.duty)) o t → IsLast q r.period (pulse_at s r.channel) → MayAct d s r.channel (calls.Channel r.channel (asked_by q r.period r.duty)) i.channel → Commits below chip w s r o t m q
   commit_by below chip w s r o t m h i is true e Is_before last may =
       let c = r.channel in
       let x1 = set_to (Some i.channel) w.now r.period r.duty (pulse_at s c) in
@@ -159,7 +135,7 @@ module _ (d : PwmDriver) where
         told = tells_nothing;
         is = λ b. ap (λ z. Some (acts_by d w s (calls.Channel c (SetPeriodAndDuty r.period r.duty)) b.committed z)) may.pass ∙ ap (λ z. Some (outcome (with_pulse s c (channel_work z w.now (SetPeriodAndDuty r.period r.duty) (pulse_at s c))) tells_nothing)) may.known;
         acts = tt;
-        next = (committed_at d below chip w s r o t i h (only (period_word c)) (λ g. let f = same_yes (period_word c) in absurd (cc)) is, (Is_after, may.lt, may.on, sym (ap (λ y. y.period) (channel_same s c x1 may.lt))));
+        next = (committed_at d below chip w s r o t i h (only (period_word c)) (λ g. let f = eq_self (period_word c) in absurd (cc)) is, (Is_after, may.lt, may.on, sym (ap (λ y. y.period) (channel_same s c x1 may.lt))));
       }
   commit_by below chip w s r o t m h i is false e Is_before last may =
       let c = r.channel in

@@ -1,7 +1,11 @@
 -- Numbers, channels and bits: what the proofs of all parts use.
+-- From service_outline: StepKinds.
+-- Used by Notify, Flags, Output, DeInit, InitRight and 10 more.
 use Rattle.std.proofs.Common.{◌≡◌, ◌≢◌, ℕ, zero, suc, ◌+◌, ◌<◌, ◌^◌, Bool, true, false, ◌&&◌, ◌||◌, ◌==◌, nat_lt, Option, Some, None, refl, ◌∙◌, ap, arith}
 use Rattle.std.specs.Prelude.{if◌then◌else◌, is_some, slice_index_or}
 use Rattle.std.proofs.lemmas.Bool.Decides.{nat_tests}
+use Rattle.std.proofs.lemmas.Bool.{or_from}
+use Rattle.plain_facts.specs.Numbers.{eq_other, eq_self}
 use Rattle.mcal_base.specs.Bits.{has_bit}
 use Rattle.mcal_base.proofs.BitLaws.{has_bit-or, has_bit-pow_same, has_bit-pow_other}
 use Rattle.service_outline.specs.laws.StepKinds.{or_true}
@@ -10,22 +14,6 @@ use Rattle.pwm_driver.specs.Table.{channel_of}
 use Rattle.pwm_driver.specs.Words.{bit, both}
 use Rattle.pwm_driver.specs.declared.driver.Channel.{Channel}
 use Rattle.pwm_driver.specs.declared.driver.PwmDriver.{PwmDriver}
-
-pub equal_by : (k c : ℕ) → (k == c) ≡ true → k ≡ c
-equal_by k c e = grind (arith, nat_tests)
-
-pub differ_by : (k c : ℕ) → (k == c) ≡ false → k ≢ c
-differ_by k c e = grind (arith, nat_tests)
-
-pub same_yes : (c : ℕ) → (c == c) ≡ true
-same_yes c = grind (arith, nat_tests)
-
-pub other_no : (k c : ℕ) → k ≢ c → (k == c) ≡ false
-other_no k c ne = grind (arith, nat_tests)
-
-pub both_of : (a b : Bool) → a && b ≡ true → (a ≡ true) × (b ≡ true)
-both_of true b e = (refl, e)
-both_of false b e = absurd (cc)
 
 pub some_is : {A : Type 0} (o : Option A) (k : A) → o ≡ Some k → is_some o ≡ true
 some_is o k e = ap (λ x. is_some x) e
@@ -46,10 +34,10 @@ pub table_at : (f : ℕ → Pulse) (c : ℕ) → c < 8 → slice_index_or (table
 table_at f c lt = by_eight (λ i. slice_index_or (table f) i silent ≡ f i) refl refl refl refl refl refl refl refl c lt
 
 pub channel_same : (s : PwmState) (c : ℕ) (x : Pulse) → c < 8 → pulse_at (with_pulse s c x) c ≡ x
-channel_same s c x lt = table_at (λ k. if k == c then x else pulse_at s k) c lt ∙ ap (λ q. if q then x else pulse_at s c) (same_yes c)
+channel_same s c x lt = table_at (λ k. if k == c then x else pulse_at s k) c lt ∙ ap (λ q. if q then x else pulse_at s c) (eq_self c)
 
 pub channel_other : (s : PwmState) (c k : ℕ) (x : Pulse) → k < 8 → k ≢ c → pulse_at (with_pulse s c x) k ≡ pulse_at s k
-channel_other s c k x lt ne = table_at (λ i. if i == c then x else pulse_at s i) k lt ∙ ap (λ q. if q then x else pulse_at s k) (other_no k c ne)
+channel_other s c k x lt ne = table_at (λ i. if i == c then x else pulse_at s i) k lt ∙ ap (λ q. if q then x else pulse_at s k) (eq_other k c ne)
 
 -- ---- the channels of a driver
 
@@ -87,9 +75,6 @@ has_one k lt = ap (λ x. has_bit x k) (bit_is k lt) ∙ has_bit-pow_same k
 pub has_other : (k i : ℕ) → k < 16 → i ≢ k → has_bit (bit k) i ≡ false
 has_other k i lt ne = ap (λ x. has_bit x i) (bit_is k lt) ∙ has_bit-pow_other k i ne
 
-or_parts : (a b : Bool) → a ≡ false → b ≡ false → a || b ≡ false
-or_parts a b e f = ap (λ x. x || b) e ∙ f
-
 pub both_rising : (c : ℕ) → c < 8 → has_bit (both c) c ≡ true
 both_rising c lt = has_bit-or (bit c) (bit (c + 8)) c ∙ ap (λ q. q || has_bit (bit (c + 8)) c) (has_one c (omega (arith, lt)))
 
@@ -97,7 +82,7 @@ pub both_falling : (c : ℕ) → c < 8 → has_bit (both c) (c + 8) ≡ true
 both_falling c lt = has_bit-or (bit c) (bit (c + 8)) (c + 8) ∙ (ap (λ q. has_bit (bit c) (c + 8) || q) (has_one (c + 8) (omega (arith, lt))) ∙ or_true (has_bit (bit c) (c + 8)) refl)
 
 pub both_other : (c k : ℕ) → c < 8 → k ≢ c → k ≢ c + 8 → has_bit (both c) k ≡ false
-both_other c k lt ne nf = has_bit-or (bit c) (bit (c + 8)) k ∙ or_parts (has_bit (bit c) k) (has_bit (bit (c + 8)) k) (has_other c k (omega (arith, lt)) ne) (has_other (c + 8) k (omega (arith, lt)) nf)
+both_other c k lt ne nf = has_bit-or (bit c) (bit (c + 8)) k ∙ or_from (has_bit (bit c) k) (has_bit (bit (c + 8)) k) (has_other c k (omega (arith, lt)) ne) (has_other (c + 8) k (omega (arith, lt)) nf)
 
 -- the two bits of a channel are none of another one's
 pub past_it : (c k : ℕ) → k < 8 → k ≢ c + 8

@@ -1,22 +1,19 @@
 -- A pulse unit that does what the machine's output does: the levels are equal at every time, and so are the changes between two times, and both take up a new regime alike.
-use Rattle.std.proofs.Common.{◌≡◌, ℕ, zero, suc, ◌+◌, ◌-◌, ◌<◌, ◌≤◌, ◌%◌, Bool, true, false, ◌||◌, ◌==◌, nat_lt, Some, refl, sym, ◌∙◌, ap, subst, arith}
-use Rattle.std.specs.Prelude.{if◌then◌else◌}
-use Rattle.std.proofs.lemmas.Bool.Decides.{nat_tests}
-use Rattle.std.proofs.Math.Nat.{mod-lt, mod-le}
+-- From Changes.
+-- Used by Units, RefinementRight.
+use Rattle.std.proofs.Common.{◌≡◌, ◌+◌, ◌-◌, ◌<◌, ◌≤◌, ◌%◌, ◌||◌, ◌==◌, ◌∙◌, if◌then◌else◌}
+use Rattle.pwm_driver.specs.Terms
+use Terms.{ap, arith, Begun, Bool, Both, changed_between, changes-output, chosen, commit_over, committed, Falling}
+use Terms.{false, GivesWay, Idle, is_marked_by, IsBegun, level_of, MarkAgrees, MarksAgree, mod-le, mod-lt, nat_lt}
+use Terms.{nat_tests, next_of, Output, output-changes, output_in, output_level, period_begin, period_end, positive}
+use Terms.{Pulse, PwmEdge, refl, Regime, regime_at, regime_in, regime_level, Rising, Runs, Some, standing, subst, suc}
+use Terms.{succeeded, sym, true, turn_of, turns, turns_between, turns_to, turns_within, UnitAgrees, with_new, zero, ℕ}
+use Rattle.chip_pulses.specs.declared.regime.Commit.{Commit}
+use Rattle.pwm_driver.specs.laws.Changes.{times_of, of_times}
 use Rattle.chip_pulses.specs.Pulses as pulses
-use Rattle.chip_pulses.specs.Pulses.{output_level, changed_between, committed, commit_over}
 use Rattle.chip_pulses.specs.Regime as regimes
-use Rattle.chip_pulses.specs.Regime.{turns_to, turn_of, next_of, regime_at, period_begin}
 use Rattle.chip_pulses.specs.declared.pulse.Output.TheVariants as units
 use Rattle.chip_pulses.specs.declared.pulse.Pulse as unit
-use Rattle.chip_pulses.specs.declared.regime.Commit.{Commit}
-use Rattle.chip_pulses.proofs.FlagLaws.{Begun, output-changes, changes-output}
-use Rattle.pwm_driver.specs.Ground.{regime_in, output_in, IsBegun, chosen, MarkAgrees, MarksAgree, UnitAgrees}
-use Rattle.pwm_driver.specs.Machine.{Pulse, is_marked_by}
-use Rattle.pwm_driver.specs.Output.{Regime, Output, Idle, Runs, GivesWay, regime_level, standing, level_of, period_end, succeeded, with_new, turns, turns_within, turns_between}
-use Rattle.pwm_driver.specs.declared.call.PwmEdge.{PwmEdge}
-use Rattle.pwm_driver.specs.declared.call.PwmEdge.TheVariants.{Rising, Falling, Both}
-use Rattle.pwm_driver.specs.laws.Changes.{times_of, of_times}
 
 -- ---- levels
 
@@ -159,9 +156,6 @@ begun_same r high now pos =
     let small : (now - r.start) % r.period < r.period = mod-lt (now - r.start) pos in
     let le : (now - r.start) % r.period ≤ now - r.start = mod-le (now - r.start) r.period in
     omega (arith, small, le)
-
-positive : (n : ℕ) → (n == 0) ≡ false → 0 < n
-positive n e = grind (arith, nat_tests)
 
 pub succeeded_same : (high : Bool) (r : Regime) (now p a : ℕ) (q : Bool) → (r.period == 0) ≡ q → commit_over (regime_in high r) (record { period = p; duty = a; high = high }) now ≡ output_in high (succeeded r now p a)
 succeeded_same high r now p a true e = rw e refl

@@ -1,43 +1,20 @@
 -- Pwm_SetOutputToIdle and Pwm_GetOutputState: their step, and that it is right.
-use Rattle.std.proofs.Common.{◌≡◌, ℕ, ◌<◌, ◌≤◌, Bool, true, false, ◌==◌, Option, Some, None, refl, sym, ◌∙◌, ap, subst, arith}
-use Rattle.chip_model.specs.Chip.{Chip, chip_after}
+-- From Base, Units, Parts, Look, RefinementRight.
+-- Used by service/rest/rt, Lawful, Windows.
+use Rattle.std.proofs.Common.{◌≡◌, ◌<◌, ◌≤◌, ◌==◌, ◌∙◌}
+use Rattle.pwm_driver.specs.Terms
+use Terms.{Act, acts_by, answers, ap, AreLong, arith, Ask, Before, below_test, bit_of, BodyTaken, Bool, Call, Called}
+use Terms.{Channel, channel_of, channel_work, Chip, chip_after, ends, false, Idle, Is_before, Lag, level, level_answer}
+use Terms.{level_at, LongBodies, missed_after, Move, no_answer, None, none, Nothing, Option, Origin, outcome, over}
+use Terms.{polarity_of, pulse_at, PulseIdle, PulseOut, Pulses, put_out, pwm_basis, pwm_machine, PwmDriver}
+use Terms.{PwmRepresents, PwmState, Read, refl, Reservations, Rest, RestBody, SetOutputToIdle, settled, Shortens, Some}
+use Terms.{some_is, stands-move, StandsIn, StepsTo, subst, sym, tells_nothing, Told, true, UnitAgrees, with_pulse}
+use Terms.{World, Write, ℕ}
+use Rattle.pwm_driver.specs.laws.{Base.{AllGood, steady_above, family, family_right}, RefinementRight.{outputs_same}}
+use Rattle.pwm_driver.specs.laws.{Look.{Passed, MayAct}, Units.{both_set, put_agrees, idle_written}}
 use Rattle.chip_pulses.specs.Pulses as pulses
-use Rattle.chip_pulses.specs.Pulses.{Pulses}
 use Rattle.chip_pulses.specs.declared.pulse.Output.TheVariants as units
-use Rattle.mcal_base.specs.Bits.{bit_of}
-use Rattle.mcal_base.specs.declared.moves.Event.TheVariants.{Act}
-use Rattle.mcal_base.specs.declared.moves.Move.{Move}
-use Rattle.mcal_base.specs.declared.moves.Move.TheVariants.{Read, Write}
-use Rattle.mcal_base.specs.declared.register.Reg.TheVariants.{PulseIdle, PulseOut}
-use Rattle.run_model.specs.Machine.{Told, no_answer, tells_nothing, outcome}
-use Rattle.run_model.specs.Frame.{Origin, Called, missed_after}
-use Rattle.run_model.specs.Outside.{StandsIn}
-use Rattle.run_model.specs.World.{World}
-use Rattle.run_model.proofs.OutsideLaws.{stands-move}
-use Rattle.service_outline.specs.Done.{ends, answers}
-use Rattle.service_outline.specs.Fuel.{Shortens}
-use Rattle.service_outline.specs.Outline.{Before, Is_before, StepsTo}
-use Rattle.service_outline.specs.Services.{LongBodies, AreLong, over}
-use Rattle.service_outline.specs.declared.done.BodyTaken.{BodyTaken}
-use Rattle.service_outline.specs.declared.done.Owed.TheVariants.{Nothing}
-use Rattle.pwm_driver.specs.Checks.{level_answer}
-use Rattle.pwm_driver.specs.Ground.{Gap, settled, none, Holds, UnitAgrees, PwmAgrees, pwm_basis}
-use Rattle.pwm_driver.specs.Machine.{PwmState, pulse_at, with_pulse, put_out, level_at, channel_work, acts_by, pwm_machine}
-use Rattle.pwm_driver.specs.Output.{Idle}
-use Rattle.pwm_driver.specs.Table.{channel_of, polarity_of}
-use Rattle.pwm_driver.specs.Words.{level}
-use Rattle.pwm_driver.specs.declared.call.Call.{Call}
 use Rattle.pwm_driver.specs.declared.call.Call.TheVariants as calls
-use Rattle.pwm_driver.specs.declared.call.ChannelCall.TheVariants.{SetOutputToIdle}
-use Rattle.pwm_driver.specs.declared.driver.Channel.{Channel}
-use Rattle.pwm_driver.specs.declared.driver.PwmDriver.{PwmDriver}
-use Rattle.pwm_driver.specs.declared.service.rest.RestBody.{RestBody}
-use Rattle.pwm_driver.specs.declared.service.rest.RestBody.TheVariants.{Rest, Ask}
-use Rattle.pwm_driver.specs.laws.Base.{AllGood, steady_above, family, family_right}
-use Rattle.pwm_driver.specs.laws.Ground.{outputs_same}
-use Rattle.pwm_driver.specs.laws.Look.{Passed, MayAct}
-use Rattle.pwm_driver.specs.laws.Parts.{below_test, some_is}
-use Rattle.pwm_driver.specs.laws.Units.{both_set, put_agrees, idle_written}
 
 abbrev pub rest_work : RestBody → Move
 rest_work (Rest c high) = Write (PulseIdle c) (level high)
@@ -50,7 +27,7 @@ rest_takes (Ask c) x = (Ask c, ends (Some Act) (level_answer (x == 1)) Nothing)
 abbrev pub rest_left : RestBody → ℕ
 rest_left k = 1
 
-abbrev pub rest_gap : RestBody → Gap
+abbrev pub rest_gap : RestBody → Lag
 rest_gap k = settled
 
 abbrev pub rest_call : ℕ → Call
@@ -70,7 +47,7 @@ level_read true = refl
 level_read false = refl
 
 module _ (d : PwmDriver) where
-  rested : (below : Holds) (chip : Chip) (w : World) (s : PwmState) (c : ℕ) (k : Channel) → MayAct d s c (rest_call c) k → PwmAgrees d below settled chip w s → PwmAgrees d below settled (chip_after chip (Write (PulseIdle c) (level k.idle_high)) 0) w (with_pulse s c (put_out (Some k) w.now (Idle k.idle_high) (pulse_at s c)))
+  rested : (below : Reservations) (chip : Chip) (w : World) (s : PwmState) (c : ℕ) (k : Channel) → MayAct d s c (rest_call c) k → PwmRepresents d below settled chip w s → PwmRepresents d below settled (chip_after chip (Write (PulseIdle c) (level k.idle_high)) 0) w (with_pulse s c (put_out (Some k) w.now (Idle k.idle_high) (pulse_at s c)))
   rested below chip w s c k i h =
       let x = pulse_at s c in
       let p = pulses.pulse_at chip.pulses c in
@@ -79,7 +56,7 @@ module _ (d : PwmDriver) where
       let here = subst (λ z. UnitAgrees (polarity_of z) w.now p x) i.known (h.units c i.lt refl) in
       let put = put_agrees (Some k) w.now p x (Idle k.idle_high) here tt in
       let timed = subst (λ t. UnitAgrees k.polarity_high w.now (pulses.put_out (units.Idle k.idle_high) t p) (put_out (Some k) w.now (Idle k.idle_high) x)) (sym (h.outside.together.pulses ∙ h.outside.now)) put in
-      subst (λ z. PwmAgrees d below settled z w (with_pulse s c (put_out (Some k) w.now (Idle k.idle_high) x))) (sym e) (both_set d below chip w s c i.lt i.on (some_is (channel_of d c) k i.known) (pulses.put_out (units.Idle k.idle_high) chip.pulses.time p) (put_out (Some k) w.now (Idle k.idle_high) x) none (λ g. refl) refl (subst (λ z. StandsIn z w) e o) (subst (λ z. UnitAgrees (polarity_of z) w.now (pulses.put_out (units.Idle k.idle_high) chip.pulses.time p) (put_out (Some k) w.now (Idle k.idle_high) x)) (sym i.known) timed) h)
+      subst (λ z. PwmRepresents d below settled z w (with_pulse s c (put_out (Some k) w.now (Idle k.idle_high) x))) (sym e) (both_set d below chip w s c i.lt i.on (some_is (channel_of d c) k i.known) (pulses.put_out (units.Idle k.idle_high) chip.pulses.time p) (put_out (Some k) w.now (Idle k.idle_high) x) none (λ g. refl) refl (subst (λ z. StandsIn z w) e o) (subst (λ z. UnitAgrees (polarity_of z) w.now (pulses.put_out (units.Idle k.idle_high) chip.pulses.time p) (put_out (Some k) w.now (Idle k.idle_high) x)) (sym i.known) timed) h)
 
   steps : AllGood d (steady_above d rest_work rest_takes rest_left rest_gap (rest_holds d))
   steps below chip w s (Rest c high) o t m (h, (Is_before, k, i, e)) = (
@@ -90,7 +67,7 @@ module _ (d : PwmDriver) where
       told = tells_nothing;
       is = λ b. ap (λ z. Some (acts_by d w s (rest_call c) b.committed z)) i.pass ∙ ap (λ z. Some (outcome (with_pulse s c (channel_work z w.now SetOutputToIdle (pulse_at s c))) tells_nothing)) i.known;
       acts = tt;
-      next = (subst (λ q. PwmAgrees d below settled (chip_after chip (Write (PulseIdle c) (level q)) 0) w (with_pulse s c (put_out (Some k) w.now (Idle k.idle_high) (pulse_at s c)))) (sym e) (rested below chip w s c k i h), (refl, refl, refl));
+      next = (subst (λ q. PwmRepresents d below settled (chip_after chip (Write (PulseIdle c) (level q)) 0) w (with_pulse s c (put_out (Some k) w.now (Idle k.idle_high) (pulse_at s c)))) (sym e) (rested below chip w s c k i h), (refl, refl, refl));
     },
   )
   steps below chip w s (Ask c) o t m (h, (Is_before, pass, lt)) = (

@@ -1,40 +1,20 @@
 -- The handler of a channel's line: its steps, what holds at each, and that they are right.
-use Rattle.std.proofs.Common.{◌≡◌, ℕ, ◌+◌, ◌-◌, ◌<◌, ◌≤◌, Bool, true, false, ◌&&◌, not, nat_lt, Option, Some, None, refl, sym, ◌∙◌, ap, subst, arith}
-use Rattle.std.specs.Prelude.{if◌then◌else◌, is_some}
-use Rattle.std.proofs.lemmas.Bool.Decides.{nat_tests}
-use Rattle.chip_model.specs.Chip.{Chip}
-use Rattle.chip_model.proofs.PinLaws.{line-pulse}
-use Rattle.chip_pulses.specs.Pulses as pulses
-use Rattle.chip_pulses.specs.Pulses.{Pulses, flags_of}
-use Rattle.mcal_base.specs.Bits.{has_bit}
-use Rattle.mcal_base.specs.declared.moves.Event.TheVariants.{Serve}
-use Rattle.mcal_base.specs.declared.moves.Move.{Move}
-use Rattle.mcal_base.specs.declared.moves.Move.TheVariants.{Read, Write, Load}
-use Rattle.mcal_base.specs.declared.notice.NoticeKind.TheVariants.{PwmNotification}
-use Rattle.mcal_base.specs.declared.register.Reg.TheVariants.{PulseFlags}
-use Rattle.run_model.specs.Machine.{Told, no_answer}
-use Rattle.run_model.specs.Frame.{Origin, Entered, missed_after}
-use Rattle.run_model.specs.World.{World}
-use Rattle.service_outline.specs.Done.{goes, ends}
-use Rattle.service_outline.specs.Fuel.{Shortens}
-use Rattle.service_outline.specs.Outline.{Serving, Is_serving, StepsTo}
-use Rattle.service_outline.specs.Services.{LongBodies, AreLong, over}
-use Rattle.service_outline.specs.declared.done.BodyTaken.{BodyTaken}
-use Rattle.service_outline.specs.laws.StepKinds.{or_true}
-use Rattle.service_outline.specs.declared.done.Owed.TheVariants.{Nothing, One}
-use Rattle.pwm_driver.specs.Ground.{Gap, settled, none, Holds, PwmAgrees, pwm_basis}
-use Rattle.pwm_driver.specs.Machine.{PwmState, pulse_at, with_pulse, forgotten, is_marked_by, notes, ready_by, ready, served, pwm_machine}
-use Rattle.pwm_driver.specs.Table.{channel_of, channel_number, polarity_of}
-use Rattle.pwm_driver.specs.Words.{both, stands}
-use Rattle.pwm_driver.specs.declared.call.Call.{Call}
-use Rattle.pwm_driver.specs.declared.driver.Channel.{Channel}
-use Rattle.pwm_driver.specs.declared.driver.PwmDriver.{PwmDriver}
-use Rattle.pwm_driver.specs.declared.service.serve.ServeBody.{ServeBody}
-use Rattle.pwm_driver.specs.declared.service.serve.ServeBody.TheVariants as places
-use Rattle.pwm_driver.specs.declared.words.TheConstants.{KINDS}
+-- From Base, Flags, RefinementRight.
+-- Used by Lawful, service/serve/rt, Windows.
+use Rattle.std.proofs.Common.{◌≡◌, ◌+◌, ◌-◌, ◌<◌, ◌≤◌, ◌&&◌, ◌∙◌, if◌then◌else◌}
+use Rattle.pwm_driver.specs.Terms
+use Terms.{ap, AreLong, arith, BodyTaken, Bool, both, Call, Channel, channel_number, channel_of, Chip, ends, Entered}
+use Terms.{false, flags_of, forgotten, goes, has_bit, is_marked_by, Is_serving, is_some, KINDS, Lag, line-pulse, Load}
+use Terms.{LongBodies, missed_after, Move, nat_lt, nat_tests, no_answer, None, none, not, notes, Nothing, One, Option}
+use Terms.{or_true, Origin, over, polarity_of, pulse_at, PulseFlags, Pulses, pwm_basis, pwm_machine, PwmDriver}
+use Terms.{PwmNotification, PwmRepresents, PwmState, Read, ready, ready_by, refl, Reservations, Serve, ServeBody}
+use Terms.{served, Serving, settled, Shortens, Some, stands, StepsTo, subst, sym, Told, true, with_pulse, World, Write}
+use Terms.{ℕ}
 use Rattle.pwm_driver.specs.laws.Base.{AllGood, steady_above, family, family_right}
 use Rattle.pwm_driver.specs.laws.Flags.{stands_due, unflagged_agrees, flags_cleared, marked_later}
-use Rattle.pwm_driver.specs.laws.Ground.{due_here, due_line, quiet_none}
+use Rattle.pwm_driver.specs.laws.RefinementRight.{due_here, due_line, quiet_none}
+use Rattle.chip_pulses.specs.Pulses as pulses
+use Rattle.pwm_driver.specs.declared.service.serve.ServeBody.TheVariants as places
 
 abbrev pub serve_work : ServeBody → Move
 serve_work (places.Kinds c) = Load KINDS
@@ -51,7 +31,7 @@ serve_left (places.Kinds c) = 3
 serve_left (places.Look c k) = 2
 serve_left (places.Clear c) = 1
 
-abbrev pub serve_gap : ServeBody → Gap
+abbrev pub serve_gap : ServeBody → Lag
 serve_gap k = settled
 
 -- it is the handler of a configured channel
@@ -75,7 +55,7 @@ not_low c = grind (arith, nat_tests)
 
 module _ (d : PwmDriver) where
   -- a marked channel is one of an initialised module
-  ready_on : (below : Holds) (chip : Chip) (w : World) (s : PwmState) (c : ℕ) → c < 8 → PwmAgrees d below settled chip w s → is_marked_by (pulse_at s c).notified (polarity_of (channel_of d c)) w.now (pulse_at s c) ≡ true → s.initialised ≡ true
+  ready_on : (below : Reservations) (chip : Chip) (w : World) (s : PwmState) (c : ℕ) → c < 8 → PwmRepresents d below settled chip w s → is_marked_by (pulse_at s c).notified (polarity_of (channel_of d c)) w.now (pulse_at s c) ≡ true → s.initialised ≡ true
   ready_on below chip w s c lt h r = by s.initialised refl
     where
       by : (q : Bool) → s.initialised ≡ q → s.initialised ≡ true
@@ -90,13 +70,13 @@ module _ (d : PwmDriver) where
       ∙ (ap (λ q. q && is_marked_by (pulse_at s c).notified k.polarity_high w.now (pulse_at s c)) on
       ∙ (sym (ap (λ o. is_marked_by (pulse_at s c).notified (polarity_of o) w.now (pulse_at s c)) known) ∙ r))))
 
-  unready : (below : Holds) (chip : Chip) (w : World) (s : PwmState) (c : ℕ) → c < 8 → PwmAgrees d below settled chip w s → pulses.is_due chip.pulses c ≡ false → ready d w s (c + 8) ≡ false
+  unready : (below : Reservations) (chip : Chip) (w : World) (s : PwmState) (c : ℕ) → c < 8 → PwmRepresents d below settled chip w s → pulses.is_due chip.pulses c ≡ false → ready d w s (c + 8) ≡ false
   unready below chip w s c lt h e =
       sym (due_line d below chip w s (c + 8) (omega arith) (omega (arith, lt)) h)
       ∙ (line-pulse chip (c + 8) (omega arith) (omega (arith, lt))
       ∙ (ap (λ n. pulses.is_due chip.pulses n && has_bit chip.control.enabled (c + 8)) (number_back c) ∙ ap (λ q. q && has_bit chip.control.enabled (c + 8)) e))
 
-  look_by : (below : Holds) (chip : Chip) (w : World) (s : PwmState) (m : ℕ → Bool) (c k : ℕ) (x : Channel) → c < 8 → channel_of d c ≡ Some x → PwmAgrees d below settled chip w s → (q : Bool) → pulses.is_due chip.pulses c ≡ q → StepsTo (over (pwm_basis d) below) (steady_above d serve_work serve_takes serve_left serve_gap (serve_holds d) below) chip w s (Entered (c + 8)) (Read PulseFlags) false None (missed_after (pwm_machine d) w s m) (if q then (places.Clear c, goes) else (places.Look c k, ends None no_answer Nothing))
+  look_by : (below : Reservations) (chip : Chip) (w : World) (s : PwmState) (m : ℕ → Bool) (c k : ℕ) (x : Channel) → c < 8 → channel_of d c ≡ Some x → PwmRepresents d below settled chip w s → (q : Bool) → pulses.is_due chip.pulses c ≡ q → StepsTo (over (pwm_basis d) below) (steady_above d serve_work serve_takes serve_left serve_gap (serve_holds d) below) chip w s (Entered (c + 8)) (Read PulseFlags) false None (missed_after (pwm_machine d) w s m) (if q then (places.Clear c, goes) else (places.Look c k, ends None no_answer Nothing))
   look_by below chip w s m c k x lt known h true e = (h, ((Is_serving, lt, x, known), sym (due_here d below chip w s c lt h) ∙ e))
   look_by below chip w s m c k x lt known h false e = (h, or_true (m (c + 8)) (ap not (unready below chip w s c lt h e)), refl)
 

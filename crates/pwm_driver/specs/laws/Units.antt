@@ -1,34 +1,20 @@
 -- One pulse unit and one channel of the machine change together.
-use Rattle.std.proofs.Common.{◌≡◌, ◌≢◌, ℕ, ◌<◌, Bool, true, false, ◌||◌, [], ◌∷◌, Option, Some, None, length, refl, sym, ◌∙◌, ap, subst, arith}
-use Rattle.std.specs.Prelude.{is_some}
-use Rattle.chip_model.specs.Chip.{Chip, chip_after, word_of}
-use Rattle.mcal_base.specs.declared.TheConstants.{WORDS}
-use Rattle.mcal_base.specs.declared.moves.Move.TheVariants.{Write, Store}
-use Rattle.mcal_base.specs.declared.register.Reg.TheVariants.{PulseIdle}
+-- From Relation, Parts.
+-- Used by DeInit, InitWrites, Output, InitRight, Notify and 2 more.
+use Rattle.std.proofs.Common.{◌≡◌, ◌≢◌, ◌<◌, ◌||◌, [], ◌∷◌, ◌∙◌}
+use Rattle.pwm_driver.specs.Terms
+use Terms.{AllRight, AllSetUp, ap, arith, behind, Bool, Channel, channel_of, channel_other, channel_same, Chip}
+use Terms.{chip_after, chosen, each_but, eq_other, false, is_marked_by, is_notified, is_some, IsBegun, IsQuiet, IsSetUp}
+use Terms.{KindAgrees, KINDS, length, length-set, level, level_of, LinesAgree, MarksAgree, None, none, Option, Output}
+use Terms.{output_in, period_word, polarity_of, Pulse, pulse_at, pulse_at-other, pulse_at-same, PulseIdle, Pulses}
+use Terms.{put_out, PwmDriver, PwmEdge, PwmRepresents, PwmState, refl, Reservations, settled, Some, stands-move}
+use Terms.{StandsIn, STATE, Store, stored_other, stored_same, subst, sym, true, turns, turns_to, UnitAgrees, UnitsAgree}
+use Terms.{Wave, with_new, with_pulse, word_of, WORDS, World, Write, ℕ}
+use Rattle.pwm_driver.specs.laws.Relation.{level_same, flagged_same, chosen_or, chosen_turns, committed_same}
+use Rattle.pwm_driver.specs.laws.Relation.{with_new_begun}
 use Rattle.chip_pulses.specs.Pulses as pulses
-use Rattle.chip_pulses.specs.Pulses.{Pulses}
-use Rattle.chip_pulses.specs.Regime.{turns_to}
 use Rattle.chip_pulses.specs.declared.pulse.Output.TheVariants as units
 use Rattle.chip_pulses.specs.declared.pulse.Pulse as unit
-use Rattle.chip_pulses.specs.declared.regime.Wave.{Wave}
-use Rattle.chip_pulses.proofs.PulseLaws.{pulse_at-same, pulse_at-other}
-use Rattle.run_model.specs.Outside.{StandsIn}
-use Rattle.run_model.proofs.OutsideLaws.{stands-move}
-use Rattle.service_outline.specs.laws.Words.{stored_same, stored_other}
-use Rattle.run_model.specs.World.{World}
-use Rattle.service_outline.specs.laws.Sweep.{each_but}
-use Rattle.std.proofs.Common.{length-set}
-use Rattle.pwm_driver.specs.Ground.{settled, none, behind, Holds, AllRight, IsSetUp, AllSetUp, LinesAgree, output_in, IsBegun, chosen, MarksAgree, UnitAgrees, UnitsAgree, KindAgrees, IsQuiet, PwmAgrees}
-use Rattle.pwm_driver.specs.Machine.{Pulse, PwmState, pulse_at, with_pulse, put_out, is_marked_by, is_notified}
-use Rattle.pwm_driver.specs.Output.{Output, level_of, turns, with_new}
-use Rattle.pwm_driver.specs.Table.{channel_of, polarity_of}
-use Rattle.pwm_driver.specs.Words.{period_word, level}
-use Rattle.pwm_driver.specs.declared.call.PwmEdge.{PwmEdge}
-use Rattle.pwm_driver.specs.declared.driver.Channel.{Channel}
-use Rattle.pwm_driver.specs.declared.driver.PwmDriver.{PwmDriver}
-use Rattle.pwm_driver.specs.laws.Parts.{channel_same, channel_other, other_no}
-use Rattle.pwm_driver.specs.declared.words.TheConstants.{STATE, KINDS}
-use Rattle.pwm_driver.specs.laws.Relation.{level_same, flagged_same, chosen_or, chosen_turns, committed_same, with_new_begun}
 
 -- ---- an output that is put out
 
@@ -81,7 +67,7 @@ commit_agrees k now time p x period duty at is h =
 
 -- ---- one channel of all
 
-pub none_held : (d : PwmDriver) (held : Holds) (on : Bool) (chip : Chip) → on ≡ true → AllRight on held → AllSetUp d held chip
+pub none_held : (d : PwmDriver) (held : Reservations) (on : Bool) (chip : Chip) → on ≡ true → AllRight on held → AllSetUp d held chip
 none_held d [] on chip e h = tt
 none_held d (x ∷ xs) on chip e h = absurd (let f = h.1 in cc)
 
@@ -96,7 +82,7 @@ units_set d b w s s1 opened opened1 c p1 size lt h new rest k below closed =
 abbrev pub chip_with : Chip → ℕ → unit.Pulse → Chip
 chip_with chip c p = record chip { pulses = pulses.with_pulse chip.pulses c p }
 
-module _ (d : PwmDriver) (below : Holds) (chip : Chip) (w : World) (s : PwmState) (c : ℕ) (lt : c < 8) (on : s.initialised ≡ true) (there : is_some (channel_of d c) ≡ true) where
+module _ (d : PwmDriver) (below : Reservations) (chip : Chip) (w : World) (s : PwmState) (c : ℕ) (lt : c < 8) (on : s.initialised ≡ true) (there : is_some (channel_of d c) ≡ true) where
   unused_with : (x : Pulse) → ((k : ℕ) → k < 8 → channel_of d k ≡ None → IsQuiet (pulse_at s k)) → (k : ℕ) → k < 8 → channel_of d k ≡ None → IsQuiet (pulse_at (with_pulse s c x) k)
   unused_with x h k l = each_but (λ i. i < 8 → channel_of d i ≡ None → IsQuiet (pulse_at (with_pulse s c x) i)) c
       (λ i e. absurd (let f : is_some (channel_of d c) ≡ false = ap (λ o. is_some o) e in cc)) k
@@ -106,7 +92,7 @@ module _ (d : PwmDriver) (below : Holds) (chip : Chip) (w : World) (s : PwmState
   never_off off = absurd (cc)
 
   -- the unit is another one, and nothing of the machine is: its waiting registers
-  pub unit_set : (p : unit.Pulse) → StandsIn (chip_with chip c p) w → UnitAgrees (polarity_of (channel_of d c)) w.now p (pulse_at s c) → PwmAgrees d below settled chip w s → PwmAgrees d below settled (chip_with chip c p) w s
+  pub unit_set : (p : unit.Pulse) → StandsIn (chip_with chip c p) w → UnitAgrees (polarity_of (channel_of d c)) w.now p (pulse_at s c) → PwmRepresents d below settled chip w s → PwmRepresents d below settled (chip_with chip c p) w s
   unit_set p outside new h = record {
     right = h.right;
     setup = none_held d below s.initialised (chip_with chip c p) on h.right;
@@ -121,7 +107,7 @@ module _ (d : PwmDriver) (below : Holds) (chip : Chip) (w : World) (s : PwmState
   }
 
   -- unit and channel are others, with the same notification
-  pub both_set : (p : unit.Pulse) (x : Pulse) (after : ℕ → Bool) → (after (period_word c) ≡ false → x.period ≡ (pulse_at s c).period) → x.notified ≡ (pulse_at s c).notified → StandsIn (chip_with chip c p) w → UnitAgrees (polarity_of (channel_of d c)) w.now p x → PwmAgrees d below settled chip w s → PwmAgrees d below (record settled { words = after }) (chip_with chip c p) w (with_pulse s c x)
+  pub both_set : (p : unit.Pulse) (x : Pulse) (after : ℕ → Bool) → (after (period_word c) ≡ false → x.period ≡ (pulse_at s c).period) → x.notified ≡ (pulse_at s c).notified → StandsIn (chip_with chip c p) w → UnitAgrees (polarity_of (channel_of d c)) w.now p x → PwmRepresents d below settled chip w s → PwmRepresents d below (record settled { words = after }) (chip_with chip c p) w (with_pulse s c x)
   both_set p x after period notified outside new h = record {
     right = h.right;
     setup = none_held d below s.initialised (chip_with chip c p) on h.right;
@@ -156,7 +142,7 @@ period_below c lt = omega (arith, lt)
 pub period_other : (c k : ℕ) → k ≢ c → period_word k ≢ period_word c
 period_other c k ne e = ne (omega (arith, e))
 
-pub period_kept : (d : PwmDriver) (below : Holds) (chip : Chip) (w : World) (s : PwmState) (c v : ℕ) → c < 8 → s.initialised ≡ true → v ≡ (pulse_at s c).period → PwmAgrees d below (behind (period_word c)) chip w s → PwmAgrees d below settled (chip_after chip (Store (period_word c) v) 0) w s
+pub period_kept : (d : PwmDriver) (below : Reservations) (chip : Chip) (w : World) (s : PwmState) (c v : ℕ) → c < 8 → s.initialised ≡ true → v ≡ (pulse_at s c).period → PwmRepresents d below (behind (period_word c)) chip w s → PwmRepresents d below settled (chip_after chip (Store (period_word c) v) 0) w s
 period_kept d below chip w s c v lt on is h = record {
   right = h.right;
   setup = none_held d below s.initialised (chip_after chip (Store (period_word c) v) 0) on h.right;
@@ -165,11 +151,11 @@ period_kept d below chip w s c v lt on is h = record {
   units = h.units;
   kinds = h.kinds;
   words = record {
-    state = λ g. stored_other chip (period_word c) v 0 STATE (period_not_state c) ∙ h.words.state (other_no STATE (period_word c) (period_not_state c));
-    kinds = λ g. stored_other chip (period_word c) v 0 KINDS (period_not_kinds c) ∙ h.words.kinds (other_no KINDS (period_word c) (period_not_kinds c));
+    state = λ g. stored_other chip (period_word c) v 0 STATE (period_not_state c) ∙ h.words.state (eq_other STATE (period_word c) (period_not_state c));
+    kinds = λ g. stored_other chip (period_word c) v 0 KINDS (period_not_kinds c) ∙ h.words.kinds (eq_other KINDS (period_word c) (period_not_kinds c));
     periods = λ e k l u g. each_but (λ i. i < 8 → is_some (channel_of d i) ≡ true → word_of (chip_after chip (Store (period_word c) v) 0) (period_word i) ≡ (pulse_at s i).period) c
         (λ i t. stored_same chip (period_word c) v 0 (period_below c lt) h.outside.all.words ∙ is) k
-        (λ ne i t. stored_other chip (period_word c) v 0 (period_word k) (period_other c k ne) ∙ h.words.periods on k i t (other_no (period_word k) (period_word c) (period_other c k ne))) l u;
+        (λ ne i t. stored_other chip (period_word c) v 0 (period_word k) (period_other c k ne) ∙ h.words.periods on k i t (eq_other (period_word k) (period_word c) (period_other c k ne))) l u;
   };
   lines = h.lines;
   clean = h.clean;
@@ -197,7 +183,7 @@ pub never : {A : Type 0} (on : Bool) → on ≡ false → on ≡ true → A
 never on e f = absurd (let g = sym e ∙ f in cc)
 
 -- waves and words that stay keep what is written
-pub setup_kept : (d : PwmDriver) (held : Holds) (chip chip1 : Chip) → ((c : ℕ) → c < 8 → (pulses.pulse_at chip1.pulses c).wave ≡ (pulses.pulse_at chip.pulses c).wave) → ((c : ℕ) → c < 8 → word_of chip1 (period_word c) ≡ word_of chip (period_word c)) → AllSetUp d held chip → AllSetUp d held chip1
+pub setup_kept : (d : PwmDriver) (held : Reservations) (chip chip1 : Chip) → ((c : ℕ) → c < 8 → (pulses.pulse_at chip1.pulses c).wave ≡ (pulses.pulse_at chip.pulses c).wave) → ((c : ℕ) → c < 8 → word_of chip1 (period_word c) ≡ word_of chip (period_word c)) → AllSetUp d held chip → AllSetUp d held chip1
 setup_kept d [] chip chip1 waves words h = tt
 setup_kept d (x ∷ xs) chip chip1 waves words h = (λ c lt. subst (λ v. IsSetUp (channel_of d c) x.what.upto c v (pulses.pulse_at chip1.pulses c).wave) (sym (words c lt)) (subst (λ v. IsSetUp (channel_of d c) x.what.upto c (word_of chip (period_word c)) v) (sym (waves c lt)) (h.0 c lt)), setup_kept d xs chip chip1 waves words h.1)
 
@@ -206,7 +192,7 @@ pub waved_at : (chip : Chip) (c k : ℕ) (p : unit.Pulse) → length chip.pulses
 waved_at chip c k p size lt e = each_but (λ i. (pulses.pulse_at (pulses.with_pulse chip.pulses c p) i).wave ≡ (pulses.pulse_at chip.pulses i).wave) c (ap (λ y. y.wave) (pulse_at-same chip.pulses c p (record { all = size; within = lt })) ∙ e) k (λ ne. ap (λ y. y.wave) (pulse_at-other chip.pulses c k p ne))
 
 -- the unit is another one, and nothing of the machine is
-pub off_set : (d : PwmDriver) (held held1 : Holds) (chip : Chip) (w : World) (s : PwmState) (c : ℕ) (p : unit.Pulse) (opened opened1 : ℕ → Bool) → c < 8 → s.initialised ≡ false → AllRight s.initialised held1 → AllSetUp d held1 (chip_with chip c p) → StandsIn (chip_with chip c p) w → (opened1 c ≡ false → UnitAgrees (polarity_of (channel_of d c)) w.now p (pulse_at s c)) → ((k : ℕ) → k ≢ c → opened1 k ≡ false → opened k ≡ false) → PwmAgrees d held (record settled { units = opened }) chip w s → PwmAgrees d held1 (record settled { units = opened1 }) (chip_with chip c p) w s
+pub off_set : (d : PwmDriver) (held held1 : Reservations) (chip : Chip) (w : World) (s : PwmState) (c : ℕ) (p : unit.Pulse) (opened opened1 : ℕ → Bool) → c < 8 → s.initialised ≡ false → AllRight s.initialised held1 → AllSetUp d held1 (chip_with chip c p) → StandsIn (chip_with chip c p) w → (opened1 c ≡ false → UnitAgrees (polarity_of (channel_of d c)) w.now p (pulse_at s c)) → ((k : ℕ) → k ≢ c → opened1 k ≡ false → opened k ≡ false) → PwmRepresents d held (record settled { units = opened }) chip w s → PwmRepresents d held1 (record settled { units = opened1 }) (chip_with chip c p) w s
 off_set d held held1 chip w s c p opened opened1 lt off right setup outside new others h = record {
   right = right;
   setup = setup;

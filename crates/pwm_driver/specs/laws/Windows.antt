@@ -1,62 +1,38 @@
 -- What frames have done in their windows: each commit and each idling stands in the window in which its call acts.
-use Rattle.std.proofs.Common.{◌≡◌, ℕ, zero, suc, ◌+◌, ◌/◌, ◌%◌, Bool, true, false, nat_lt, Option, Some, None, refl, sym, subst}
-use Rattle.std.specs.Prelude.{if◌then◌else◌}
-use Rattle.mcal_base.specs.declared.moves.Move.{Move}
-use Rattle.mcal_base.specs.declared.moves.Move.TheVariants.{Load as Loads}
-use Rattle.run_model.specs.Machine.{no_answer}
-use Rattle.service_outline.specs.Done.{goes, ends}
-use Rattle.service_outline.specs.Services.{is_closed}
-use Rattle.service_outline.specs.Sweep.{place_of}
-use Rattle.service_outline.specs.Seen.{is_windowed, Seen, Plain, Acting, Acted, Starts, Sees, SeesTo}
-use Rattle.service_outline.specs.declared.body.Or.TheVariants.{First, Second}
-use Rattle.service_outline.specs.declared.done.BodyTaken.{BodyTaken}
-use Rattle.service_outline.specs.declared.done.Done.{Done}
-use Rattle.service_outline.specs.declared.done.Owed.TheVariants.{Nothing}
-use Rattle.service_outline.specs.declared.sweep.Place.{Place}
-use Rattle.service_outline.specs.declared.sweep.Place.TheVariants.{Opens, At, Closes, Follows}
-use Rattle.service_outline.specs.declared.sweep.Sweep.{Sweep}
-use Rattle.service_outline.specs.laws.Seen.{plain_sees, sees_if}
-use Rattle.pwm_driver.specs.Table.{channel_of}
-use Rattle.pwm_driver.specs.declared.driver.Channel.{Channel}
-use Rattle.pwm_driver.specs.declared.driver.PwmDriver.{PwmDriver}
-use Rattle.pwm_driver.specs.declared.service.deinit.DeInitBody.{DeInitBody}
+-- From Init, DeInit, Output, Rest, Bodies and 2 more.
+-- Used by Lawful.
+use Rattle.std.proofs.Common.{◌≡◌, ◌+◌, ◌/◌, ◌%◌, if◌then◌else◌}
+use Rattle.pwm_driver.specs.Terms
+use Terms.{Acted, Acting, At, BodyTaken, Bool, Channel, channel_of, Closes, DeInitBody, Done, ends, false, First}
+use Terms.{Follows, goes, InitBody, is_closed, is_windowed, Loads, nat_lt, no_answer, None, Nothing, NotifyBody, Opens}
+use Terms.{Option, OutputBody, Place, place_of, Plain, plain_sees, PwmDriver, refl, RestBody, Second, Sees, sees_if}
+use Terms.{SeesTo, ServeBody, Setup, Some, Starts, STATE, subst, suc, Sweep, sym, true, WindowHistory, zero, ℕ}
+use Rattle.pwm_driver.specs.laws.{Bodies.{PwmBody}, DeInit.{rest_of, rest, deinit_work, deinit_takes}, Init.{part_by}}
+use Rattle.pwm_driver.specs.laws.{Init.{defaults, setup_move, commit_of, begin_bodies}, Notify.{notify_work}}
+use Rattle.pwm_driver.specs.laws.{Output.{output_work, output_takes}, Rest.{rest_work, rest_takes}, Serve.{serve_work}}
 use Rattle.pwm_driver.specs.declared.service.deinit.DeInitBody.TheVariants as deinits
-use Rattle.pwm_driver.specs.declared.service.init.InitBody.{InitBody}
 use Rattle.pwm_driver.specs.declared.service.init.InitBody.TheVariants as inits
-use Rattle.pwm_driver.specs.declared.service.init.Setup.{Setup}
-use Rattle.pwm_driver.specs.declared.service.notify.NotifyBody.{NotifyBody}
 use Rattle.pwm_driver.specs.declared.service.notify.NotifyBody.TheVariants as notifies
-use Rattle.pwm_driver.specs.declared.service.output.OutputBody.{OutputBody}
 use Rattle.pwm_driver.specs.declared.service.output.OutputBody.TheVariants as outputs
-use Rattle.pwm_driver.specs.declared.service.rest.RestBody.{RestBody}
 use Rattle.pwm_driver.specs.declared.service.rest.RestBody.TheVariants as rests
-use Rattle.pwm_driver.specs.declared.service.serve.ServeBody.{ServeBody}
 use Rattle.pwm_driver.specs.declared.service.serve.ServeBody.TheVariants as serves
-use Rattle.pwm_driver.specs.declared.words.TheConstants.{STATE}
-use Rattle.pwm_driver.specs.laws.Bodies.{PwmBody}
-use Rattle.pwm_driver.specs.laws.DeInit.{rest_of, rest, deinit_work, deinit_takes}
-use Rattle.pwm_driver.specs.laws.Init.{part_by, defaults, setup_move, commit_of, begin_bodies}
-use Rattle.pwm_driver.specs.laws.Notify.{notify_work}
-use Rattle.pwm_driver.specs.laws.Output.{output_work, output_takes}
-use Rattle.pwm_driver.specs.laws.Rest.{rest_work, rest_takes}
-use Rattle.pwm_driver.specs.laws.Serve.{serve_work}
 
 -- Pwm_Init commits before it acts, in the window after the defaults
-abbrev pub setup_seen : Place InitBody → Seen
+abbrev pub setup_seen : Place InitBody → WindowHistory
 setup_seen (Follows k) = Acting
 setup_seen place = Plain
 
 -- Pwm_DeInit acts first
-abbrev pub deinit_seen : DeInitBody → Seen
+abbrev pub deinit_seen : DeInitBody → WindowHistory
 deinit_seen (deinits.Store d) = Plain
 deinit_seen k = Acted
 
 -- one that sets a channel acts as it commits
-abbrev pub output_seen : OutputBody → Seen
+abbrev pub output_seen : OutputBody → WindowHistory
 output_seen (outputs.Keep r) = Acted
 output_seen k = Plain
 
-abbrev pub pwm_seen : PwmBody → Seen
+abbrev pub pwm_seen : PwmBody → WindowHistory
 pwm_seen (First (First k)) = setup_seen k.place
 pwm_seen (First (Second k)) = deinit_seen k
 pwm_seen (Second (First (First k))) = output_seen k
@@ -95,10 +71,10 @@ commit_sees None c false a b = tt
 commit_sees (Some k) c true a b = (λ e. refl, tt)
 commit_sees (Some k) c false a b = (λ e. refl, tt)
 
-pub setup_sees : (d : PwmDriver) (k : Sweep Setup InitBody) (x : ℕ) → SeesTo (λ (p : Sweep Setup InitBody). setup_seen p.place) (is_closed ((begin_bodies d).spot k)) ((begin_bodies d).work_of k) k ((begin_bodies d).takes k x)
+pub setup_sees : (d : PwmDriver) (k : Sweep Setup InitBody) (x : ℕ) → SeesTo (λ (p : Sweep Setup InitBody). setup_seen p.place) (is_closed ((begin_bodies d).assertion k)) ((begin_bodies d).work_of k) k ((begin_bodies d).takes k x)
 setup_sees d k x = by k.objects k.place
   where
-    by : (r : Setup) (p : Place InitBody) → let k1 : Sweep Setup InitBody = record { objects = r; place = p } in SeesTo (λ (q : Sweep Setup InitBody). setup_seen q.place) (is_closed ((begin_bodies d).spot k1)) ((begin_bodies d).work_of k1) k1 ((begin_bodies d).takes k1 x)
+    by : (r : Setup) (p : Place InitBody) → let k1 : Sweep Setup InitBody = record { objects = r; place = p } in SeesTo (λ (q : Sweep Setup InitBody). setup_seen q.place) (is_closed ((begin_bodies d).assertion k1)) ((begin_bodies d).work_of k1) k1 ((begin_bodies d).takes k1 x)
     by r Opens = (tt, subst (λ s. Starts s) (sym (next_plain 32 0)) tt)
     by r (At i) = subst (λ s. Sees Plain false (setup_move r i) None s None) (sym (next_plain 32 (i + 1))) (plain_sees false (setup_move r i) None None (setup_plain r i))
     by r Closes = tt

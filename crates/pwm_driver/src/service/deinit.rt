@@ -4,7 +4,7 @@ ghost use Rattle.pwm_driver.specs.laws.DeInit as spec;
 use crate::driver::PwmDriver;
 use crate::words::{KINDS, LINES, STATE, level};
 use mcal_base::{Move, Reg};
-use service_outline::{Body, BodyTaken, Owed, acts, ends, goes, nothing};
+use service_outline::{Body, BodyTaken, Epilogue, acts, ends, goes, nothing};
 
 /// `Pwm_DeInit`, from the load of the state word on.
 #[derive(Clone, Copy)]
@@ -47,7 +47,7 @@ impl Body for DeInitBody {
             DeInitBody::Rest(driver, number) if number < 7 => {
                 (DeInitBody::Rest(driver, number + 1), goes())
             }
-            DeInitBody::Rest(..) => (*self, ends(None, nothing(), Owed::Nothing)),
+            DeInitBody::Rest(..) => (*self, ends(None, nothing(), Epilogue::Nothing)),
         };
         *self = after;
         taken

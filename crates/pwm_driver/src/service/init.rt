@@ -4,7 +4,7 @@ ghost use Rattle.pwm_driver.specs.laws.Init as spec;
 use crate::driver::{Channel, PwmDriver};
 use crate::words::{LINES, STATE, absolute, level, period_word};
 use mcal_base::{Move, Reg};
-use service_outline::{Body, BodyTaken, Objects, Owed, acts_with, goes, nothing};
+use service_outline::{Body, BodyTaken, Epilogue, Objects, acts_with, goes, nothing};
 
 /// The defaults of all channels, four objects each, written with the mask open: the word of the period, and the registers
 /// of period, duty and polarity.
@@ -108,7 +108,7 @@ impl Body for InitBody {
             }
             InitBody::Commit(..) => (InitBody::Enable, goes()),
             InitBody::Enable => (InitBody::Store, goes()),
-            InitBody::Store => (InitBody::Store, acts_with(nothing(), Owed::Nothing)),
+            InitBody::Store => (InitBody::Store, acts_with(nothing(), Epilogue::Nothing)),
         };
         *self = after;
         taken

@@ -1,7 +1,7 @@
 use crate::call::PwmEdge;
 use crate::words::{KINDS, both, with, without};
 use mcal_base::{Move, Reg};
-use service_outline::{Body, BodyTaken, Owed, acts, ends, goes, nothing};
+use service_outline::{Body, BodyTaken, Epilogue, acts, ends, goes, nothing};
 
 /// `Pwm_EnableNotification` and `Pwm_DisableNotification`, from the load of the state word on.
 #[derive(Clone, Copy)]
@@ -50,7 +50,7 @@ impl Body for NotifyBody {
             NotifyBody::Clear(_, kinds) => (NotifyBody::Keep(kinds), acts()),
             NotifyBody::Find(channel) => (NotifyBody::Drop(without(value, channel)), goes()),
             NotifyBody::Drop(kinds) => (NotifyBody::Keep(kinds), acts()),
-            NotifyBody::Keep(_) => (*self, ends(None, nothing(), Owed::Nothing)),
+            NotifyBody::Keep(_) => (*self, ends(None, nothing(), Epilogue::Nothing)),
         };
         *self = after;
         taken

@@ -1,6 +1,6 @@
 use crate::words::{absolute, level, period_word};
 use mcal_base::{Move, Reg};
-use service_outline::{Body, BodyTaken, Owed, acts, acts_with, ends, goes, nothing};
+use service_outline::{Body, BodyTaken, Epilogue, acts, acts_with, ends, goes, nothing};
 
 /// What an output is to do.
 #[derive(Clone, Copy)]
@@ -75,8 +75,8 @@ impl Body for OutputBody {
             OutputBody::Duty(want) => (OutputBody::Polarity(want), goes()),
             OutputBody::Polarity(want) => (OutputBody::Commit(want), goes()),
             OutputBody::Commit(want) if want.keeps => (OutputBody::Keep(want), acts()),
-            OutputBody::Commit(_) => (*self, acts_with(nothing(), Owed::Nothing)),
-            OutputBody::Keep(_) => (*self, ends(None, nothing(), Owed::Nothing)),
+            OutputBody::Commit(_) => (*self, acts_with(nothing(), Epilogue::Nothing)),
+            OutputBody::Keep(_) => (*self, ends(None, nothing(), Epilogue::Nothing)),
         };
         *self = after;
         taken

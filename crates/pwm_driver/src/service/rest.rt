@@ -1,6 +1,6 @@
 use crate::words::level;
 use mcal_base::{AnswerName, Move, Reg};
-use service_outline::{Body, BodyTaken, Owed, acts_with, named, nothing};
+use service_outline::{Body, BodyTaken, Epilogue, acts_with, named, nothing};
 
 /// `Pwm_SetOutputToIdle` and `Pwm_GetOutputState`, from the load of the state word on.
 #[derive(Clone, Copy)]
@@ -29,9 +29,12 @@ impl Body for RestBody {
 
     fn took(&mut self, value: u32) -> BodyTaken {
         match *self {
-            RestBody::Rest(..) => acts_with(nothing(), Owed::Nothing),
-            RestBody::Ask(_) if value == 1 => acts_with(named(AnswerName::PwmHigh), Owed::Nothing),
-            RestBody::Ask(_) => acts_with(named(AnswerName::PwmLow), Owed::Nothing),
+            RestBody::Rest(..) => acts_with(nothing(), Epilogue::Nothing),
+            RestBody::Ask(_) if value == 1 => acts_with(
+                named(AnswerName::PwmHigh),
+                Epilogue::Nothing,
+            ),
+            RestBody::Ask(_) => acts_with(named(AnswerName::PwmLow), Epilogue::Nothing),
         }
     }
 }

@@ -1,6 +1,6 @@
 use crate::words::{KINDS, both, stands};
 use mcal_base::{Event, Move, Notice, NoticeKind, Reg};
-use service_outline::{Body, BodyTaken, Owed, ends, goes, nothing};
+use service_outline::{Body, BodyTaken, Epilogue, ends, goes, nothing};
 
 /// The handler of a channel's line, in its window.
 #[derive(Clone, Copy)]
@@ -34,10 +34,10 @@ impl Body for ServeBody {
             ServeBody::Look(channel, kinds) if stands(kinds, value, channel) => {
                 (ServeBody::Clear(channel), goes())
             }
-            ServeBody::Look(..) => (*self, ends(None, nothing(), Owed::Nothing)),
+            ServeBody::Look(..) => (*self, ends(None, nothing(), Epilogue::Nothing)),
             ServeBody::Clear(channel) => {
                 let id = u32::from(channel);
-                let notice = Owed::One(Notice {
+                let notice = Epilogue::One(Notice {
                     kind: NoticeKind::PwmNotification,
                     id,
                 });

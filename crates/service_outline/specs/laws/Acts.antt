@@ -1,6 +1,9 @@
 -- What is legal of where a frame acted, and of what it read and wrote, from what its body owes.
+-- From StepKinds.
+-- Used by Steps, wdg_driver: Body, held_example: ToyLaws, gpt_driver: Mode, gpt_driver: Switch and 6 more.
 use Rattle.std.proofs.Common.{◌≡◌, ℕ, ◌<◌, Bool, true, false, ◌&&◌, ◌||◌, List, [], ◌∷◌, Option, Some, None, refl, sym, ◌∙◌, subst, arith}
 use Rattle.std.specs.List.{Contains}
+use Rattle.std.proofs.lemmas.Bool.{or_from}
 use Rattle.mcal_base.specs.declared.error_name.ErrorName.{ErrorName}
 use Rattle.mcal_base.specs.declared.moves.Event.{Event}
 use Rattle.mcal_base.specs.declared.moves.Event.TheVariants.{Act, Serve, Abort, Start}
@@ -44,10 +47,6 @@ quiet_reads Unmask rs e = refl
 quiet_reads (Note n) rs e = refl
 quiet_reads (Report x) rs e = refl
 
-neither : (a b : Bool) → a ≡ false → b ≡ false → a || b ≡ false
-neither true b e f = absurd (cc)
-neither false b e f = f
-
 none_read : (rs : List Reg) (r : Reg) → rs ≡ [] → Contains rs r → ⊥
 none_read [] r e h = let lt : h.0 < 0 = h.1 in absurd (omega (arith, lt))
 none_read (x ∷ xs) r e h = absurd (cc)
@@ -86,14 +85,14 @@ pub fresh_behaves : {State Call : Type 0} (g : Setting State Call) (clean : Bool
 fresh_behaves g clean o h = record { wrote = λ e. h.wrote; reads = λ e. h.reads; acted = subst (λ x. IsSound (halves_of g o.origin) x) (sym h.acted) tt }
 
 pub fresh_on : {Call : Type 0} (o : Open Call) → IsFresh o → IsFresh (record o { wrote = o.wrote || false })
-fresh_on o h = record { wrote = neither o.wrote false h.wrote refl; reads = h.reads; writes = h.writes; acted = h.acted; since = h.since }
+fresh_on o h = record { wrote = or_from o.wrote false h.wrote refl; reads = h.reads; writes = h.writes; acted = h.acted; since = h.since }
 
 pub fresh_leaves : {State Call : Type 0} (g : Setting State Call) (origin : Origin Call) (o : Open Call) → IsFresh o → LeavesRight g origin o.reads (o.wrote || false) o.acted_at
 fresh_leaves g origin o h = sound_leaves g origin o.reads (o.wrote || false) o.acted_at (subst (λ x. IsSound (halves_of g origin) x) (sym h.acted) tt)
 
 -- a quiet move leaves it so
 pub wrote_quiet : (wrote : Bool) (made : Move) → is_quiet made ≡ true → wrote ≡ false → wrote || is_write made ≡ false
-wrote_quiet wrote made q e = neither wrote (is_write made) e (quiet_write made q)
+wrote_quiet wrote made q e = or_from wrote (is_write made) e (quiet_write made q)
 
 pub reads_quiet : (reads : List Reg) (made : Move) → is_quiet made ≡ true → reads ≡ [] → reads_after reads made ≡ []
 reads_quiet reads made q e = quiet_reads made reads q ∙ e
@@ -136,7 +135,7 @@ module _ {State Call : Type 0} (g : Setting State Call) (clean : Bool) (o : Open
   ends_error : (x : Option Halves) (t : Told) (n : Done) (e : Option ErrorName) → t.error ≡ e → StandsClean x clean made (Some n) e → HalvesRight x (reads_after o.reads made) (Some (record { made = made; inside = true; error = t.error })) × ErrorsRight (o.wrote || is_write made) (Some (record { made = made; inside = true; error = t.error }))
   ends_error None t n None i a = (tt, no_error (o.wrote || is_write made) t.error i)
   ends_error (Some y) t n None i a = (subst (λ e. ActsLow y (reads_after o.reads made) (record { made = made; inside = true; error = t.error }) e) (sym i) (λ r s. ends_low y (clean && is_quiet made) refl a r), no_error (o.wrote || is_write made) t.error i)
-  ends_error x t n (Some e) i a = (leaves x, subst (λ e. WritesNothing (o.wrote || is_write made) e) (sym i) (neither o.wrote (is_write made) (h.wrote a.0) a.1))
+  ends_error x t n (Some e) i a = (leaves x, subst (λ e. WritesNothing (o.wrote || is_write made) e) (sym i) (or_from o.wrote (is_write made) (h.wrote a.0) a.1))
     where
       leaves : (y : Option Halves) → HalvesRight y (reads_after o.reads made) (Some (record { made = made; inside = true; error = t.error }))
       leaves None = tt

@@ -1,4 +1,5 @@
 -- The list of the numbers that a reply carries gives them back.
+-- Used by done/rt.
 use Rattle.std.proofs.Common.{◌≡◌, refl}
 use Rattle.service_outline.specs.Carried.{listed, first_two}
 use Rattle.service_outline.specs.declared.done.Carried.{Carried}

@@ -1,6 +1,9 @@
 -- The writes that calls owe: where they owe none all are made, and a write that was made stays made.
-use Rattle.std.proofs.Common.{◌≡◌, ℕ, Bool, true, false, not, ◌&&◌, ◌||◌, ◌∙◌, ap, List, [], ◌∷◌, Option, Some, None, refl, sym, subst}
+-- Used by held_example: ToyLaws, ShortServices.
+use Rattle.std.proofs.Common.{◌≡◌, ℕ, Bool, true, false, ◌&&◌, ◌||◌, ◌∙◌, ap, List, [], ◌∷◌, Option, Some, None, refl, sym, subst}
 use Rattle.std.specs.List.{list_any}
+use Rattle.std.proofs.lemmas.Bool.{or_left, or_right}
+use Rattle.plain_facts.specs.Truths.{and_false}
 use Rattle.mcal_base.specs.declared.error_name.ErrorName.{ErrorName}
 use Rattle.mcal_base.specs.declared.moves.Move.{Move}
 use Rattle.mcal_base.specs.declared.moves.Move.TheVariants.{Read, Write, Load, Store, Mask, Unmask, Note, Report}
@@ -11,21 +14,9 @@ use Rattle.run_model.specs.Machine.{Machine}
 use Rattle.run_model.specs.Frame.{Origin, Called, Entered, writes_after}
 use Rattle.run_model.specs.Legal.{has_line, LeavesNone, AllMade, MadeUnless}
 use Rattle.service_outline.specs.declared.done.Done.{Done}
-use Rattle.service_outline.specs.declared.done.Owed.{Owed}
-use Rattle.service_outline.specs.declared.done.Owed.TheVariants.{Nothing, Error, One, Two}
+use Rattle.service_outline.specs.declared.done.Epilogue.{Epilogue}
+use Rattle.service_outline.specs.declared.done.Epilogue.TheVariants.{Nothing, Error, One, Two}
 use Rattle.service_outline.specs.Services.{Services, Leaves, WritesOn, MakesWrites, MakesStarts}
-
-or_left : (a b : Bool) → a ≡ true → a || b ≡ true
-or_left true b e = refl
-or_left false b e = absurd (cc)
-
-never : (a : Bool) → a && false ≡ false
-never true = refl
-never false = refl
-
-or_right : (a b : Bool) → b ≡ true → a || b ≡ true
-or_right true b e = refl
-or_right false b e = e
 
 -- one of this kind was made, and is made by this write
 pub made_on : (kind : Move → Bool) (writes : List Move) (next : Move) → list_any kind writes ≡ true → list_any kind (writes_after writes next) ≡ true
@@ -57,7 +48,7 @@ none_on d c writes k (Some n) h e = none_owed (d.basis.setting.must c) writes e
 pub no_duties : {State Call Asked Body : Type 0} (d : Services State Call Asked Body) {ends_with : Body → Option Answer} → ((k : Body) (c : Call) (writes : List Move) → d.written k c writes) → ((c : Call) → d.basis.setting.must c ≡ []) → MakesWrites d ends_with
 no_duties d all none = record {
   begins = λ c x k can looks. all k c [];
-  refuses = λ below chip w s c n told can agrees looks is. none_unless told.error (d.basis.setting.must c) [] (none c);
+  refuses = λ below chip w s c n told can represents looks is. none_unless told.error (d.basis.setting.must c) [] (none c);
   steps = λ below chip w s k c past writes at has. let p = d.bodies.takes k (value_of chip (d.bodies.work_of k)) in none_on d c (writes_after writes (d.bodies.work_of k)) p.0 p.1.done (all p.0 c (writes_after writes (d.bodies.work_of k))) (none c);
   stops = λ below chip w s k c past writes a at has ends. none_owed (d.basis.setting.must c) writes (none c);
 }
@@ -66,10 +57,10 @@ no_duties d all none = record {
 
 none_left : {State Call : Type 0} (mac : Machine State Call) (w : World) (s : State) → ((l : ℕ) → mac.line_waits w s l ≡ false) → (origin : Origin Call) (polled served : List ℕ) → LeavesNone mac w s origin polled served
 none_left mac w s none (Called c) [] served = refl
-none_left mac w s none (Called c) (l ∷ ls) served = rw (ap (λ b. has_line served l && b) (none l) ∙ never (has_line served l)) (none_left mac w s none (Called c) ls served)
-none_left mac w s none (Entered l) polled served = ap (λ b. has_line served l && b) (none l) ∙ never (has_line served l)
+none_left mac w s none (Called c) (l ∷ ls) served = rw (ap (λ b. has_line served l && b) (none l) ∙ and_false (has_line served l)) (none_left mac w s none (Called c) ls served)
+none_left mac w s none (Entered l) polled served = ap (λ b. has_line served l && b) (none l) ∙ and_false (has_line served l)
 
-leaves_all : {State Call : Type 0} (mac : Machine State Call) → ((w : World) (s : State) (l : ℕ) → mac.line_waits w s l ≡ false) → (w : World) (s : State) (origin : Origin Call) (polled served : List ℕ) (owed : Owed) → Leaves mac w s origin polled served owed
+leaves_all : {State Call : Type 0} (mac : Machine State Call) → ((w : World) (s : State) (l : ℕ) → mac.line_waits w s l ≡ false) → (w : World) (s : State) (origin : Origin Call) (polled served : List ℕ) (owed : Epilogue) → Leaves mac w s origin polled served owed
 leaves_all mac none w s origin polled served Nothing = none_left mac w s (none w s) origin polled served
 leaves_all mac none w s origin polled served (Error e) = λ w1 s1. none_left mac w1 s1 (none w1 s1) origin polled served
 leaves_all mac none w s origin polled served (One k) = λ w1 s1. none_left mac w1 s1 (none w1 s1) origin polled served

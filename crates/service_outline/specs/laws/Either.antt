@@ -1,4 +1,5 @@
 -- Short bodies of either of two kinds owe no more.
+-- Used by gpt_driver: Lawful.
 use Rattle.std.specs.Prelude.{◌≡◌, ℕ, Bool, true, Option, Some, None}
 use Rattle.chip_model.specs.Chip.{Chip, value_of, chip_after, happened}
 use Rattle.mcal_base.specs.declared.directive.Order.{Order}
@@ -13,9 +14,9 @@ use Rattle.service_outline.specs.declared.body.Or.TheVariants.{First, Second}
 use Rattle.service_outline.specs.Both.{either}
 use Rattle.service_outline.specs.Acts.{Cleans}
 use Rattle.service_outline.specs.Fuel.{Shortens}
-use Rattle.service_outline.specs.Outline.{Ground, Bodies, At, AreRight, GoesOn, StepsRight, RightAt, Comes}
+use Rattle.service_outline.specs.Outline.{Refinement, Bodies, At, AreRight, GoesOn, StepsRight, RightAt, Comes}
 
-module _ {State Call A B : Type 0} (g : Ground State Call) (v : Bodies g A) (u : Bodies g B) (lift : A → B)
+module _ {State Call A B : Type 0} (g : Refinement State Call) (v : Bodies g A) (u : Bodies g B) (lift : A → B)
     (at : (chip : Chip) (w : World) (s : State) (k : A) (o : Origin Call) (t : Option Told) → At g v chip w s k o t → At g u chip w s (lift k) o t) where
   goes_lift : (chip : Chip) (w : World) (s : State) (o : Origin Call) (t : Option Told) (m : ℕ → Bool) (k : A) (n : Option Done) → GoesOn g v chip w s o t m k n → GoesOn g u chip w s o t m (lift k) n
   goes_lift chip w s o t m k None h = at chip w s k o t h
@@ -28,7 +29,7 @@ module _ {State Call A B : Type 0} (g : Ground State Call) (v : Bodies g A) (u :
   steps_lift chip w s o made p None m k (Some e) n h = record { own = h.own; state = h.state; told = h.told; is = h.is; acts = h.acts; next = goes_lift chip w h.state o (Some h.told) m k n h.next }
   steps_lift chip w s o made p (Some t) m k (Some e) n h = h
 
-module _ {State Call A B : Type 0} (g : Ground State Call) (v : Bodies g A) (u : Bodies g B) (p : AreRight g v) (q : AreRight g u) where
+module _ {State Call A B : Type 0} (g : Refinement State Call) (v : Bodies g A) (u : Bodies g B) (p : AreRight g v) (q : AreRight g u) where
   own : (chip : Chip) (w : World) (s : State) (k : Or A B) (o : Origin Call) (t : Option Told) → At g (either v u) chip w s k o t → g.setting.may o ((either v u).work_of k) ≡ true
   own chip w s (First k) o t h = p.own chip w s k o t h
   own chip w s (Second k) o t h = q.own chip w s k o t h

@@ -1,20 +1,21 @@
 -- Each step leaves a frame fewer steps, and a window fewer moves.
+-- Used by Steps.
 use Rattle.std.proofs.Common.{ℕ, ◌+◌, ◌<◌, ◌≤◌, Option, Some, None, arith}
-use Rattle.service_outline.specs.declared.done.Owed.{Owed}
-use Rattle.service_outline.specs.declared.done.Owed.TheVariants.{Nothing, Error, One, Two}
+use Rattle.service_outline.specs.declared.done.Epilogue.{Epilogue}
+use Rattle.service_outline.specs.declared.done.Epilogue.TheVariants.{Nothing, Error, One, Two}
 use Rattle.service_outline.specs.declared.done.Done.{Done}
 use Rattle.service_outline.specs.declared.body.Looked.{Looked}
 use Rattle.service_outline.specs.declared.body.Looked.TheVariants.{Refused, Goes}
 use Rattle.service_outline.specs.Short.{left_look, left_body}
 use Rattle.service_outline.specs.Fuel.{ShortensTo, LooksShort, tell_fuel, short_fuel, short_room}
 
-owed_small : (w : Owed) (m : ℕ) → 1 + tell_fuel w < 6 + m
+owed_small : (w : Epilogue) (m : ℕ) → 1 + tell_fuel w < 6 + m
 owed_small Nothing m = omega arith
 owed_small (Error e) m = omega arith
 owed_small (One k) m = omega arith
 owed_small (Two k j) m = omega arith
 
-done_small : (w : Owed) (m : ℕ) → 1 ≤ m → 1 + tell_fuel w < 5 + m
+done_small : (w : Epilogue) (m : ℕ) → 1 ≤ m → 1 + tell_fuel w < 5 + m
 done_small Nothing m h = omega arith
 done_small (Error e) m h = omega arith
 done_small (One k) m h = omega arith

@@ -1,4 +1,5 @@
 -- What is owed for an error is what the machine tells of it.
+-- Used by wdg_driver: Lawful, gpt_driver: Lawful, gpt_driver: Base.
 use Rattle.std.proofs.Common.{◌≡◌, [], Option, Some, None, refl}
 use Rattle.mcal_base.specs.declared.answer.Answer.{Answer}
 use Rattle.mcal_base.specs.declared.error_name.ErrorName.{ErrorName}

@@ -1,7 +1,9 @@
 -- What is legal of the windows of a frame, from what its body owes of them.
+-- Used by Steps, wdg_driver: Lawful, held_example: ToyLaws, gpt_driver: Count, gpt_driver: Lawful.
 use Rattle.std.proofs.Common.{◌≡◌, ℕ, suc, Bool, true, false, ◌&&◌, ◌||◌, List, [], ◌∷◌, Option, Some, None, refl, sym, ◌∙◌, ap, subst, arith}
 use Rattle.std.specs.Prelude.{is_some, if◌then◌else◌}
 use Rattle.std.specs.List.{Contains, list_any}
+use Rattle.std.proofs.lemmas.Bool.{or_from, or_left, or_right}
 use Rattle.chip_model.specs.Chip.{Chip, value_of}
 use Rattle.mcal_base.specs.declared.answer.Answer.{Answer}
 use Rattle.mcal_base.specs.declared.moves.Event.{Event}
@@ -15,23 +17,11 @@ use Rattle.run_model.specs.Legal.{low_half, commits, idles, commits_at_act, idle
 use Rattle.service_outline.specs.declared.done.Done.{Done}
 use Rattle.service_outline.specs.declared.done.BodyTaken.{BodyTaken}
 use Rattle.service_outline.specs.Outline.{After, Is_after, Serving, Is_serving}
-use Rattle.service_outline.specs.Past.{Past, nothing_yet, past_of}
-use Rattle.service_outline.specs.Services.{Held, Services, AreEnding, Stand, is_closed}
-use Rattle.service_outline.specs.Seen.{sets_output, is_windowed, Seen, Plain, HasRead, Acting, Acted, IsSeen, MayOpen, LetsOpen, Starts, LeadsTo, Ends, Leads, ReadsAfter, Sees, SeesTo}
+use Rattle.service_outline.specs.FrameHistory.{FrameHistory, fresh_history, past_of}
+use Rattle.service_outline.specs.Services.{ReservedBy, Services, AreEnding, AssertedAt, is_closed}
+use Rattle.service_outline.specs.WindowHistory.{sets_output, is_windowed, WindowHistory, Plain, HasRead, Acting, Acted, IsSeen, MayOpen, LetsOpen, Starts, LeadsTo, Ends, Leads, ReadsAfter, Sees, SeesTo}
 
 -- ---- truth
-
-pub first_true : (a b : Bool) → a ≡ true → a || b ≡ true
-first_true true b e = refl
-first_true false b e = absurd (cc)
-
-pub second_true : (a b : Bool) → b ≡ true → a || b ≡ true
-second_true true b e = refl
-second_true false b e = e
-
-both_false : (a b : Bool) → a ≡ false → b ≡ false → a || b ≡ false
-both_false true b e f = absurd (cc)
-both_false false b e f = f
 
 one_false : (a b : Bool) → a ≡ false → a || b ≡ true → b ≡ true
 one_false true b e h = absurd (cc)
@@ -44,8 +34,8 @@ not_both false e f = absurd (cc)
 -- ---- lists
 
 either_more : (a b c d : Bool) → (a ≡ true → c ≡ true) → (b ≡ true → d ≡ true) → a || b ≡ true → c || d ≡ true
-either_more true b c d f g h = first_true c d (f refl)
-either_more false b c d f g h = second_true c d (g h)
+either_more true b c d f g h = or_left c d (f refl)
+either_more false b c d f g h = or_right c d (g h)
 
 any_more : (p q : Move → Bool) → ((m : Move) → p m ≡ true → q m ≡ true) → (ms : List Move) → list_any p ms ≡ true → list_any q ms ≡ true
 any_more p q into [] h = absurd (cc)
@@ -64,7 +54,7 @@ sets_by : (p q a b : Bool) → p && a || q && b ≡ true → a || b ≡ true
 sets_by true true a b h = h
 sets_by true false true b h = refl
 sets_by true false false b h = absurd (cc)
-sets_by false true a b h = second_true a b h
+sets_by false true a b h = or_right a b h
 sets_by false false a b h = absurd (cc)
 
 beside_sets : {State Call : Type 0} (mac : Machine State Call) (origin : Origin Call) (made : Move) → is_beside_act mac origin made ≡ true → sets_output made ≡ true
@@ -73,61 +63,61 @@ beside_sets mac (Entered l) made h = absurd (cc)
 
 -- ---- what is seen goes on
 
-pub seen_start : (is : Seen) → Starts is → IsSeen is [] false
+pub seen_start : (is : WindowHistory) → Starts is → IsSeen is [] false
 seen_start Plain h = refl
 seen_start (HasRead r) h = absurd h
 seen_start Acting h = tt
 seen_start Acted h = absurd h
 
 -- a body begins where no output was set
-pub seen_begins : (is : Seen) (since : List Move) (acts : Bool) → Starts is → list_any sets_output since ≡ false → IsSeen is since acts
+pub seen_begins : (is : WindowHistory) (since : List Move) (acts : Bool) → Starts is → list_any sets_output since ≡ false → IsSeen is since acts
 seen_begins Plain since acts s h = h
 seen_begins (HasRead r) since acts s h = absurd s
 seen_begins Acting since acts s h = tt
 seen_begins Acted since acts s h = absurd s
 
-pub seen_on : (was is : Seen) (since : List Move) (acts : Bool) (made : Move) (e : Option Event) → LeadsTo was made e is → IsSeen was since acts → IsSeen is (made ∷ since) (acts || is_act e)
+pub seen_on : (was is : WindowHistory) (since : List Move) (acts : Bool) (made : Move) (e : Option Event) → LeadsTo was made e is → IsSeen was since acts → IsSeen is (made ∷ since) (acts || is_act e)
 seen_on was Acting since acts made e l h = tt
-seen_on Plain Acted since acts made e l h = second_true acts (is_act e) l
-seen_on (HasRead r) Acted since acts made e l h = second_true acts (is_act e) l
-seen_on Acting Acted since acts made e l h = second_true acts (is_act e) l
-seen_on Acted Acted since acts made e l h = first_true acts (is_act e) h
-seen_on Plain Plain since acts made e l h = both_false (sets_output made) (list_any sets_output since) l h
-seen_on (HasRead r) Plain since acts made e l h = both_false (sets_output made) (list_any sets_output since) l h.0
+seen_on Plain Acted since acts made e l h = or_right acts (is_act e) l
+seen_on (HasRead r) Acted since acts made e l h = or_right acts (is_act e) l
+seen_on Acting Acted since acts made e l h = or_right acts (is_act e) l
+seen_on Acted Acted since acts made e l h = or_left acts (is_act e) h
+seen_on Plain Plain since acts made e l h = or_from (sets_output made) (list_any sets_output since) l h
+seen_on (HasRead r) Plain since acts made e l h = or_from (sets_output made) (list_any sets_output since) l h.0
 seen_on Acting Plain since acts made e l h = absurd l
 seen_on Acted Plain since acts made e l h = absurd l
-seen_on Plain (HasRead r) since acts made e l h = (both_false (sets_output made) (list_any sets_output since) (ap sets_output l) h, subst (λ m. Contains (m ∷ since) (Read r)) (sym l) (has_first (Read r) since))
-seen_on (HasRead q) (HasRead r) since acts made e l h = (both_false (sets_output made) (list_any sets_output since) l.0 h.0, subst (λ x. Contains (made ∷ since) (Read x)) l.1 (has_other (Read q) made since h.1))
+seen_on Plain (HasRead r) since acts made e l h = (or_from (sets_output made) (list_any sets_output since) (ap sets_output l) h, subst (λ m. Contains (m ∷ since) (Read r)) (sym l) (has_first (Read r) since))
+seen_on (HasRead q) (HasRead r) since acts made e l h = (or_from (sets_output made) (list_any sets_output since) l.0 h.0, subst (λ x. Contains (made ∷ since) (Read x)) l.1 (has_other (Read q) made since h.1))
 seen_on Acting (HasRead r) since acts made e l h = absurd l
 seen_on Acted (HasRead r) since acts made e l h = absurd l
 
 -- and the mask may be opened then
-pub seen_settled : (was : Seen) (since : List Move) (acts : Bool) → LetsOpen was → IsSeen was since acts → MayOpen since acts
+pub seen_settled : (was : WindowHistory) (since : List Move) (acts : Bool) → LetsOpen was → IsSeen was since acts → MayOpen since acts
 seen_settled Plain since acts s h = λ e. not_both (list_any sets_output since) h e
 seen_settled (HasRead r) since acts s h = λ e. not_both (list_any sets_output since) h.0 e
 seen_settled Acting since acts s h = absurd s
 seen_settled Acted since acts s h = λ e. h
 
 sets_now : (a b c d : Bool) → b ≡ false → (a ≡ true → d ≡ true) → a || b ≡ true → c || d ≡ true
-sets_now true b c d e f h = second_true c d (f refl)
+sets_now true b c d e f h = or_right c d (f refl)
 sets_now false b c d e f h = not_both b e h
 
-pub seen_ends : (was : Seen) (since : List Move) (acts : Bool) (made : Move) (e : Option Event) → Ends was made e → IsSeen was since acts → MayOpen (made ∷ since) (acts || is_act e)
+pub seen_ends : (was : WindowHistory) (since : List Move) (acts : Bool) (made : Move) (e : Option Event) → Ends was made e → IsSeen was since acts → MayOpen (made ∷ since) (acts || is_act e)
 seen_ends Plain since acts made e l h = λ i. sets_now (sets_output made) (list_any sets_output since) acts (is_act e) h l i
 seen_ends (HasRead r) since acts made e l h = λ i. sets_now (sets_output made) (list_any sets_output since) acts (is_act e) h.0 l i
-seen_ends Acting since acts made e l h = λ i. second_true acts (is_act e) l
-seen_ends Acted since acts made e l h = λ i. first_true acts (is_act e) h
+seen_ends Acting since acts made e l h = λ i. or_right acts (is_act e) l
+seen_ends Acted since acts made e l h = λ i. or_left acts (is_act e) h
 
 -- ---- what a step of a body owes is what is legal
 
-reads_right : (was : Seen) (closed : Bool) (since : List Move) (acts : Bool) (low : Option Reg) → ReadsAfter was closed low → IsSeen was since acts → ComesAfter closed since low
+reads_right : (was : WindowHistory) (closed : Bool) (since : List Move) (acts : Bool) (low : Option Reg) → ReadsAfter was closed low → IsSeen was since acts → ComesAfter closed since low
 reads_right was closed since acts None l h = tt
 reads_right was closed since acts (Some r) l h = let i = subst (λ x. IsSeen x since acts) l.1 h in (l.0, i.1)
 
 pub opens_right : {State Call : Type 0} (mac : Machine State Call) (origin : Origin Call) (since : List Move) (acts more : Bool) → MayOpen since acts → list_any (is_beside_act mac origin) since ≡ true → acts || more ≡ true
-opens_right mac origin since acts more ok h = first_true acts more (ok (any_more (is_beside_act mac origin) sets_output (beside_sets mac origin) since h))
+opens_right mac origin since acts more ok h = or_left acts more (ok (any_more (is_beside_act mac origin) sets_output (beside_sets mac origin) since h))
 
-pub window_right : {State Call : Type 0} (mac : Machine State Call) (origin : Origin Call) (was is : Seen) (closed : Bool) (since : List Move) (acts : Bool) (made : Move) (e : Option Event) (left : Option Done) → Sees was closed made e is left → IsSeen was since acts → WindowRight (is_beside_act mac origin) closed since (acts || is_act e) made
+pub window_right : {State Call : Type 0} (mac : Machine State Call) (origin : Origin Call) (was is : WindowHistory) (closed : Bool) (since : List Move) (acts : Bool) (made : Move) (e : Option Event) (left : Option Done) → Sees was closed made e is left → IsSeen was since acts → WindowRight (is_beside_act mac origin) closed since (acts || is_act e) made
 window_right mac origin was is closed since acts (Read r) e left l h = reads_right was closed since acts (low_half r) l.0 h
 window_right mac origin was is closed since acts (Write r v) e left l h = λ i. l.0 (beside_sets mac origin (Write r v) i)
 window_right mac origin was is closed since acts (Load k) e left l h = tt
@@ -138,19 +128,19 @@ window_right mac origin was is closed since acts (Note n) e left l h = tt
 window_right mac origin was is closed since acts (Report r) e left l h = tt
 
 -- how a frame stands after such a step, where it goes on and where it is done
-abbrev pub SeesOn : (is : Seen) → (since : List Move) → (acts : Bool) → Option Done → Type 0
+abbrev pub SeesOn : (is : WindowHistory) → (since : List Move) → (acts : Bool) → Option Done → Type 0
 SeesOn is since acts None = IsSeen is since acts
 SeesOn is since acts (Some n) = MayOpen since acts
 
-leads_on : (was is : Seen) (since : List Move) (acts : Bool) (made : Move) (e : Option Event) (left : Option Done) → Leads was made e is left → IsSeen was since acts → SeesOn is (made ∷ since) (acts || is_act e) left
+leads_on : (was is : WindowHistory) (since : List Move) (acts : Bool) (made : Move) (e : Option Event) (left : Option Done) → Leads was made e is left → IsSeen was since acts → SeesOn is (made ∷ since) (acts || is_act e) left
 leads_on was is since acts made e None l h = seen_on was is since acts made e l h
 leads_on was is since acts made e (Some n) l h = seen_ends was since acts made e l h
 
-starts_on : (is : Seen) (acts : Bool) (left : Option Done) → acts ≡ false → Starts is → SeesOn is [] acts left
+starts_on : (is : WindowHistory) (acts : Bool) (left : Option Done) → acts ≡ false → Starts is → SeesOn is [] acts left
 starts_on is acts None e h = subst (λ b. IsSeen is [] b) (sym e) (seen_start is h)
 starts_on is acts (Some n) e h = λ i. absurd (cc)
 
-pub sees_on : (was is : Seen) (closed : Bool) (since : List Move) (acts : Bool) (made : Move) (e : Option Event) (left : Option Done) → (made ≡ Mask → is_act e ≡ false) → Sees was closed made e is left → IsSeen was since acts → SeesOn is (since_after since made) (acts_after acts made e) left
+pub sees_on : (was is : WindowHistory) (closed : Bool) (since : List Move) (acts : Bool) (made : Move) (e : Option Event) (left : Option Done) → (made ≡ Mask → is_act e ≡ false) → Sees was closed made e is left → IsSeen was since acts → SeesOn is (since_after since made) (acts_after acts made e) left
 sees_on was is closed since acts (Read r) e left n l h = leads_on was is since acts (Read r) e left l.1 h
 sees_on was is closed since acts (Write r v) e left n l h = leads_on was is since acts (Write r v) e left l.1 h
 sees_on was is closed since acts (Load k) e left n l h = leads_on was is since acts (Load k) e left l h
@@ -186,16 +176,16 @@ plain_sees closed (Note n) e left h = quiet_leads (Note n) e left refl
 plain_sees closed (Report r) e left h = quiet_leads (Report r) e left refl
 
 -- a step whose outcome is chosen
-pub sees_if : {Body : Type 0} (seen : Body → Seen) (closed : Bool) (made : Move) (k : Body) (q : Bool) (a b : Body × BodyTaken) → SeesTo seen closed made k a → SeesTo seen closed made k b → SeesTo seen closed made k (if q then a else b)
+pub sees_if : {Body : Type 0} (seen : Body → WindowHistory) (closed : Bool) (made : Move) (k : Body) (q : Bool) (a b : Body × BodyTaken) → SeesTo seen closed made k a → SeesTo seen closed made k b → SeesTo seen closed made k (if q then a else b)
 sees_if seen closed made k true a b h i = h
 sees_if seen closed made k false a b h i = i
 
 -- bodies whose frames may do nothing of that kind, at places that are plain
-pub free_windows : {State Call Asked Body : Type 0} (d : Services State Call Asked Body) {ends_with : Body → Option Answer} → AreEnding d.basis d.bodies ends_with → ((k : Body) → d.seen k ≡ Plain) → ((origin : Origin Call) (made : Move) → d.basis.setting.may origin made ≡ true → is_windowed made ≡ false) → (below : List (Held Call d.basis.Hold)) (chip : Chip) (w : World) (s : State) (k : Body) (origin : Origin Call) (past : Past) → Stand d.basis d.bodies below chip w s k origin past → SeesTo d.seen (is_closed (d.bodies.spot k)) (d.bodies.work_of k) k (d.bodies.takes k (value_of chip (d.bodies.work_of k)))
+pub free_windows : {State Call Asked Body : Type 0} (d : Services State Call Asked Body) {ends_with : Body → Option Answer} → AreEnding d.basis d.bodies ends_with → ((k : Body) → d.seen k ≡ Plain) → ((origin : Origin Call) (made : Move) → d.basis.setting.may origin made ≡ true → is_windowed made ≡ false) → (below : List (ReservedBy Call d.basis.Reservation)) (chip : Chip) (w : World) (s : State) (k : Body) (origin : Origin Call) (past : FrameHistory) → AssertedAt d.basis d.bodies below chip w s k origin past → SeesTo d.seen (is_closed (d.bodies.assertion k)) (d.bodies.work_of k) k (d.bodies.takes k (value_of chip (d.bodies.work_of k)))
 free_windows d law plain free below chip w s k origin past h =
     let made = d.bodies.work_of k in
     let p = d.bodies.takes k (value_of chip made) in
-    subst (λ x. Sees x (is_closed (d.bodies.spot k)) made p.1.event (d.seen p.0) p.1.done) (sym (plain k)) (subst (λ x. Sees Plain (is_closed (d.bodies.spot k)) made p.1.event x p.1.done) (sym (plain p.0)) (plain_sees (is_closed (d.bodies.spot k)) made p.1.event p.1.done (free_by made (law.own below chip w s k origin past h))))
+    subst (λ x. Sees x (is_closed (d.bodies.assertion k)) made p.1.event (d.seen p.0) p.1.done) (sym (plain k)) (subst (λ x. Sees Plain (is_closed (d.bodies.assertion k)) made p.1.event x p.1.done) (sym (plain p.0)) (plain_sees (is_closed (d.bodies.assertion k)) made p.1.event p.1.done (free_by made (law.own below chip w s k origin past h))))
   where
     free_by : (made : Move) → is_shared made || d.basis.setting.may origin made ≡ true → is_windowed made ≡ false
     free_by (Read r) i = free origin (Read r) i
@@ -213,7 +203,7 @@ free_windows d law plain free below chip w s k origin past h =
 pub never_after : {Call X : Type 0} {c : Call} {t : Told} (o : Origin Call) (told : Option Told) → told ≡ None → After c t o told → X
 never_after o told e Is_after = absurd (cc)
 
-pub begun_after : {State Call X : Type 0} (mac : Machine State Call) {c : Call} {t : Told} (o : Origin Call) (told : Option Told) (times : ℕ → Option ℕ) → nothing_yet ≡ past_of mac told o times → After c t o told → X
+pub begun_after : {State Call X : Type 0} (mac : Machine State Call) {c : Call} {t : Told} (o : Origin Call) (told : Option Told) (times : ℕ → Option ℕ) → fresh_history ≡ past_of mac told o times → After c t o told → X
 begun_after mac {t = t} o told times is Is_after = let e : None ≡ Some t.answer = ap (λ x. x.acted) is in absurd (cc)
 
 -- and a call's serves no line

@@ -1,4 +1,6 @@
 -- Short bodies among services owe no more, and a driver of short services alone is lawful.
+-- From StepKinds, Duties, Lawful.
+-- Used by Owing, Sweeping, wdg_driver: frames/rt, icu_driver: frames/rt, gpt_driver: frames/rt and 1 more.
 use Rattle.std.proofs.Common.{◌≡◌, ℕ, ◌<◌, ◌||◌, Bool, true, false, List, [], ◌∷◌, Option, Some, None, refl, sym, ◌∙◌, ap, subst}
 use Rattle.chip_model.specs.Chip.{Chip, value_of, chip_after}
 use Rattle.mcal_base.specs.declared.moves.Event.{Event}
@@ -15,26 +17,26 @@ use Rattle.service_outline.specs.declared.body.Looked.{Looked}
 use Rattle.service_outline.specs.declared.body.Looked.TheVariants.{Refused, Goes}
 use Rattle.service_outline.specs.declared.done.Done.{Done}
 use Rattle.service_outline.specs.Fuel.{ShortensTo}
-use Rattle.service_outline.specs.ShortServices.{Places, above, short, AsksNone, IsCalm, unheld, services_of, driver_of}
+use Rattle.service_outline.specs.ShortServices.{Places, above, short, AsksNone, IsSilentMove, unheld, services_of, driver_of}
 use Rattle.service_outline.specs.laws.Lawful.{services_lawful}
-use Rattle.service_outline.specs.Outline.{Ground, Bodies, At, AreRight, GoesOn, StepsRight, StepsTo, TellsAs, notices_in, error_in, IsGround, Outlined, IsOutlined, LooksRight}
-use Rattle.service_outline.specs.Past.{Past, nothing_yet, past_of}
-use Rattle.service_outline.specs.Seen.{Starts}
-use Rattle.service_outline.specs.Services.{Held, Basis, Shown, AreShown, MayStop, over, IsBasis, Steady, LongBodies, Stand, AreLong, Continues, Works, Makes, Right, KeepsMask, TurnsMask, TurnsTo, AreServices, Decides, CanBegin}
+use Rattle.service_outline.specs.Outline.{Refinement, Bodies, At, AreRight, GoesOn, StepsRight, StepsTo, TellsAs, notices_in, error_in, IsGround, Outlined, IsOutlined, LooksRight}
+use Rattle.service_outline.specs.FrameHistory.{FrameHistory, fresh_history, past_of}
+use Rattle.service_outline.specs.WindowHistory.{Starts}
+use Rattle.service_outline.specs.Services.{ReservedBy, SharedRefinement, Shown, AreShown, MayStop, over, IsBasis, Steady, LongBodies, AssertedAt, AreLong, Continues, Works, Makes, Right, KeepsMask, TurnsMask, TurnsTo, AreServices, Decides, CanBegin}
 use Rattle.service_outline.specs.Short.{short_move, short_left, short_gave}
 use Rattle.service_outline.specs.laws.Duties.{no_duties, no_units}
 use Rattle.service_outline.specs.laws.StepKinds.{or_true, same_line, asks_no, silent_sends, silent_received}
 
-shown_all : {State Call : Type 0} (g : Basis State Call) (l : ℕ) (ns : List Notice) → ((n : Notice) → Shown g (Entered l) n) → AreShown g (Entered l) ns
+shown_all : {State Call : Type 0} (g : SharedRefinement State Call) (l : ℕ) (ns : List Notice) → ((n : Notice) → Shown g (Entered l) n) → AreShown g (Entered l) ns
 shown_all g l [] h = tt
 shown_all g l (n ∷ ns) h = (h n, shown_all g l ns h)
 
 -- what a frame of this origin has to show
-abbrev ShowsAll : {State Call : Type 0} → Basis State Call → Origin Call → Type 0
+abbrev ShowsAll : {State Call : Type 0} → SharedRefinement State Call → Origin Call → Type 0
 ShowsAll g (Called c) = Unit {0}
 ShowsAll g (Entered l) = (n : Notice) → Shown g (Entered l) n
 
-shows_calm : {State Call : Type 0} (g : Basis State Call) (origin : Origin Call) → AsksNone g origin → ShowsAll g origin
+shows_calm : {State Call : Type 0} (g : SharedRefinement State Call) (origin : Origin Call) → AsksNone g origin → ShowsAll g origin
 shows_calm g (Called c) h = tt
 shows_calm g (Entered l) h = h
 
@@ -66,7 +68,7 @@ stays_closed : (room later : ℕ) (e : Option Event) (left : Option Done) → Sh
 stays_closed room later e None h = (refl, h)
 stays_closed room later e (Some n) h = h
 
-module _ {State Call Body : Type 0} (g : Basis State Call) (b : LongBodies g Body) (below : List (Held Call g.Hold)) (before chip : Chip) (w : World) (s : State) (origin : Origin Call) (clean : Bool) (x y : ℕ) (past : Past) (missed : ℕ → Bool) (k : Body) (e : Option Event) (left : Option Done) where
+module _ {State Call Body : Type 0} (g : SharedRefinement State Call) (b : LongBodies g Body) (below : List (ReservedBy Call g.Reservation)) (before chip : Chip) (w : World) (s : State) (origin : Origin Call) (clean : Bool) (x y : ℕ) (past : FrameHistory) (missed : ℕ → Bool) (k : Body) (e : Option Event) (left : Option Done) where
   pub plain_makes : (made : Move) → is_shared made ≡ false → Works g b below before chip w s origin made clean x y past missed k e left → Makes g b below before chip w s origin made clean x y past missed k e left
   plain_makes (Read r) p h = h
   plain_makes (Write r v) p h = h
@@ -77,7 +79,7 @@ module _ {State Call Body : Type 0} (g : Basis State Call) (b : LongBodies g Bod
   plain_makes (Note n) p h = absurd (cc)
   plain_makes (Report n) p h = absurd (cc)
 
-module _ {State Call Body : Type 0} (g : Basis State Call) (b : Bodies (over g []) Body) (place : Places g Body) (below : List (Held Call g.Hold)) (before chip : Chip) (w : World) where
+module _ {State Call Body : Type 0} (g : SharedRefinement State Call) (b : Bodies (over g []) Body) (place : Places g Body) (below : List (ReservedBy Call g.Reservation)) (before chip : Chip) (w : World) where
   stops_same : (origin : Origin Call) (t : Told) (times : ℕ → Option ℕ) (missed : ℕ → Bool) (n : Done) → ShowsAll g origin → TellsAs g.setting.machine origin t n → MayStop g origin (past_of g.setting.machine (Some t) origin times) missed n
   stops_same (Called c) t times missed n shows h = record { may = (ap (λ x. Some x) h.0, refl); served = false; owed = ap (owing false) h.1; shown = λ e. absurd (cc); report = h.2 }
   stops_same (Entered l) t times missed n shows h = record { may = (ap (λ x. x || missed l) (same_line l), h.0); served = true; owed = ap (owing true) h.1; shown = λ e. shown_all g l (notices_in n.owed) shows; report = sym h.2 }
@@ -88,7 +90,7 @@ module _ {State Call Body : Type 0} (g : Basis State Call) (b : Bodies (over g [
   goes_same s (Called c) None times missed k (Some n) shows h = absurd h
   goes_same s (Entered l) None times missed k (Some n) shows h = (h.0, record { may = (h.1, ap (λ x. x.answer) h.2); served = false; owed = ap (λ x. owing false (notices_in x.owed)) (sym h.2); shown = λ e. absurd (cc); report = ap (λ x. error_in x.owed) (sym h.2) })
 
-  works_same : (s : State) (origin : Origin Call) (made : Move) (clean : Bool) (x y : ℕ) (told : Option Told) (times : ℕ → Option ℕ) (missed : ℕ → Bool) (k : Body) (e : Option Event) (left : Option Done) → IsCalm g origin made → StepsRight (over g below) (above g b place below) chip w s origin made clean told missed k e left → Works g (short g b place) below before chip w s origin made clean x y (past_of g.setting.machine told origin times) missed k e left
+  works_same : (s : State) (origin : Origin Call) (made : Move) (clean : Bool) (x y : ℕ) (told : Option Told) (times : ℕ → Option ℕ) (missed : ℕ → Bool) (k : Body) (e : Option Event) (left : Option Done) → IsSilentMove g origin made → StepsRight (over g below) (above g b place below) chip w s origin made clean told missed k e left → Works g (short g b place) below before chip w s origin made clean x y (past_of g.setting.machine told origin times) missed k e left
   works_same s origin made clean x y told times missed k None left calm h = goes_same s origin told (committed_after w times made) missed k left (shows_calm g origin calm.call) h
   works_same s (Called c) made clean x y None times missed k (Some Act) left calm h = record {
     may = refl;
@@ -122,17 +124,17 @@ module _ {State Call Body : Type 0} (g : Basis State Call) (b : Bodies (over g [
   works_same s (Entered l) made clean x y None times missed k (Some (Start u)) left calm h = absurd h.own
   works_same s origin made clean x y (Some t) times missed k (Some e) left calm h = absurd h
 
-module _ {State Call Body : Type 0} (g : Basis State Call) (law : IsBasis g) (b : Bodies (over g []) Body) (place : Places g Body) (p : (below : List (Held Call g.Hold)) → AreRight (over g below) (above g b place below))
-    (calm : (below : List (Held Call g.Hold)) (chip : Chip) (w : World) (s : State) (k : Body) (o : Origin Call) (t : Option Told) → At (over g below) (above g b place below) chip w s k o t → IsCalm g o (b.work_of k)) where
-  plain : (below : List (Held Call g.Hold)) (chip : Chip) (w : World) (s : State) (k : Body) (o : Origin Call) (t : Past) → Stand g (short g b place) below chip w s k o t → is_shared (b.work_of k) ≡ false
+module _ {State Call Body : Type 0} (g : SharedRefinement State Call) (law : IsBasis g) (b : Bodies (over g []) Body) (place : Places g Body) (p : (below : List (ReservedBy Call g.Reservation)) → AreRight (over g below) (above g b place below))
+    (calm : (below : List (ReservedBy Call g.Reservation)) (chip : Chip) (w : World) (s : State) (k : Body) (o : Origin Call) (t : Option Told) → At (over g below) (above g b place below) chip w s k o t → IsSilentMove g o (b.work_of k)) where
+  plain : (below : List (ReservedBy Call g.Reservation)) (chip : Chip) (w : World) (s : State) (k : Body) (o : Origin Call) (t : FrameHistory) → AssertedAt g (short g b place) below chip w s k o t → is_shared (b.work_of k) ≡ false
   plain below chip w s k o t h = law.owns_plain o (b.work_of k) (law.may_owns o (b.work_of k) ((p below).own chip w s k o h.1.told (h.0, h.1.at)))
 
-  turns : (below : List (Held Call g.Hold)) (chip : Chip) (w : World) (s : State) (k : Body) (o : Origin Call) (t : Past) → Stand g (short g b place) below chip w s k o t → TurnsTo (short g b place) (g.setting.window_of o) k (b.takes k (value_of chip (b.work_of k)))
+  turns : (below : List (ReservedBy Call g.Reservation)) (chip : Chip) (w : World) (s : State) (k : Body) (o : Origin Call) (t : FrameHistory) → AssertedAt g (short g b place) below chip w s k o t → TurnsTo (short g b place) (g.setting.window_of o) k (b.takes k (value_of chip (b.work_of k)))
   turns below chip w s k o t h =
       let x = b.takes k (value_of chip (b.work_of k)) in
       plain_turns (g.setting.window_of o) true true (b.fuel k) (b.fuel x.0) (b.work_of k) x.1.event x.1.done (plain below chip w s k o t h) (stays_closed (b.fuel k) (b.fuel x.0) x.1.event x.1.done ((p below).shortens k (value_of chip (b.work_of k))))
 
-  steps : (below : List (Held Call g.Hold)) (chip : Chip) (w : World) (s : State) (k : Body) (o : Origin Call) (received : ℕ) (t : Past) (m : ℕ → Bool) → ComesRight chip w (b.work_of k) received → g.count s < most_steps → Stand g (short g b place) below chip w s k o t → Right g (short g b place) below chip w s k o received t m
+  steps : (below : List (ReservedBy Call g.Reservation)) (chip : Chip) (w : World) (s : State) (k : Body) (o : Origin Call) (received : ℕ) (t : FrameHistory) (m : ℕ → Bool) → ComesRight chip w (b.work_of k) received → g.count s < most_steps → AssertedAt g (short g b place) below chip w s k o t → Right g (short g b place) below chip w s k o received t m
   steps below chip w s k o received t m come few h =
       let made = b.work_of k in
       let v = value_of chip made in
@@ -163,7 +165,7 @@ not_used : (due used : Bool) → (due ≡ true → used ≡ true) → used ≡ f
 not_used true used h e = let k = h refl in absurd (cc)
 not_used false used h e = refl
 
-pub unheld_right : {State Call : Type 0} (g : Ground State Call) → IsGround g → IsBasis (unheld g)
+pub unheld_right : {State Call : Type 0} (g : Refinement State Call) → IsGround g → IsBasis (unheld g)
 unheld_right g law = record {
   starts = law.starts;
   moves = λ held chip w s order come. law.moves w s order;
@@ -198,7 +200,7 @@ unheld_right g law = record {
 }
 
 module _ {State Call Asked Body : Type 0} (d : Outlined State Call Asked Body) (law : IsOutlined d) where
-  decides : (below : List (Held Call ⊥)) (chip : Chip) (w : World) (s : State) (c : Call) (l : Looked Body) → LooksRight d chip w s c l → Decides (services_of d) below chip w s c l
+  decides : (below : List (ReservedBy Call ⊥)) (chip : Chip) (w : World) (s : State) (c : Call) (l : Looked Body) → LooksRight d chip w s c l → Decides (services_of d) below chip w s c l
   decides below chip w s c (Refused n) h = record { told = h.told; is = h.is; tells = h.tells; reset = asks_no d.basis.setting.machine c (Some Act) (Some (outcome s h.told)) (law.basis.asks_none c); polls = law.basis.polls_none w s c }
   decides below chip w s c (Goes k) h = record { at = (h.0.0, record { told = None; is = refl; at = h.0.1 }); closed = refl; fuel = h.1; room = h.1 }
 
@@ -209,13 +211,13 @@ module _ {State Call Asked Body : Type 0} (d : Outlined State Call Asked Body) (
   asks_at (Called c) = (law.basis.asks_none c, λ w s. law.basis.polls_none w s c)
   asks_at (Entered l) = λ n held chip w s h. law.basis.shows chip w s (Entered l) n h
 
-  calm : (chip : Chip) (w : World) (s : State) (k : Body) (o : Origin Call) (t : Option Told) → At d.basis d.bodies chip w s k o t → IsCalm (unheld d.basis) o (d.bodies.work_of k)
+  calm : (chip : Chip) (w : World) (s : State) (k : Body) (o : Origin Call) (t : Option Told) → At d.basis d.bodies chip w s k o t → IsSilentMove (unheld d.basis) o (d.bodies.work_of k)
   calm chip w s k o t h =
       let may = law.bodies.own chip w s k o t h in
       record { still = law.basis.resets_none o (d.bodies.work_of k) may; silent = law.basis.words_none o (d.bodies.work_of k) may; call = asks_at o }
 
   -- a call that has done nothing was told nothing
-  unseen_by : (chip : Chip) (w : World) (s : State) (k : Body) (c : Call) (told : Option Told) → d.basis.agrees (d.bodies.gap_of k) chip w s → nothing_yet ≡ past_of d.basis.setting.machine told (Called c) nothing_yet.committed → d.bodies.place (d.basis.foot chip) w s k (Called c) told → Starts (d.seen k)
+  unseen_by : (chip : Chip) (w : World) (s : State) (k : Body) (c : Call) (told : Option Told) → d.basis.represents (d.bodies.gap_of k) chip w s → fresh_history ≡ past_of d.basis.setting.machine told (Called c) fresh_history.committed → d.bodies.place (d.basis.foot chip) w s k (Called c) told → Starts (d.seen k)
   unseen_by chip w s k c None a is at = law.unseen chip w s k c (a, at)
   unseen_by chip w s k c (Some t) a is at = let e : None ≡ Some t.answer = ap (λ x. x.acted) is in absurd (cc)
 

@@ -1,5 +1,6 @@
 -- Moves that commute with the hardware exactly: loads and stores of driver words, while no array is filled, and writes that
 -- enable or disable lines.
+-- Used by held_example: ToyLaws.
 use Rattle.std.proofs.Common.{◌≡◌, ℕ, ◌<◌, Bool, true, false, Option, Some, refl, sym, ap, subst}
 use Rattle.std.specs.Prelude.{if◌then◌else◌, slice_index}
 use Rattle.chip_model.specs.Chip.{Chip, value_of, chip_after, expiry_of, happened, reset_chip, levelled, is_other, outside_at}
@@ -13,8 +14,8 @@ use Rattle.mcal_base.specs.declared.register.Reg.{Reg}
 use Rattle.mcal_base.specs.declared.register.Reg.TheVariants.{EnableSet, EnableClear}
 use Rattle.run_model.specs.World.{World}
 use Rattle.run_model.specs.Frame.{committed_after, is_shared, resets_chip, begins_word}
-use Rattle.service_outline.specs.Owing.{Owing, is_fill, is_simple, same_chip, AreOwed}
-use Rattle.service_outline.specs.Services.{Basis}
+use Rattle.service_outline.specs.DeferredWrites.{DeferredWrites, is_fill, is_simple, same_chip, AreOwed}
+use Rattle.service_outline.specs.Services.{SharedRefinement}
 
 -- ---- what they are
 
@@ -101,7 +102,7 @@ simple_commutes chip _ made e none = refl
 
 -- ---- a driver that owes no others
 
-pub simple_owed : {State Call Owed : Type 0} (g : Basis State Call) (p : Owing Owed) → ((made : Move) → p.own made ≡ true → is_simple made ≡ true) → ((x : Owed) (chip : Chip) → p.fits x chip) → ((x y : Owed) (value : ℕ) → p.left x value ≡ Some y → p.more y < p.more x) → AreOwed g p same_chip
+pub simple_owed : {State Call Owed : Type 0} (g : SharedRefinement State Call) (p : DeferredWrites Owed) → ((made : Move) → p.own made ≡ true → is_simple made ≡ true) → ((x : Owed) (chip : Chip) → p.fits x chip) → ((x y : Owed) (value : ℕ) → p.left x value ≡ Some y → p.more y < p.more x) → AreOwed g p same_chip
 simple_owed g p simple fits shorter = record {
   plain = λ made e. simple_plain made (simple made e);
   calm = λ made e. simple_calm made (simple made e);
@@ -113,5 +114,5 @@ simple_owed g p simple fits shorter = record {
   commutes = λ x chip order e i none. (ap (p.left x) (simple_value chip order (p.move x) (simple (p.move x) e) none), simple_commutes chip order (p.move x) (simple (p.move x) e) none);
   stays = λ x chip order e i none. fits x (happened chip order);
   goes = λ x a b e i same. (fits x b, ap (λ c. p.left x (value_of c (p.move x))) (sym same), ap (λ c. chip_after c (p.move x) 0) same);
-  lasts = λ held a b w s same h. subst (λ c. g.agrees held g.settled c w s) same h;
+  lasts = λ held a b w s same h. subst (λ c. g.represents held g.settled c w s) same h;
 }

@@ -1,8 +1,11 @@
 -- The kinds of step that a frame makes, for any driver. What is left is the relation after the step.
+-- Used by Steps, ShortServices, Owing, Sweeping, pwm_driver: Parts and 1 more.
 use Rattle.std.proofs.Common.{◌≡◌, ℕ, ◌+◌, ◌<◌, ◌≤◌, Bool, true, false, ◌&&◌, ◌||◌, not, List, [], ◌∷◌, Option, Some, None, refl, sym, ◌∙◌, ap, subst, arith}
 use Rattle.std.specs.Prelude.{IsSome, is_some, ◌==◌}
 use Rattle.std.specs.List.{list_any, list_all}
 use Rattle.std.proofs.lemmas.Bool.Decides.{nat_tests}
+use Rattle.std.proofs.lemmas.Bool.{and_from}
+use Rattle.plain_facts.specs.Truths.{and_first, and_second}
 use Rattle.chip_model.specs.Chip.{Chip}
 use Rattle.mcal_base.specs.declared.answer.Answer.{Answer}
 use Rattle.mcal_base.specs.declared.moves.DevError.{DevError}
@@ -19,11 +22,10 @@ use Rattle.run_model.specs.Frame.{Origin, Called, Entered, Owing, Open, brought_
 use Rattle.run_model.specs.Moment.{Setting}
 use Rattle.run_model.specs.Legal.{has_line, MayEnd, ReceivedRight, MoveRight, ShowsRight, StandsAt, SendsRight, IsOwnEvent, is_beside_act, WindowRight, HalvesRight, halves_of, ErrorsRight, HasMade, LeavesNone}
 use Rattle.step_runner.specs.Driver.{Driver, KeepsStep, RoomRight, stepped}
-use Rattle.step_runner.specs.Lifts.{and-left, and-right}
 use Rattle.service_outline.specs.Short.{goes, does, ends}
 use Rattle.service_outline.specs.Outline.{form}
 use Rattle.service_outline.specs.Acts.{LeavesRight}
-use Rattle.service_outline.specs.Past.{Past, having, past_wrote, past_after, MayDo}
+use Rattle.service_outline.specs.FrameHistory.{FrameHistory, having, past_wrote, past_after, MayDo}
 
 -- what the frame has done after a step at which the machine gave this
 abbrev pub open_with : {State Call : Type 0} → Machine State Call → World → State → Open Call → Move → Option Event → Option (Outcome State) → Open Call
@@ -165,17 +167,14 @@ more_missed true x b e = refl
 more_missed false true b e = refl
 more_missed false false b e = absurd (cc)
 
-pub and_of : (a b : Bool) → a ≡ true → b ≡ true → a && b ≡ true
-and_of a b e f = rw (e, f) refl
-
 -- lines that were met have been met later on
 all_more : (served : List ℕ) (missed ready : ℕ → Bool) (ls : List ℕ) → list_all (λ l. has_line served l || missed l) ls ≡ true → list_all (λ l. has_line served l || (missed l || not (ready l))) ls ≡ true
 all_more served missed ready [] h = refl
 all_more served missed ready (l ∷ ls) h =
     let before = list_all (λ l. has_line served l || missed l) ls in
-    and_of (has_line served l || (missed l || not (ready l))) (list_all (λ l. has_line served l || (missed l || not (ready l))) ls)
-    (more_missed (has_line served l) (missed l) (not (ready l)) (and-left (has_line served l || missed l) before h))
-    (all_more served missed ready ls (and-right (has_line served l || missed l) before h))
+    and_from (has_line served l || (missed l || not (ready l))) (list_all (λ l. has_line served l || (missed l || not (ready l))) ls)
+    (more_missed (has_line served l) (missed l) (not (ready l)) (and_first (has_line served l || missed l) before h))
+    (all_more served missed ready ls (and_second (has_line served l || missed l) before h))
 
 -- a call of a service that asks for no reset asks for none
 pub asks_no : {State Call : Type 0} (mac : Machine State Call) (c : Call) (e : Option Event) (out : Option (Outcome State)) → is_reset_service (mac.service_of c) ≡ false → asks_reset mac (Called c) e out ≡ false
@@ -305,7 +304,7 @@ module _ {State Call Frame : Type 0} (d : Driver State Call Frame) (chip : Chip)
   note_step r (Called c) acted served report n by ns value fuel shown leaves k = record { event = tt; sends = tt; halves = leaves.0; errors = leaves.1; together = tt; shows = shown; stays = λ e. refl; move = (refl, refl); ends = tt; writes = tt; starts = tt; own = refl; reset = refl; fuel = fuel; room = λ e. absurd (cc); kept = k }
   note_step r (Entered l) acted served report n by ns value fuel shown leaves k = record { event = tt; sends = tt; halves = leaves.0; errors = leaves.1; together = tt; shows = shown; stays = λ e. refl; move = (refl, refl); ends = tt; writes = tt; starts = tt; own = refl; reset = refl; fuel = fuel; room = λ e. absurd (cc); kept = k }
 
-  own_event : (r : Open Call) (p : Past) (e : Event) (origin : Origin Call) → MayDo d.setting.machine w s p e origin → IsOwnEvent d.setting.machine w s (having r origin p true) e origin
+  own_event : (r : Open Call) (p : FrameHistory) (e : Event) (origin : Origin Call) → MayDo d.setting.machine w s p e origin → IsOwnEvent d.setting.machine w s (having r origin p true) e origin
   own_event r p Act (Called c) h = h
   own_event r p Act (Entered l) h = h
   own_event r p (Serve k) (Called c) h = (h.0, h.1, refl)
@@ -314,7 +313,7 @@ module _ {State Call Frame : Type 0} (d : Driver State Call Frame) (chip : Chip)
   own_event r p (Start u) origin h = h
 
   -- what the frame has done after an event
-  had : (r : Open Call) (p : Past) (made : Move) (e : Event) (origin : Origin Call) (s1 : State) (t : Told) (b : Option Begun) → MayDo d.setting.machine w s p e origin → open_plain d.setting.machine w s (having r origin p true) made (Some e) (Some (outcome_with s1 t b)) ≡ having (rest_acted d.setting.machine w s (having r origin p true) made origin e t) origin (past_after d.setting.machine w s origin e t (past_wrote w made p)) true
+  had : (r : Open Call) (p : FrameHistory) (made : Move) (e : Event) (origin : Origin Call) (s1 : State) (t : Told) (b : Option Begun) → MayDo d.setting.machine w s p e origin → open_plain d.setting.machine w s (having r origin p true) made (Some e) (Some (outcome_with s1 t b)) ≡ having (rest_acted d.setting.machine w s (having r origin p true) made origin e t) origin (past_after d.setting.machine w s origin e t (past_wrote w made p)) true
   had r p made Act (Called c) s1 t b may = refl
   had r p made Act (Entered l) s1 t b may = absurd may
   had r p made (Serve k) (Called c) s1 t b may = refl
@@ -325,7 +324,7 @@ module _ {State Call Frame : Type 0} (d : Driver State Call Frame) (chip : Chip)
   had r p made (Start u) (Entered l) s1 t b may = refl
 
   -- an event, at a plain move in a window
-  pub event_step : (r : Open Call) (origin : Origin Call) (p : Past) (made : Move) (value : ℕ) (e : Event) (s1 : State) (t : Told) (b : Option Begun) → is_shared made ≡ false → resets_chip made ≡ asks_reset d.setting.machine origin (Some e) (Some (outcome_with s1 t b)) → d.setting.may origin made ≡ true → d.fuel later < d.fuel f → d.room later < d.room f → MayDo d.setting.machine w s p e origin → StandsAt e made value → outcome_of d.setting.machine w s (happening_of origin (brought_by w p.committed made received) e) ≡ Some (outcome_with s1 t b) → SendsRight chip b made → LeavesRight d.setting origin (reads_after r.reads made) (r.wrote || is_write made) (acted_then origin made e t r.acted_at) → WindowRight (is_beside_act d.setting.machine origin) true r.since (r.acts_since || is_act (Some e)) made → Kept s1 (having (rest_acted d.setting.machine w s (having r origin p true) made origin e t) origin (past_after d.setting.machine w s origin e t (past_wrote w made p)) true) → Keeps (having r origin p true) made value (does (Some e))
+  pub event_step : (r : Open Call) (origin : Origin Call) (p : FrameHistory) (made : Move) (value : ℕ) (e : Event) (s1 : State) (t : Told) (b : Option Begun) → is_shared made ≡ false → resets_chip made ≡ asks_reset d.setting.machine origin (Some e) (Some (outcome_with s1 t b)) → d.setting.may origin made ≡ true → d.fuel later < d.fuel f → d.room later < d.room f → MayDo d.setting.machine w s p e origin → StandsAt e made value → outcome_of d.setting.machine w s (happening_of origin (brought_by w p.committed made received) e) ≡ Some (outcome_with s1 t b) → SendsRight chip b made → LeavesRight d.setting origin (reads_after r.reads made) (r.wrote || is_write made) (acted_then origin made e t r.acted_at) → WindowRight (is_beside_act d.setting.machine origin) true r.since (r.acts_since || is_act (Some e)) made → Kept s1 (having (rest_acted d.setting.machine w s (having r origin p true) made origin e t) origin (past_after d.setting.machine w s origin e t (past_wrote w made p)) true) → Keeps (having r origin p true) made value (does (Some e))
   event_step r origin p made value e s1 t b plain reset own fuel room may stands is sends leaves together k =
       let mac = d.setting.machine in
       let o = having r origin p true in

@@ -1,7 +1,11 @@
 -- What a sweep keeps, and what a move at one of many objects leaves of the others.
+-- From Words.
+-- Used by gpt_driver: Parts, gpt_driver: Switch, gpt_driver: Base, Sweeping.
 use Rattle.std.proofs.Common.{◌≡◌, ℕ, ◌+◌, ◌<◌, ◌≤◌, ◌≢◌, ◌==◌, nat_lt, Bool, true, false, length, refl, sym, ◌∙◌, ap, subst, arith}
 use Rattle.std.specs.Prelude.{if◌then◌else◌}
 use Rattle.std.proofs.lemmas.Bool.Decides.{nat_tests}
+use Rattle.plain_facts.specs.Truths.{if_false, if_true}
+use Rattle.plain_facts.specs.Numbers.{eq_is, eq_isnt}
 use Rattle.chip_model.specs.Chip.{Chip, chip_after, word_of}
 use Rattle.mcal_base.specs.declared.TheConstants.{WORDS}
 use Rattle.mcal_base.specs.declared.moves.Move.TheVariants.{Store}
@@ -10,19 +14,13 @@ use Rattle.service_outline.specs.laws.Words.{stored_same, stored_other}
 
 -- ---- one of many
 
-pub equal_by : (k c : ℕ) → (k == c) ≡ true → k ≡ c
-equal_by k c e = grind (arith, nat_tests)
-
-differ_by : (k c : ℕ) → (k == c) ≡ false → k ≢ c
-differ_by k c e = grind (arith, nat_tests)
-
 -- a fact about one object, and one about each other one
 pub each_but : (P : ℕ → Type 0) (c : ℕ) → P c → (k : ℕ) → (k ≢ c → P k) → P k
 each_but P c here k others = by (k == c) refl
   where
     by : (q : Bool) → (k == c) ≡ q → P k
-    by true e = subst (λ i. P i) (sym (equal_by k c e)) here
-    by false e = others (differ_by k c e)
+    by true e = subst (λ i. P i) (sym (eq_is k c e)) here
+    by false e = others (eq_isnt k c e)
 
 -- ---- the next object
 
@@ -34,14 +32,6 @@ next_by Q count at after i le more last = by (nat_lt i count) refl
     by false e = last (grind (arith, nat_tests))
 
 -- ---- what was swept
-
-if_true : {A : Type 0} (b : Bool) (x y : A) → b ≡ true → (if b then x else y) ≡ x
-if_true true x y e = refl
-if_true false x y e = absurd (cc)
-
-if_false : {A : Type 0} (b : Bool) (x y : A) → b ≡ false → (if b then x else y) ≡ y
-if_false true x y e = absurd (cc)
-if_false false x y e = refl
 
 pub swept_new : {A : Type 0} (i : ℕ) (new old : ℕ → A) (k : ℕ) → k < i → swept i new old k ≡ new k
 swept_new i new old k lt = if_true (nat_lt k i) (new k) (old k) (grind (arith, nat_tests))

@@ -1,12 +1,12 @@
 ghost use Rattle.std.specs.Prelude.{◌≡◌};
 ghost use Rattle.spi_sequences.specs.Words.{run_in};
-ghost use Rattle.spi_sequences.specs.laws.Cancel as spec;
+ghost use Rattle.spi_sequences.specs.laws.services.CancelSteps as spec;
 
 use crate::words::{
     CANCELLED, MARKS, PENDING, Running, cancelled_bit, running_word, search, sequence_word,
 };
 use mcal_base::{Move, Notice, NoticeKind, Routine};
-use service_outline::{Body, BodyTaken, Owed, acts, acts_with, ends, goes, nothing};
+use service_outline::{Body, BodyTaken, Epilogue, acts, acts_with, ends, goes, nothing};
 use word_shapes::Dropped;
 
 /// A sequence that is to be cancelled.
@@ -38,7 +38,7 @@ pub enum CancelBody {
 }
 
 impl Body for CancelBody {
-    ghost use Rattle.spi_sequences.specs.laws.Cancel.{cancel_work, cancel_takes};
+    ghost use Rattle.spi_sequences.specs.laws.services.CancelSteps.{cancel_work, cancel_takes};
 
     ghost work_of = { cancel_work };
 
@@ -61,7 +61,7 @@ impl Body for CancelBody {
         let (after, taken) = match self {
             CancelBody::Result(cancelled) => {
                 if value != PENDING {
-                    return acts_with(nothing(), Owed::Nothing);
+                    return acts_with(nothing(), Epilogue::Nothing);
                 }
                 (CancelBody::Running(*cancelled), goes())
             }
@@ -78,7 +78,7 @@ impl Body for CancelBody {
                     goes(),
                 )
             }
-            CancelBody::Mark(_) => return acts_with(nothing(), Owed::Nothing),
+            CancelBody::Mark(_) => return acts_with(nothing(), Epilogue::Nothing),
             CancelBody::Store(cancelled) => {
                 let entry = u32::from(cancelled.sequence);
                 let dropped = Dropped::Look(search(cancelled.unit), entry);
@@ -99,16 +99,16 @@ impl Body for CancelBody {
 
 impl Cancelled {
     /// What is told of its end.
-    fn owed(&self) -> Owed
+    fn owed(&self) -> Epilogue
         ensures { result ≡ spec.cancel_owed self.now }
     {
         if self.notification {
-            Owed::One(Notice {
+            Epilogue::One(Notice {
                 kind: NoticeKind::SpiSeqEndNotification,
                 id: u32::from(self.sequence),
             })
         } else {
-            Owed::Nothing
+            Epilogue::Nothing
         }
     }
 }

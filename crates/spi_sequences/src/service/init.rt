@@ -1,10 +1,10 @@
 ghost use Rattle.std.specs.Prelude.{◌≡◌};
 ghost use Rattle.spi_machine.specs.Table.{channel_of};
-ghost use Rattle.spi_sequences.specs.laws.Init as spec;
+ghost use Rattle.spi_sequences.specs.laws.services.InitSteps as spec;
 
 use crate::words::{JOBS, SEQUENCES, STATE, job_word, order, running_word, sequence_word};
 use mcal_base::{Move, Routine};
-use service_outline::{Body, BodyTaken, Owed, acts_with, goes, nothing};
+use service_outline::{Body, BodyTaken, Epilogue, acts_with, goes, nothing};
 use spi_jobs::{Placed, Side, free, publish};
 use spi_machine::SpiTable;
 use word_shapes::Put;
@@ -50,7 +50,7 @@ pub enum InitPlace {
 }
 
 impl Body for InitBody {
-    ghost use Rattle.spi_sequences.specs.laws.Init.{init_work, init_takes};
+    ghost use Rattle.spi_sequences.specs.laws.services.InitSteps.{init_work, init_takes};
 
     ghost work_of = { init_work };
 
@@ -109,7 +109,7 @@ impl Body for InitBody {
             InitPlace::Reopen(channel, Side::Sent) => InitPlace::Choose(channel, Side::Received),
             InitPlace::Reopen(channel, Side::Received) => after(channel),
             InitPlace::Closes => InitPlace::Store,
-            InitPlace::Store => return acts_with(nothing(), Owed::Nothing),
+            InitPlace::Store => return acts_with(nothing(), Epilogue::Nothing),
         };
         self.place = after;
         goes()

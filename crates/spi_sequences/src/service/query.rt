@@ -1,13 +1,13 @@
 ghost use Rattle.std.specs.Prelude.{◌≡◌};
 ghost use Rattle.spi_sequences.specs.Words.{run_in};
-ghost use Rattle.spi_sequences.specs.laws.Query as spec;
+ghost use Rattle.spi_sequences.specs.laws.services.QuerySteps as spec;
 
 use crate::words::{
     NEXTS, PENDING, Running, SEQUENCES, job_result, job_word, next_of, running_word,
     sequence_result, sequence_word,
 };
 use mcal_base::{AnswerName, Move};
-use service_outline::{Body, BodyTaken, Owed, acts_with, goes, named};
+use service_outline::{Body, BodyTaken, Epilogue, acts_with, goes, named};
 use spi_machine::SpiTable;
 
 /// The result of a job is asked for.
@@ -48,7 +48,7 @@ pub enum QueryBody {
 }
 
 impl Body for QueryBody {
-    ghost use Rattle.spi_sequences.specs.laws.Query.{query_work, query_takes};
+    ghost use Rattle.spi_sequences.specs.laws.services.QuerySteps.{query_work, query_takes};
 
     ghost work_of = { query_work };
 
@@ -79,7 +79,7 @@ impl Body for QueryBody {
 fn answers(name: AnswerName) -> BodyTaken
     ensures { result ≡ spec.answers_with name }
 {
-    acts_with(named(name), Owed::Nothing)
+    acts_with(named(name), Epilogue::Nothing)
 }
 
 impl JobQuery {

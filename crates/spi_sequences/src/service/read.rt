@@ -1,8 +1,8 @@
 ghost use Rattle.std.specs.Prelude.{◌≡◌, None};
-ghost use Rattle.spi_sequences.specs.laws.Read as spec;
+ghost use Rattle.spi_sequences.specs.laws.services.ReadSteps as spec;
 
 use mcal_base::{Answer, AnswerName, Head, Move, Routine, Words};
-use service_outline::{Body, BodyTaken, Owed, acts, copied, ends, goes, nothing};
+use service_outline::{Body, BodyTaken, Epilogue, acts, copied, ends, goes, nothing};
 use spi_jobs::{Placed, Side, bank_of, gave, release};
 use word_shapes::Take;
 
@@ -39,7 +39,7 @@ pub enum ReadPlace {
 }
 
 impl Body for ReadBody {
-    ghost use Rattle.spi_sequences.specs.laws.Read.{read_work, read_takes};
+    ghost use Rattle.spi_sequences.specs.laws.services.ReadSteps.{read_work, read_takes};
 
     ghost work_of = { read_work };
 
@@ -84,7 +84,7 @@ impl Body for ReadBody {
                 ReadPlace::Leave
             }
             ReadPlace::Leave => ReadPlace::Over,
-            ReadPlace::Over => return ends(None, nothing(), Owed::Nothing),
+            ReadPlace::Over => return ends(None, nothing(), Epilogue::Nothing),
         };
         self.place = after;
         goes()

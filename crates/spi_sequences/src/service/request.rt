@@ -1,5 +1,5 @@
 ghost use Rattle.std.specs.Prelude.{◌≡◌};
-ghost use Rattle.spi_sequences.specs.laws.Request as spec;
+ghost use Rattle.spi_sequences.specs.laws.services.RequestSteps as spec;
 
 use crate::words::{MARKS, NEXTS, PENDING, SEQUENCES, order, sequence_word, unmarked, with_next};
 use mcal_base::{Event, Move, Routine};

@@ -1,10 +1,10 @@
 ghost use Rattle.std.specs.Prelude.{◌≡◌, ◌-◌, None};
-ghost use Rattle.word_shapes.specs.Ranked.{again_gave, drop_gave};
-ghost use Rattle.word_shapes.specs.Trio.{take_gave};
+ghost use Rattle.word_shapes.specs.PriorityQueue.{again_gave, drop_gave};
+ghost use Rattle.word_shapes.specs.TripleBuffer.{take_gave};
 ghost use Rattle.spi_jobs.specs.Parts.{has_ended, commit_ends, find_gave, keep_ends};
 ghost use Rattle.spi_sequences.specs.Words.{run_in};
 ghost use Rattle.spi_sequences.specs.declared.service.serve.ServeStep.TheVariants.{Goes};
-ghost use Rattle.spi_sequences.specs.laws.Serve as spec;
+ghost use Rattle.spi_sequences.specs.laws.services.ServeSteps as spec;
 
 use crate::words::{
     CANCELLED, FAILED, MARKS, NEXTS, Position, Running, cancelled_bit, has, job_word, next_of,
@@ -39,7 +39,7 @@ pub struct Arrived {
 
 /// How a sequence goes on after its job.
 #[derive(Clone, Copy)]
-pub enum Course {
+pub enum SequenceNext {
     /// With a further job, of these next jobs.
     Further(u32),
     /// It ends, with this result.
@@ -54,7 +54,7 @@ pub struct Leaving {
     /// Where it goes.
     pub taker: Taker,
     /// How the sequence goes on.
-    pub course: Course,
+    pub course: SequenceNext,
 }
 
 /// A place of the serving window of a unit.
@@ -89,9 +89,9 @@ pub enum ServePlace {
     /// It loads the next jobs; this says whether the sequence is cancelled.
     Nexts(Arrived, bool),
     /// It serves, and the unit has no word any more.
-    Acknowledge(Arrived, Course),
+    Acknowledge(Arrived, SequenceNext),
     /// The unit is free.
-    Free(Arrived, Course),
+    Free(Arrived, SequenceNext),
     /// The job failed: the pin of its channel at this place ends.
     Release(Leaving, u8, Take),
     /// The job ended well: its last word is kept.
@@ -414,19 +414,19 @@ impl Served {
     }
 
     /// How the sequence goes on after its job.
-    fn after_job(&self, table: &SpiTable, cancelled: bool, nexts: u32) -> Course
+    fn after_job(&self, table: &SpiTable, cancelled: bool, nexts: u32) -> SequenceNext
         ensures { result ≡ spec.after_job table.now self.now cancelled nexts }
     {
         let sequence = self.run.sequence;
         let place = next_of(nexts, sequence);
         if cancelled {
-            Course::Ends(CANCELLED)
+            SequenceNext::Ends(CANCELLED)
         } else if self.failed {
-            Course::Ends(FAILED)
+            SequenceNext::Ends(FAILED)
         } else if place + 1 < table.jobs_of(sequence).count {
-            Course::Further(with_next(nexts, sequence, place + 1))
+            SequenceNext::Further(with_next(nexts, sequence, place + 1))
         } else {
-            Course::Ends(0)
+            SequenceNext::Ends(0)
         }
     }
 
@@ -498,8 +498,8 @@ impl Leaving {
         ensures { result ≡ spec.goes_on self.now.served self.now.course }
     {
         match self.course {
-            Course::Further(nexts) => ServePlace::Further(self.served, nexts),
-            Course::Ends(result) => ServePlace::End(self.served, result),
+            SequenceNext::Further(nexts) => ServePlace::Further(self.served, nexts),
+            SequenceNext::Ends(result) => ServePlace::End(self.served, result),
         }
     }
 }
@@ -563,7 +563,7 @@ impl Arrived {
     }
 
     /// What follows the end of the job.
-    fn ends(&self, table: &SpiTable, course: Course) -> ServePlace
+    fn ends(&self, table: &SpiTable, course: SequenceNext) -> ServePlace
         ensures { result ≡ spec.ends_of table.now self.now course }
     {
         let leaving = Leaving {

@@ -1,5 +1,5 @@
 use mcal_base::{AnswerName, Move};
-use service_outline::{Body, BodyTaken, Owed, acts_with, named};
+use service_outline::{Body, BodyTaken, Epilogue, acts_with, named};
 use spi_jobs::{Placed, SetUp};
 
 /// `Spi_SetupEB`, from the load of the state word on.
@@ -10,7 +10,7 @@ pub enum SetUpBody {
 }
 
 impl Body for SetUpBody {
-    ghost use Rattle.spi_sequences.specs.laws.SetUp.{set_up_work, set_up_takes};
+    ghost use Rattle.spi_sequences.specs.laws.services.SetUpSteps.{set_up_work, set_up_takes};
 
     ghost work_of = { set_up_work };
 
@@ -24,7 +24,7 @@ impl Body for SetUpBody {
 
     fn took(&mut self, _value: u32) -> BodyTaken {
         match self {
-            SetUpBody::Store(..) => acts_with(named(AnswerName::EOk), Owed::Nothing),
+            SetUpBody::Store(..) => acts_with(named(AnswerName::EOk), Epilogue::Nothing),
         }
     }
 }

@@ -1,9 +1,9 @@
 ghost use Rattle.std.specs.Prelude.{◌≡◌, None};
-ghost use Rattle.word_shapes.specs.Ranked.{front_gave, next_gave};
-ghost use Rattle.word_shapes.specs.Trio.{take_gave};
+ghost use Rattle.word_shapes.specs.PriorityQueue.{front_gave, next_gave};
+ghost use Rattle.word_shapes.specs.TripleBuffer.{take_gave};
 ghost use Rattle.spi_jobs.specs.Parts.{has_ended, find_gave, prepare_ends};
 ghost use Rattle.spi_sequences.specs.declared.service.start.Started.TheVariants.{Goes};
-ghost use Rattle.spi_sequences.specs.laws.Start as spec;
+ghost use Rattle.spi_sequences.specs.laws.services.StartSteps as spec;
 
 use crate::words::{
     MARKS, NEXTS, Running, has, next_of, position_word, running_word, search, started_bit,

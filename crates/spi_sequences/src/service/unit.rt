@@ -1,19 +1,21 @@
 ghost use Rattle.std.specs.Prelude.{◌≡◌};
 ghost use Rattle.service_outline.specs.Done.{goes};
 ghost use Rattle.spi_sequences.specs.declared.service.unit.UnitPlace.TheVariants.{Opens};
-ghost use Rattle.spi_sequences.specs.laws.Unit as spec;
+ghost use Rattle.spi_sequences.specs.laws.services.UnitSteps as spec;
 
 use crate::service::request::{RequestPlace, Requested};
 use crate::service::serve::{Ended, ServePlace, ServeStep};
 use crate::service::start::{StartPlace, Started};
 use crate::words::STATE;
 use mcal_base::{AnswerName, ErrorName, Event, Move, Notice, Service};
-use service_outline::{Body, BodyTaken, Owed, acts, acts_with, ends, error, goes, named, nothing};
+use service_outline::{
+    Body, BodyTaken, Epilogue, acts, acts_with, ends, error, goes, named, nothing,
+};
 use spi_machine::SpiTable;
 
 /// What a frame has to do with a unit.
 #[derive(Clone, Copy)]
-pub enum Errand {
+pub enum FrameRole {
     /// `Spi_AsyncTransmit` of this sequence: its request, and a start.
     Transmit(u8),
     /// The handler: a serving, its notices, and a start.
@@ -58,7 +60,7 @@ pub struct UnitBody {
     /// The table.
     pub table: SpiTable,
     /// What it has to do.
-    pub errand: Errand,
+    pub errand: FrameRole,
     /// The unit.
     pub unit: u8,
     /// Where it stands.
@@ -66,7 +68,7 @@ pub struct UnitBody {
 }
 
 impl Body for UnitBody {
-    ghost use Rattle.spi_sequences.specs.laws.Unit.{unit_work, unit_takes};
+    ghost use Rattle.spi_sequences.specs.laws.services.UnitSteps.{unit_work, unit_takes};
 
     ghost work_of = { unit_work };
 
@@ -126,8 +128,8 @@ impl UnitBody {
         ensures { result ≡ spec.requested_by self.now.errand }
     {
         match self.errand {
-            Errand::Transmit(sequence) => sequence,
-            Errand::Handler | Errand::Main | Errand::Rest => 0,
+            FrameRole::Transmit(sequence) => sequence,
+            FrameRole::Handler | FrameRole::Main | FrameRole::Rest => 0,
         }
     }
 
@@ -154,12 +156,12 @@ impl UnitBody {
     }
 
     /// What is left of both units after the first one: it was served where a further word or a start was the last thing there.
-    fn rest(&self) -> Errand
+    fn rest(&self) -> FrameRole
         ensures { result ≡ spec.rest_after self.now.place }
     {
         match &self.place {
-            UnitPlace::Serve(ServePlace::Stand(_)) | UnitPlace::Start(_) => Errand::Rest,
-            _ => Errand::Main,
+            UnitPlace::Serve(ServePlace::Stand(_)) | UnitPlace::Start(_) => FrameRole::Rest,
+            _ => FrameRole::Main,
         }
     }
 
@@ -169,13 +171,17 @@ impl UnitBody {
         ensures step { result ≡ (spec.unit_over self.old self.old.place self.old.errand self.old.unit).1 }
     {
         match self.errand {
-            Errand::Main if self.unit == 0 => {
+            FrameRole::Main if self.unit == 0 => {
                 self.errand = self.rest();
                 self.unit = 1;
                 self.opens(After::Serve)
             }
-            Errand::Main | Errand::Rest | Errand::Handler => ends(None, nothing(), Owed::Nothing),
-            Errand::Transmit(_) => ends(None, named(AnswerName::EOk), Owed::Nothing),
+            FrameRole::Main | FrameRole::Rest | FrameRole::Handler => ends(
+                None,
+                nothing(),
+                Epilogue::Nothing,
+            ),
+            FrameRole::Transmit(_) => ends(None, named(AnswerName::EOk), Epilogue::Nothing),
         }
     }
 }

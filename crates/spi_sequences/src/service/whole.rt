@@ -1,9 +1,9 @@
 ghost use Rattle.std.specs.Prelude.{◌≡◌};
-ghost use Rattle.spi_sequences.specs.laws.Whole as spec;
+ghost use Rattle.spi_sequences.specs.laws.services.ModuleSteps as spec;
 
 use crate::words::{LINES, PENDING, SEQUENCES, STATE, sequence_word};
 use mcal_base::{AnswerName, Move, Reg};
-use service_outline::{Body, BodyTaken, Owed, acts, acts_with, ends, goes, named};
+use service_outline::{Body, BodyTaken, Epilogue, acts, acts_with, ends, goes, named};
 use spi_machine::AsyncMode;
 
 /// What is asked of the whole module, for which the results of all sequences are looked at.
@@ -63,7 +63,7 @@ pub enum WholeBody {
 }
 
 impl Body for WholeBody {
-    ghost use Rattle.spi_sequences.specs.laws.Whole.{whole_work, whole_takes};
+    ghost use Rattle.spi_sequences.specs.laws.services.ModuleSteps.{whole_work, whole_takes};
 
     ghost work_of = { whole_work };
 
@@ -80,17 +80,20 @@ impl Body for WholeBody {
     fn took(&mut self, value: u32) -> BodyTaken {
         let (after, taken) = match *self {
             WholeBody::Look(whole, _) if value == PENDING => {
-                (*self, acts_with(named(whole.busy()), Owed::Nothing))
+                (*self, acts_with(named(whole.busy()), Epilogue::Nothing))
             }
             WholeBody::Look(whole, sequence) if sequence < SEQUENCES - 1 => {
                 (WholeBody::Look(whole, sequence + 1), goes())
             }
             WholeBody::Look(Whole::Status, _) => {
-                (*self, acts_with(named(AnswerName::SpiIdle), Owed::Nothing))
+                (
+                    *self,
+                    acts_with(named(AnswerName::SpiIdle), Epilogue::Nothing),
+                )
             }
             WholeBody::Look(whole, _) => (WholeBody::Store(whole), goes()),
             WholeBody::Store(whole) => (WholeBody::Lines(whole), acts()),
-            WholeBody::Lines(_) => (*self, ends(None, named(AnswerName::EOk), Owed::Nothing)),
+            WholeBody::Lines(_) => (*self, ends(None, named(AnswerName::EOk), Epilogue::Nothing)),
         };
         *self = after;
         taken

@@ -1,8 +1,8 @@
 ghost use Rattle.std.specs.Prelude.{◌≡◌};
-ghost use Rattle.spi_sequences.specs.laws.Write as spec;
+ghost use Rattle.spi_sequences.specs.laws.services.WriteSteps as spec;
 
 use mcal_base::{AnswerName, Move, Routine};
-use service_outline::{Body, BodyTaken, Owed, acts_with, goes, named};
+use service_outline::{Body, BodyTaken, Epilogue, acts_with, goes, named};
 use spi_jobs::{Placed, Side, free, publish};
 use spi_machine::Pointer;
 use word_shapes::Put;
@@ -34,7 +34,7 @@ pub enum WriteBody {
 }
 
 impl Body for WriteBody {
-    ghost use Rattle.spi_sequences.specs.laws.Write.{write_work, write_takes};
+    ghost use Rattle.spi_sequences.specs.laws.services.WriteSteps.{write_work, write_takes};
 
     ghost work_of = { write_work };
 
@@ -74,7 +74,7 @@ impl Body for WriteBody {
             ),
             WriteBody::Commit(_, _, put) => {
                 return if put.took(value).ended.is_some() {
-                    acts_with(named(AnswerName::EOk), Owed::Nothing)
+                    acts_with(named(AnswerName::EOk), Epilogue::Nothing)
                 } else {
                     goes()
                 };

@@ -21,6 +21,12 @@ returns-in-65 c = rw c.in-65.is c.adc_services.ensures
 pub returns-in-83 : goal.returns-in-83
 returns-in-83 c = rw c.in-83.is c.spi_services.ensures
 
+pub returns-in-68 : goal.returns-in-68
+returns-in-68 c = rw c.in-68.is c.dio_services.ensures
+
+pub returns-in-87 : goal.returns-in-87
+returns-in-87 c = rw c.in-87.is c.wdg_services.ensures
+
 pub returns-in_default : goal.returns-in_default
 returns-in_default c = λ rest e.
     let not-77 : (c.args.letter == 77) ≡ false = grind (arith, nat_tests, c.in_default) in
@@ -29,4 +35,6 @@ returns-in_default c = λ rest e.
     let not-73 : (c.args.letter == 73) ≡ false = grind (arith, nat_tests, c.in_default) in
     let not-65 : (c.args.letter == 65) ≡ false = grind (arith, nat_tests, c.in_default) in
     let not-83 : (c.args.letter == 83) ≡ false = grind (arith, nat_tests, c.in_default) in
-    none_begin c.args.letter (rw (not-77, not-80, not-71, not-73, not-65, not-83) refl) rest
+    let not-68 : (c.args.letter == 68) ≡ false = grind (arith, nat_tests, c.in_default) in
+    let not-87 : (c.args.letter == 87) ≡ false = grind (arith, nat_tests, c.in_default) in
+    none_begin c.args.letter (rw (not-77, not-80, not-71, not-73, not-65, not-83, not-68, not-87) refl) rest

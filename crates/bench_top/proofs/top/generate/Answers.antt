@@ -29,7 +29,7 @@ returns-in-Ok-generated_text-clause-concludes g c =
     let made = c.deref.ensures.value ∙ c.in-Ok.ensures in
     let whole = generated_whole (vec_len c.args.rack.now) c.args.seed c.args.count _ _ _ c.in-Ok-run.ran.too_long c.requires c.board.ensures.value made c.in-Ok-run.ensures.whole c.in-Ok-run.ensures.stopped in
     c.finish.ensures.concludes (vec_len c.args.rack.now) (Generates c.args.seed c.args.count) (generated_ends (vec_len c.args.rack.now) c.args.seed c.args.count _ _ whole
-    (generated_line (vec_len c.args.rack.now) c.args.seed c.args.count c.in-Ok-run.ran.journal.entries c.deref-2.result.now _ (c.deref-2.ensures.value ∙ c.in-Ok.ensures) (λ shows. c.as_bytes.ensures.value ∙ c.in-Ok-generated_text.ensures shows))) (generated_keeps (vec_len c.args.rack.now) c.args.seed c.args.count _ whole)
+    (generated_line (vec_len c.args.rack.now) c.args.seed c.args.count c.in-Ok-run.ran.journal.entries c.deref-2.result.now _ (c.deref-2.ensures.value ∙ c.in-Ok.ensures) (λ shows. c.as_bytes.ensures.value ∙ c.in-Ok-generated_text.ensures shows))) (generated_keeps (vec_len c.args.rack.now) c.args.seed c.args.count _ c.requires whole)
 
 pub returns-in-Ok-generated_text-clause-told : goal.returns-in-Ok-generated_text-clause-told
 returns-in-Ok-generated_text-clause-told g c = told_so (vec_len c.args.rack.now) _ _ _ _ (ap (λ w. w.entries) c.finish.ensures.journal) c.in-Ok-run.ensures.told
@@ -38,7 +38,7 @@ pub returns-clause-concludes : goal.returns-clause-concludes
 returns-clause-concludes g c =
     let made = c.deref.ensures.value ∙ c.in-Ok.ensures in
     let whole = generated_whole (vec_len c.args.rack.now) c.args.seed c.args.count _ _ _ c.in-Ok-run.ran.too_long c.requires c.board.ensures.value made c.in-Ok-run.ensures.whole c.in-Ok-run.ensures.stopped in
-    left_so (vec_len c.args.rack.now) (Generates c.args.seed c.args.count) _ _ _ _ _ c.no_room.ensures.status (ap (λ w. w.entries) c.no_room.ensures.journal) (inr whole) (generated_keeps (vec_len c.args.rack.now) c.args.seed c.args.count _ whole)
+    left_so (vec_len c.args.rack.now) (Generates c.args.seed c.args.count) _ _ _ _ _ c.no_room.ensures.status (ap (λ w. w.entries) c.no_room.ensures.journal) (inr whole) (generated_keeps (vec_len c.args.rack.now) c.args.seed c.args.count _ c.requires whole)
 
 pub returns-clause-told : goal.returns-clause-told
 returns-clause-told g c = told_so (vec_len c.args.rack.now) _ _ _ _ (ap (λ w. w.entries) c.no_room.ensures.journal) c.in-Ok-run.ensures.told

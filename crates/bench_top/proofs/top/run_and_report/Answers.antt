@@ -25,7 +25,7 @@ returns-in_default-run-clause-told g c = told_nothing (vec_len c.args.rack.now) 
 pub returns-then-ran-clause-concludes : goal.returns-then-ran-clause-concludes
 returns-then-ran-clause-concludes g c =
     c.finish.ensures.concludes (vec_len c.args.rack.now) (Runs c.args.printing c.args.config c.args.script.now) (inr (OnTrue_at c.if-ran.true c.in-Ok-run.ensures.stopped, ap (λ t. record { status = 5; text = t }) c.as_bytes.ensures.value))
-    (stopped_keeps (vec_len c.args.rack.now) c.args.config c.args.script.now c.in-Ok-run.ran.journal.entries c.requires.valid (OnTrue_at c.if-ran.true c.in-Ok-run.ensures.stopped))
+    (stopped_keeps (vec_len c.args.rack.now) c.args.config c.args.script.now c.in-Ok-run.ran.journal.entries c.requires.valid c.requires.script (OnTrue_at c.if-ran.true c.in-Ok-run.ensures.stopped))
 
 pub returns-then-ran-clause-told : goal.returns-then-ran-clause-told
 returns-then-ran-clause-told g c = told_so (vec_len c.args.rack.now) _ _ _ _ (ap (λ w. w.entries) c.finish.ensures.journal) c.in-Ok-run.ensures.told
@@ -33,7 +33,7 @@ returns-then-ran-clause-told g c = told_so (vec_len c.args.rack.now) _ _ _ _ (ap
 pub returns-then-ran-2-clause-concludes : goal.returns-then-ran-2-clause-concludes
 returns-then-ran-2-clause-concludes g c =
     let whole = OnFalse_at c.if-ran.false c.in-Ok-run.ensures.whole in
-    left_so (vec_len c.args.rack.now) (Runs c.args.printing c.args.config c.args.script.now) _ _ _ _ _ c.no_room.ensures.status (ap (λ w. w.entries) c.no_room.ensures.journal) (inr (inl whole)) (whole_keeps (vec_len c.args.rack.now) c.args.config c.args.script.now c.in-Ok-run.ran.journal.entries c.requires.valid whole)
+    left_so (vec_len c.args.rack.now) (Runs c.args.printing c.args.config c.args.script.now) _ _ _ _ _ c.no_room.ensures.status (ap (λ w. w.entries) c.no_room.ensures.journal) (inr (inl whole)) (whole_keeps (vec_len c.args.rack.now) c.args.config c.args.script.now c.in-Ok-run.ran.journal.entries c.requires.valid c.requires.script whole)
 
 pub returns-then-ran-2-clause-told : goal.returns-then-ran-2-clause-told
 returns-then-ran-2-clause-told g c = told_so (vec_len c.args.rack.now) _ _ _ _ (ap (λ w. w.entries) c.no_room.ensures.journal) c.in-Ok-run.ensures.told
@@ -47,7 +47,7 @@ returns-in-Ok-report-clause-concludes g c =
     c.finish-in-Ok-report.ensures.concludes (vec_len c.args.rack.now) (Runs c.args.printing c.args.config c.args.script.now)
     (report_ends (vec_len c.args.rack.now) c.args.printing c.is_traced.result c.args.config c.args.script.now c.in-Ok-run.ran.journal.entries c.as_bytes-in-Ok-report.result.now c.printed-part.result.now c.is_traced.ensures whole is
     (rw c.as_bytes-in-Ok-report.ensures.len c.in-Ok-report.ensures.within) c.printed-part.ensures)
-    (whole_keeps (vec_len c.args.rack.now) c.args.config c.args.script.now c.in-Ok-run.ran.journal.entries c.requires.valid whole)
+    (whole_keeps (vec_len c.args.rack.now) c.args.config c.args.script.now c.in-Ok-run.ran.journal.entries c.requires.valid c.requires.script whole)
 
 pub returns-in-Ok-report-clause-told : goal.returns-in-Ok-report-clause-told
 returns-in-Ok-report-clause-told g c = told_so (vec_len c.args.rack.now) _ _ _ _ (ap (λ w. w.entries) c.finish-in-Ok-report.ensures.journal) c.in-Ok-run.ensures.told
@@ -61,7 +61,7 @@ returns-in-Err-TooLong-clause-concludes g c =
     (c.in-Err-TooLong.is ∙ ap (λ e. Err e) c.in-Err-TooLong.field-0-is) in
     c.finish-in-Err-TooLong.ensures.concludes (vec_len c.args.rack.now) (Runs c.args.printing c.args.config c.args.script.now)
     (too_long_ends (vec_len c.args.rack.now) c.args.printing c.is_traced.result c.args.config c.args.script.now c.in-Ok-run.ran.journal.entries c.as_bytes-in-Err-TooLong.result.now c.is_traced.ensures whole more c.as_bytes-in-Err-TooLong.ensures.value)
-    (whole_keeps (vec_len c.args.rack.now) c.args.config c.args.script.now c.in-Ok-run.ran.journal.entries c.requires.valid whole)
+    (whole_keeps (vec_len c.args.rack.now) c.args.config c.args.script.now c.in-Ok-run.ran.journal.entries c.requires.valid c.requires.script whole)
 
 pub returns-in-Err-TooLong-clause-told : goal.returns-in-Err-TooLong-clause-told
 returns-in-Err-TooLong-clause-told g c = told_so (vec_len c.args.rack.now) _ _ _ _ (ap (λ w. w.entries) c.finish-in-Err-TooLong.ensures.journal) c.in-Ok-run.ensures.told
@@ -70,7 +70,7 @@ pub returns-clause-concludes : goal.returns-clause-concludes
 returns-clause-concludes g c =
     let whole = OnFalse_at c.if-ran.false c.in-Ok-run.ensures.whole in
     left_so (vec_len c.args.rack.now) (Runs c.args.printing c.args.config c.args.script.now) _ _ _ _ _ c.no_room-in-Err-NoMemory.ensures.status (ap (λ w. w.entries) c.no_room-in-Err-NoMemory.ensures.journal) (inr (inl whole))
-    (whole_keeps (vec_len c.args.rack.now) c.args.config c.args.script.now c.in-Ok-run.ran.journal.entries c.requires.valid whole)
+    (whole_keeps (vec_len c.args.rack.now) c.args.config c.args.script.now c.in-Ok-run.ran.journal.entries c.requires.valid c.requires.script whole)
 
 pub returns-clause-told : goal.returns-clause-told
 returns-clause-told g c = told_so (vec_len c.args.rack.now) _ _ _ _ (ap (λ w. w.entries) c.no_room-in-Err-NoMemory.ensures.journal) c.in-Ok-run.ensures.told

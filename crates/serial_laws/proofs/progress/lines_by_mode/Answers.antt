@@ -1,19 +1,12 @@
-use Rattle.std.proofs.Common.{◌≡◌, Bool, true, false, ◌&&◌, [], ◌∷◌, refl, ◌∙◌, ap}
+use Rattle.std.proofs.Common.{◌≡◌, ◌&&◌, [], ◌∷◌, ◌∙◌, ap}
 use Rattle.std.specs.Prelude.{if◌then◌else◌}
+use Rattle.plain_facts.specs.Truths.{and_false, and_true}
 use Rattle.spi_machine.specs.Machine.{ready}
 use Rattle.spi_machine.specs.Runs.{after_all}
 use Rattle.spi_machine.specs.State.{is_interrupt, is_polling}
 use Rattle.spi_machine.specs.declared.call.AsyncMode.TheVariants.{Polling, Interrupt}
 use Rattle.serial_laws.proofs.StartLaws.{mode_since, mode_since_init}
 use Rattle.serial_laws.proofs.progress.lines_by_mode.Goals as goal
-
-and_true : (b : Bool) → (b && true) ≡ b
-and_true true = refl
-and_true false = refl
-
-and_false : (b : Bool) → (b && false) ≡ false
-and_false true = refl
-and_false false = refl
 
 pub returns-clause-interrupt : goal.returns-clause-interrupt
 returns-clause-interrupt _ d w later s line times out history made told answer left =

@@ -17,6 +17,6 @@ returns g c =
       settled = told;
       moments = rw (c.saturating_sub-most.ensures, c.len.ensures) at c.in_ok-moments.ensures;
       all = λ e. settled.ok.0 ∙ told_length settled.items (c.args.end - c.args.first) (vec_len tried.tried) tried.tried.items told tried.tried.ok.0 (tried.ensures.whole (c.stops_of-stops.ensures e));
-      before = at_on (g.R.Runs.is_seen sweep.bench.runs.now) sweep.bench.reactions.now sweep.parts.swept.now sweep.parts.behind.now c.args.opened.now _ _ 0 _ tried.ensures.kept c.in_ok-ends.ensures.before;
-      at_end = at_on (g.R.Runs.is_seen sweep.bench.runs.now) sweep.bench.reactions.now sweep.parts.swept.now sweep.parts.behind.now c.args.opened.now _ _ _ _ tried.ensures.kept c.in_ok-ends.ensures.behind;
+      before = at_on (g.R.Runs.is_seen sweep.bench.runs.now) sweep.bench.following sweep.parts.swept.now sweep.parts.behind.now c.args.opened.now _ _ 0 _ tried.ensures.kept c.in_ok-ends.ensures.before;
+      at_end = at_on (g.R.Runs.is_seen sweep.bench.runs.now) sweep.bench.following sweep.parts.swept.now sweep.parts.behind.now c.args.opened.now _ _ _ _ tried.ensures.kept c.in_ok-ends.ensures.behind;
     }

@@ -1,5 +1,5 @@
 -- The law is proved over the definitions.
-use Rattle.word_shapes.proofs.TrioLaws.{newest-word, kept-word}
+use Rattle.word_shapes.proofs.TripleBufferLaws.{newest-word, kept-word}
 use Rattle.word_shapes.proofs.laws.bank_words.Goals as goal
 
 pub returns-clause-newest : goal.returns-clause-newest

@@ -1,5 +1,5 @@
 -- The law is proved over the definitions.
-use Rattle.word_shapes.proofs.TrioLaws.{rests, stands-other, abandons}
+use Rattle.word_shapes.proofs.TripleBufferLaws.{rests, stands-other, abandons}
 use Rattle.word_shapes.proofs.laws.banks_at_rest.Goals as goal
 
 pub returns-clause-rests : goal.returns-clause-rests

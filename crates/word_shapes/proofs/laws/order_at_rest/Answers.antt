@@ -1,5 +1,5 @@
 -- The law is proved over the definitions.
-use Rattle.word_shapes.proofs.RankedLaws.{empty, holds-below, holds-length, holds-elsewhere}
+use Rattle.word_shapes.proofs.PriorityQueueLaws.{empty, holds-below, holds-length, holds-elsewhere}
 use Rattle.word_shapes.proofs.laws.order_at_rest.Goals as goal
 
 pub returns-clause-empty : goal.returns-clause-empty

@@ -1,5 +1,5 @@
 use Rattle.std.proofs.Common.{◌∙◌}
-use Rattle.adc_driver.specs.laws.Told.{told_chosen}
+use Rattle.adc_driver.specs.laws.words.WordsToState.{told_chosen}
 use Rattle.adc_driver.proofs.driver.AdcDriver.chosen.Goals as goal
 
 pub returns : goal.returns

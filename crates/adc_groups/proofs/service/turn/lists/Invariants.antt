@@ -1,6 +1,6 @@
 use Rattle.std.proofs.Common.{◌≡◌, map, length}
 use Rattle.std.specs.List.{range_with_len}
-use Rattle.adc_groups.specs.laws.Deciding.{list_deed}
+use Rattle.adc_groups.specs.laws.services.Decisions.{list_deed}
 use Rattle.adc_groups.proofs.service.turn.lists.Given as goal
 
 abbrev pub invariant-loop-at : goal.invariant-loop-at

@@ -1,6 +1,6 @@
 use Rattle.std.proofs.Common.{◌++◌, ◌∷◌, ◌-◌, List, [], subst, arith}
 use Rattle.chip_model.specs.Chip.{Chip}
-use Rattle.run_model.specs.Moment.{Deed, Happens}
+use Rattle.run_model.specs.Moment.{Transition, Happens}
 use Rattle.script_runner.proofs.Events.{is_early}
 use Rattle.step_runner.specs.Stands.{Stands}
 use Rattle.live_board.proofs.Counts.{gift_is}
@@ -19,5 +19,5 @@ invariant_of-self g c =
 pub returns-clause-goes : goal.returns-clause-goes
 returns-clause-goes g c =
     let s = gift_is c.args.happening.now.order c.requires.gives in
-    subst (λ v. (first : Chip) (h : List (Deed g.row.M-Call.Denot)) → Stands (g.M.Module.spec v.driver) first v.chip v.kept.frames h → Stands (g.M.Module.spec v.driver) first c.hardware.new.bus c.self.inside.stack.frames (h ++ Happens c.args.happening.now.order ∷ [])) c.self.view_is
+    subst (λ v. (first : Chip) (h : List (Transition g.row.M-Call.Denot)) → Stands (g.M.Module.spec v.driver) first v.chip v.kept.frames h → Stands (g.M.Module.spec v.driver) first c.hardware.new.bus c.self.inside.stack.frames (h ++ Happens c.args.happening.now.order ∷ [])) c.self.view_is
     (λ first h st. c.hardware.ensures.stands c.self.inside.driver first h c.self.invariant.fits (event_free (g.M.Module.spec c.self.inside.driver) first h c.args.happening.now.order s.1) (is_early c.args.happening.now.order _ s.0) st)

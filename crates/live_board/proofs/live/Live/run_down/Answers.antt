@@ -2,7 +2,7 @@ use Rattle.std.proofs.Common.{◌++◌, ◌∷◌, List, [], ◌∙◌, ap, subs
 use Rattle.chip_model.specs.Chip.{Chip, expiry_of}
 use Rattle.mcal_base.specs.declared.directive.Order.TheVariants.{Tick}
 use Rattle.mcal_base.specs.declared.directive.Reason.TheVariants.{Watchdog}
-use Rattle.run_model.specs.Moment.{Deed, Happens, Resets}
+use Rattle.run_model.specs.Moment.{Transition, Happens, Resets}
 use Rattle.step_runner.specs.Stands.{Stands}
 use Rattle.live_board.proofs.Counts.{can_tick}
 use Rattle.live_board.proofs.Keeping.{live_down, slow_chip}
@@ -19,5 +19,5 @@ invariant_of-self g c = live_down (g.M.Module.spec c.self.inside.driver) c.self.
     (c.run_out-dropped.ensures.stands c.self.inside.driver c.self.invariant.first c.self.invariant.deeds c.self.invariant.fits c.self.invariant.stands)
 
 pub returns-clause-goes : goal.returns-clause-goes
-returns-clause-goes g c = subst (λ v. (first : Chip) (h : List (Deed g.row.M-Call.Denot)) → Stands (g.M.Module.spec v.driver) first v.chip v.kept.frames h → Stands (g.M.Module.spec v.driver) first c.run_out-dropped.new.bus c.run_out-dropped.new.stack.frames (h ++ Happens (Tick c.args.ticks) ∷ Resets Watchdog ∷ [])) c.self.view_is
+returns-clause-goes g c = subst (λ v. (first : Chip) (h : List (Transition g.row.M-Call.Denot)) → Stands (g.M.Module.spec v.driver) first v.chip v.kept.frames h → Stands (g.M.Module.spec v.driver) first c.run_out-dropped.new.bus c.run_out-dropped.new.stack.frames (h ++ Happens (Tick c.args.ticks) ∷ Resets Watchdog ∷ [])) c.self.view_is
     (λ first h st. c.run_out-dropped.ensures.stands c.self.inside.driver first h c.self.invariant.fits st)

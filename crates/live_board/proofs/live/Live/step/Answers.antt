@@ -1,6 +1,6 @@
 use Rattle.std.proofs.Common.{◌<◌, ◌++◌, ◌∷◌, List, [], Ok, sym, subst, arith, vec_len}
 use Rattle.chip_model.specs.Chip.{Chip}
-use Rattle.run_model.specs.Moment.{Deed, Steps, after_all, start_moment}
+use Rattle.run_model.specs.Moment.{Transition, Steps, after_all, start_moment}
 use Rattle.step_runner.proofs.Hung.{calls-same, takes-same}
 use Rattle.step_runner.proofs.Runs.{can-step}
 use Rattle.step_runner.specs.Kept.{IsStill, TakesStep}
@@ -25,5 +25,5 @@ pub returns-clause-calls : goal.returns-clause-calls
 returns-clause-calls g c = calls_seen _ _ c.step_into.new.stepped _ _ c.self.view_is (calls-same (vec_len c.args.rack.now) c.self.inside.bus c.step_into.new.stepped _ _ (omega (arith, c.self.invariant.hung)) c.in-Ok.ensures.calls)
 
 pub returns-clause-goes : goal.returns-clause-goes
-returns-clause-goes g c = subst (λ v. (first : Chip) (h : List (Deed g.row.M-Call.Denot)) → (after_all (g.M.Module.spec v.driver).setting (start_moment (g.M.Module.spec v.driver).setting first) h).steps < 4294967295 → Stands (g.M.Module.spec v.driver) first v.chip v.kept.frames h → Stands (g.M.Module.spec v.driver) first c.step_into.new.bus c.step_into.new.stack.frames (h ++ Steps c.step_into.new.stepped ∷ [])) c.self.view_is
+returns-clause-goes g c = subst (λ v. (first : Chip) (h : List (Transition g.row.M-Call.Denot)) → (after_all (g.M.Module.spec v.driver).setting (start_moment (g.M.Module.spec v.driver).setting first) h).steps < 4294967295 → Stands (g.M.Module.spec v.driver) first v.chip v.kept.frames h → Stands (g.M.Module.spec v.driver) first c.step_into.new.bus c.step_into.new.stack.frames (h ++ Steps c.step_into.new.stepped ∷ [])) c.self.view_is
     (λ first h few st. c.in-Ok.ensures.stands c.self.inside.driver first h (omega (arith, c.self.invariant.hung)) c.self.invariant.fits few st)

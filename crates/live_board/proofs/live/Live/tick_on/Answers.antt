@@ -1,7 +1,7 @@
 use Rattle.std.proofs.Common.{◌++◌, ◌∷◌, List, [], refl, sym, ap, subst, arith}
 use Rattle.chip_model.specs.Chip.{Chip, expiry_of}
 use Rattle.mcal_base.specs.declared.directive.Order.TheVariants.{Tick}
-use Rattle.run_model.specs.Moment.{Deed, Happens}
+use Rattle.run_model.specs.Moment.{Transition, Happens}
 use Rattle.step_runner.specs.Driver.{EndsBefore}
 use Rattle.step_runner.specs.Stands.{Stands}
 use Rattle.live_board.proofs.Counts.{can_tick}
@@ -16,5 +16,5 @@ invariant_of-self g c = live_ticked (g.M.Module.spec c.self.inside.driver) c.sel
     (c.hardware.ensures.stands c.self.inside.driver c.self.invariant.first c.self.invariant.deeds c.self.invariant.fits refl (subst (λ v. EndsBefore (Tick c.args.ticks) (expiry_of v.chip)) (sym c.self.view_is) c.requires.early) c.self.invariant.stands)
 
 pub returns-clause-goes : goal.returns-clause-goes
-returns-clause-goes g c = subst (λ v. (first : Chip) (h : List (Deed g.row.M-Call.Denot)) → Stands (g.M.Module.spec v.driver) first v.chip v.kept.frames h → Stands (g.M.Module.spec v.driver) first c.hardware.new.bus c.self.inside.stack.frames (h ++ Happens (Tick c.args.ticks) ∷ [])) c.self.view_is
+returns-clause-goes g c = subst (λ v. (first : Chip) (h : List (Transition g.row.M-Call.Denot)) → Stands (g.M.Module.spec v.driver) first v.chip v.kept.frames h → Stands (g.M.Module.spec v.driver) first c.hardware.new.bus c.self.inside.stack.frames (h ++ Happens (Tick c.args.ticks) ∷ [])) c.self.view_is
     (λ first h st. c.hardware.ensures.stands c.self.inside.driver first h c.self.invariant.fits refl (subst (λ v. EndsBefore (Tick c.args.ticks) (expiry_of v.chip)) (sym c.self.view_is) c.requires.early) st)

@@ -1,5 +1,5 @@
 use Rattle.std.proofs.Common.{◌∙◌}
-use Rattle.spi_driver.specs.laws.Told.{told_internal}
+use Rattle.spi_driver.specs.laws.words.WordsToState.{told_internal}
 use Rattle.spi_driver.proofs.driver.SpiDriver.internal.Goals as goal
 
 pub returns : goal.returns

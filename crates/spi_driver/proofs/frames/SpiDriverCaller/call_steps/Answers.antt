@@ -1,5 +1,5 @@
 use Rattle.std.proofs.Common.{◌≤◌, sym, subst, arith}
-use Rattle.spi_driver.specs.laws.Limits.{steps_few}
+use Rattle.spi_driver.specs.laws.bookkeeping.ModuleBounds.{steps_few}
 use Rattle.spi_driver.proofs.frames.SpiDriverCaller.call_steps.Goals as goal
 
 pub returns-clause-few : goal.returns-clause-few

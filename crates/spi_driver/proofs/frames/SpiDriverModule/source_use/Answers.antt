@@ -1,5 +1,5 @@
 use Rattle.std.proofs.Common.{◌∙◌}
-use Rattle.spi_driver.specs.laws.Joined.{joined_uses}
+use Rattle.spi_driver.specs.laws.bookkeeping.Joined.{joined_uses}
 use Rattle.spi_driver.proofs.frames.SpiDriverModule.source_use.Goals as goal
 
 pub returns-then-has_channel-clause-used : goal.returns-then-has_channel-clause-used

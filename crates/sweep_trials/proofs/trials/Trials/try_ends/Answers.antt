@@ -4,7 +4,7 @@ use Rattle.sweep_trials.proofs.trials.Trials.try_ends.Goals as goal
 pub returns-clause-before : goal.returns-clause-before
 returns-clause-before g c =
     let sweep = c.args.sweep.now in
-    at_on (g.R.Runs.is_seen sweep.bench.runs.now) sweep.bench.reactions.now sweep.parts.swept.now sweep.parts.behind.now c.args.opened.now _ _ 0 c.in_ok-before.before.outcome c.in_ok-behind.ensures.kept c.in_ok-before.ensures.tried
+    at_on (g.R.Runs.is_seen sweep.bench.runs.now) sweep.bench.following sweep.parts.swept.now sweep.parts.behind.now c.args.opened.now _ _ 0 c.in_ok-before.before.outcome c.in_ok-behind.ensures.kept c.in_ok-before.ensures.tried
 
 pub returns-clause-behind : goal.returns-clause-behind
 returns-clause-behind g c = rw c.count-count.ensures.is at c.in_ok-behind.ensures.tried

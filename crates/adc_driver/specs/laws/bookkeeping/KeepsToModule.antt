@@ -1,0 +1,212 @@
+-- The driver keeps to its module: registers, words and lines of others are nothing to it.
+-- From bookkeeping.Lawful.
+-- Used by bookkeeping.Joined.
+use Rattle.std.proofs.Common.{◌≡◌, ◌+◌, ◌*◌, ◌<◌, ◌≤◌, ◌^◌, ◌==◌, ◌&&◌, ◌||◌, [], ◌∷◌, ◌∙◌}
+use Rattle.adc_driver.specs.Terms
+use Terms.{Adc, Adc0, Adc1, adc_machine, adc_owns, AdcBody, AdcGround, AdcState, AdcTable, all_groups, all_small}
+use Terms.{AllSmall, and_first, and_second, ap, arith, Asked, bare_right, Bool, buffer_number, by_line, Call, Called}
+use Terms.{ConverterAbort, ConverterAck, ConverterDone, ConverterGo, ConverterList, ConverterResult, ConverterState}
+use Terms.{EnableClear, EnableSet, EnablesOthers, EnablesWithin, entering, false, FitsAdc, Group, group_of, handled_by}
+use Terms.{has_bit, has_lines, Init, input_count, inputs_of, is_converter, is_for_lines, is_in_buffer, is_line_of}
+use Terms.{is_own_word, is_result_word, is_some, is_trigger_line, is_unit_line, is_used, is_within, is_word, IsSome}
+use Terms.{KeepsTo, length, List, list_any, Load, LongBodies, may_name, may_write, module_of_line, module_of_register}
+use Terms.{module_of_unit, module_of_word, Move, names_there, NamesOthers, NamesWithin, nat_lt, nat_tests, None, not}
+use Terms.{not-unless, object_count, One, only, Option, owns_written, place_count, Read, refl, Reg, ResultBuffer}
+use Terms.{samples_of, services_driver, Some, Spi0, Spi1, Starts, Store, TriggerClear, TriggerFlags, TriggerSet, true}
+use Terms.{World, Write, WritesOthers, WritesWithin, ℕ}
+use Rattle.mcal_base.specs.{Layout.{start_of}, declared.layout.Array.TheVariants.{Round}}
+use Rattle.run_model.specs.Machine.{Aborts}
+use Rattle.step_runner.specs.Whose.{is_of}
+use Rattle.adc_machine.specs.declared.call.ResultBuffer.TheVariants.{Zero}
+use Rattle.adc_driver.specs.laws.bookkeeping.Lawful.{InitSweep, adc}
+use Rattle.mcal_base.specs.declared.moves.Unit as units
+
+abbrev IsOurs : ℕ → Type 0
+IsOurs k = is_of (only Adc) (module_of_word k) ≡ true
+
+own_register : (r : Reg) → is_converter r ≡ true → is_of (only Adc) (module_of_register r) ≡ true
+own_register (ConverterList u place) e = refl
+own_register (ConverterGo u) e = refl
+own_register (ConverterState u) e = refl
+own_register (ConverterResult u place) e = refl
+own_register (ConverterDone u) e = refl
+own_register (ConverterAbort u) e = refl
+own_register (ConverterAck u) e = refl
+own_register TriggerSet e = refl
+own_register TriggerClear e = refl
+own_register TriggerFlags e = refl
+own_register _ e = cc
+
+-- ---- words
+
+driver_word : (k : ℕ) → 40960 ≤ k → k < 49152 → IsOurs k
+driver_word k low high =
+    let first : nat_lt k 8192 ≡ false = grind (arith, nat_tests) in
+    let second : nat_lt k 16384 ≡ false = grind (arith, nat_tests) in
+    let third : nat_lt k 24576 ≡ false = grind (arith, nat_tests) in
+    let fourth : nat_lt k 32768 ≡ false = grind (arith, nat_tests) in
+    let fifth : nat_lt k 40960 ≡ false = grind (arith, nat_tests) in
+    let last : nat_lt k 49152 ≡ true = grind (arith, nat_tests) in
+    rw (first, second, third, fourth, fifth, last) refl
+
+users_place : (k : ℕ) → 73728 ≤ k → k < 139264 → IsOurs k
+users_place k low high =
+    let first : nat_lt k 8192 ≡ false = grind (arith, nat_tests) in
+    let second : nat_lt k 16384 ≡ false = grind (arith, nat_tests) in
+    let third : nat_lt k 24576 ≡ false = grind (arith, nat_tests) in
+    let fourth : nat_lt k 32768 ≡ false = grind (arith, nat_tests) in
+    let fifth : nat_lt k 40960 ≡ false = grind (arith, nat_tests) in
+    let sixth : nat_lt k 49152 ≡ false = grind (arith, nat_tests) in
+    let seventh : nat_lt k 57344 ≡ false = grind (arith, nat_tests) in
+    let eighth : nat_lt k 65536 ≡ false = grind (arith, nat_tests) in
+    let users : nat_lt k 73728 ≡ false = grind (arith, nat_tests) in
+    let last : nat_lt k 139264 ≡ true = grind (arith, nat_tests) in
+    rw (first, second, third, fourth, fifth, sixth, seventh, eighth, users, last) refl
+
+within_at : (from n k : ℕ) → is_within from n k ≡ true → (from ≤ k) × (k < from + n)
+within_at from n k e = (low (and_first (not (nat_lt k from)) (nat_lt k (from + n)) e), high (and_second (not (nat_lt k from)) (nat_lt k (from + n)) e))
+  where
+    low : not (nat_lt k from) ≡ true → from ≤ k
+    low i = grind (arith, nat_tests)
+
+    high : nat_lt k (from + n) ≡ true → k < from + n
+    high i = grind (arith, nat_tests)
+
+module _ (d : AdcTable) (fits : FitsAdc d) where
+  own_word : (k : ℕ) → is_own_word d k ≡ true → IsOurs k
+  own_word k e = let p = within_at 40960 (64 + 32 * object_count d + 6 * input_count d) k e in let few = fits.room in driver_word k p.0 (let high = p.1 in omega (arith, few, high))
+
+  -- a buffer has at most 2,048 places
+  places_few : (g : ℕ) → place_count d g ≤ 2048
+  places_few g = by (group_of d g) refl
+    where
+      product : (n m : ℕ) → n ≤ 32 → m ≤ 64 → n * m ≤ 2048
+      product n m few small = grind (arith)
+
+      by : (k : Option Group) → group_of d g ≡ k → length (inputs_of k) * samples_of k ≤ 2048
+      by None e = omega arith
+      by (Some k) e = let fit = fits.groups g k e in product (length k.inputs) k.samples fit.few fit.places.1
+
+  number_few : (b : ResultBuffer) → buffer_number b ≤ 1
+  number_few Zero = omega arith
+  number_few One = omega arith
+
+  in_buffer : (k g : ℕ) (b : ResultBuffer) → g < 16 → is_in_buffer d k g b ≡ true → IsOurs k
+  in_buffer k g b lt e =
+      let p = within_at (start_of (Round g (buffer_number b))) (place_count d g) k e in
+      let low = p.0 in
+      let high = p.1 in
+      let few = places_few g in
+      let one = number_few b in
+      users_place k (omega (arith, low)) (omega (arith, high, few, one, lt))
+
+  in_buffers : (k : ℕ) (gs : List ℕ) → AllSmall gs → list_any (λ g. is_in_buffer d k g Zero || is_in_buffer d k g One) gs ≡ true → IsOurs k
+  in_buffers k [] small e = absurd (cc)
+  in_buffers k (g ∷ gs) small e = by (is_in_buffer d k g Zero) refl (is_in_buffer d k g One) refl e (in_buffers k gs small.1)
+    where
+      others : Bool
+      others = list_any (λ g. is_in_buffer d k g Zero || is_in_buffer d k g One) gs
+
+      by : (a : Bool) → is_in_buffer d k g Zero ≡ a → (b : Bool) → is_in_buffer d k g One ≡ b → (a || b) || others ≡ true → (others ≡ true → IsOurs k) → IsOurs k
+      by true f b h there rest = in_buffer k g Zero small.0 f
+      by false f true h there rest = in_buffer k g One small.0 h
+      by false f false h there rest = rest there
+
+  own_place : (k : ℕ) → is_word d k ≡ true → IsOurs k
+  own_place k e = by (is_own_word d k) (is_result_word d k) e (own_word k) (in_buffers k all_groups all_small)
+    where
+      by : (a b : Bool) → a || b ≡ true → (a ≡ true → IsOurs k) → (b ≡ true → IsOurs k) → IsOurs k
+      by true b e f g = f refl
+      by false b e f g = g e
+
+  -- ---- lines
+
+  own_line : (l : ℕ) → is_unit_line l || is_trigger_line l ≡ true → is_of (only Adc) (module_of_line l) ≡ true
+  own_line = by_line (λ l. is_of (only Adc) (module_of_line l) ≡ true) refl refl refl refl refl refl
+
+  own_bit : (v l : ℕ) → is_for_lines v ≡ true → has_bit v l ≡ true → is_of (only Adc) (module_of_line l) ≡ true
+  own_bit v l e on = by (is_unit_line l || is_trigger_line l) refl
+    where
+      by : (q : Bool) → is_unit_line l || is_trigger_line l ≡ q → is_of (only Adc) (module_of_line l) ≡ true
+      by true i = own_line l i
+      by false i = let off = (bare_right d fits).enables (Called Init) v l (ap (λ q. q && names_there (Write EnableSet v)) e) i in absurd (cc)
+
+  enables : (v : ℕ) → is_for_lines v ≡ true → EnablesWithin (only Adc) v
+  enables v e = record { fits = small v e; lines = λ l on. own_bit v l e on }
+    where
+      small : (v : ℕ) → is_for_lines v ≡ true → v < 2 ^ 32
+      small v e = let first = and_second (not (v == 0)) (nat_lt v (2 ^ 32)) (and_first _ _ e) in below v first
+        where
+          below : (v : ℕ) → nat_lt v (2 ^ 32) ≡ true → v < 2 ^ 32
+          below v f = grind (arith, nat_tests)
+
+  enables_none : (v : ℕ) → EnablesOthers (only Adc) v → has_lines v ≡ false
+  enables_none v h =
+      ap (λ q. (q || (has_bit v 25 || (has_bit v 28 || (has_bit v 29 || (has_bit v 30 || (has_bit v 31 || false)))))) || not (nat_lt v (2 ^ 32))) (h.lines 24 refl)
+      ∙ ap (λ q. (q || (has_bit v 28 || (has_bit v 29 || (has_bit v 30 || (has_bit v 31 || false))))) || not (nat_lt v (2 ^ 32))) (h.lines 25 refl)
+      ∙ ap (λ q. (q || (has_bit v 29 || (has_bit v 30 || (has_bit v 31 || false)))) || not (nat_lt v (2 ^ 32))) (h.lines 28 refl)
+      ∙ ap (λ q. (q || (has_bit v 30 || (has_bit v 31 || false))) || not (nat_lt v (2 ^ 32))) (h.lines 29 refl)
+      ∙ ap (λ q. (q || (has_bit v 31 || false)) || not (nat_lt v (2 ^ 32))) (h.lines 30 refl)
+      ∙ ap (λ q. (q || false) || not (nat_lt v (2 ^ 32))) (h.lines 31 refl)
+      ∙ small v h.fits
+    where
+      small : (v : ℕ) → v < 2 ^ 32 → not (nat_lt v (2 ^ 32)) ≡ false
+      small v lt = grind (arith, nat_tests)
+
+  -- ---- moves
+
+  writes : (r : Reg) (v : ℕ) → may_write r v ≡ true → WritesWithin (only Adc) r v
+  writes EnableSet v e = enables v e
+  writes EnableClear v e = enables v e
+  writes r v e = own_register r e
+
+  within : (made : Move) → may_name d made ≡ true → NamesWithin (only Adc) made
+  within (Read r) e = own_register r e
+  within (Write r v) e = writes r v e
+  within (Load k) e = own_place k e
+  within (Store k v) e = own_place k e
+  within _ e = absurd (cc)
+
+  others_write : (r : Reg) (v : ℕ) → WritesOthers (only Adc) r v → owns_written r v ≡ false
+  others_write EnableSet v h = enables_none v h
+  others_write EnableClear v h = enables_none v h
+  others_write r v h = not-unless (is_converter r) (is_of (only Adc) (module_of_register r)) (own_register r) h
+
+  others : (made : Move) → NamesOthers (only Adc) made → adc_owns d made ≡ false
+  others (Read r) h = not-unless (is_converter r) (is_of (only Adc) (module_of_register r)) (own_register r) h
+  others (Write r v) h = others_write r v h
+  others (Load k) h = not-unless (is_word d k) (is_of (only Adc) (module_of_word k)) (own_place k) h
+  others (Store k v) h = not-unless (is_word d k) (is_of (only Adc) (module_of_word k)) (own_place k) h
+  others _ h = refl
+
+  -- ---- handlers and units
+
+  line_of : (l : ℕ) → is_some (entering {Asked = Asked} (handled_by d l (is_used d l))) ≡ true → is_line_of (only Adc) l ≡ true
+  line_of l h = by (is_used d l) refl h
+    where
+      by : (q : Bool) → is_used d l ≡ q → is_some (entering {Asked = Asked} (handled_by d l q)) ≡ true → is_line_of (only Adc) l ≡ true
+      by true e i = own_line l ((bare_right d fits).used_lines l e)
+      by false e i = absurd (cc)
+
+  starts : (w : World) (s : AdcState) (u : units.Unit) (made_by : Option Call) (r : ℕ) → IsSome ((adc_machine d).happens w s (Starts u made_by r)) → only Adc (module_of_unit u) ≡ true
+  starts w s Adc0 by r some = refl
+  starts w s Adc1 by r some = refl
+  starts w s Spi0 by r some = cc
+  starts w s Spi1 by r some = cc
+
+  aborts : (w : World) (s : AdcState) (u : units.Unit) → IsSome ((adc_machine d).happens w s (Aborts u)) → only Adc (module_of_unit u) ≡ true
+  aborts w s Adc0 some = refl
+  aborts w s Adc1 some = refl
+  aborts w s Spi0 some = cc
+  aborts w s Spi1 some = cc
+
+  -- it is the converters' alone
+  pub keeps_by : (fuel room : AdcBody → ℕ) (inits : LongBodies (AdcGround d) InitSweep) → KeepsTo (only Adc) (services_driver (adc d fuel room inits))
+  keeps_by fuel room inits = record {
+    may = λ o made h. within made (and_first (may_name d made) (names_there made) h);
+    owns = λ o made h. others made h;
+    handlers = λ l h. line_of l h;
+    polls = λ w s c. refl;
+    starts = starts;
+    aborts = aborts;
+  }

@@ -1,0 +1,3 @@
+pub mod ConfigurationFits
+pub mod KeptWords
+pub mod WordsToState

@@ -1,0 +1,316 @@
+-- A value of an aborted round is stored in a word of its group that keeps it: all else agrees as before.
+-- Used by services.KeepCopySteps, services.AbortCountSteps, bookkeeping.KeptReservations.
+use Rattle.std.proofs.Common.{◌≡◌, ◌≢◌, ◌+◌, ◌*◌, ◌/◌, ◌%◌, ◌<◌, ◌≤◌, ◌&&◌, ◌||◌, ◌==◌, [], ◌∷◌, ◌∙◌, ◌⊎◌}
+use Rattle.std.proofs.Common.{if◌then◌else◌}
+use Rattle.adc_driver.specs.Terms
+use Terms.{AdcState, AdcTable, Agrees, AllRight, and_second, Answer, ap, arith, Bank, bank_below, bank_number}
+use Terms.{bank_word, Bool, Call, Chip, chip_after, claim_right, Claims, claims_on, Clears, Copies, eq_self, false}
+use Terms.{Fills, FitsAdc, Full, group_of, group_word, GroupAgrees, has_turn, HasWords, HeldRight, holds-agree, inl}
+use Terms.{inputs_of, inr, is_on, is_some, KeepsRight, kept_in, kept_within, kept_word, kept_words, length, length-set}
+use Terms.{listed_agree, nat_tests, None, not, on_there, Option, or_parts, order_of, order_own, Origin, own-control}
+use Terms.{own-word, own_of, ranges_apart, refl, Reservation, Reservations, ReservedBy, result_word, ResultBuffer}
+use Terms.{Round, round_at, rounds_of, same_or_other, slice_get, Some, some_hold, stands-agree, stands_words}
+use Terms.{start_from, start_of, STATE, Store, stored_other, stored_same, subst, sym, trio_of, trio_place, true}
+use Terms.{unit_is, unit_of, unit_small, unit_within, UnitAgrees, value_within, values_of, Whole, word_number, word_of}
+use Terms.{word_there, World, Yields, ℕ}
+use Rattle.adc_groups.specs.Refinement.{Starts, Keeps, Reads}
+use Rattle.adc_machine.specs.declared.call.ResultBuffer.TheVariants as buffers
+use Rattle.adc_groups.specs.declared.words.Word.TheVariants as words
+
+-- what a frame holds that keeps values of an aborted round
+abbrev pub keeper : Origin Call → Option Answer → (unit : ℕ) → Reservation → Reservations → Reservations
+keeper o a u z below = record { by = o; what = z; acted = a } ∷ record { by = o; what = Starts u; acted = a } ∷ below
+
+-- ---- which words are apart
+
+order_within : (u k : ℕ) → order_own (order_of u) k ≡ true → (STATE + 10 + 8 * u ≤ k) × (k ≤ STATE + 12 + 8 * u)
+order_within u k own = (grind (arith, nat_tests), grind (arith, nat_tests))
+
+module _ (d : AdcTable) (fits : FitsAdc d) (g m x : ℕ) (here : is_some (group_of d g) ≡ true) (lt : m < length (inputs_of (group_of d g))) (chip : Chip) where
+  abbrev at : ℕ
+  at = kept_word (rounds_of d g) m
+
+  abbrev pub kept_stored : Chip
+  kept_stored = chip_after chip (Store (kept_word (rounds_of d g) m) x) 0
+
+  place : group_word d g (32 + 3 * length (inputs_of (group_of d g)) + m) ≡ at
+  place = omega arith
+
+  low : 64 ≤ start_of (group_of d g)
+  low = (start_from d fits g here).0
+
+  pub word_stays : (k : ℕ) → k ≢ kept_word (rounds_of d g) m → word_of kept_stored k ≡ word_of chip k
+  word_stays k ne = stored_other chip at x 0 k ne
+
+  other_apart : (k j : ℕ) → is_some (group_of d k) ≡ true → k ≢ g → j < 32 + 6 * length (inputs_of (group_of d k)) → group_word d k j ≢ at
+  other_apart k j there ne less e = ranges_apart d fits g k (32 + 3 * length (inputs_of (group_of d g)) + m) j here there (λ i. ne (sym i)) (omega (arith, lt)) less (e ∙ sym place)
+
+  own_apart : (j : ℕ) → j < 32 + 3 * length (inputs_of (group_of d g)) → group_word d g j ≢ at
+  own_apart j less e = omega (arith, e, less)
+
+  range_apart : (k j : ℕ) → is_some (group_of d k) ≡ true → j < 32 + 3 * length (inputs_of (group_of d k)) → group_word d k j ≢ at
+  range_apart k j there less = by (same_or_other k g)
+    where
+      by : (k ≡ g) ⊎ (k ≢ g) → group_word d k j ≢ at
+      by (inl e) = subst (λ n. group_word d n j ≢ at) (sym e) (own_apart j (subst (λ n. j < 32 + 3 * length (inputs_of (group_of d n))) e less))
+      by (inr ne) = other_apart k j there ne (omega (arith, less))
+
+  pub low_kept : (k j : ℕ) → is_some (group_of d k) ≡ true → j < 32 → word_of kept_stored (group_word d k j) ≡ word_of chip (group_word d k j)
+  low_kept k j there less = word_stays (group_word d k j) (range_apart k j there (omega (arith, less)))
+
+  pub trio_kept : (k j : ℕ) → is_some (group_of d k) ≡ true → own_of (trio_of (rounds_of d k)) j ≡ true → word_of kept_stored j ≡ word_of chip j
+  trio_kept k j there own =
+      let is = trio_place d fits k j own in
+      word_stays j (λ e. range_apart k is.0 there is.3 (sym is.1 ∙ e))
+
+  pub control_kept : (k : ℕ) → is_some (group_of d k) ≡ true → word_of kept_stored (trio_of (rounds_of d k)).control ≡ word_of chip (trio_of (rounds_of d k)).control
+  control_kept k there = trio_kept k (trio_of (rounds_of d k)).control there (own-control (trio_of (rounds_of d k)))
+
+  pub bank_kept : (k : ℕ) (n : Bank) (j : ℕ) → is_some (group_of d k) ≡ true → j < length (inputs_of (group_of d k)) → word_of kept_stored (bank_word (rounds_of d k) n j) ≡ word_of chip (bank_word (rounds_of d k) n j)
+  bank_kept k n j there less = trio_kept k (bank_word (rounds_of d k) n j) there (own-word (trio_of (rounds_of d k)) (bank_number n) j (bank_below d fits n) less)
+
+  pub unit_kept : (j : ℕ) → j < 64 → word_of kept_stored (STATE + j) ≡ word_of chip (STATE + j)
+  unit_kept j less = word_stays (STATE + j) (λ e. (let l = low in omega (arith, e, l, less)))
+
+  pub claim_kept : (u : ℕ) → u < 2 → word_of kept_stored (word_number d (words.Claim u)) ≡ word_of chip (word_number d (words.Claim u))
+  claim_kept u few = word_stays (word_number d (words.Claim u)) (λ e. (let l = low in omega (arith, e, l, few)))
+
+  pub running_kept : (u : ℕ) → u < 2 → word_of kept_stored (word_number d (words.Running u)) ≡ word_of chip (word_number d (words.Running u))
+  running_kept u few = word_stays (word_number d (words.Running u)) (λ e. (let l = low in omega (arith, e, l, few)))
+
+  pub order_kept : (u k : ℕ) → u < 2 → order_own (order_of u) k ≡ true → word_of kept_stored k ≡ word_of chip k
+  order_kept u k few own = word_stays k (λ e. (let l = low in let both = order_within u k own in let high = both.1 in omega (arith, e, l, high, few)))
+
+  pub result_kept : (k : ℕ) (n : ResultBuffer) (p : ℕ) → word_of kept_stored (result_word k n p) ≡ word_of chip (result_word k n p)
+  result_kept k n p = word_stays (result_word k n p) (λ e. far n e)
+    where
+      far : (n : ResultBuffer) → result_word k n p ≢ at
+      far buffers.Zero e = let high = (start_from d fits g here).1 in omega (arith, e, high, lt)
+      far buffers.One e = let high = (start_from d fits g here).1 in omega (arith, e, high, lt)
+
+  -- other values that are kept
+  pub other_kept : (k j : ℕ) → is_some (group_of d k) ≡ true → k ≢ g → j < length (inputs_of (group_of d k)) → word_of kept_stored (kept_word (rounds_of d k) j) ≡ word_of chip (kept_word (rounds_of d k) j)
+  other_kept k j there ne less =
+      let is : group_word d k (32 + 3 * length (inputs_of (group_of d k)) + j) ≡ kept_word (rounds_of d k) j = omega arith in
+      word_stays (kept_word (rounds_of d k) j) (λ e. other_apart k (32 + 3 * length (inputs_of (group_of d k)) + j) there ne (omega (arith, less)) (is ∙ e))
+
+  pub value_kept : (j : ℕ) → j ≢ m → word_of kept_stored (kept_word (rounds_of d g) j) ≡ word_of chip (kept_word (rounds_of d g) j)
+  value_kept j ne = word_stays (kept_word (rounds_of d g) j) (λ e. ne (omega (arith, e)))
+
+  pub value_stored : HasWords chip → word_of kept_stored (kept_word (rounds_of d g) m) ≡ x
+  value_stored whole = stored_same chip at x 0 (word_there d fits at (kept_words d fits g m here lt)) whole
+
+-- ---- what frames hold that claim nothing of the unit
+
+module _ (d : AdcTable) (fits : FitsAdc d) (u g m x : ℕ) (here : is_on u (group_of d g) ≡ true) (lt : m < length (inputs_of (group_of d g))) (chip : Chip) (w : World) (s : AdcState) (held : Reservations) (h : Agrees d held chip w s) (on : s.initialised ≡ true) where
+  abbrev b : Chip
+  b = chip_after chip (Store (kept_word (rounds_of d g) m) x) 0
+
+  there : is_some (group_of d g) ≡ true
+  there = on_there u (group_of d g) here
+
+  off_group : (v k : ℕ) → is_on v (group_of d k) ≡ true → (u == v) ≡ false → k ≢ g
+  off_group v k at off e =
+      let unit : v ≡ u = sym (unit_is d fits v (group_of d k) at) ∙ (ap (λ n. unit_of (group_of d n)) e ∙ unit_is d fits u (group_of d g) here) in
+      absurd (let same : (u == v) ≡ true = ap (λ n. u == n) unit ∙ eq_self u in cc)
+
+  few_values : (v : ℕ) (r : Round) (k : ℕ) → round_at s v ≡ Some r → r.group ≡ k → (j n : ℕ) → slice_get (values_of w (group_of d k) r) j ≡ Some n → j < length (inputs_of (group_of d k))
+  few_values v r k e same j n is = value_within w (group_of d k) r j n (subst (λ z. length r.request.kept < length (inputs_of (group_of d z))) same (h.sound.runs v r e).4.2) is
+
+  claim : (v k : ℕ) → is_on v (group_of d k) ≡ true → word_of b (word_number d (words.Claim v)) ≡ word_of chip (word_number d (words.Claim v))
+  claim v k at = claim_kept d fits g m x there lt chip v (unit_within d fits v k at)
+
+  bank : (k : ℕ) (n : Bank) (j : ℕ) → is_some (group_of d k) ≡ true → j < length (inputs_of (group_of d k)) → word_of b (bank_word (rounds_of d k) n j) ≡ word_of chip (bank_word (rounds_of d k) n j)
+  bank = bank_kept d fits g m x there lt chip
+
+  values : (v k : ℕ) → is_on v (group_of d k) ≡ true → (u == v) ≡ false → (j : ℕ) → j < length (inputs_of (group_of d k)) → word_of b (kept_word (rounds_of d k) j) ≡ word_of chip (kept_word (rounds_of d k) j)
+  values v k at off j less = other_kept d fits g m x there lt chip k j (on_there v (group_of d k) at) (off_group v k at off) less
+
+  held_same : (y : ReservedBy Call Reservation) (z : Reservation) → claims_on u z ≡ false → HeldRight d chip w s y z → HeldRight d b w s y z
+  held_same y (Clears n) free r = absurd (let f = r.1 in let e = on in cc)
+  held_same y (Starts v) free r = r
+  held_same y (Yields v) free r = r
+  held_same y (Claims v) free r = r
+  held_same y (Fills v k e n j p) free r = (r.0, r.1, r.2, (let q = r.3 in record { same = q.same; filled = λ z c i o less is. bank k n c (on_there v (group_of d k) r.2) (few_values v z k o (q.same z o).0 c i is) ∙ q.filled z c i o less is; next = q.next }))
+  held_same y (Full v k n) free r = (r.0, r.1, r.2, (let q = r.3 in record { same = q.same; filled = λ z c i o is. bank k n c (on_there v (group_of d k) r.2) (few_values v z k o (q.same z o).0 c i is) ∙ q.filled z c i o is }))
+  held_same y (Whole v k n) free r = (
+    r.0,
+    r.1,
+    r.2,
+    λ f. let q = r.3 (sym (claim v k r.1) ∙ f) in record {
+      waits = q.waits;
+      count = q.count;
+      kept = λ j c is. values v k r.1 free j (kept_within d w s h.sound k j c is) ∙ q.kept j c is;
+    },
+  )
+  held_same y (Keeps v k e n j p) free r = (
+    r.0,
+    r.1,
+    r.2,
+    (λ f. let q = r.3 (sym (claim v k r.1) ∙ f) in record {
+      waits = q.waits;
+      count = q.count;
+      told = q.told;
+      word = low_kept d fits g m x there lt chip k 6 (on_there v (group_of d k) r.1) (omega arith) ∙ q.word;
+      kept = λ c i less is. values v k r.1 free c (kept_within d w s h.sound k c i is) ∙ q.kept c i less is;
+      results = q.results;
+      next = q.next;
+    }),
+    λ f. r.4 (λ i. f (claim v k r.1 ∙ i)),
+  )
+  held_same y (Copies n c j p) free r = (
+    r.0,
+    r.1,
+    r.2,
+    (let q = r.3 in record {
+      newest = ap (λ z. z % 4) (control_kept d fits g m x there lt chip c.group r.2) ∙ q.newest;
+      values = λ i less le. bank c.group n i r.2 less ∙ q.values i less le;
+      next = q.next;
+    }),
+  )
+  held_same y (Reads k n vs) free r = (
+    r.0,
+    r.1,
+    r.2,
+    (let q = r.3 in record {
+      whole = q.whole;
+      answered = q.answered;
+      pinned = ap (λ z. z / 4) (control_kept d fits g m x there lt chip k r.2) ∙ q.pinned;
+      bank = (q.bank.0, listed_agree (word_of b) (word_of chip) (bank_word (rounds_of d k) n 0) (length q.whole) (λ i less. word i (let e = q.bank.0 in omega (arith, less, e))) ∙ q.bank.1);
+      front = q.front;
+    }),
+  )
+    where
+      word : (i : ℕ) → i < length (inputs_of (group_of d k)) → word_of b (bank_word (rounds_of d k) n 0 + i) ≡ word_of chip (bank_word (rounds_of d k) n 0 + i)
+      word i less = let same : bank_word (rounds_of d k) n i ≡ bank_word (rounds_of d k) n 0 + i = omega arith in subst (λ z. word_of b z ≡ word_of chip z) same (bank k n i r.2 less)
+
+  pub all_same : (hs : Reservations) → some_hold (claims_on u) hs ≡ false → AllRight d chip w s hs → AllRight d (chip_after chip (Store (kept_word (rounds_of d g) m) x) 0) w s hs
+  all_same [] free r = tt
+  all_same (y ∷ ys) free r = let k = or_parts (claims_on u y.what) (some_hold (claims_on u) ys) free in (held_same y y.what k.0 r.0, all_same ys k.1 r.1)
+
+-- ---- all of it
+
+module _ (d : AdcTable) (fits : FitsAdc d) (below : Reservations) (chip : Chip) (w : World) (s : AdcState) (o : Origin Call) (a : Option Answer) (u g e : ℕ) (n : Option ℕ) (i x : ℕ) (h : Agrees d (keeper o a u (Keeps u g e n i (Some x)) below) chip w s) (lt : e + i < length (inputs_of (group_of d g))) where
+  abbrev claimed : ℕ
+  claimed = word_of chip (word_number d (words.Claim u))
+
+  abbrev after : Reservations
+  after = keeper o a u (Keeps u g e n (i + 1) None) below
+
+  abbrev c : Chip
+  c = chip_after chip (Store (kept_word (rounds_of d g) (e + i)) x) 0
+
+  whole : HasWords chip
+  whole = h.outside.all.words
+
+  on : s.initialised ≡ true
+  on = h.right.0.0
+
+  on_unit : is_on u (group_of d g) ≡ true
+  on_unit = h.right.0.1
+
+  some : is_some (group_of d g) ≡ true
+  some = on_there u (group_of d g) on_unit
+
+  few : u < 2
+  few = unit_within d fits u g on_unit
+
+  claim_same : (v : ℕ) → v < 2 → word_of c (word_number d (words.Claim v)) ≡ word_of chip (word_number d (words.Claim v))
+  claim_same = claim_kept d fits g (e + i) x some lt chip
+
+  none_below : some_hold (claims_on u) below ≡ false
+  none_below = off (some_hold (claims_on u) below) (and_second ((claimed == 2 + g) || (claimed == 1)) (not (some_hold (claims_on u) below)) top)
+    where
+      top : ((claimed == 2 + g) || (claimed == 1)) && not (some_hold (claims_on u) below) ≡ true
+      top = sym (ap (λ q. if q then ((claimed == 2 + g) || (claimed == 1)) && not (some_hold (claims_on u) below) else claim_right below u claimed) (eq_self u)) ∙ (h.settled on).claims u few
+
+      off : (q : Bool) → not q ≡ true → q ≡ false
+      off true f = absurd (cc)
+      off false f = refl
+
+  kept_by_now : KeepsRight d chip s u g e n i (Some x) → (j v : ℕ) → j < e + (i + 1) → slice_get (kept_in d s g) j ≡ Some v → word_of c (kept_word (rounds_of d g) j) ≡ v
+  kept_by_now q j v less is = by (same_or_other j (e + i))
+    where
+      by : (j ≡ e + i) ⊎ (j ≢ e + i) → word_of c (kept_word (rounds_of d g) j) ≡ v
+      by (inl f) =
+          subst (λ k. word_of c (kept_word (rounds_of d g) k) ≡ v) (sym f)
+          (value_stored d fits g (e + i) x some lt chip whole ∙ (let both : Some x ≡ Some v = sym (q.next x refl) ∙ (ap (λ k. slice_get (kept_in d s g) k) (sym f) ∙ is) in cc))
+      by (inr ne) = value_kept d fits g (e + i) x some lt chip j ne ∙ q.kept j v (omega (arith, less, ne)) is
+
+  top_right : HeldRight d c w s (record { by = o; what = Keeps u g e n (i + 1) None; acted = a }) (Keeps u g e n (i + 1) None)
+  top_right = (
+    on,
+    on_unit,
+    h.right.0.2,
+    (λ f. let q = h.right.0.3 (sym (claim_same u few) ∙ f) in record {
+      waits = q.waits;
+      count = q.count;
+      told = q.told;
+      word = low_kept d fits g (e + i) x some lt chip g 6 some (omega arith) ∙ q.word;
+      kept = kept_by_now q;
+      results = q.results;
+      next = λ v k. absurd (cc);
+    }),
+    λ f. h.right.0.4 (λ k. f (claim_same u few ∙ k)),
+  )
+
+  -- where the claim was lost, a new turn of the group has kept nothing
+  group_same : (k : ℕ) → is_some (group_of d k) ≡ true → GroupAgrees d (word_of c) s k
+  group_same k there =
+      let q = (h.settled on).groups k there in record {
+        phase = low k 0 there (omega arith) ∙ q.phase;
+        chosen = low k 1 there (omega arith) ∙ q.chosen;
+        notified = low k 2 there (omega arith) ∙ q.notified;
+        turn = low k 3 there (omega arith) ∙ q.turn;
+        count = λ f. low k 4 there (omega arith) ∙ q.count f;
+        place = λ f. low k 5 there (omega arith) ∙ q.place f;
+        kept = λ f ne. low k 6 there (omega arith) ∙ q.kept f (claim_was k there ne);
+        values = λ f ne j v is. values_by k there (same_or_other k g) (claim_was k there ne) f j v is;
+      }
+    where
+      low : (k j : ℕ) → is_some (group_of d k) ≡ true → j < 32 → word_of c (group_word d k j) ≡ word_of chip (group_word d k j)
+      low = low_kept d fits g (e + i) x some lt chip
+
+      claim_was : (k : ℕ) → is_some (group_of d k) ≡ true → word_of c (word_number d (words.Claim (unit_of (group_of d k)))) ≢ 2 + k → word_of chip (word_number d (words.Claim (unit_of (group_of d k)))) ≢ 2 + k
+      claim_was k there ne f = ne (claim_same (unit_of (group_of d k)) (unit_small d fits k there) ∙ f)
+
+      values_by : (k : ℕ) → is_some (group_of d k) ≡ true → (k ≡ g) ⊎ (k ≢ g) → word_of chip (word_number d (words.Claim (unit_of (group_of d k)))) ≢ 2 + k → has_turn s k ≡ true → (j v : ℕ) → slice_get (kept_in d s k) j ≡ Some v → word_of c (kept_word (rounds_of d k) j) ≡ v
+      values_by k there (inl f) ne turn j v is =
+          let lost : kept_in d s g ≡ [] = h.right.0.4 (λ q. ne (subst (λ z. word_of chip (word_number d (words.Claim (unit_of (group_of d z)))) ≡ 2 + z) (sym f) (ap (λ z. word_of chip (word_number d (words.Claim z))) (unit_is d fits u (group_of d g) on_unit) ∙ q))) in
+          absurd (let none : None ≡ Some v = sym (ap (λ xs. slice_get xs j) lost) ∙ (ap (λ z. slice_get (kept_in d s z) j) (sym f) ∙ is) in cc)
+      values_by k there (inr off) ne turn j v is = other_kept d fits g (e + i) x some lt chip k j there off (kept_within d w s h.sound k j v is) ∙ ((h.settled on).groups k there).values turn ne j v is
+
+  unit_same : (v : ℕ) → v < 2 → UnitAgrees d (word_of c) s v
+  unit_same v less =
+      let q = (h.settled on).units v less in record {
+        running = running_kept d fits g (e + i) x some lt chip v less ∙ q.running;
+        order = (q.order.0, holds-agree (order_of v) (word_of chip) (word_of c) q.order.0 (λ k own. sym (order_kept d fits g (e + i) x some lt chip v k less own)) q.order.1, q.order.2);
+      }
+
+  pub kept_agrees : Agrees d (keeper o a u (Keeps u g e n (i + 1) None) below) (chip_after chip (Store (kept_word (rounds_of d g) (e + i)) x) 0) w s
+  kept_agrees = record {
+    sound = h.sound;
+    outside = stands_words chip c w refl (length-set chip.words (kept_word (rounds_of d g) (e + i)) x ∙ whole) h.outside;
+    state = unit_kept d fits g (e + i) x some lt chip 0 (omega arith) ∙ h.state;
+    right = (top_right, (h.right.1.0, all_same d fits u g (e + i) x on_unit lt chip w s (keeper o a u (Keeps u g e n i (Some x)) below) h on below none_below h.right.1.1));
+    banks = λ k there. (let q = h.banks k there in record {
+      banks = q.banks;
+      stands = stands-agree (trio_of (rounds_of d k)) (word_of chip) (word_of c) q.banks (λ j own. sym (trio_kept d fits g (e + i) x some lt chip k j there own)) q.stands;
+      newest = q.newest;
+      put = q.put;
+      take = q.take;
+    });
+    block = h.block;
+    rounds = h.rounds;
+    triggers = h.triggers;
+    places = λ k b p less free. result_kept d fits g (e + i) x some lt chip k b p ∙ h.places k b p less free;
+    backed = (h.backed.0, h.backed.1);
+    left = λ off. absurd (let on = h.right.0.0 in cc);
+    settled = λ f. (let q = h.settled f in record {
+      groups = group_same;
+      units = unit_same;
+      claims = λ v less. ap (λ z. claim_right after v z) (claim_same v less) ∙ q.claims v less;
+      lines = q.lines;
+      promised = λ v. (let z = q.promised v in record { starts = z.starts; yields = z.yields });
+    });
+  }

@@ -1,0 +1,194 @@
+-- The places of a frame's body: what each does next, and what a step makes of it.
+-- From services.Decisions, services.WriteBatchSteps, services.ReadSteps, words.WindowWords.
+-- Used by services.SeekRight, services.LookRight, services.FirstWrites, services.CallSteps, body/rt and 16 more.
+use Rattle.std.specs.Prelude.{ℕ, ◌+◌, ◌-◌, ◌%◌, nat_lt, Bool, true, false, if◌then◌else◌, Option, Some, None, List, [], ◌∷◌, ◌++◌, length, slice_index_or}
+use Rattle.mcal_base.specs.declared.answer.Answer.{Answer}
+use Rattle.mcal_base.specs.declared.moves.Event.{Event}
+use Rattle.mcal_base.specs.declared.moves.Move.{Move}
+use Rattle.mcal_base.specs.declared.moves.Move.TheVariants as moves
+use Rattle.mcal_base.specs.declared.notice.NoticeKind.TheVariants.{AdcNotification}
+use Rattle.mcal_base.specs.declared.register.Reg.{Reg}
+use Rattle.mcal_base.specs.declared.register.Reg.TheVariants.{ConverterState, ConverterDone, ConverterAbort, TriggerFlags}
+use Rattle.run_model.specs.Machine.{no_answer}
+use Rattle.service_outline.specs.Done.{goes, ends}
+use Rattle.service_outline.specs.declared.done.BodyTaken.{BodyTaken}
+use Rattle.service_outline.specs.declared.done.Epilogue.TheVariants.{Nothing}
+use Rattle.word_shapes.specs.PriorityQueue.{front_move, front_left, front_gave}
+use Rattle.word_shapes.specs.TripleBuffer.{put_move, put_left, put_gave, take_move, take_left, take_start}
+use Rattle.word_shapes.specs.declared.choosing.Front.{Front}
+use Rattle.word_shapes.specs.declared.put.Put.{Put}
+use Rattle.word_shapes.specs.declared.take.Take.{Take}
+use Rattle.word_shapes.specs.declared.take.TakePart.TheVariants as taken
+use Rattle.adc_stream.specs.Copying.{copying, copy_move, copy_after}
+use Rattle.adc_stream.specs.Rounds.{bank_of, trio_of}
+use Rattle.adc_stream.specs.Stream.{limited}
+use Rattle.adc_stream.specs.declared.copying.Copied.TheVariants as copied
+use Rattle.adc_stream.specs.declared.copying.Copying.{Copying}
+use Rattle.adc_machine.specs.Groups.{inputs_of}
+use Rattle.adc_machine.specs.Table.{group_of}
+use Rattle.adc_groups.specs.Stored.{rounds_of, word_number}
+use Rattle.adc_groups.specs.declared.body.AdcBody.{AdcBody}
+use Rattle.adc_groups.specs.declared.body.Decided.{Decided}
+use Rattle.adc_groups.specs.declared.body.Decided.TheVariants as decisions
+use Rattle.adc_groups.specs.declared.body.Place.{Place}
+use Rattle.adc_groups.specs.declared.body.Place.TheVariants.{Flag, Looks, Surveys, Seeks, Chooses, Pins, Reads, Aborts, Makes, Quits, Opens, Out}
+use Rattle.adc_machine.specs.declared.table.AdcTable.{AdcTable}
+use Rattle.adc_groups.specs.declared.making.WriteBatch.{WriteBatch}
+use Rattle.adc_groups.specs.declared.making.Continuation.{Continuation}
+use Rattle.adc_groups.specs.declared.making.Continuation.TheVariants as thens
+use Rattle.adc_groups.specs.declared.outside.Copied.{Copied}
+use Rattle.adc_groups.specs.declared.outside.Copied.TheVariants.{Serves, Tells, Keeps}
+use Rattle.adc_groups.specs.declared.outside.Outside.{Outside}
+use Rattle.adc_groups.specs.declared.outside.Outside.TheVariants as outsides
+use Rattle.adc_groups.specs.declared.outside.Suspended.{Suspended}
+use Rattle.adc_groups.specs.declared.window.Window.{Window}
+use Rattle.adc_groups.specs.declared.window.Window.TheVariants as windows
+use Rattle.adc_groups.specs.declared.words.Phase.{Phase}
+use Rattle.adc_groups.specs.declared.words.TheConstants.{STATE}
+use Rattle.adc_groups.specs.declared.words.Word.{Word}
+use Rattle.adc_groups.specs.declared.words.Word.TheVariants as words
+use Rattle.adc_groups.specs.laws.services.Decisions.{entered, decided, flagged, surveyed, sought, chosen, pin, reading, aborted, copies_or}
+use Rattle.adc_groups.specs.laws.services.WriteBatchSteps.{making_move, making_left, making_event, making_over}
+use Rattle.adc_groups.specs.laws.services.ReadSteps.{newest_move, newest_left, newest_taken, newest_answer}
+use Rattle.adc_groups.specs.laws.words.WindowWords.{word_at}
+
+-- ---- with the mask open
+
+abbrev pub outside_move : Outside → Move
+outside_move (outsides.Copies c a) = copy_move c
+outside_move (outsides.Counts r) = moves.Read (ConverterDone r.unit)
+outside_move (outsides.Reads g b) = moves.Load STATE
+outside_move (outsides.Notes g u) = moves.Note (record { kind = AdcNotification; id = g })
+outside_move (outsides.Closes w) = moves.Mask
+
+-- what comes after values were copied
+abbrev pub tells_or : Bool → (unit group : ℕ) → Outside
+tells_or true u g = outsides.Notes g u
+tells_or false u g = outsides.Closes (windows.Begin u)
+
+abbrev pub after_copies : Copied → Outside
+after_copies (Serves t) = outsides.Closes (windows.Serve t)
+after_copies (Tells u g on) = tells_or on u g
+after_copies (Keeps r) = outsides.Closes (windows.Keep r)
+
+-- so many inputs of an aborted round have ended
+abbrev pub all_kept : Suspended → ℕ → Suspended
+all_kept r n = record r { kept = limited (r.kept + n) 32 }
+
+abbrev pub keeps_some : AdcTable → Suspended → ℕ → Outside
+keeps_some d r n = copies_or (copying (copied.Ended (rounds_of d r.group) r.unit n r.kept)) (Keeps (all_kept r n)) (outsides.Closes (windows.Keep (all_kept r n)))
+
+abbrev pub keeps : AdcTable → Suspended → (ended : ℕ) → Outside
+keeps d r x = let k = length (inputs_of (group_of d r.group)) in keeps_some d r (limited x (k - limited r.kept k))
+
+abbrev pub copies_on : Copied → Option Copying → Outside
+copies_on a (Some c) = outsides.Copies c a
+copies_on a None = after_copies a
+
+abbrev pub outside_left : AdcTable → Outside → ℕ → Place
+outside_left d (outsides.Copies c a) x = Out (copies_on a (copy_after c x))
+outside_left d (outsides.Counts r) x = Out (keeps d r x)
+outside_left d (outsides.Reads g b) x = Reads (reading d g b)
+outside_left d (outsides.Notes g u) x = Out (outsides.Closes (windows.Begin u))
+outside_left d (outsides.Closes w) x = entered w
+
+-- ---- places
+
+abbrev pub flag_register : Window → Reg
+flag_register (windows.Take u) = ConverterState u
+flag_register w = TriggerFlags
+
+abbrev pub look_move : AdcTable → Option Word → Move
+look_move d None = moves.Unmask
+look_move d (Some w) = moves.Load (word_number d w)
+
+-- the pin of a group's newest bank, and what comes once it was looked up
+abbrev pub pin_of : AdcTable → ℕ → Take
+pin_of d g = take_start (trio_of (rounds_of d g)) taken.Pin
+
+abbrev pub pinned : AdcTable → ℕ → Phase → (value : ℕ) → Place
+pinned d g p x = pin g p (take_left (pin_of d g) x) (bank_of (x % 4))
+
+abbrev pub place_move : AdcTable → Place → Move
+place_move d (Flag w) = moves.Read (flag_register w)
+place_move d (Looks w seen) = look_move d (word_at w (length seen))
+place_move d (Surveys w g) = moves.Load (word_number d (words.Phase g))
+place_move d (Seeks w r) = front_move r
+place_move d (Chooses u g r) = put_move r
+place_move d (Pins g p) = take_move (pin_of d g)
+place_move d (Reads n) = newest_move n
+place_move d (Aborts r) = moves.Read (ConverterAbort r.unit)
+place_move d (Makes m) = making_move d m
+place_move d (Quits u) = moves.Store (word_number d (words.Claim u)) 0
+place_move d (Opens o) = moves.Unmask
+place_move d (Out o) = outside_move o
+
+-- what was decided, at a place
+abbrev pub follows : Place → Decided → Place × BodyTaken
+follows k (decisions.Ends t) = (k, t)
+follows k (decisions.Goes k1) = (k1, goes)
+
+-- one more word was seen
+abbrev pub seen_more : List ℕ → ℕ → List ℕ
+seen_more seen x = if nat_lt (length seen) 6 then seen ++ x ∷ [] else seen
+
+abbrev pub look_takes : AdcTable → Window → List ℕ → Option Word → Place × BodyTaken
+look_takes d w seen (Some word) = (Looks w seen, goes)
+look_takes d w seen None = follows (Looks w seen) (decided d w seen)
+
+-- the number that a routine gave
+abbrev pub given : Answer → ℕ
+given a = slice_index_or a.words 0 0
+
+abbrev pub seek_takes : AdcTable → Window → Front → Option Answer → Place × BodyTaken
+seek_takes d w r None = (Seeks w r, goes)
+seek_takes d w r (Some a) = follows (Seeks w r) (sought d w (given a))
+
+abbrev pub choose_takes : (unit group : ℕ) → Put → Option Answer → Place × BodyTaken
+choose_takes u g r None = (Chooses u g r, goes)
+choose_takes u g r (Some a) = follows (Chooses u g r) (chosen u g (bank_of (given a)))
+
+abbrev pub step : Option Event → BodyTaken
+step e = record { event = e; done = None }
+
+abbrev pub after_making : Option Event → WriteBatch → Continuation → Place × BodyTaken
+after_making e m (thens.Ends n) = (Makes m, record { event = e; done = Some n })
+after_making e m (thens.Goes o) = (Opens o, step e)
+
+abbrev pub making_takes : Option Event → WriteBatch → Place × BodyTaken
+making_takes e m = if making_over m then after_making e m m.after else (Makes m, step e)
+
+-- with the mask open it begins to read a bank, or goes on so
+abbrev pub opened : AdcTable → Outside → Place
+opened d (outsides.Reads g b) = Reads (reading d g b)
+opened d o = Out o
+
+abbrev pub place_takes : AdcTable → Place → ℕ → Place × BodyTaken
+place_takes d (Flag w) x = follows (Flag w) (flagged w x)
+place_takes d (Looks w seen) x = look_takes d w (seen_more seen x) (word_at w (length (seen_more seen x)))
+place_takes d (Surveys w g) x = follows (Surveys w g) (surveyed d w g x)
+place_takes d (Seeks w r) x = seek_takes d w (front_left r x) (front_gave r x).ended
+place_takes d (Chooses u g r) x = choose_takes u g (put_left r x) (put_gave r x).ended
+place_takes d (Pins g p) x = (pinned d g p x, goes)
+place_takes d (Reads n) x = (Reads (newest_left n x), newest_taken n)
+place_takes d (Aborts r) x = ((aborted d r x).1, step (aborted d r x).0)
+place_takes d (Makes m) x = making_takes (making_event m) (making_left m x)
+place_takes d (Quits u) x = (Quits u, ends None no_answer Nothing)
+place_takes d (Opens o) x = (opened d o, goes)
+place_takes d (Out o) x = (outside_left d o x, goes)
+
+-- ---- bodies
+
+abbrev pub body_work : AdcBody → Move
+body_work k = place_move k.table k.place
+
+abbrev pub body_takes : AdcBody → ℕ → AdcBody × BodyTaken
+body_takes k x = (record k { place = (place_takes k.table k.place x).0 }, (place_takes k.table k.place x).1)
+
+-- the answer of a body that has ended its frame itself
+abbrev pub place_ends : Place → Option Answer
+place_ends (Reads n) = newest_answer n
+place_ends k = None
+
+abbrev pub body_ends : AdcBody → Option Answer
+body_ends k = place_ends k.place

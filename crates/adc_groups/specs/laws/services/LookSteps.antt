@@ -1,0 +1,98 @@
+-- What the load of the state word decides for a call, and where it goes on.
+-- From services.Decisions, services.BodySteps.
+-- Used by asked/rt, mcal_drivers: Laws, Places, adc_driver: Handlers, mcal_drivers: Frames.
+use Rattle.std.specs.Prelude.{ℕ, ◌==◌, not, nat_lt, Bool, false, if◌then◌else◌, Option, Some, None, is_some, List}
+use Rattle.mcal_base.specs.declared.error_name.ErrorName.{ErrorName}
+use Rattle.mcal_base.specs.declared.answer.Answer.{Answer}
+use Rattle.det_errors.specs.Rows.{first_error}
+use Rattle.service_outline.specs.Done.{owed_error}
+use Rattle.service_outline.specs.declared.body.Looked.{Looked}
+use Rattle.service_outline.specs.declared.body.Looked.TheVariants as lookeds
+use Rattle.service_outline.specs.declared.body.Or.{Or}
+use Rattle.service_outline.specs.declared.body.Or.TheVariants.{First, Second}
+use Rattle.service_outline.specs.declared.done.Done.{Done}
+use Rattle.service_outline.specs.declared.sweep.Place.TheVariants.{Opens}
+use Rattle.service_outline.specs.declared.sweep.Sweep.{Sweep}
+use Rattle.adc_machine.specs.Checks.{Circumstances, service_of, facts_by, answer_refused, is_triggered, has_notification}
+use Rattle.adc_machine.specs.Machine.{reporting}
+use Rattle.adc_machine.specs.Configured.{unit_of}
+use Rattle.adc_machine.specs.Table.{group_of}
+use Rattle.adc_groups.specs.declared.asked.Asked.{Asked}
+use Rattle.adc_groups.specs.declared.body.AdcBody.{AdcBody}
+use Rattle.adc_groups.specs.declared.body.Place.{Place}
+use Rattle.adc_machine.specs.declared.call.Call.{Call}
+use Rattle.adc_machine.specs.declared.call.Call.TheVariants.{Init, DeInit, Group}
+use Rattle.adc_machine.specs.declared.call.GroupCall.{GroupCall}
+use Rattle.adc_machine.specs.declared.call.GroupCall.TheVariants as groups
+use Rattle.adc_machine.specs.declared.call.ResultBuffer.{ResultBuffer}
+use Rattle.adc_machine.specs.declared.table.Group as configured
+use Rattle.adc_machine.specs.declared.table.AdcTable.{AdcTable}
+use Rattle.adc_groups.specs.declared.service.module.InitBody.{InitBody}
+use Rattle.adc_groups.specs.declared.service.module.Setup.{Setup}
+use Rattle.adc_groups.specs.declared.window.Window.TheVariants as windows
+use Rattle.adc_groups.specs.laws.services.BodySteps.{body_ends}
+use Rattle.adc_groups.specs.laws.services.Decisions.{looking, notify, survey}
+
+-- a place in any body of the driver
+abbrev pub AnyBody : Type 0
+AnyBody = Or (Sweep Setup InitBody) AdcBody
+
+-- what the load tells: whether the module is uninitialised
+abbrev pub known : (state : ℕ) → Circumstances
+known x = record { uninitialised = x == 0; unbuffered = false; idle = false; busy = false }
+
+-- a call about a group is wrong in what is configured of it or asked with
+abbrev pub is_wrong : GroupCall → Option configured.Group → Bool
+is_wrong (groups.SetupResultBuffer b) k = not (is_some b)
+is_wrong groups.StartGroupConversion k = is_triggered k
+is_wrong groups.StopGroupConversion k = is_triggered k
+is_wrong groups.EnableHardwareTrigger k = not (is_triggered k)
+is_wrong groups.DisableHardwareTrigger k = not (is_triggered k)
+is_wrong (groups.Notification on) k = not (has_notification k)
+is_wrong call k = false
+
+abbrev pub facts_of : Asked → ℕ → List Bool
+facts_of a x = facts_by a.table a.call (known x)
+
+abbrev pub refusal_of : Asked → ErrorName → Done
+refusal_of a e = record { answer = answer_refused a.call; owed = owed_error (reporting a.table) (service_of a.call) e }
+
+-- where a call about a group begins
+abbrev pub set_up_at : ℕ → Option ResultBuffer → Place
+set_up_at g None = looking (windows.Status g)
+set_up_at g (Some b) = looking (windows.Setup g b)
+
+abbrev pub place_for : AdcTable → ℕ → GroupCall → Place
+place_for d g (groups.SetupResultBuffer b) = set_up_at g b
+place_for d g groups.StartGroupConversion = looking (windows.Start g)
+place_for d g groups.StopGroupConversion = looking (windows.Stop (unit_of (group_of d g)) g)
+place_for d g groups.ReadGroup = looking (windows.Read g)
+place_for d g groups.EnableHardwareTrigger = looking (windows.Enable g)
+place_for d g groups.DisableHardwareTrigger = looking (windows.Stop (unit_of (group_of d g)) g)
+place_for d g (groups.Notification on) = notify g on
+place_for d g groups.GetGroupStatus = looking (windows.Status g)
+place_for d g groups.GetStreamLastPointer = looking (windows.Point g)
+
+-- a number that may be that of a group
+abbrev pub small : ℕ → ℕ
+small g = if nat_lt g 16 then g else 16
+
+abbrev pub body_at : AdcTable → Place → Looked AnyBody
+body_at d k = lookeds.Goes (Second (record { table = d; place = k }))
+
+abbrev pub begun_by : AdcTable → Call → Looked AnyBody
+begun_by d Init = lookeds.Goes (First (record { objects = record { table = d }; place = Opens }))
+begun_by d DeInit = body_at d (survey d windows.Close 0)
+begun_by d (Group g call) = body_at d (place_for d (small g) call)
+
+abbrev pub looked_by : Asked → Option ErrorName → Looked AnyBody
+looked_by a None = begun_by a.table a.call
+looked_by a (Some e) = lookeds.Refused (refusal_of a e)
+
+abbrev pub adc_looked : Asked → ℕ → Looked AnyBody
+adc_looked a x = looked_by a (first_error (service_of a.call) (facts_of a x))
+
+-- the answer of a body that has ended its frame itself
+abbrev pub any_ends : AnyBody → Option Answer
+any_ends (First k) = None
+any_ends (Second k) = body_ends k

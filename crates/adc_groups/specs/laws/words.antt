@@ -1,0 +1,11 @@
+pub mod DisjointWords
+pub mod FirstRequest
+pub mod OrderBetweenWrites
+pub mod OrderWords
+pub mod OtherGroups
+pub mod StoreOneWord
+pub mod StreamPlaces
+pub mod StructureParts
+pub mod WindowWords
+pub mod WordsAtRest
+pub mod WordsOfModule

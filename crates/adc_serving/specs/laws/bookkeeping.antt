@@ -1,0 +1,3 @@
+pub mod ReadAlone
+pub mod ServedSound
+pub mod ServedState

@@ -1,0 +1,100 @@
+-- A group was stopped while its round was copied: the round is served no more, and the handler gives the bank up.
+-- From services.ClaimRight.
+-- Used by services.ServeActRight, services.AfterCopySteps.
+use Rattle.std.proofs.Common.{◌≡◌, ◌≢◌, ◌<◌, ◌&&◌, ◌||◌, ◌==◌, [], ◌∷◌, ◌∙◌, ◌⊎◌, if◌then◌else◌}
+use Rattle.adc_serving.specs.Terms
+use Terms.{abandoning, abandons, AdcState, AdcTable, Agrees, AllRight, ap, Bank, bank_number, BanksAgree, Bool, Call}
+use Terms.{Chip, claim_fits, claim_right, Claims, claims_on, Clears, Copies, eq_is, eq_other, eq_self, false, Fills}
+use Terms.{first_held, FitsAdc, Full, group_of, HeldRight, inl, inputs_of, inr, is_on, is_some, Keeps, length, None}
+use Terms.{not, on_there, Option, or_else, or_parts, put_of, Reads, refl, Reservation, Reservations, ReservedBy}
+use Terms.{round_at, rounds_of, same_or_other, Some, some_hold, Starts, starts, subst, sym, trio_of, true, unit_is}
+use Terms.{unit_of, Whole, word_number, word_of, World, Yields, ℕ}
+use Rattle.adc_serving.specs.laws.services.ClaimRight.{claiming, claimed_parts}
+use Rattle.adc_groups.specs.declared.words.Word.TheVariants as words
+
+-- a bank with so many values
+abbrev a_part : ℕ → ℕ → Option (ℕ × ℕ)
+a_part n i = Some (n, i)
+
+-- ---- nobody else fills a bank of a group of the unit
+
+module _ (d : AdcTable) (fits : FitsAdc d) (chip : Chip) (w : World) (s : AdcState) (u g : ℕ) (at : is_on u (group_of d g) ≡ true) where
+  no_put : (x : ReservedBy Call Reservation) (z : Reservation) → HeldRight d chip w s x z → claims_on u z ≡ false → put_of d g z ≡ None
+  no_put x z right free = one z right free
+    where
+      by : (v k n i : ℕ) (q : Bool) → (g == k) ≡ q → is_on v (group_of d k) ≡ true → (u == v) ≡ false → (if q then a_part n i else None) ≡ None
+      by v k n i true e on off =
+          let same : u ≡ v = sym (unit_is d fits u (group_of d g) at) ∙ (ap (λ m. unit_of (group_of d m)) (eq_is g k e) ∙ unit_is d fits v (group_of d k) on) in
+          absurd (let here : (u == v) ≡ true = ap (λ m. u == m) (sym same) ∙ eq_self u in cc)
+      by v k n i false e on off = refl
+
+      one : (z : Reservation) → HeldRight d chip w s x z → claims_on u z ≡ false → put_of d g z ≡ None
+      one (Fills v k e b i y) h off = by v k (bank_number b) i (g == k) refl h.2 off
+      one (Full v k b) h off = by v k (bank_number b) (length (inputs_of (group_of d g))) (g == k) refl h.2 off
+      one (Clears n) h off = refl
+      one (Starts v) h off = refl
+      one (Yields v) h off = refl
+      one (Keeps v k e n i y) h off = refl
+      one (Whole v k n) h off = refl
+      one (Claims v) h off = refl
+      one (Copies n c i y) h off = refl
+      one (Reads k b vs) h off = refl
+
+  pub no_puts : (hs : Reservations) → AllRight d chip w s hs → some_hold (claims_on u) hs ≡ false → first_held (put_of d g) hs ≡ None
+  no_puts [] right free = refl
+  no_puts (x ∷ xs) right free =
+      let both = or_parts (claims_on u x.what) (some_hold (claims_on u) xs) free in
+      ap (λ o. or_else o (first_held (put_of d g) xs)) (no_put x x.what right.0 both.0) ∙ no_puts xs right.1 both.1
+
+-- ---- the bank is given up
+
+module _ (d : AdcTable) (fits : FitsAdc d) (below : Reservations) (chip : Chip) (w : World) (s : AdcState) (u g : ℕ) (b : Bank) (few : u < 2) (h : Agrees d (claiming u (Full u g b) below) chip w s) (none : round_at s u ≡ None) where
+  alone : some_hold (claims_on u) below ≡ false
+  alone = (claimed_parts u (word_of chip (word_number d (words.Claim u))) below (claim_right below u (word_of chip (word_number d (words.Claim u)))) ((h.settled h.right.0.1).claims u few)).1
+
+  given_up : BanksAgree d (claiming u (Claims u) below) (word_of chip) s g
+  given_up = let q = h.banks g (on_there u (group_of d g) h.right.0.2) in record {
+    banks = abandoning q.banks;
+    stands = abandons (trio_of (rounds_of d g)) (word_of chip) q.banks q.stands;
+    newest = q.newest;
+    put = sym (no_puts d fits chip w s u g h.right.0.2 below h.right.1.1 alone);
+    take = q.take;
+  }
+
+  others : (k : ℕ) → is_some (group_of d k) ≡ true → k ≢ g → BanksAgree d (claiming u (Claims u) below) (word_of chip) s k
+  others k there ne = let q = h.banks k there in record {
+    banks = q.banks;
+    stands = q.stands;
+    newest = q.newest;
+    put = q.put ∙ ap (λ z. or_else (if z then Some (bank_number b, length (inputs_of (group_of d k))) else None) (first_held (put_of d k) below)) (eq_other k g ne);
+    take = q.take;
+  }
+
+  pub leaves_agree : Agrees d (claiming u (Claims u) below) chip w s
+  leaves_agree = record {
+    sound = h.sound;
+    outside = h.outside;
+    state = h.state;
+    right = ((h.right.0.0, h.right.0.1, none), h.right.1);
+    banks = λ k there. by k there (same_or_other k g);
+    block = h.block;
+    rounds = h.rounds;
+    triggers = h.triggers;
+    places = λ k n p lt free. h.places k n p lt free;
+    backed = (h.backed.0, h.backed.1);
+    settled = λ f. (let q = h.settled f in record { groups = q.groups; units = q.units; claims = λ n lt. q.claims n lt; lines = q.lines; promised = λ n. (let z = q.promised n in record { starts = z.starts; yields = z.yields }) });
+    left = λ off. absurd (let on = h.right.0.1 in cc);
+  }
+    where
+      by : (k : ℕ) → is_some (group_of d k) ≡ true → (k ≡ g) ⊎ (k ≢ g) → BanksAgree d (claiming u (Claims u) below) (word_of chip) s k
+      by k there (inl e) = subst (λ n. BanksAgree d (claiming u (Claims u) below) (word_of chip) s n) (sym e) given_up
+      by k there (inr ne) = others k there ne
+
+-- ---- a unit that none claims
+
+-- where none claims the unit the claim's word has to be 0
+pub none_right : (u v : ℕ) (hs : Reservations) → some_hold (claims_on u) hs ≡ false → v ≡ 0 → claim_right hs u v ≡ true
+none_right u v [] free e = ap (λ n. n == 0) e
+none_right u v (x ∷ xs) free e =
+    let both = or_parts (claims_on u x.what) (some_hold (claims_on u) xs) free in
+    ap (λ q. if q then claim_fits x.what v && not (some_hold (claims_on u) xs) else claim_right xs u v) both.0 ∙ none_right u v xs both.1 e

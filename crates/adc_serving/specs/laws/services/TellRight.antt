@@ -1,0 +1,272 @@
+-- A served round is copied to the user's buffer, value by value with the mask open; then its group is notified, where that is on.
+-- From words.WordsChange, services.ClaimRight.
+-- Used by services.NoticeSteps, services.OpenMaskSteps.
+use Rattle.std.proofs.Common.{◌≡◌, ◌≢◌, ◌+◌, ◌*◌, ◌/◌, ◌%◌, ◌<◌, ◌≤◌, ◌&&◌, ◌||◌, ◌==◌, [], ◌∷◌, ◌∙◌, ◌⊎◌}
+use Rattle.adc_serving.specs.Terms
+use Terms.{AdcState, AdcTable, Agrees, AllRight, ap, arith, Bank, bank_below, bank_number, bank_word, bit_of, Bool}
+use Terms.{buffer_by, buffer_in, Call, Chip, chip_after, claim_right, Claims, Clears, Column, column_word, Copies}
+use Terms.{CopiesRight, Entered, eq_is, false, Fills, FitsAdc, Full, Group, group_of, HasWords, HeldRight, inl}
+use Terms.{inputs_of, inr, is_owed, is_same, is_some, Keeps, length, mod-add-div, mul-le-mul, mul-le-mul_right}
+use Terms.{mul_comm, nat_le, nat_tests, None, on_there, Option, or_parts, own-control, own-word, own_of, place_count}
+use Terms.{place_value, place_words, Reads, refl, Reservation, Reservations, ReservedBy, result_word, ResultBuffer}
+use Terms.{rounds_of, same_or_other, samples_of, Some, some_hold, stands-agree, Starts, Store, stored_other}
+use Terms.{stored_same, subst, sym, trio_of, true, unit_of, unit_small, unit_within, USERS, Whole, word_number, word_of}
+use Terms.{word_there, World, Yields, ℕ}
+use Rattle.adc_serving.specs.laws.{services.ClaimRight.{claiming}, words.WordsChange.{BankStays, HoldStays, AllStay}}
+use Rattle.adc_serving.specs.laws.{words.WordsChange.{CoreStays, all_stay, stays_agree, core_place, trio_far}}
+use Rattle.adc_machine.specs.declared.call.ResultBuffer.TheVariants as buffers
+use Rattle.adc_groups.specs.declared.words.Word.TheVariants as words
+
+-- ---- places of a buffer
+
+module _ (d : AdcTable) (fits : FitsAdc d) (c : Column) (there : is_some (group_of d c.group) ≡ true) (samples : c.samples ≡ samples_of (group_of d c.group)) (within : c.place < c.samples) where
+  -- the place of an input's value
+  abbrev pub place_at : ℕ → ℕ
+  place_at i = i * c.samples + c.place
+
+  few_samples : c.samples ≤ 64
+  few_samples = subst (λ n. n ≤ 64) (sym samples) (by (group_of d c.group) refl there)
+    where
+      by : (k : Option Group) → group_of d c.group ≡ k → is_some k ≡ true → samples_of k ≤ 64
+      by None e i = absurd (cc)
+      by (Some k) e i = (fits.groups c.group k e).places.1
+
+  column_by : (g i n k : ℕ) (second : Bool) → USERS + 2048 * (2 * g + bit_of second) + i * n + k ≡ result_word g (buffer_by second) (i * n + k)
+  column_by g i n k false = omega arith
+  column_by g i n k true = omega arith
+
+  pub column_is : (i : ℕ) → column_word c i ≡ result_word c.group (buffer_in c) (i * c.samples + c.place)
+  column_is i = column_by c.group i c.samples c.place c.second
+
+  below_all : (i n m : ℕ) → i < n → i * m + m ≤ n * m
+  below_all i n m lt = let le = mul-le-mul_right m (let up : i + 1 ≤ n = omega (arith, lt) in up) in omega (arith, le)
+
+  pub place_within : (i : ℕ) → i < length (inputs_of (group_of d c.group)) → i * c.samples + c.place < place_count d c.group
+  place_within i lt = subst (λ n. i * c.samples + c.place < length (inputs_of (group_of d c.group)) * n) samples (let le = below_all i (length (inputs_of (group_of d c.group))) c.samples lt in let in_row = within in omega (arith, le, in_row))
+
+  -- a place that this value is owed to, and the next one isn't, is the value's
+  pub owed_place : (i p : ℕ) → p % c.samples ≡ c.place → i ≤ p / c.samples → (i + 1 ≤ p / c.samples → ⊥) → p ≡ i * c.samples + c.place
+  owed_place i p rest low high =
+      let whole = mod-add-div p c.samples in
+      let is : p / c.samples ≡ i = between i (p / c.samples) low high in
+      sym whole ∙ (ap (λ n. n + c.samples * (p / c.samples)) rest ∙ (ap (λ n. c.place + c.samples * n) is ∙ turned c.samples i c.place))
+    where
+      between : (i n : ℕ) → i ≤ n → (i + 1 ≤ n → ⊥) → n ≡ i
+      between i n low high = by (same_or_other n i)
+        where
+          by : (n ≡ i) ⊎ (n ≢ i) → n ≡ i
+          by (inl e) = e
+          by (inr ne) = absurd (high (omega (arith, low, ne)))
+
+      turned : (m i k : ℕ) → k + m * i ≡ i * m + k
+      turned m i k = ap (λ n. k + n) (mul_comm m i) ∙ omega arith
+
+  -- behind the last value no place is owed
+  pub owed_none : (p : ℕ) → p < place_count d c.group → length (inputs_of (group_of d c.group)) ≤ p / c.samples → ⊥
+  owed_none p lt le =
+      let whole = mod-add-div p c.samples in
+      let up = mul-le-mul_right c.samples le in
+      let turned = mul_comm c.samples (p / c.samples) in
+      let few : p < length (inputs_of (group_of d c.group)) * c.samples = subst (λ n. p < length (inputs_of (group_of d c.group)) * n) (sym samples) lt in
+      omega (arith, whole, up, turned, few)
+
+-- ---- what is held, and what is read
+
+-- what a handler holds that copies a bank to a user's buffer
+abbrev pub teller : (unit : ℕ) → Bank → Column → (done : ℕ) → Option ℕ → Reservations → Reservations
+teller u b c i v below = claiming u (Copies b c i v) below
+
+module _ (d : AdcTable) (below : Reservations) (chip : Chip) (w : World) (s : AdcState) (u : ℕ) (b : Bank) (c : Column) where
+  -- one more value was read
+  pub tells_value : (i : ℕ) (v x : Option ℕ) → ((n : ℕ) → x ≡ Some n → n ≡ place_value s c.group (buffer_in c) (i * c.samples + c.place)) → Agrees d (teller u b c i v below) chip w s → Agrees d (teller u b c i x below) chip w s
+  tells_value i v x next h = record {
+    sound = h.sound;
+    outside = h.outside;
+    state = h.state;
+    right = ((h.right.0.0, h.right.0.1, h.right.0.2, (let q = h.right.0.3 in record { newest = q.newest; values = q.values; next = next })), h.right.1);
+    banks = λ k there. (let q = h.banks k there in record { banks = q.banks; stands = q.stands; newest = q.newest; put = q.put; take = q.take });
+    block = h.block;
+    rounds = h.rounds;
+    triggers = h.triggers;
+    places = λ k n p lt free. h.places k n p lt free;
+    backed = (λ n e. absurd (cc), h.backed.1);
+    settled = λ f. (let q = h.settled f in record { groups = q.groups; units = q.units; claims = λ n lt. q.claims n lt; lines = q.lines; promised = λ n. (let z = q.promised n in record { starts = z.starts; yields = z.yields }) });
+    left = λ off. absurd (let on = h.right.0.1 in cc);
+  }
+
+  -- all are in the buffer
+  module _ (fits : FitsAdc d) (samples : c.samples ≡ samples_of (group_of d c.group)) (within : c.place < c.samples) (h : Agrees d (teller u b c (length (inputs_of (group_of d c.group))) None below) chip w s) where
+    there : is_some (group_of d c.group) ≡ true
+    there = h.right.0.2
+
+    free_again : (k : ℕ) (n : ResultBuffer) (p : ℕ) → p < place_count d k → is_owed k n p (Copies b c (length (inputs_of (group_of d c.group))) None) ≡ false
+    free_again k n p lt = by (c.group == k) refl (is_same (buffer_in c) n) (p % c.samples == c.place) (nat_le (length (inputs_of (group_of d c.group))) (p / c.samples)) refl
+      where
+        by : (q : Bool) → (c.group == k) ≡ q → (a z o : Bool) → nat_le (length (inputs_of (group_of d c.group))) (p / c.samples) ≡ o → q && (a && (z && o)) ≡ false
+        by false e a z o i = refl
+        by true e false z o i = refl
+        by true e true false o i = refl
+        by true e true true false i = refl
+        by true e true true true i = absurd (owed_none d fits c there samples within p (subst (λ m. p < place_count d m) (sym (eq_is c.group k e)) lt) (le (length (inputs_of (group_of d c.group))) (p / c.samples) i))
+          where
+            le : (x y : ℕ) → nat_le x y ≡ true → x ≤ y
+            le x y f = grind (arith, nat_tests)
+
+    pub tells_all : Agrees d (record { by = Entered (24 + u); what = Starts u; acted = None } ∷ below) chip w s
+    tells_all = record {
+      sound = h.sound;
+      outside = h.outside;
+      state = h.state;
+      right = h.right.1;
+      banks = λ k here. (let q = h.banks k here in record { banks = q.banks; stands = q.stands; newest = q.newest; put = q.put; take = q.take });
+      block = h.block;
+      rounds = h.rounds;
+      triggers = h.triggers;
+      places = λ k n p lt free. h.places k n p lt (ap (λ q. q || some_hold (is_owed k n p) below) (free_again k n p lt) ∙ free);
+      backed = h.backed.1;
+      settled = λ f. (let q = h.settled f in record { groups = q.groups; units = q.units; claims = λ n lt. q.claims n lt; lines = q.lines; promised = λ n. (let z = q.promised n in record { starts = z.starts; yields = z.yields }) });
+      left = λ off. absurd (let on = h.right.0.1 in cc);
+    }
+
+-- ---- a value is stored in the buffer
+
+module _ (d : AdcTable) (fits : FitsAdc d) (below : Reservations) (chip : Chip) (w : World) (s : AdcState) (u : ℕ) (b : Bank) (c : Column) (i x : ℕ) (samples : c.samples ≡ samples_of (group_of d c.group)) (within : c.place < c.samples) (h : Agrees d (teller u b c i (Some x) below) chip w s) (lt : i < length (inputs_of (group_of d c.group))) where
+  abbrev place : ℕ
+  place = i * c.samples + c.place
+
+  abbrev word : ℕ
+  word = result_word c.group (buffer_in c) (i * c.samples + c.place)
+
+  abbrev now : Chip
+  now = chip_after chip (Store (result_word c.group (buffer_in c) (i * c.samples + c.place)) x) 0
+
+  whole : HasWords chip
+  whole = h.outside.all.words
+
+  here : is_some (group_of d c.group) ≡ true
+  here = h.right.0.2
+
+  on : s.initialised ≡ true
+  on = h.right.0.1
+
+  core : CoreStays d chip now
+  core = core_place d fits chip x whole c.group (buffer_in c) (i * c.samples + c.place)
+
+  counted : i * c.samples + c.place < place_count d c.group
+  counted = place_within d fits c here samples within i lt
+
+  stored : word_of now word ≡ x
+  stored = stored_same chip word x 0 (word_there d fits word (place_words d c.group (buffer_in c) (i * c.samples + c.place) counted)) whole
+
+  trio_stays : (k j : ℕ) → is_some (group_of d k) ≡ true → own_of (trio_of (rounds_of d k)) j ≡ true → word_of now j ≡ word_of chip j
+  trio_stays k j there own = stored_other chip word x 0 j (λ e. trio_far d fits chip x whole k j there own c.group (buffer_in c) (i * c.samples + c.place) (sym e))
+
+  bank_stays : (k : ℕ) (n : Bank) → is_some (group_of d k) ≡ true → BankStays d chip now k n
+  bank_stays k n there j less = trio_stays k (bank_word (rounds_of d k) n j) there (own-word (trio_of (rounds_of d k)) (bank_number n) j (bank_below d fits n) less)
+
+  control_stays : (k : ℕ) → is_some (group_of d k) ≡ true → word_of now (trio_of (rounds_of d k)).control ≡ word_of chip (trio_of (rounds_of d k)).control
+  control_stays k there = trio_stays k (trio_of (rounds_of d k)).control there (own-control (trio_of (rounds_of d k)))
+
+  claim_stays : (v : ℕ) → v < 2 → word_of now (word_number d (words.Claim v)) ≡ word_of chip (word_number d (words.Claim v))
+  claim_stays v few = stored_other chip word x 0 (word_number d (words.Claim v)) (far (buffer_in c))
+    where
+      far : (n : ResultBuffer) → word_number d (words.Claim v) ≢ result_word c.group n (i * c.samples + c.place)
+      far buffers.Zero e = omega (arith, e, few)
+      far buffers.One e = omega (arith, e, few)
+
+  one_stays : (y : ReservedBy Call Reservation) (z : Reservation) → HeldRight d chip w s y z → HoldStays d chip now z
+  one_stays y (Fills v k m n j q) r = bank_stays k n (on_there v (group_of d k) r.2)
+  one_stays y (Full v k n) r = bank_stays k n (on_there v (group_of d k) r.2)
+  one_stays y (Keeps v k m n j q) r = (λ f. sym (claim_stays v (unit_within d fits v k r.1)) ∙ f, λ f. claim_stays v (unit_within d fits v k r.1) ∙ f)
+  one_stays y (Whole v k n) r = λ f. sym (claim_stays v (unit_within d fits v k r.1)) ∙ f
+  one_stays y (Copies n k j q) r = (ap (λ m. m % 4) (control_stays k.group r.2), bank_stays k.group n r.2)
+  one_stays y (Reads k n vs) r = (ap (λ m. m / 4) (control_stays k r.2), bank_stays k n r.2)
+  one_stays y (Clears n) r = tt
+  one_stays y (Starts v) r = tt
+  one_stays y (Yields v) r = tt
+  one_stays y (Claims v) r = tt
+
+  below_stay : (hs : Reservations) → AllRight d chip w s hs → AllStay d chip now hs
+  below_stay [] r = tt
+  below_stay (y ∷ ys) r = (one_stays y y.what r.0, below_stay ys r.1)
+
+  -- ---- the places
+
+  abbrev after : Reservations
+  after = teller u b c (i + 1) None below
+
+  was : CopiesRight d chip s b c i (Some x)
+  was = h.right.0.3
+
+  -- places are told by their words
+  column_one : (g k p q : ℕ) (m n : ResultBuffer) → p < 2048 → q < 2048 → result_word g m p ≡ result_word k n q → (g ≡ k) × (m ≡ n) × (p ≡ q)
+  column_one g k p q buffers.Zero buffers.Zero small less e = (omega (arith, e, small, less), refl, omega (arith, e, small, less))
+  column_one g k p q buffers.One buffers.One small less e = (omega (arith, e, small, less), refl, omega (arith, e, small, less))
+  column_one g k p q buffers.Zero buffers.One small less e = absurd (omega (arith, e, small, less))
+  column_one g k p q buffers.One buffers.Zero small less e = absurd (omega (arith, e, small, less))
+
+  same_buffer : (m n : ResultBuffer) → is_same m n ≡ true → m ≡ n
+  same_buffer buffers.Zero buffers.Zero e = refl
+  same_buffer buffers.One buffers.One e = refl
+  same_buffer buffers.Zero buffers.One e = absurd (cc)
+  same_buffer buffers.One buffers.Zero e = absurd (cc)
+
+  few_places : (k p : ℕ) → p < place_count d k → p < 2048
+  few_places k p less = by (group_of d k) refl less
+    where
+      by : (o : Option Group) → group_of d k ≡ o → p < length (inputs_of o) * samples_of o → p < 2048
+      by None e few = absurd (omega (arith, few))
+      by (Some o) e few =
+          let g = fits.groups k o e in
+          let a = mul-le-mul g.few g.places.1 in
+          omega (arith, few, a)
+
+  -- a place that is owed no value any more, and isn't this one, was owed none before
+  owed_before : (k : ℕ) (n : ResultBuffer) (p : ℕ) → (result_word k n p ≡ word → ⊥) → is_owed k n p (Copies b c (i + 1) None) ≡ false → is_owed k n p (Copies b c i (Some x)) ≡ false
+  owed_before k n p ne free = by (c.group == k) refl (is_same (buffer_in c) n) refl (p % c.samples == c.place) refl (nat_le i (p / c.samples)) refl free
+    where
+      le : (x y : ℕ) → nat_le x y ≡ true → x ≤ y
+      le x y f = grind (arith, nat_tests)
+
+      past : (x y : ℕ) → nat_le x y ≡ false → x ≤ y → ⊥
+      past x y f g = grind (arith, nat_tests)
+
+      by : (q : Bool) → (c.group == k) ≡ q → (a : Bool) → is_same (buffer_in c) n ≡ a → (z : Bool) → (p % c.samples == c.place) ≡ z → (o : Bool) → nat_le i (p / c.samples) ≡ o → q && (a && (z && nat_le (i + 1) (p / c.samples))) ≡ false → q && (a && (z && o)) ≡ false
+      by false e a f z g o j free = refl
+      by true e false f z g o j free = refl
+      by true e true f false g o j free = refl
+      by true e true f true g false j free = refl
+      by true e true f true g true j free = absurd (ne (
+          let is = owed_place d fits c here samples within i p (eq_is (p % c.samples) c.place g) (le i (p / c.samples) j) (past (i + 1) (p / c.samples) free) in
+          ap (λ m. result_word m n p) (sym (eq_is c.group k e)) ∙ (ap (λ m. result_word c.group m p) (sym (same_buffer (buffer_in c) n f)) ∙ ap (λ m. result_word c.group (buffer_in c) m) is)))
+
+  places_by : (k : ℕ) (n : ResultBuffer) (p : ℕ) → p < place_count d k → some_hold (is_owed k n p) after ≡ false → (result_word k n p ≡ word) ⊎ (result_word k n p ≢ word) → word_of now (result_word k n p) ≡ place_value s k n p
+  places_by k n p less free (inl e) =
+      let same = column_one k c.group p (i * c.samples + c.place) n (buffer_in c) (few_places k p less) (few_places c.group (i * c.samples + c.place) counted) e in
+      ap (λ m. word_of now m) e ∙ (stored ∙ (was.next x refl ∙ sym (ap (λ m. place_value s m n p) same.0 ∙ (ap (λ m. place_value s c.group m p) same.1 ∙ ap (λ m. place_value s c.group (buffer_in c) m) same.2))))
+  places_by k n p less free (inr ne) =
+      let both = or_parts (is_owed k n p (Copies b c (i + 1) None)) (some_hold (is_owed k n p) below) free in
+      stored_other chip word x 0 (result_word k n p) ne ∙ h.places k n p less (ap (λ q. q || some_hold (is_owed k n p) below) (owed_before k n p ne both.0) ∙ both.1)
+
+  pub told_agrees : Agrees d (teller u b c (i + 1) None below) (chip_after chip (Store (result_word c.group (buffer_in c) (i * c.samples + c.place)) x) 0) w s
+  told_agrees = stays_agree d fits (teller u b c i (Some x) below) chip now w s h on core after (record {
+    right = (
+      (
+        h.right.0.0,
+        on,
+        here,
+        record {
+          newest = ap (λ m. m % 4) (control_stays c.group here) ∙ was.newest;
+          values = λ j less le. bank_stays c.group b here j less ∙ was.values j less (omega (arith, le));
+          next = λ n e. absurd (cc);
+        },
+      ),
+      (h.right.1.0, all_stay d fits (teller u b c i (Some x) below) chip now w s h on core below (below_stay below h.right.1.1) h.right.1.1),
+    );
+    banks = λ k there. (let q = h.banks k there in record { banks = q.banks; stands = stands-agree (trio_of (rounds_of d k)) (word_of chip) (word_of now) q.banks (λ j own. sym (trio_stays k j there own)) q.stands; newest = q.newest; put = q.put; take = q.take });
+    places = λ k n p less free. places_by k n p less free (same_or_other (result_word k n p) word);
+    backed = (λ n e. absurd (cc), h.backed.1);
+    claimed = λ k there ne same. ne (claim_stays (unit_of (group_of d k)) (unit_small d fits k there) ∙ same);
+    claims = λ v less. ap (λ n. claim_right (teller u b c i (Some x) below) v n) (claim_stays v less) ∙ (h.settled on).claims v less;
+    promised = λ v. (let q = (h.settled on).promised v in record { starts = q.starts; yields = q.yields });
+  })

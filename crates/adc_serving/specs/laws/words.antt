@@ -1,0 +1,5 @@
+pub mod CommittedWords
+pub mod ControlWord
+pub mod PlainFacts
+pub mod StreamNumbers
+pub mod WordsChange

@@ -1,0 +1,274 @@
+-- Words change while the machine's state and all registers stay: what is held stays right, and so does the whole agreement.
+-- Used by services.CopyRight, words.ControlWord, services.TellRight, services.ClaimRight.
+use Rattle.std.proofs.Common.{◌≡◌, ◌≢◌, ◌+◌, ◌-◌, ◌*◌, ◌/◌, ◌%◌, ◌<◌, ◌≤◌, ◌&&◌, ◌||◌, ◌==◌, [], ◌∷◌, ◌∙◌, ◌⊎◌}
+use Rattle.adc_serving.specs.Terms
+use Terms.{AdcState, AdcTable, Agrees, AllRight, ap, arith, Backed, Bank, bank_word, BanksAgree, Bool, Call, cases_lt}
+use Terms.{Chip, chip_after, claim_right, Claims, Clears, Converters, Copies, end_of, eq_is, eq_other, false, Fills}
+use Terms.{FitsAdc, Full, Group, group_of, group_word, GroupAgrees, has_bit, HasWords, HeldRight, holds-agree, inl}
+use Terms.{inputs_of, inr, is_on, is_some, IsBlock, Keeps, KeepsRight, kept_within, kept_word, length, length-set}
+use Terms.{listed_agree, nat_le, nat_lt, nat_tests, None, on_there, Option, order_of, order_own, own_of, place_apart}
+use Terms.{PlacesAgree, Promised, Reads, refl, Reservation, Reservations, ReservedBy, result_word, ResultBuffer, Round}
+use Terms.{round_at, RoundAgrees, rounds_of, same_or_other, slice_get, Some, stands_words, start_from, start_of, Starts}
+use Terms.{STATE, Store, stored_other, subst, sym, TriggersAgree, trio_apart, trio_of, true, unit_of, UnitAgrees}
+use Terms.{value_within, values_of, Whole, WholeRight, word_number, word_of, World, Yields, ℕ}
+use Rattle.chip_converter.specs.Converters as chips
+use Rattle.chip_converter.specs.Rounds as rounds
+use Rattle.adc_machine.specs.declared.call.ResultBuffer.TheVariants as buffers
+use Rattle.adc_groups.specs.declared.words.Word.TheVariants as words
+
+-- ---- what stays
+
+-- the words of a bank stay
+abbrev pub BankStays : AdcTable → (a b : Chip) → (group : ℕ) → Bank → Type 0
+BankStays d a b g n = (j : ℕ) → j < length (inputs_of (group_of d g)) → word_of b (bank_word (rounds_of d g) n j) ≡ word_of a (bank_word (rounds_of d g) n j)
+
+-- the words that a hold rests on stay, but for those that stay in any case
+abbrev pub HoldStays : AdcTable → (a b : Chip) → Reservation → Type 0
+HoldStays d a b (Fills u g e n i x) = BankStays d a b g n
+HoldStays d a b (Full u g n) = BankStays d a b g n
+HoldStays d a b (Keeps u g e n i x) = (word_of b (word_number d (words.Claim u)) ≡ 2 + g → word_of a (word_number d (words.Claim u)) ≡ 2 + g) × (word_of a (word_number d (words.Claim u)) ≡ 2 + g → word_of b (word_number d (words.Claim u)) ≡ 2 + g)
+HoldStays d a b (Whole u g n) = word_of b (word_number d (words.Claim u)) ≡ 2 + g → word_of a (word_number d (words.Claim u)) ≡ 2 + g
+HoldStays d a b (Copies n c i x) = (word_of b (trio_of (rounds_of d c.group)).control % 4 ≡ word_of a (trio_of (rounds_of d c.group)).control % 4) × BankStays d a b c.group n
+HoldStays d a b (Reads g n vs) = (word_of b (trio_of (rounds_of d g)).control / 4 ≡ word_of a (trio_of (rounds_of d g)).control / 4) × BankStays d a b g n
+HoldStays d a b z = Unit {0}
+
+abbrev pub AllStay : AdcTable → (a b : Chip) → Reservations → Type 0
+AllStay d a b [] = Unit {0}
+AllStay d a b (h ∷ hs) = HoldStays d a b h.what × AllStay d a b hs
+
+-- All registers stay, and so do all words but those of banks, control words, claims and places of buffers.
+pub record CoreStays (d : AdcTable) (a b : Chip) : Type 0 where
+  pub rest : b ≡ record a { words = b.words }
+  pub whole : HasWords b
+  pub first : word_of b STATE ≡ word_of a STATE
+  pub low : (k j : ℕ) → is_some (group_of d k) ≡ true → j < 7 → word_of b (group_word d k j) ≡ word_of a (group_word d k j)
+  pub kept : (k j : ℕ) → is_some (group_of d k) ≡ true → j < length (inputs_of (group_of d k)) → word_of b (kept_word (rounds_of d k) j) ≡ word_of a (kept_word (rounds_of d k) j)
+  pub running : (u : ℕ) → u < 2 → word_of b (word_number d (words.Running u)) ≡ word_of a (word_number d (words.Running u))
+  pub order : (u k : ℕ) → u < 2 → order_own (order_of u) k ≡ true → word_of b k ≡ word_of a k
+
+-- what is new: what is held, the banks, places and claims
+pub record Anew (d : AdcTable) (after : Reservations) (a b : Chip) (w : World) (s : AdcState) : Type 0 where
+  pub right : AllRight d b w s after
+  pub banks : (g : ℕ) → is_some (group_of d g) ≡ true → BanksAgree d after (word_of b) s g
+  pub places : PlacesAgree d after (word_of b) s
+  pub backed : Backed after
+  pub claimed : (k : ℕ) → is_some (group_of d k) ≡ true → word_of b (word_number d (words.Claim (unit_of (group_of d k)))) ≢ 2 + k → word_of a (word_number d (words.Claim (unit_of (group_of d k)))) ≢ 2 + k
+  pub claims : (u : ℕ) → u < 2 → claim_right after u (word_of b (word_number d (words.Claim u))) ≡ true
+  pub promised : (u : ℕ) → Promised d after w s u
+
+module _ (d : AdcTable) (fits : FitsAdc d) (before : Reservations) (a b : Chip) (w : World) (s : AdcState) (h : Agrees d before a w s) (on : s.initialised ≡ true) (c : CoreStays d a b) where
+  block : b.converters ≡ a.converters
+  block = ap (λ (x : Chip). x.converters) c.rest
+
+  -- ---- what is held
+
+  few_values : (u : ℕ) (r : Round) (k : ℕ) → round_at s u ≡ Some r → r.group ≡ k → (j n : ℕ) → slice_get (values_of w (group_of d k) r) j ≡ Some n → j < length (inputs_of (group_of d k))
+  few_values u r k e same j n is = value_within w (group_of d k) r j n (subst (λ z. length r.request.kept < length (inputs_of (group_of d z))) same (h.sound.runs u r e).4.2) is
+
+  keeps_stays : (u k e : ℕ) (n : Option ℕ) (i : ℕ) (x : Option ℕ) → is_on u (group_of d k) ≡ true → KeepsRight d a s u k e n i x → KeepsRight d b s u k e n i x
+  keeps_stays u k e n i x on q = record {
+    waits = q.waits;
+    count = q.count ∙ ap (λ (z : Converters). e + rounds.ended (chips.unit_at z u).round z.time) (sym block);
+    told = λ m f. q.told m f ∙ ap (λ (z : Converters). rounds.ended (chips.unit_at z u).round z.time) (sym block);
+    word = c.low k 6 (on_there u (group_of d k) on) (omega arith) ∙ q.word;
+    kept = λ j v less is. c.kept k j (on_there u (group_of d k) on) (kept_within d w s h.sound k j v is) ∙ q.kept j v less is;
+    results = λ j v is. ap (λ (z : Converters). chips.result z.levels z.time (chips.unit_at z u) j) block ∙ q.results j v is;
+    next = q.next;
+  }
+
+  whole_stays : (u k n : ℕ) → is_on u (group_of d k) ≡ true → WholeRight d a s u k n → WholeRight d b s u k n
+  whole_stays u k n on q = record { waits = q.waits; count = q.count; kept = λ j v is. c.kept k j (on_there u (group_of d k) on) (kept_within d w s h.sound k j v is) ∙ q.kept j v is }
+
+  pub held_stays : (x : ReservedBy Call Reservation) (z : Reservation) → HoldStays d a b z → HeldRight d a w s x z → HeldRight d b w s x z
+  held_stays x (Clears n) stays r = absurd (let none = r.1 in let some = on in cc)
+  held_stays x (Starts u) stays r = r
+  held_stays x (Yields u) stays r = r
+  held_stays x (Claims u) stays r = r
+  held_stays x (Fills u k e n i y) stays r = (r.0, r.1, r.2, (let q = r.3 in record { same = q.same; filled = λ z m v o less is. stays m (few_values u z k o (q.same z o).0 m v is) ∙ q.filled z m v o less is; next = q.next }))
+  held_stays x (Full u k n) stays r = (r.0, r.1, r.2, (let q = r.3 in record { same = q.same; filled = λ z m v o is. stays m (few_values u z k o (q.same z o).0 m v is) ∙ q.filled z m v o is }))
+  held_stays x (Keeps u k e n i y) stays r = (r.0, r.1, r.2, λ f. keeps_stays u k e n i y r.1 (r.3 (stays.0 f)), λ f. r.4 (λ q. f (stays.1 q)))
+  held_stays x (Whole u k n) stays r = (r.0, r.1, r.2, λ f. whole_stays u k n r.1 (r.3 (stays f)))
+  held_stays x (Copies n k i y) stays r = (r.0, r.1, r.2, (let q = r.3 in record { newest = stays.0 ∙ q.newest; values = λ m less le. stays.1 m less ∙ q.values m less le; next = q.next }))
+  held_stays x (Reads k n vs) stays r = (
+    r.0,
+    r.1,
+    r.2,
+    (let q = r.3 in record {
+      whole = q.whole;
+      answered = q.answered;
+      pinned = stays.0 ∙ q.pinned;
+      bank = (q.bank.0, listed_agree (word_of b) (word_of a) (bank_word (rounds_of d k) n 0) (length q.whole) (λ m less. word m (let e = q.bank.0 in omega (arith, less, e))) ∙ q.bank.1);
+      front = q.front;
+    }),
+  )
+    where
+      word : (m : ℕ) → m < length (inputs_of (group_of d k)) → word_of b (bank_word (rounds_of d k) n 0 + m) ≡ word_of a (bank_word (rounds_of d k) n 0 + m)
+      word m less = let same : bank_word (rounds_of d k) n m ≡ bank_word (rounds_of d k) n 0 + m = omega arith in subst (λ z. word_of b z ≡ word_of a z) same (stays.1 m less)
+
+  pub all_stay : (hs : Reservations) → AllStay d a b hs → AllRight d a w s hs → AllRight d b w s hs
+  all_stay [] stays r = tt
+  all_stay (x ∷ xs) stays r = (held_stays x x.what stays.0 r.0, all_stay xs stays.1 r.1)
+
+  -- ---- words of groups and units
+
+  group_stays : (k : ℕ) → is_some (group_of d k) ≡ true → (word_of b (word_number d (words.Claim (unit_of (group_of d k)))) ≢ 2 + k → word_of a (word_number d (words.Claim (unit_of (group_of d k)))) ≢ 2 + k) → GroupAgrees d (word_of b) s k
+  group_stays k there claimed =
+      let q = (h.settled on).groups k there in record {
+        phase = c.low k 0 there (omega arith) ∙ q.phase;
+        chosen = c.low k 1 there (omega arith) ∙ q.chosen;
+        notified = c.low k 2 there (omega arith) ∙ q.notified;
+        turn = c.low k 3 there (omega arith) ∙ q.turn;
+        count = λ e. c.low k 4 there (omega arith) ∙ q.count e;
+        place = λ e. c.low k 5 there (omega arith) ∙ q.place e;
+        kept = λ e f. c.low k 6 there (omega arith) ∙ q.kept e (claimed f);
+        values = λ e f j v is. c.kept k j there (kept_within d w s h.sound k j v is) ∙ q.values e (claimed f) j v is;
+      }
+
+  unit_stays : (u : ℕ) → u < 2 → UnitAgrees d (word_of b) s u
+  unit_stays u few =
+      let q = (h.settled on).units u few in record {
+        running = c.running u few ∙ q.running;
+        order = (q.order.0, holds-agree (order_of u) (word_of a) (word_of b) q.order.0 (λ k own. sym (c.order u k few own)) q.order.1, q.order.2);
+      }
+
+  -- all agrees after the change
+  pub stays_agree : (after : Reservations) → Anew d after a b w s → Agrees d after b w s
+  stays_agree after n = record {
+    sound = h.sound;
+    outside = stands_words a b w c.rest c.whole h.outside;
+    state = c.first ∙ h.state;
+    right = n.right;
+    banks = n.banks;
+    block = subst (λ z. IsBlock z w) (sym block) h.block;
+    rounds = λ u few. subst (λ (z : Converters). RoundAgrees d z w (chips.unit_at z u) (round_at s u)) (sym block) (h.rounds u few);
+    triggers = subst (λ z. TriggersAgree d z s) (sym block) h.triggers;
+    places = n.places;
+    backed = n.backed;
+    left = λ off. absurd (let q = on in cc);
+    settled = λ e. record {
+      groups = λ k there. group_stays k there (n.claimed k there);
+      units = unit_stays;
+      claims = n.claims;
+      lines = λ l i. ap (λ (x : Chip). has_bit x.control.enabled l) c.rest ∙ (h.settled on).lines l i;
+      promised = n.promised;
+    };
+  }
+
+-- ---- which words are apart
+
+module _ (d : AdcTable) (fits : FitsAdc d) where
+  -- all words of two groups are two
+  pub ranges_apart : (g h i j : ℕ) → is_some (group_of d g) ≡ true → is_some (group_of d h) ≡ true → g ≢ h → i < 32 + 6 * length (inputs_of (group_of d g)) → j < 32 + 6 * length (inputs_of (group_of d h)) → group_word d h j ≢ group_word d g i
+  ranges_apart g h i j there here ne low few = by (group_of d g) (group_of d h) refl refl there here low few
+    where
+      less : (k l : Group) → (g ≡ h → ⊥) → ((x y : ℕ) (p q : Group) → group_of d x ≡ Some p → group_of d y ≡ Some q → x < y → end_of p ≤ q.start) → group_of d g ≡ Some k → group_of d h ≡ Some l → i < 32 + 6 * length k.inputs → j < 32 + 6 * length l.inputs → STATE + l.start + j ≢ STATE + k.start + i
+      less k l eq_other apart e f low few same = elim (cases_lt g h) [
+        | inl lower ↦ (let le = apart g h k l e f lower in omega (arith, le, same, low))
+        | inr above ↦ (let up : h < g = (let two : g ≢ h = eq_other in omega (arith, above, two)) in let le = apart h g l k f e up in omega (arith, le, same, few))
+      ]
+
+      by : (k l : Option Group) → group_of d g ≡ k → group_of d h ≡ l → is_some k ≡ true → is_some l ≡ true → i < 32 + 6 * length (inputs_of k) → j < 32 + 6 * length (inputs_of l) → STATE + start_of l + j ≢ STATE + start_of k + i
+      by None l e f p q low few = absurd (cc)
+      by (Some k) None e f p q low few = absurd (cc)
+      by (Some k) (Some l) e f p q low few = less k l ne fits.apart e f low few
+
+  is_control : (k at first len : ℕ) → (k == at) ≡ false → k == at || (nat_le first k && nat_lt k (first + len)) ≡ true → (first ≤ k) × (k < first + len)
+  is_control k at first len off own = (grind (arith, nat_tests), grind (arith, nat_tests))
+
+  -- a word of a group's banks, or its control word, is one of the group's
+  pub trio_place : (g k : ℕ) → own_of (trio_of (rounds_of d g)) k ≡ true → (j : ℕ) × (k ≡ group_word d g j) × (7 ≤ j) × (j < 32 + 3 * length (inputs_of (group_of d g)))
+  trio_place g k own = by (k == (trio_of (rounds_of d g)).control) refl
+    where
+      by : (q : Bool) → (k == (trio_of (rounds_of d g)).control) ≡ q → (j : ℕ) × (k ≡ group_word d g j) × (7 ≤ j) × (j < 32 + 3 * length (inputs_of (group_of d g)))
+      by true e = (7, (let at = eq_is k (trio_of (rounds_of d g)).control e in omega (arith, at)), omega arith, omega arith)
+      by false e =
+          let both = is_control k (trio_of (rounds_of d g)).control (trio_of (rounds_of d g)).banks (3 * length (inputs_of (group_of d g))) e own in
+          let low = both.0 in
+          let high = both.1 in
+          (k - (STATE + start_of (group_of d g)), omega (arith, low), omega (arith, low), omega (arith, low, high))
+
+  order_within : (u k : ℕ) → order_own (order_of u) k ≡ true → (STATE + 10 + 8 * u ≤ k) × (k ≤ STATE + 12 + 8 * u)
+  order_within u k own = (grind (arith, nat_tests), grind (arith, nat_tests))
+
+  -- where the word that is stored is one of a group's behind the first seven, but none of its kept values
+  module _ (a : Chip) (v : ℕ) (whole : HasWords a) where
+    abbrev later : ℕ → Chip
+    later k = chip_after a (Store k v) 0
+
+    whole_later : (k : ℕ) → HasWords (later k)
+    whole_later k = length-set a.words k v ∙ whole
+
+    module _ (g at : ℕ) (here : is_some (group_of d g) ≡ true) (own : own_of (trio_of (rounds_of d g)) at ≡ true) where
+      place : (j : ℕ) × (at ≡ group_word d g j) × (7 ≤ j) × (j < 32 + 3 * length (inputs_of (group_of d g)))
+      place = trio_place g at own
+
+      is : at ≡ STATE + start_of (group_of d g) + place.0
+      is = place.1
+
+      low : 64 ≤ start_of (group_of d g)
+      low = (start_from d fits g here).0
+
+      kept_apart : (k j : ℕ) → is_some (group_of d k) ≡ true → j < length (inputs_of (group_of d k)) → kept_word (rounds_of d k) j ≢ at
+      kept_apart k j there less e = by (same_or_other k g)
+        where
+          kept : kept_word (rounds_of d k) j ≡ group_word d k (32 + 3 * length (inputs_of (group_of d k)) + j)
+          kept = omega arith
+
+          by : (k ≡ g) ⊎ (k ≢ g) → ⊥
+          by (inl same) = let few = place.3 in let i = is in let f : group_word d g (32 + 3 * length (inputs_of (group_of d g)) + j) ≡ at = subst (λ n. group_word d n (32 + 3 * length (inputs_of (group_of d n)) + j) ≡ at) same (sym kept ∙ e) in omega (arith, f, i, few)
+          by (inr ne) = let few = place.3 in ranges_apart g k place.0 (32 + 3 * length (inputs_of (group_of d k)) + j) here there (λ z. ne (sym z)) (omega (arith, few)) (omega (arith, less)) (sym kept ∙ (e ∙ is))
+
+      pub core_trio : CoreStays d a (later at)
+      core_trio = record {
+        rest = refl;
+        whole = whole_later at;
+        first = stored_other a at v 0 STATE (λ e. (let i = is in let l = low in omega (arith, e, i, l)));
+        low = λ k j there less. stored_other a at v 0 (group_word d k j) (λ e. trio_apart d fits k g j at there here less own (sym e));
+        kept = λ k j there less. stored_other a at v 0 (kept_word (rounds_of d k) j) (kept_apart k j there less);
+        running = λ u few. stored_other a at v 0 (word_number d (words.Running u)) (λ e. (let i = is in let l = low in omega (arith, e, i, l, few)));
+        order = λ u k few mine. stored_other a at v 0 k (λ e. (let i = is in let l = low in let both = order_within u k mine in let high = both.1 in omega (arith, e, i, l, few, high)));
+      }
+
+      -- words of other groups' banks, claims and places stay
+      pub trio_other : (k j : ℕ) → is_some (group_of d k) ≡ true → k ≢ g → own_of (trio_of (rounds_of d k)) j ≡ true → word_of (later at) j ≡ word_of a j
+      trio_other k j there ne mine = stored_other a at v 0 j (λ e.
+          let other = trio_place k j mine in
+          let few = other.3 in
+          let less = place.3 in
+          ranges_apart g k place.0 other.0 here there (λ z. ne (sym z)) (omega (arith, less)) (omega (arith, few)) (sym other.1 ∙ (e ∙ is)))
+
+      pub trio_claim : (u : ℕ) → u < 2 → word_of (later at) (word_number d (words.Claim u)) ≡ word_of a (word_number d (words.Claim u))
+      trio_claim u few = stored_other a at v 0 (word_number d (words.Claim u)) (λ e. (let i = is in let l = low in omega (arith, e, i, l, few)))
+
+      pub trio_far : (k : ℕ) (n : ResultBuffer) (p : ℕ) → result_word k n p ≢ at
+      trio_far k buffers.Zero p e = let i = is in let few = place.3 in let high = (start_from d fits g here).1 in omega (arith, e, i, few, high)
+      trio_far k buffers.One p e = let i = is in let few = place.3 in let high = (start_from d fits g here).1 in omega (arith, e, i, few, high)
+
+      pub trio_result : (k : ℕ) (n : ResultBuffer) (p : ℕ) → word_of (later at) (result_word k n p) ≡ word_of a (result_word k n p)
+      trio_result k n p = stored_other a at v 0 (result_word k n p) (trio_far k n p)
+
+    pub core_claim : (u : ℕ) → u < 2 → CoreStays d a (later (word_number d (words.Claim u)))
+    core_claim u lt = record {
+      rest = refl;
+      whole = whole_later (word_number d (words.Claim u));
+      first = stored_other a (word_number d (words.Claim u)) v 0 STATE (λ e. omega (arith, e));
+      low = λ k j there less. stored_other a (word_number d (words.Claim u)) v 0 (group_word d k j) (λ e. (let l = (start_from d fits k there).0 in omega (arith, e, l, lt)));
+      kept = λ k j there less. stored_other a (word_number d (words.Claim u)) v 0 (kept_word (rounds_of d k) j) (λ e. (let l = (start_from d fits k there).0 in omega (arith, e, l, lt)));
+      running = λ n few. stored_other a (word_number d (words.Claim u)) v 0 (word_number d (words.Running n)) (λ e. omega (arith, e));
+      order = λ n k few mine. stored_other a (word_number d (words.Claim u)) v 0 k (λ e. (let both = order_within n k mine in let low = both.0 in let high = both.1 in omega (arith, e, low, high)));
+    }
+
+    pub core_place : (g : ℕ) (n : ResultBuffer) (p : ℕ) → CoreStays d a (later (result_word g n p))
+    core_place g n p = record {
+      rest = refl;
+      whole = whole_later (result_word g n p);
+      first = stored_other a (result_word g n p) v 0 STATE (λ e. past n 0 e (omega arith));
+      low = λ k j there less. stored_other a (result_word g n p) v 0 (group_word d k j) (λ e. place_apart d fits k j g n p there (omega (arith, less)) (sym e));
+      kept = λ k j there less. stored_other a (result_word g n p) v 0 (kept_word (rounds_of d k) j) (λ e. (let high = (start_from d fits k there).1 in past n (start_of (group_of d k) + (32 + 3 * length (inputs_of (group_of d k)) + j)) (omega (arith, e)) (omega (arith, high, less))));
+      running = λ u few. stored_other a (result_word g n p) v 0 (word_number d (words.Running u)) (λ e. past n (8 + 8 * u) (omega (arith, e)) (omega (arith, few)));
+      order = λ u k few mine. stored_other a (result_word g n p) v 0 k (λ e. (let both = order_within u k mine in let low = both.0 in let high = both.1 in past n (k - STATE) (omega (arith, e, low)) (omega (arith, low, high, few))));
+    }
+      where
+        past : (n : ResultBuffer) (j : ℕ) → STATE + j ≡ result_word g n p → j < 8192 → ⊥
+        past buffers.Zero j e lt = omega (arith, e, lt)
+        past buffers.One j e lt = omega (arith, e, lt)

@@ -1,0 +1,499 @@
+-- A round that is outranked is aborted, or was finished before: the step that reads the abort register, and all that its window makes
+-- after it.
+-- From words.EndedRound, service_outline: Words, services.ClaimEndRight.
+-- Used by services.YieldSteps.
+use Rattle.std.proofs.Common.{◌≡◌, ◌≢◌, ◌+◌, ◌-◌, ◌*◌, ◌/◌, ◌%◌, ◌<◌, ◌≤◌, ◌&&◌, ◌||◌, ◌==◌, [], ◌∷◌, ◌∙◌, ◌⊎◌}
+use Rattle.std.proofs.Common.{if◌then◌else◌}
+use Rattle.adc_turns.specs.Terms
+use Terms.{Abort, aborted, aborts, aborts_by, AdcState, AdcTable, after_list, again-ends, again_part, again_start}
+use Terms.{Agrees, all_changed, AllOf, AllRight, AllSpare, ap, arith, Backed, BanksAgree, bit_of, Bool, Call, changed}
+use Terms.{Chip, chip_after, chosen_of, claim_right, claim_stays, claim_words, claims_on, Closes, CommitsAfter}
+use Terms.{CommitsTo, Continuation, Converter, Converters, Counts, deed_move, deeds_listed, differs_none, DiffersIn}
+use Terms.{ended-over, Entry, entry, eq_is, eq_other, eq_self, false, first_held, FitsAdc, FrameHistory, Fresh}
+use Terms.{group_at, group_of, group_same, group_word, GroupAgrees, GroupState, has_bit, has_turn, HasWords, hold_in}
+use Terms.{hold_then, HoldsOrder, inl, inputs_left, inputs_of, inr, is_finished, is_handler, is_on, is_owed}
+use Terms.{is_round_of, is_some, is_word, IsBlock, IsOrder, IsOver, IsRound, IsSoundGroup, IsSoundRequest, KeepsRight}
+use Terms.{kept_by, kept_in, kept_of, kept_of_round, kept_round, kept_word, length, length-set, length_after, List}
+use Terms.{listener, listener_as, low_last, lows_set, making_owed, min, mod-eq_of_lt, newest, None, none_past, not}
+use Terms.{now_here, number_at, number_by, off_unit, on_there, Option, order_first, order_last, order_of, order_waiting}
+use Terms.{order_words, Origin, other_at, other_last, owed_of, owed_own, own_named, own_of, phase_of, place_stays}
+use Terms.{Promised, promised_same, put_of, refl, Request, Reservations, result-over, result_of, ResultBuffer, Round}
+use Terms.{round_at, round_other, round_same, round_turn, RoundAgrees, rounds_of, running_of, running_words}
+use Terms.{same_or_other, samples_of, Set, settles_list, settles_part, slice_get, Some, some_hold, sound_past}
+use Terms.{SoundGroup, stands-agree, stands_last, start_from, starts_on, STATE, Stays, Store, subst, suspends, sym}
+use Terms.{take_of, TriggersAgree, trio_group, trio_of, true, turn_round, turn_same, unclaimed, unit_is, unit_last}
+use Terms.{unit_of, unit_other, unit_set, UnitAgrees, units_set, waiting, waiting_again, waits_other, waits_turn}
+use Terms.{whole_first, will_yield, WindowWrite, with_holds, with_waiting, within, word_number, word_of, word_there}
+use Terms.{World, ℕ}
+use Rattle.adc_turns.specs.laws.words.EndedRound.{ended_now, kept_count, kept_front, kept_behind, kept_none, kept_less}
+use Rattle.adc_turns.specs.laws.services.ClaimEndRight.{claim_none}
+use Rattle.chip_converter.specs.Converters as chips
+use Rattle.chip_converter.specs.Rounds as rounds
+use Rattle.adc_groups.specs.declared.making.StructureOp.TheVariants as shapes
+use Rattle.adc_groups.specs.declared.making.Continuation.TheVariants as thens
+use Rattle.adc_groups.specs.declared.window.Window.TheVariants as windows
+use Rattle.adc_groups.specs.declared.words.Word.TheVariants as words
+
+-- what the window makes after the abort and the order, by whether the group suspends
+abbrev pub deeds_of : (unit group : ℕ) → Bool → List WindowWrite
+deeds_of u g true = Set (words.Running u) 0 ∷ Set (words.Claim u) (2 + g) ∷ []
+deeds_of u g false = Set (words.Running u) 0 ∷ []
+
+abbrev pub then_of : (unit group kept : ℕ) → Bool → Continuation
+then_of u g e true = thens.Goes (Counts (record { unit = u; group = g; kept = e }))
+then_of u g e false = thens.Goes (Closes (windows.Begin u))
+
+module _ (d : AdcTable) (fits : FitsAdc d) (below : Reservations) (chip : Chip) (w : World) (s : AdcState) (u : ℕ) (x : Round) (is : round_at s u ≡ Some x) (on : s.initialised ≡ true) (none_claims : some_hold (claims_on u) below ≡ false) (o : Origin Call) (p : FrameHistory) (h : Agrees d (with_holds o p.acted (hold_in (windows.Suspend u x.group)) below) chip w s)
+    (unfinished : is_finished w (group_of d x.group) x ≡ false) (runs : rounds.is_running (chips.unit_at chip.converters u).round chip.converters.time ≡ true) where
+  abbrev g : ℕ
+  g = x.group
+
+  abbrev e : ℕ
+  e = length x.request.kept
+
+  abbrev before : Reservations
+  before = with_holds o p.acted (hold_in (windows.Suspend u x.group)) below
+
+  run : (u < 2) × (is_on u (group_of d x.group) ≡ true) × ((group_at s x.group).waiting ≡ None) × (x.start ≤ w.now) × IsSoundRequest d s x.group x.request
+  run = h.sound.runs u x is
+
+  few : u < 2
+  few = run.0
+
+  at : is_on u (group_of d x.group) ≡ true
+  at = run.1
+
+  there : is_some (group_of d x.group) ≡ true
+  there = on_there u (group_of d x.group) at
+
+  lt : x.group < 16
+  lt = within d x.group there
+
+  here : unit_of (group_of d x.group) ≡ u
+  here = unit_is d fits u (group_of d x.group) at
+
+  -- ---- the machine's state after it
+
+  abbrev request : Request
+  request = record { number = x.request.number; kept = kept_of w (group_of d x.group) x }
+
+  abbrev waits : GroupState
+  waits = record (group_at s x.group) { waiting = Some request }
+
+  abbrev pub t : AdcState
+  t = aborted d w s u x
+
+  is_group : group_at t g ≡ waits
+  is_group = group_same s x.group waits lt
+
+  is_other : (k : ℕ) → k ≢ g → group_at t k ≡ group_at s k
+  is_other k ne = other_at s x.group waits (sound_past d s h.sound.groups) k ne
+
+  free : round_at t u ≡ None
+  free = round_same (with_waiting s x.group (Some request)) u None few
+
+  rounds_as : (v : ℕ) → v ≢ u → round_at t v ≡ round_at s v
+  rounds_as v ne = round_other (with_waiting s x.group (Some request)) u None (none_past d w s h.sound) v ne
+
+  turn_was : has_turn s g ≡ true
+  turn_was = round_turn s x.group u few (ap (λ q. is_round_of x.group q) is ∙ eq_self x.group)
+
+  turn : has_turn t g ≡ true
+  turn = waits_turn t x.group (ap (λ (z : GroupState). is_some z.waiting) is_group)
+
+  kept_was : kept_in d s g ≡ x.request.kept
+  kept_was = kept_round d fits w s h.sound u x is
+
+  kept_now : kept_in d t g ≡ kept_of w (group_of d x.group) x
+  kept_now = ap (λ (z : GroupState). kept_by z.waiting (kept_of_round x.group (round_at t (unit_of (group_of d x.group))))) is_group
+
+  numbers : (k : ℕ) → has_turn s k ≡ true → is_on u (group_of d k) ≡ true → number_at d t k ≡ number_at d s k
+  numbers k turned unit = by (same_or_other k x.group)
+    where
+      own : number_at d t x.group ≡ number_at d s x.group
+      own =
+          ap (λ (z : GroupState). number_by z.waiting (round_at t (unit_of (group_of d x.group)))) is_group
+          ∙ sym (ap (λ q. number_by q (round_at s (unit_of (group_of d x.group)))) run.2 ∙ (ap (λ v. number_by None (round_at s v)) here ∙ ap (λ q. number_by None q) is))
+
+      not_waiting : k ≢ x.group → (q : Option Request) → (group_at s k).waiting ≡ q → number_by q (round_at t (unit_of (group_of d k))) ≡ number_by q (round_at s (unit_of (group_of d k)))
+      not_waiting ne (Some q) f = refl
+      not_waiting ne None f = absurd (ne (sym (eq_is x.group k (sym (ap (λ q. is_round_of k q) is) ∙ turn_round d fits w s h.sound u k turned f unit))))
+
+      by : (k ≡ x.group) ⊎ (k ≢ x.group) → number_at d t k ≡ number_at d s k
+      by (inl i) = subst (λ n. number_at d t n ≡ number_at d s n) (sym i) own
+      by (inr ne) = ap (λ (z : GroupState). number_by z.waiting (round_at t (unit_of (group_of d k)))) (is_other k ne) ∙ not_waiting ne (group_at s k).waiting refl
+
+  was_sound : SoundGroup (group_of d g) (has_turn s g) (group_at s g)
+  was_sound = h.sound.groups x.group
+
+  sound : IsSoundGroup d t g
+  sound = subst (λ z. SoundGroup (group_of d x.group) (has_turn t x.group) z) (sym is_group) (subst (λ q. SoundGroup (group_of d x.group) q waits) (turn_was ∙ sym turn) (record {
+    configured = λ f. absurd (let i : is_some (group_of d x.group) ≡ false = ap (λ k. is_some k) f in let k = there in cc);
+    chosen = was_sound.chosen;
+    turn = was_sound.turn;
+    trigger = was_sound.trigger;
+    input = was_sound.input;
+    going = was_sound.going;
+    rounds = was_sound.rounds;
+    stream = was_sound.stream;
+    linear = was_sound.linear;
+    lasts = was_sound.lasts;
+    whole = was_sound.whole;
+  }))
+
+  listens_as : (i : ℕ) → listener d t i ≡ listener d s i
+  listens_as = listener_as d s t (λ k. by k (same_or_other k x.group))
+    where
+      by : (k : ℕ) → (k ≡ x.group) ⊎ (k ≢ x.group) → (group_at t k).trigger ≡ (group_at s k).trigger
+      by k (inl i) = subst (λ n. (group_at t n).trigger ≡ (group_at s n).trigger) (sym i) (ap (λ (z : GroupState). z.trigger) is_group)
+      by k (inr ne) = ap (λ (z : GroupState). z.trigger) (is_other k ne)
+
+  -- ---- what was there before
+
+  was : GroupAgrees d (word_of chip) s g
+  was = (h.settled on).groups x.group there
+
+  unit_was : UnitAgrees d (word_of chip) s u
+  unit_was = (h.settled on).units u few
+
+  claim_was : word_of chip (word_number d (words.Claim u)) ≡ 0
+  claim_was = eq_is (word_of chip (word_number d (words.Claim u))) 0 (off (word_of chip (word_number d (words.Claim u)) == 0) (sym (unclaimed u (word_of chip (word_number d (words.Claim u))) below ((h.settled on).claims u few)) ∙ none_claims))
+    where
+      off : (q : Bool) → not q ≡ false → q ≡ true
+      off true f = refl
+      off false f = absurd (cc)
+
+  unkept : word_of chip (word_number d (words.Claim (unit_of (group_of d x.group)))) ≢ 2 + x.group
+  unkept i = let none : 0 ≡ 2 + x.group = sym claim_was ∙ (ap (λ v. word_of chip (word_number d (words.Claim v))) (sym here) ∙ i) in omega (arith, none)
+
+  abbrev xs : List Entry
+  xs = unit_was.order.0
+
+  whole : HasWords chip
+  whole = h.outside.all.words
+
+  -- ---- the unit
+
+  abbrev deed : WindowWrite
+  deed = Abort u
+
+  abbrev acted : Chip
+  acted = chip_after chip (deed_move d deed) 0
+
+  abbrev unit_a : Converter
+  unit_a = chips.unit_at chip.converters u
+
+  within_units : u < length chip.converters.units
+  within_units = let all = h.block.all in let l = few in omega (arith, all, l)
+
+  is_unit : chips.unit_at acted.converters u ≡ record unit_a { round = rounds.over chip.converters.time unit_a.round }
+  is_unit = unit_set chip.converters.units u (chips.aborted chip.converters.time unit_a) within_units ∙ ap (λ q. if q then record unit_a { round = rounds.over chip.converters.time unit_a.round } else unit_a) runs
+
+  other_units : (v : ℕ) → v ≢ u → chips.unit_at acted.converters v ≡ chips.unit_at chip.converters v
+  other_units v ne = unit_other chip.converters.units u v (chips.aborted chip.converters.time unit_a) ne
+
+  round_was : IsRound (group_of d g) chip.converters w unit_a x
+  round_was = subst (λ q. RoundAgrees d chip.converters w unit_a q) is (h.rounds u few)
+
+  time : chip.converters.time ≡ w.now
+  time = now_here chip w h.outside
+
+  not_idle : rounds.is_idle unit_a.round ≡ false
+  not_idle = ap (λ q. is_some q) round_was.on
+
+  -- as many inputs have ended as before
+  ended_as : rounds.ended (chips.unit_at acted.converters u).round chip.converters.time ≡ min (length (inputs_left (group_of d g) x)) ((w.now - x.start) / 4)
+  ended_as =
+      ap (λ (z : Converter). rounds.ended z.round chip.converters.time) is_unit
+      ∙ (ended-over unit_a.round chip.converters.time chip.converters.time not_idle (omega arith) ∙ ended_now (group_of d x.group) chip.converters w unit_a x round_was time)
+
+  result_as : (i : ℕ) → result_of acted u i ≡ result_of chip u i
+  result_as i = ap (λ z. chips.result chip.converters.levels chip.converters.time z i) is_unit ∙ result-over chip.converters.levels chip.converters.time unit_a i not_idle h.block.past
+
+  block_all : IsBlock acted.converters w
+  block_all = record {
+    all = length-set chip.converters.units u (chips.aborted chip.converters.time unit_a) ∙ h.block.all;
+    lists = λ v less. by v less (same_or_other v u);
+    past = h.block.past;
+    samples = h.block.samples;
+  }
+    where
+      by : (v : ℕ) → v < 2 → (v ≡ u) ⊎ (v ≢ u) → length (chips.unit_at acted.converters v).list ≡ 8
+      by v less (inl i) = subst (λ n. length (chips.unit_at acted.converters n).list ≡ 8) (sym i) (ap (λ (z : Converter). length z.list) is_unit ∙ h.block.lists u few)
+      by v less (inr ne) = ap (λ (z : Converter). length z.list) (other_units v ne) ∙ h.block.lists v less
+
+  -- ---- by whether the group suspends
+
+  module _ (c : Bool) (sus : suspends (group_of d g) ≡ c) where
+    abbrev deeds : List WindowWrite
+    deeds = deeds_of u g c
+
+    abbrev after : Reservations
+    after = with_holds o p.acted (hold_then (then_of u g e c)) below
+
+    of_all : AllOf g u deeds
+    of_all = by c
+      where
+        by : (z : Bool) → AllOf x.group u (deeds_of u x.group z)
+        by true = (refl, (refl, tt))
+        by false = (refl, tt)
+
+    module _ (a : Chip) (differs : DiffersIn (own_of (order_of u)) acted a) (holds : HoldsOrder (order_of u) (word_of a) (waiting g true xs)) where
+      abbrev b : Chip
+      b = after_list (deed_move d) a deeds
+
+      low : (j : ℕ) → word_of b (group_word d g j) ≡ word_of chip (group_word d g j)
+      low j = low_last d fits x.group u there few chip whole deed tt a differs deeds of_all j ∙ by c
+        where
+          by : (z : Bool) → lows_set (deeds_of u x.group z) j (word_of chip (group_word d x.group j)) ≡ word_of chip (group_word d x.group j)
+          by true = refl
+          by false = refl
+
+      abbrev claim_by : Bool → ℕ
+      claim_by true = 2 + x.group
+      claim_by false = 0
+
+      claim : word_of b (word_number d (words.Claim u)) ≡ claim_by c
+      claim =
+          let is : STATE + 8 + 8 * u + 1 ≡ word_number d (words.Claim u) = omega arith in
+          subst (λ k. word_of b k ≡ claim_by c) is
+          (unit_last d fits x.group u there few chip whole deed tt a differs deeds of_all 1 (omega arith) ∙ by c (subst (λ k. word_of chip k ≡ 0) (sym is) claim_was))
+        where
+          by : (z : Bool) → word_of chip (STATE + 8 + 8 * u + 1) ≡ 0 → units_set (deeds_of u x.group z) 1 (word_of chip (STATE + 8 + 8 * u + 1)) ≡ claim_by z
+          by true f = refl
+          by false f = f
+
+      running : word_of b (word_number d (words.Running u)) ≡ 0
+      running =
+          let is : STATE + 8 + 8 * u + 0 ≡ word_number d (words.Running u) = omega arith in
+          subst (λ k. word_of b k ≡ 0) is (unit_last d fits x.group u there few chip whole deed tt a differs deeds of_all 0 (omega arith) ∙ by c)
+        where
+          by : (z : Bool) → units_set (deeds_of u x.group z) 0 (word_of chip (STATE + 8 + 8 * u + 0)) ≡ 0
+          by true = refl
+          by false = refl
+
+      block : b.converters ≡ acted.converters
+      block = by c ∙ ap (λ (z : Chip). z.converters) differs.rest
+        where
+          by : (z : Bool) → (after_list (deed_move d) a (deeds_of u x.group z)).converters ≡ a.converters
+          by true = refl
+          by false = refl
+
+      control : b.control ≡ chip.control
+      control = by c ∙ ap (λ (z : Chip). z.control) differs.rest
+        where
+          by : (z : Bool) → (after_list (deed_move d) a (deeds_of u x.group z)).control ≡ a.control
+          by true = refl
+          by false = refl
+
+      -- no other group's values are kept
+      claim_other : (k : ℕ) → k ≢ g → word_of b (word_number d (words.Claim u)) ≢ 2 + k
+      claim_other k ne i = by c (sym claim ∙ i)
+        where
+          by : (z : Bool) → claim_by z ≡ 2 + k → ⊥
+          by true f = ne (omega (arith, f))
+          by false f = omega (arith, f)
+
+      kept_stays : (j : ℕ) → word_of b (kept_word (rounds_of d g) j) ≡ word_of chip (kept_word (rounds_of d g) j)
+      kept_stays j =
+          let is : group_word d x.group (32 + 3 * length (inputs_of (group_of d x.group)) + j) ≡ kept_word (rounds_of d x.group) j = omega arith in
+          other_last d fits x.group u there few chip whole deed tt a differs deeds of_all (kept_word (rounds_of d x.group) j) (λ i less f. omega (arith, is, f, less)) (λ i less f. let start = (start_from d fits x.group there).0 in let l = few in omega (arith, is, f, less, start, l))
+
+      stays : Stays d before after chip b s t g u
+      stays = record {
+        on = on;
+        still = on;
+        requests = omega arith;
+        others = is_other;
+        rounds = rounds_as;
+        from = λ y i ne. absurd (let none : None ≡ Some y = sym free ∙ i in cc);
+        to = λ y i ne. absurd (ne (let same : Some x ≡ Some y = sym is ∙ i in let q : x ≡ y = cc in ap (λ (z : Round). z.group) (sym q)));
+        results = λ k ne i j. refl;
+        elsewhere = other_last d fits x.group u there few chip whole deed tt a differs deeds of_all;
+        claim_from = λ k ne i. absurd (claim_other k ne i);
+        claim_to = λ k ne i. absurd (let none : 0 ≡ 2 + k = sym claim_was ∙ i in omega (arith, none));
+        unit = λ k ne i. absurd (claim_other k ne i);
+        units = λ v less ne. ap (λ z. chips.unit_at z v) block ∙ other_units v ne;
+        levels = ap (λ (z : Converters). z.levels) block;
+        time = ap (λ (z : Converters). z.time) block;
+        enabled = λ l i. ap (λ z. has_bit z.enabled l) control;
+        puts = λ k ne. by_puts c k;
+        takes = λ k ne. by_takes c k;
+      }
+        where
+          by_puts : (z : Bool) (k : ℕ) → first_held (put_of d k) (with_holds o p.acted (hold_then (then_of u x.group (length x.request.kept) z)) below) ≡ first_held (put_of d k) before
+          by_puts true k = refl
+          by_puts false k = refl
+
+          by_takes : (z : Bool) (k : ℕ) → first_held (take_of k) (with_holds o p.acted (hold_then (then_of u x.group (length x.request.kept) z)) below) ≡ first_held (take_of k) before
+          by_takes true k = refl
+          by_takes false k = refl
+
+      -- frames below claim nothing of the unit
+      right : AllRight d b w t below
+      right = all_changed d fits before after chip b w s t h x.group u at stays below (spare below none_claims) h.right.1.1
+        where
+          none_of : (i j : Bool) → i || j ≡ false → (i ≡ false) × (j ≡ false)
+          none_of true j f = absurd (cc)
+          none_of false j f = (refl, f)
+
+          spare : (hs : Reservations) → some_hold (claims_on u) hs ≡ false → AllSpare d chip b s t x.group u hs
+          spare [] f = tt
+          spare (z ∷ zs) f =
+              let k = none_of (claims_on u z.what) (some_hold (claims_on u) zs) f in
+              (record { rounds = λ i. absurd (let off = k.0 in cc); unkept = λ i. absurd (let off = k.0 in cc); lost = λ i. absurd (let off = k.0 in cc); copies = λ n q j y i same. (ap (λ v. v % 4) (low 7), λ n j. refl); reads = λ k n vs i same. ap (λ v. v / 4) (low 7) }, spare zs k.1)
+
+      right_in : (z : Bool) → suspends (group_of d x.group) ≡ z → AllRight d b w t (with_holds o p.acted (hold_then (then_of u x.group (length x.request.kept) z)) below)
+      right_in false i = (on, right)
+      right_in true i = ((on, at, free, λ f. keeps, λ ne. absurd (ne (claim ∙ ap (λ v. claim_by v) (sym sus ∙ i)))), (on, right))
+        where
+          count : length (kept_in d t x.group) ≡ length x.request.kept + min (length (inputs_left (group_of d x.group) x)) ((w.now - x.start) / 4)
+          count = ap length kept_now ∙ kept_count w (group_of d x.group) x i
+
+          keeps : KeepsRight d b t u x.group (length x.request.kept) None 0 None
+          keeps = record {
+            waits = ap (λ (z : GroupState). is_some z.waiting) is_group;
+            count = count ∙ ap (λ n. length x.request.kept + n) (sym (ap (λ (z : Converters). rounds.ended (chips.unit_at z u).round z.time) block ∙ ended_as));
+            told = λ k f. absurd (cc);
+            word = low 6 ∙ (was.kept turn_was unkept ∙ ap length kept_was);
+            kept = λ j v less f.
+                let front : j < length x.request.kept = omega (arith, less) in
+                kept_stays j ∙ was.values turn_was unkept j v (ap (λ vs. slice_get vs j) kept_was ∙ kept_front w (group_of d x.group) x i j v front (ap (λ vs. slice_get vs j) (sym kept_now) ∙ f));
+            results = λ j v f.
+                let k = kept_behind w (group_of d x.group) x i j v (ap (λ vs. slice_get vs (length x.request.kept + j)) (sym kept_now) ∙ f) in
+                ap (λ (z : Converters). chips.result z.levels z.time (chips.unit_at z u) j) block ∙ (result_as j ∙ (round_was.values j k.0 k.1 k.2 ∙ sym k.3));
+            next = λ v f. absurd (cc);
+          }
+
+      order : IsOrder d t u (waiting g true xs)
+      order = order_waiting d s t x.group u at (λ k ne. turn_same d fits before after chip b w s t h x.group u at stays k ne) (λ k ne. ap (λ (z : GroupState). is_some z.waiting) (is_other k ne)) xs unit_was.order.2 numbers (turn ∙ sym turn_was) true (ap (λ (z : GroupState). is_some z.waiting) is_group)
+
+      claims_in : (z : Bool) → claim_by z ≡ claim_by z → (v : ℕ) → v < 2 → (v ≡ u) ⊎ (v ≢ u) → word_of b (word_number d (words.Claim u)) ≡ claim_by z → claim_right (with_holds o p.acted (hold_then (then_of u x.group (length x.request.kept) z)) below) v (word_of b (word_number d (words.Claim v))) ≡ true
+      claims_in false same v less (inl i) f = subst (λ n. claim_right below n (word_of b (word_number d (words.Claim n))) ≡ true) (sym i) (subst (λ n. claim_right below u n ≡ true) (sym f) (claim_none u below none_claims))
+      claims_in false same v less (inr ne) f = subst (λ n. claim_right below v n ≡ true) (sym (claim_stays d fits before after chip b w s t h x.group u at stays v less ne)) ((h.settled on).claims v less)
+      claims_in true same v less (inl i) f =
+          subst (λ n. claim_right (with_holds o p.acted (hold_then (then_of u x.group (length x.request.kept) true)) below) n (word_of b (word_number d (words.Claim n))) ≡ true) (sym i)
+          (subst (λ n. claim_right (with_holds o p.acted (hold_then (then_of u x.group (length x.request.kept) true)) below) u n ≡ true) (sym f)
+          (ap (λ q. if q then ((2 + x.group == 2 + x.group) || (2 + x.group == 1)) && not (some_hold (claims_on u) below) else claim_right below u (2 + x.group)) (eq_self u)
+          ∙ (ap (λ q. (q || (2 + x.group == 1)) && not (some_hold (claims_on u) below)) (eq_self (2 + x.group)) ∙ ap (λ q. not q) none_claims)))
+      claims_in true same v less (inr ne) f =
+          ap (λ q. if q then ((word_of b (word_number d (words.Claim v)) == 2 + x.group) || (word_of b (word_number d (words.Claim v)) == 1)) && not (some_hold (claims_on v) below) else claim_right below v (word_of b (word_number d (words.Claim v)))) (eq_other v u ne)
+          ∙ subst (λ n. claim_right below v n ≡ true) (sym (claim_stays d fits before after chip b w s t h x.group u at stays v less ne)) ((h.settled on).claims v less)
+
+      promised : (z : Bool) (v : ℕ) → (v ≡ u) ⊎ (v ≢ u) → Promised d (with_holds o p.acted (hold_then (then_of u x.group (length x.request.kept) z)) below) w t v
+      promised z v (inl i) = subst (λ n. Promised d (with_holds o p.acted (hold_then (then_of u x.group (length x.request.kept) z)) below) w t n) (sym i) (record { starts = λ f. starts_here z; yields = λ f. absurd (let none : is_some (aborts d w t u) ≡ false = ap (λ q. is_some (aborts_by d w t u q)) free in cc) })
+        where
+          starts_here : (z : Bool) → some_hold (starts_on u) (with_holds o p.acted (hold_then (then_of u x.group (length x.request.kept) z)) below) ≡ true
+          starts_here true = ap (λ q. q || some_hold (starts_on u) below) (eq_self u)
+          starts_here false = ap (λ q. q || some_hold (starts_on u) below) (eq_self u)
+      promised z v (inr ne) = promised_same d w s t v (rounds_as v ne) (waits_other d s t x.group v (off_unit d fits x.group u v at ne) (λ k nk. ap (λ (z : GroupState). is_some z.waiting) (is_other k nk))) before (with_holds o p.acted (hold_then (then_of u x.group (length x.request.kept) z)) below) (starts_more z) (yields_more z) ((h.settled on).promised v)
+        where
+          starts_more : (z : Bool) → some_hold (starts_on v) before ≡ true → some_hold (starts_on v) (with_holds o p.acted (hold_then (then_of u x.group (length x.request.kept) z)) below) ≡ true
+          starts_more true f = f
+          starts_more false f = f
+
+          yields_more : (z : Bool) → will_yield v before ≡ true → will_yield v (with_holds o p.acted (hold_then (then_of u x.group (length x.request.kept) z)) below) ≡ true
+          yields_more true f = sym (ap (λ q. q || (not ((v == u) && is_handler v o) && will_yield v below)) (eq_other v u ne)) ∙ f
+          yields_more false f = sym (ap (λ q. q || (not ((v == u) && is_handler v o) && will_yield v below)) (eq_other v u ne)) ∙ f
+
+      banks : BanksAgree d after (word_of b) t g
+      banks = let k = h.banks x.group there in record {
+        banks = k.banks;
+        stands = stands-agree (trio_of (rounds_of d x.group)) (word_of chip) (word_of b) k.banks (trio_group d fits before after chip b w s t h x.group u at stays (low 7)) k.stands;
+        newest = λ ne more. k.newest (λ i. ne (ap (λ (z : GroupState). z.status) is_group ∙ i)) (subst (λ (z : GroupState). 0 < length z.rounds) is_group more) ∙ ap (λ (z : GroupState). newest z.rounds) (sym is_group);
+        put = k.put ∙ sym (by_puts c);
+        take = k.take ∙ sym (by_takes c);
+      }
+        where
+          by_puts : (z : Bool) → first_held (put_of d x.group) (with_holds o p.acted (hold_then (then_of u x.group (length x.request.kept) z)) below) ≡ first_held (put_of d x.group) before
+          by_puts true = refl
+          by_puts false = refl
+
+          by_takes : (z : Bool) → first_held (take_of x.group) (with_holds o p.acted (hold_then (then_of u x.group (length x.request.kept) z)) below) ≡ first_held (take_of x.group) before
+          by_takes true = refl
+          by_takes false = refl
+
+      group : GroupAgrees d (word_of b) t g
+      group = record {
+        phase = low 0 ∙ (was.phase ∙ (ap (λ q. phase_of (group_at s x.group).status (q || (group_at s x.group).trigger)) (turn_was ∙ sym turn) ∙ sym (ap (λ (z : GroupState). phase_of z.status (has_turn t x.group || z.trigger)) is_group)));
+        chosen = low 1 ∙ (was.chosen ∙ sym (ap (λ (z : GroupState). chosen_of z.chosen) is_group));
+        notified = low 2 ∙ (was.notified ∙ sym (ap (λ (z : GroupState). bit_of z.notification) is_group));
+        turn = low 3 ∙ (was.turn ∙ ap (λ q. bit_of q) (turn_was ∙ sym turn));
+        count = λ ne. low 4 ∙ (was.count (λ i. ne (ap (λ (z : GroupState). z.status) is_group ∙ i)) ∙ sym (ap (λ (z : GroupState). min (length z.rounds) (samples_of (group_of d x.group))) is_group));
+        place = λ ne. low 5 ∙ (was.place (λ i. ne (ap (λ (z : GroupState). z.status) is_group ∙ i)) ∙ sym (ap (λ (z : GroupState). length z.rounds % samples_of (group_of d x.group)) is_group));
+        kept = λ turned ne. by_kept c sus claim ne;
+        values = λ turned ne i v f. by_values c sus claim ne i v f;
+      }
+        where
+          -- a group that suspends is claimed, and any other one keeps nothing
+          not_claimed : word_of b (word_number d (words.Claim (unit_of (group_of d x.group)))) ≢ 2 + x.group → word_of b (word_number d (words.Claim u)) ≡ 2 + x.group → ⊥
+          not_claimed ne i = ne (ap (λ v. word_of b (word_number d (words.Claim v))) here ∙ i)
+
+          by_kept : (z : Bool) → suspends (group_of d x.group) ≡ z → word_of b (word_number d (words.Claim u)) ≡ claim_by z → word_of b (word_number d (words.Claim (unit_of (group_of d x.group)))) ≢ 2 + x.group → word_of b (group_word d x.group 6) ≡ length (kept_in d t x.group)
+          by_kept true i f ne = absurd (not_claimed ne f)
+          by_kept false i f ne = low 6 ∙ (was.kept turn_was unkept ∙ (ap length (kept_was ∙ run.4.3 i) ∙ sym (ap length (kept_now ∙ kept_none w (group_of d x.group) x i))))
+
+          by_values : (z : Bool) → suspends (group_of d x.group) ≡ z → word_of b (word_number d (words.Claim u)) ≡ claim_by z → word_of b (word_number d (words.Claim (unit_of (group_of d x.group)))) ≢ 2 + x.group → (i v : ℕ) → slice_get (kept_in d t x.group) i ≡ Some v → word_of b (kept_word (rounds_of d x.group) i) ≡ v
+          by_values true i f ne j v k = absurd (not_claimed ne f)
+          by_values false i f ne j v k = absurd (let none : slice_get [] j ≡ Some v = sym (ap (λ vs. slice_get vs j) (kept_now ∙ kept_none w (group_of d x.group) x i)) ∙ k in cc)
+
+      fresh : Fresh d after b w t g u
+      fresh = record {
+        sound = sound;
+        waits = λ q i. subst (λ (z : Request). IsSoundRequest d t x.group z) (asked q i) (run.4.0, run.4.1, kept_less w (group_of d x.group) x run.4.2 unfinished, λ f. kept_none w (group_of d x.group) x f);
+        runs = λ y i same. absurd (let none : None ≡ Some y = sym free ∙ i in cc);
+        marks = λ i f. ap (λ q. is_some q) (listens_as i) ∙ h.sound.marks i f;
+        hears = λ turned i. ap (λ (z : GroupState). z.trigger) is_group ∙ h.sound.hears x.group turn_was i;
+        outside = stands_last d fits x.group u there few chip whole deed tt a differs deeds of_all w h.outside;
+        block = subst (λ z. IsBlock z w) (sym block) block_all;
+        round = subst (λ q. RoundAgrees d b.converters w (chips.unit_at b.converters u) q) (sym free) (subst (λ (z : Converters). IsOver (chips.unit_at z u).round z.time) (sym block) (chip.converters.time, ap (λ (z : Converter). z.round.closed) is_unit, omega arith));
+        triggers = subst (λ z. TriggersAgree d z t) (sym block) (record { gates = λ i less. h.triggers.gates i less ∙ ap (λ q. is_some q) (sym (listens_as i)); flags = h.triggers.flags; others = h.triggers.others });
+        right = right_in c sus;
+        banks = banks;
+        places = λ k n j less left. place_stays d fits before after chip b w s t h x.group u at stays k n j ∙ h.places k n j less (sym (owed_as c k n j) ∙ left);
+        backed = backed c;
+        group = group;
+        unit = record { running = running ∙ sym (ap (λ q. running_of q) free); order = (waiting x.group true xs, order_last d fits x.group u there few chip whole deed tt a differs deeds of_all (waiting x.group true xs) holds, order) };
+        claims = λ v less. claims_in c refl v less (same_or_other v u) claim;
+        promised = λ v. promised c v (same_or_other v u);
+      }
+        where
+          asked : (q : Request) → (group_at t x.group).waiting ≡ Some q → request ≡ q
+          asked q i = let j : Some request ≡ Some q = sym (ap (λ (z : GroupState). z.waiting) is_group) ∙ i in let k : request ≡ q = cc in k
+
+          owed_as : (z : Bool) (k : ℕ) (n : ResultBuffer) (j : ℕ) → some_hold (is_owed k n j) (with_holds o p.acted (hold_then (then_of u x.group (length x.request.kept) z)) below) ≡ some_hold (is_owed k n j) before
+          owed_as true k n j = refl
+          owed_as false k n j = refl
+
+          backed : (z : Bool) → Backed (with_holds o p.acted (hold_then (then_of u x.group (length x.request.kept) z)) below)
+          backed true = (λ v i. ap (λ q. q || some_hold (starts_on v) below) i, (λ v i. absurd (cc), h.backed.1.1))
+          backed false = (λ v i. absurd (cc), h.backed.1.1)
+
+      represents : Agrees d after b w t
+      represents = changed d fits before after chip b w s t h x.group u at stays fresh
+
+    -- ---- the moves that are owed
+
+    own_there : (k : ℕ) → own_of (order_of u) k ≡ true → is_word d k ≡ true
+    own_there k i = order_words d u k few i
+
+    may_set : (k v : ℕ) → is_word d k ≡ true → owed_own d (Store k v) ≡ true
+    may_set k v own = own_named d fits (λ j. is_word d j) (λ j i. i) (Store k v) own
+
+    entry_is : entry g ≡ g
+    entry_is = mod-eq_of_lt lt
+
+    comes : (z : Bool) (a : Chip) → Agrees d after (after_list (deed_move d) a (deeds_of u x.group z)) w t → CommitsAfter (making_owed d) (owed_of d None None (deeds_of u x.group z) (then_of u x.group (length x.request.kept) z)) a (λ q. Agrees d after q w t)
+    comes true a k = settles_list (making_owed d) (deed_move d) (λ ds. owed_of d None None ds (then_of u x.group (length x.request.kept) true)) (deeds_listed d fits (then_of u x.group (length x.request.kept) true)) (λ q. Agrees d after q w t) (deeds_of u x.group true) a ((may_set (word_number d (words.Running u)) 0 (running_words d u few), tt), ((may_set (word_number d (words.Claim u)) (2 + x.group) (claim_words d u few), tt), tt)) k
+    comes false a k = settles_list (making_owed d) (deed_move d) (λ ds. owed_of d None None ds (then_of u x.group (length x.request.kept) false)) (deeds_listed d fits (then_of u x.group (length x.request.kept) false)) (λ q. Agrees d after q w t) (deeds_of u x.group false) a ((may_set (word_number d (words.Running u)) 0 (running_words d u few), tt), tt) k
+
+    pub abort_settles : (n : ℕ) × CommitsTo (making_owed d) n (record { table = d; order = Some (shapes.Again (again_start (order_of u) (entry g))); banks = None; deeds = deeds_of u g c; after = then_of u g e c }) acted (λ q. Agrees d (with_holds o p.acted (hold_then (then_of u g e c)) below) q w t)
+    abort_settles =
+        settles_part waiting_again (own_of (order_of u)) (making_owed d) (λ q. record { table = d; order = Some (shapes.Again q); banks = None; deeds = deeds; after = then_of u x.group (length x.request.kept) c }) (λ ws. owed_of d None None deeds (then_of u x.group (length x.request.kept) c))
+        (again_part d fits (own_of (order_of u)) own_there None deeds (then_of u x.group (length x.request.kept) c)) (λ k i. word_there d fits k (own_there k i)) (λ k ws. HoldsOrder (order_of u) k (waiting (entry x.group) true xs) × (ws ≡ [])) (λ q. Agrees d after q w t)
+        2 (again_start (order_of u) (entry x.group)) acted (whole_first d fits x.group u there few chip whole deed tt acted (differs_none (own_of (order_of u)) acted first_whole) [] tt)
+        (again-ends (order_of u) (entry x.group) (word_of acted) xs (subst (λ n. n < 16) (sym entry_is) lt) (order_first d fits x.group u there few chip whole deed tt acted (differs_none (own_of (order_of u)) acted first_whole) [] tt xs unit_was.order.1))
+        (λ a ws differs dd. comes c a (represents a differs (subst (λ n. HoldsOrder (order_of u) (word_of a) (waiting n true xs)) entry_is dd.0)))
+      where
+        first_whole : HasWords acted
+        first_whole = length_after chip (deed_move d deed) 0 ∙ whole

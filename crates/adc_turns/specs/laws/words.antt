@@ -1,0 +1,3 @@
+pub mod BegunWords
+pub mod EndedRound
+pub mod ListedInputs

@@ -1,0 +1,9 @@
+pub mod Joined
+pub mod KeepsToModule
+pub mod Lawful
+pub mod MainFunctionHold
+pub mod MaskDiscipline
+pub mod ModuleBounds
+pub mod NoneWaits
+pub mod PendingWritesRight
+pub mod UnpolledFrames

@@ -1,0 +1,526 @@
+-- The driver, as the outline and the runner see it. It is lawful where the frames are that start or serve units.
+-- From bookkeeping.UnpolledFrames.
+-- Used by services.UnitBegins, bookkeeping.KeepsToModule.
+use Rattle.std.proofs.Common.{◌≡◌, ◌+◌, ◌-◌, ◌%◌, ◌<◌, ◌≤◌, ◌==◌, ◌||◌, [], ◌∷◌, ◌∙◌, if◌then◌else◌}
+use Rattle.spi_driver.specs.Terms
+use Terms.{Act, acts_by, AllLet, AllRight, and_parts, Answer, answer_refused, answers, ap, AreEnding, AreEndingServices}
+use Terms.{AreLong, arith, Asked, asks_no, asks_none, AssertedAt, AsyncTransmit, basis_right, begins, Beside, blocks}
+use Terms.{Bool, both, both_ending, both_right, Call, Called, CanBegin, Cancel, cancel_bodies, cancel_right, CancelBody}
+use Terms.{CaptureCountHigh, CaptureTimeHigh, Channel, channel_begun, channel_of, ChannelCall, ChannelState, Chip}
+use Terms.{class_of, Cleared, Debt, Decides, Declines, Done, ended_at, ending_gave, Entered, error_by, error_told}
+use Terms.{ErrorName, false, finds_held, First, FitsSpi, FrameHistory, free_windows, Handler, Handling, has_channel}
+use Terms.{HeldRight, in_list, init_bodies, init_right, init_within, InitBody, Interrupt, is_busy, is_external_channel}
+use Terms.{is_internal_channel, is_number, is_off, is_past, is_polling, is_some, Is_this_frame, is_used, is_users}
+use Terms.{is_windowed, is_wrong_length, IsLawful, job_of, LeavesNone, length_by, List, LongBodies, Looked, looked_by}
+use Terms.{Main, mark_of, may_name, may_store, Mode, mode_word, Move, named, names_there, nat_lt, no_answer, no_duties}
+use Terms.{None, NoneBefore, not, Nothing, of_sixteen, Off, Option, Or, or_rest, Origin, outcome, own_first, placed_of}
+use Terms.{Plain, Pointer, Polling, polls, Preparing, Proceeds, PulseCommit, PulseIdle, put_by, put_held, Query}
+use Terms.{query_begun, query_bodies, query_right, QueryBody, Read, read_bodies, read_right, ReadBody, ReadIb, Reading}
+use Terms.{refl, Reservation, Reservations, ReservedBy, same_number, Second, sequence_begun, sequence_of, SequenceCall}
+use Terms.{Services, services_driver, services_lawful, set_up_bodies, set_up_right, SetUpBody, SetupEb, short_left}
+use Terms.{short_move, Some, some_of, spi_basis, spi_ends, spi_looked, spi_machine, spi_setting, SpiBody, SpiRepresents}
+use Terms.{SpiState, SpiTable, SpiUninit, STATE, status_by, steps_of, subst, suc, sym, take, take_by, take_held}
+use Terms.{tells_error, tells_nothing, TimerHigh, to_write, Transmit, true, unit_body, unit_by, unit_of_sequence}
+use Terms.{UnitBody, value_of, whole_bodies, whole_right, WholeBody, word_of, words_in, World, Write, write_bodies}
+use Terms.{write_right, WriteBody, WriteIb, Writing, zero, ℕ}
+use Rattle.spi_driver.specs.laws.bookkeeping.UnpolledFrames.{LeavesBy, PollsNone, cancel_unpolled, init_unpolled}
+use Rattle.spi_driver.specs.laws.bookkeeping.UnpolledFrames.{leaves_unpolled, lets_none, query_unpolled, read_unpolled}
+use Rattle.spi_driver.specs.laws.bookkeeping.UnpolledFrames.{set_up_unpolled, unpolled_left, whole_unpolled}
+use Rattle.spi_driver.specs.laws.bookkeeping.UnpolledFrames.{write_unpolled}
+use Rattle.mcal_base.specs.declared.error_name.ErrorName.TheVariants as errors
+use Rattle.spi_machine.specs.declared.call.Call.TheVariants as calls
+use Rattle.spi_machine.specs.declared.call.Query.TheVariants as queries
+use Rattle.spi_sequences.specs.declared.service.request.RequestPlace.TheVariants as request
+use Rattle.spi_sequences.specs.declared.service.serve.ServePlace.TheVariants as serves
+use Rattle.spi_sequences.specs.declared.service.unit.UnitPlace.TheVariants as place
+
+-- ---- what stands of calls that find no error
+
+clear_one : (off : Bool) (e : ErrorName) → (if off then Some e else None) ≡ None → off ≡ false
+clear_one true e h = absurd (cc)
+clear_one false e h = refl
+
+clear_two : (off good : Bool) (e f : ErrorName) → (if off then Some e else if not good then Some f else None) ≡ None → (off ≡ false) × (good ≡ true)
+clear_two true good e f h = absurd (cc)
+clear_two false true e f h = (refl, refl)
+clear_two false false e f h = absurd (cc)
+
+clear_three : (off good bad : Bool) (e f g : ErrorName) → (if off then Some e else if not good then Some f else if bad then Some g else None) ≡ None → (off ≡ false) × (good ≡ true) × (bad ≡ false)
+clear_three true good bad e f g h = absurd (cc)
+clear_three false true true e f g h = absurd (cc)
+clear_three false true false e f g h = (refl, refl, refl)
+clear_three false false bad e f g h = absurd (cc)
+
+-- an error that is found before a pending sequence is looked for
+found_first : (off good held : Bool) (e f g x : ErrorName) → (if off then Some e else if not good then Some f else None) ≡ Some x → (if off then Some e else if not good then Some f else if held then Some g else None) ≡ Some x
+found_first true good held e f g x h = h
+found_first false true held e f g x h = absurd (cc)
+found_first false false held e f g x h = h
+
+refused_so : (d : SpiTable) (s : SpiState) (call : Call) (x : ErrorName) → error_by d call (is_off s.mode) false ≡ Some x → error_by d call (is_off s.mode) (finds_held d s call) ≡ Some x
+refused_so d s (calls.Sequence q AsyncTransmit) x e = found_first (is_off s.mode) (is_some (sequence_of d q)) (finds_held d s (calls.Sequence q AsyncTransmit)) errors.SpiUninit errors.SpiParamSeq errors.SpiSeqPending x e
+refused_so d s (calls.Sequence q Cancel) x e = e
+refused_so d s calls.Init x e = e
+refused_so d s calls.DeInit x e = e
+refused_so d s (calls.SetAsyncMode m) x e = e
+refused_so d s calls.MainFunctionHandling x e = e
+refused_so d s (calls.Channel c call) x e = e
+refused_so d s (calls.Get query) x e = e
+
+-- the main function has no error, and any other call polls nothing
+polls_none : (d : SpiTable) (s : SpiState) (call : Call) (x : ErrorName) → error_by d call (is_off s.mode) false ≡ Some x → polls s call ≡ []
+polls_none d s calls.MainFunctionHandling x e = absurd (cc)
+polls_none d s calls.Init x e = refl
+polls_none d s calls.DeInit x e = refl
+polls_none d s (calls.SetAsyncMode m) x e = refl
+polls_none d s (calls.Channel c call) x e = refl
+polls_none d s (calls.Sequence q call) x e = refl
+polls_none d s (calls.Get query) x e = refl
+
+pub external_channel : (k : Option Channel) → is_external_channel k ≡ true → (x : Channel) × (k ≡ Some x) × (x.internal ≡ false)
+external_channel None e = absurd (cc)
+external_channel (Some x) e = (x, refl, by x.internal e)
+  where
+    by : (b : Bool) → not b ≡ true → b ≡ false
+    by true e = absurd (cc)
+    by false e = refl
+
+pub internal_channel : (k : Option Channel) → is_internal_channel k ≡ true → (x : Channel) × (k ≡ Some x) × (x.internal ≡ true)
+internal_channel None e = absurd (cc)
+internal_channel (Some x) e = (x, refl, e)
+
+below_byte : (n : ℕ) → n < 256 → n % 256 ≡ n
+below_byte n lt = omega (arith, lt)
+
+-- a length that isn't wrong
+length_right : (n : ℕ) (k : Channel) → is_wrong_length n (Some k) ≡ false → (0 < n) × (n ≤ k.length)
+length_right n k e = by (n == 0) refl (nat_lt k.length n) refl e
+  where
+    positive : (n : ℕ) → (n == 0) ≡ false → 0 < n
+    positive zero f = absurd (cc)
+    positive (suc n) f = omega arith
+
+    by : (a : Bool) → (n == 0) ≡ a → (b : Bool) → nat_lt k.length n ≡ b → a || b ≡ false → (0 < n) × (n ≤ k.length)
+    by true f b g h = absurd (cc)
+    by false f true g h = absurd (cc)
+    by false f false g h = (positive n f, is_past k.length n g)
+
+-- ---- what the frames below hold, by what lets the call begin
+
+-- above frames of the module nothing exclusive begins
+class_module : (d : SpiTable) (o : Origin Call) (call : Call) → class_of call ≡ class_of calls.Init → blocks (class_of call) (mark_of (spi_setting d) o) ≡ true
+class_module d (Called calls.Init) call e = ap (λ c. blocks c (mark_of (spi_setting d) (Called calls.Init))) e
+class_module d (Called calls.DeInit) call e = ap (λ c. blocks c (mark_of (spi_setting d) (Called calls.DeInit))) e
+class_module d (Called (calls.SetAsyncMode m)) call e = ap (λ c. blocks c (mark_of (spi_setting d) (Called (calls.SetAsyncMode m)))) e
+class_module d (Called calls.MainFunctionHandling) call e = ap (λ c. blocks c (mark_of (spi_setting d) (Called calls.MainFunctionHandling))) e
+class_module d (Called (calls.Channel n x)) call e = ap (λ c. blocks c (mark_of (spi_setting d) (Called (calls.Channel n x)))) e
+class_module d (Called (calls.Sequence n x)) call e = ap (λ c. blocks c (mark_of (spi_setting d) (Called (calls.Sequence n x)))) e
+class_module d (Called (calls.Get x)) call e = ap (λ c. blocks c (mark_of (spi_setting d) (Called (calls.Get x)))) e
+class_module d (Entered l) call e = ap (λ c. blocks c (mark_of (spi_setting d) (Entered l))) e
+
+pub alone_by : (d : SpiTable) (call : Call) (below : Reservations) → class_of call ≡ class_of calls.Init → AllLet (spi_setting d) (class_of call) below → below ≡ []
+alone_by d call [] e lets = refl
+alone_by d call (h ∷ hs) e lets = absurd (let f = sym (class_module d h.by call e) ∙ lets.0 in cc)
+
+module _ (d : SpiTable) (mode : Mode) (cs : List ChannelState) (on : is_off mode ≡ false) (c : ℕ) where
+  -- no frame writes the channel
+  not_written : (p : Pointer) (sources : ℕ → List ℕ) (h : ReservedBy Call Reservation) (x : Reservation) → HeldRight d mode cs h x → blocks (class_of (calls.Channel c (WriteIb p))) (mark_of (spi_setting d) h.by) ≡ false → put_by d sources c false x ≡ None
+  not_written p sources h (Debt u) right l = refl
+  not_written p sources h (Cleared u) right l = refl
+  not_written p sources h Handling right l = refl
+  not_written p sources h (Reading n b) right l = refl
+  not_written p sources h (Preparing stored readied x) right l = absurd (let off = right.1 in cc)
+  not_written p sources h (Writing n q b i x) right l = by (n == c) refl
+    where
+      same : (n == c) ≡ true → (c == n) ≡ true
+      same e = ap (λ k. c == k) (is_number n c e) ∙ same_number c
+
+      other : (c == n) ≡ false
+      other = subst (λ o. blocks (class_of (calls.Channel c (WriteIb p))) (mark_of (spi_setting d) o) ≡ false) right.0 l
+
+      by : (a : Bool) → (n == c) ≡ a → put_by d sources c false (Writing n q b i x) ≡ None
+      by true e = absurd (let f = same e in let g = other in cc)
+      by false e = ap (λ a. if a then Some (record { bank = b; filled = take i (to_write (channel_of d c) q (sources c)) }) else None) e
+
+  none_writes : (p : Pointer) (sources : ℕ → List ℕ) (below : Reservations) → AllRight d mode cs below → AllLet (spi_setting d) (class_of (calls.Channel c (WriteIb p))) below → put_held d sources c false below ≡ None
+  none_writes p sources [] right lets = refl
+  none_writes p sources (h ∷ hs) right lets = ap (λ x. or_rest x (put_held d sources c false hs)) (not_written p sources h h.what right.0 lets.0) ∙ none_writes p sources hs right.1 lets.1
+
+  -- or reads it
+  not_read : (h : ReservedBy Call Reservation) (x : Reservation) → HeldRight d mode cs h x → blocks (class_of (calls.Channel c ReadIb)) (mark_of (spi_setting d) h.by) ≡ false → take_by c h.acted x ≡ None
+  not_read h (Debt u) right l = refl
+  not_read h (Cleared u) right l = refl
+  not_read h Handling right l = refl
+  not_read h (Writing n q b i x) right l = refl
+  not_read h (Preparing stored readied x) right l = refl
+  not_read h (Reading n b) right l = by (n == c) refl
+    where
+      same : (n == c) ≡ true → (c == n) ≡ true
+      same e = ap (λ k. c == k) (is_number n c e) ∙ same_number c
+
+      other : (c == n) ≡ false
+      other = subst (λ o. blocks (class_of (calls.Channel c ReadIb)) (mark_of (spi_setting d) o) ≡ false) right.0 l
+
+      by : (a : Bool) → (n == c) ≡ a → take_by c h.acted (Reading n b) ≡ None
+      by true e = absurd (let f = same e in let g = other in cc)
+      by false e = ap (λ a. if a then Some (record { bank = b; kept = words_in h.acted }) else None) e
+
+  none_reads : (below : Reservations) → AllRight d mode cs below → AllLet (spi_setting d) (class_of (calls.Channel c ReadIb)) below → take_held c below ≡ None
+  none_reads [] right lets = refl
+  none_reads (h ∷ hs) right lets = ap (λ x. or_rest x (take_held c hs)) (not_read h h.what right.0 lets.0) ∙ none_reads hs right.1 lets.1
+
+-- ---- the driver
+
+-- the body of the handler of a line whose unit a job uses
+abbrev pub handled_by : SpiTable → (line : ℕ) → (used : Bool) → Option SpiBody
+handled_by d line false = None
+handled_by d line true = Some (unit_body (record { table = d; errand = Handler; unit = if line == 26 then 0 else 1; place = place.Serve serves.State }))
+
+abbrev FirstBody : Type 0
+FirstBody = Or (Or InitBody WholeBody) QueryBody
+
+abbrev LastBody : Type 0
+LastBody = Or (Or SetUpBody (Or WriteBody ReadBody)) (Or UnitBody CancelBody)
+
+module _ (d : SpiTable) (unit_bodies : LongBodies (spi_basis d) UnitBody) where
+  abbrev firsts : LongBodies (spi_basis d) FirstBody
+  firsts = both (both (init_bodies d) (whole_bodies d)) (query_bodies d)
+
+  abbrev lasts : LongBodies (spi_basis d) LastBody
+  lasts = both (both (set_up_bodies d) (both (write_bodies d) (read_bodies d))) (both unit_bodies (cancel_bodies d))
+
+  -- the driver; any call may be made
+  abbrev pub spi : Services SpiState Call Asked SpiBody
+  spi = record {
+    basis = spi_basis d;
+    bodies = both firsts lasts;
+    seen = λ k. Plain;
+    written = λ k call writes. Unit {0};
+    fits = FitsSpi d;
+    can = λ call. Unit {0};
+    word = STATE;
+    asked = λ call. record { call = call; table = d };
+    looked = spi_looked;
+    most = λ q. steps_of d (Called q.call) - 7;
+    wide = λ q. 29;
+    body_of = λ line. handled_by d line (is_used d line);
+  }
+
+  -- what is left to show of the frames that start or serve units
+  pub record AreRight : Type 0 where
+    pub units : AreLong (spi_basis d) unit_bodies
+    pub begins_request : (below : Reservations) (chip : Chip) (w : World) (s : SpiState) (q : ℕ) → q < 8 → is_off s.mode ≡ false → error_by d (calls.Sequence q AsyncTransmit) (is_off s.mode) false ≡ None → SpiRepresents d below chip w s
+        → Proceeds spi below chip w s (calls.Sequence q AsyncTransmit) (unit_body (record { table = d; errand = Transmit q; unit = unit_of_sequence d q; place = place.Request (request.Look 0) }))
+    pub begins_main : (below : Reservations) (chip : Chip) (w : World) (s : SpiState) → is_polling s.mode ≡ true → SpiRepresents d below chip w s
+        → Proceeds spi below chip w s calls.MainFunctionHandling (unit_body (record { table = d; errand = Main; unit = 0; place = place.Act }))
+    pub enters : (line : ℕ) (k : SpiBody) → handled_by d line (is_used d line) ≡ Some k → CanBegin spi k (Entered line)
+    pub line_steps : (line : ℕ) (k : SpiBody) → handled_by d line (is_used d line) ≡ Some k → 6 + (both firsts lasts).fuel k ≤ 144
+    pub leaves : (below : Reservations) (chip : Chip) (w : World) (s : SpiState) (k : UnitBody) (o : Origin Call) (y : ℕ) (t : FrameHistory) (n : Done) → AssertedAt (spi_basis d) unit_bodies below chip w s k o t → let r = (unit_bodies.takes k (value_of chip (unit_bodies.work_of k))).1 in r.done ≡ Some n → LeavesBy d w s o t (unit_bodies.work_of k) y r.event n
+
+  module _ (fits : FitsSpi d) (below : Reservations) (chip : Chip) (w : World) (s : SpiState) (h : SpiRepresents d below chip w s) where
+    abbrev Looks : Call → Looked SpiBody → Type 0
+    Looks call l = Decides spi below chip w s call l
+
+    declines : (call : Call) (e : ErrorName) → error_by d call (is_off s.mode) false ≡ Some e → Looks call (looked_by (record { call = call; table = d }) (mode_word s.mode) (Some e))
+    declines call e is = record {
+      told = tells_error (answer_refused call) e;
+      is = λ times. ap (λ y. Some (acts_by d s call y)) (refused_so d s call e is);
+      tells = error_told (spi_machine d) call (answer_refused call) e;
+      reset = asks_no (spi_machine d) call (Some Act) (Some (outcome s (tells_error (answer_refused call) e))) (asks_none call);
+      polls = polls_none d s call e is;
+    }
+
+    whole_begins : (call : Call) → class_of call ≡ class_of calls.Init → Beside (spi_setting d) (Called call) below → below ≡ []
+    whole_begins call e lets = alone_by d call below e lets
+
+    none_before : NoneBefore s.pending 0
+    none_before k lt = absurd (omega (arith, lt))
+
+    -- at the channel's own number
+    at_channel : (c : ℕ) (call : ChannelCall) → Beside (spi_setting d) (Called (calls.Channel c call)) below → error_by d (calls.Channel c call) (is_off s.mode) false ≡ None → Looks (calls.Channel c call) (channel_begun d c call)
+    at_channel c (WriteIb p) lets clear =
+        let facts = clear_two (is_off s.mode) (is_internal_channel (channel_of d c)) errors.SpiUninit errors.SpiParamChannel clear in
+        let there = internal_channel (channel_of d c) facts.1 in
+        let size : (placed_of d c).channel.length ≡ length_by (channel_of d c) = ap (λ x. x.length) (has_channel d fits c there.0 there.1) ∙ sym (ap length_by there.1) in
+        record {
+          at = (
+            h,
+            (
+              (
+                c,
+                there.0,
+                Is_this_frame,
+                record {
+                  known = there.1;
+                  internal = there.2;
+                  placed = refl;
+                  alone = λ sources. none_writes d s.mode s.channels facts.0 c p sources below h.right lets;
+                  clear = subst (λ off. error_by d (calls.Channel c (WriteIb p)) off false ≡ None) facts.0 clear;
+                },
+              ),
+              facts.0,
+            ),
+          );
+          closed = refl;
+          fuel = omega (arith, size);
+          room = omega arith;
+        }
+    at_channel c ReadIb lets clear =
+        let facts = clear_two (is_off s.mode) (is_internal_channel (channel_of d c)) errors.SpiUninit errors.SpiParamChannel clear in
+        let there = internal_channel (channel_of d c) facts.1 in
+        let size : (placed_of d c).channel.length ≡ length_by (channel_of d c) = ap (λ x. x.length) (has_channel d fits c there.0 there.1) ∙ sym (ap length_by there.1) in
+        record {
+          at = (
+            h,
+            (
+              (
+                c,
+                there.0,
+                Is_this_frame,
+                record {
+                  known = there.1;
+                  internal = there.2;
+                  placed = refl;
+                  alone = none_reads d s.mode s.channels facts.0 c below h.right lets;
+                },
+                clear,
+                facts.0,
+                refl,
+              ),
+              refl,
+            ),
+          );
+          closed = refl;
+          fuel = omega (arith, size);
+          room = omega arith;
+        }
+    at_channel c (SetupEb p q n) lets clear =
+        let facts = clear_three (is_off s.mode) (is_external_channel (channel_of d c)) (is_wrong_length n (channel_of d c)) errors.SpiUninit errors.SpiParamChannel errors.SpiParamLength clear in
+        let there = external_channel (channel_of d c) facts.1 in
+        let size = length_right n there.0 (subst (λ k. is_wrong_length n k ≡ false) there.1 facts.2) in
+        let few = (fits.channels c there.0 there.1).few in
+        record {
+          at = (h, (c, there.0, p, q, n, Is_this_frame, there.1, there.2, refl, ap (λ k. record { source = is_users p; destination = is_users q; length = k }) (below_byte n (omega (arith, size, few))), clear, facts.0, size.0, size.1));
+          closed = refl;
+          fuel = omega arith;
+          room = omega arith;
+        }
+
+    on_channel : (c : ℕ) (call : ChannelCall) → Beside (spi_setting d) (Called (calls.Channel c call)) below → error_by d (calls.Channel c call) (is_off s.mode) false ≡ None → Looks (calls.Channel c call) (channel_begun d (c % 256) call)
+    on_channel c call lets clear =
+        let lt = known_channel c call clear in
+        subst (λ n. Looks (calls.Channel c call) (channel_begun d n call)) (sym (below_byte c (omega (arith, lt)))) (at_channel c call lets clear)
+      where
+        known_channel : (c : ℕ) (call : ChannelCall) → error_by d (calls.Channel c call) (is_off s.mode) false ≡ None → c < 16
+        known_channel c (WriteIb p) clear = let there = internal_channel (channel_of d c) (clear_two (is_off s.mode) (is_internal_channel (channel_of d c)) errors.SpiUninit errors.SpiParamChannel clear).1 in of_sixteen d c there.0 fits there.1
+        known_channel c ReadIb clear = let there = internal_channel (channel_of d c) (clear_two (is_off s.mode) (is_internal_channel (channel_of d c)) errors.SpiUninit errors.SpiParamChannel clear).1 in of_sixteen d c there.0 fits there.1
+        known_channel c (SetupEb p q n) clear = let there = external_channel (channel_of d c) (clear_three (is_off s.mode) (is_external_channel (channel_of d c)) (is_wrong_length n (channel_of d c)) errors.SpiUninit errors.SpiParamChannel errors.SpiParamLength clear).1 in of_sixteen d c there.0 fits there.1
+
+    -- the sequence is configured
+    sequence_small : (q : ℕ) → is_some (sequence_of d q) ≡ true → q < 8
+    sequence_small q e = let there = some_of (sequence_of d q) e in let lt = in_list d.sequences q there.0 there.1 in omega (arith, lt, fits.rows.2)
+
+    job_begins : (j : ℕ) → error_by d (calls.Get (queries.JobResult j)) (is_off s.mode) false ≡ None → Looks (calls.Get (queries.JobResult j)) (query_begun d (mode_word s.mode) (queries.JobResult j))
+    job_begins j clear =
+        let facts = clear_two (is_off s.mode) (is_some (job_of d j)) errors.SpiUninit errors.SpiParamJob clear in
+        let there = some_of (job_of d j) facts.1 in
+        let small = in_list d.jobs j there.0 there.1 in
+        let few = (fits.jobs j there.0 there.1).unit in
+        record {
+          at = (
+            h,
+            (
+              j,
+              (Is_this_frame, clear, facts.0),
+              record {
+                job = there.0;
+                known = there.1;
+                table = refl;
+                number = omega (arith, small, fits.rows.1);
+                unit = ap unit_by there.1 ∙ omega (arith, few);
+              },
+              tt,
+            ),
+          );
+          closed = refl;
+          fuel = omega arith;
+          room = omega arith;
+        }
+
+    query_begins : (x : Query) → Beside (spi_setting d) (Called (calls.Get x)) below → error_by d (calls.Get x) (is_off s.mode) false ≡ None → (m : Mode) → s.mode ≡ m → Looks (calls.Get x) (query_begun d (mode_word m) x)
+    query_begins queries.Status lets clear Off e = record {
+      told = answers (named SpiUninit);
+      is = λ times. ap (λ m. Some (outcome s (answers (named (status_by (is_off m) (is_busy s)))))) e;
+      tells = (refl, refl, refl);
+      reset = asks_no (spi_machine d) (calls.Get queries.Status) (Some Act) (Some (outcome s (answers (named SpiUninit)))) refl;
+      polls = refl;
+    }
+    query_begins queries.Status lets clear Polling e = record { at = (h, ((Is_this_frame, clear, ap is_off e, tt), omega arith, none_before)); closed = refl; fuel = omega arith; room = omega arith }
+    query_begins queries.Status lets clear Interrupt e = record { at = (h, ((Is_this_frame, clear, ap is_off e, tt), omega arith, none_before)); closed = refl; fuel = omega arith; room = omega arith }
+    query_begins (queries.JobResult j) lets clear m e = job_begins j clear
+    query_begins (queries.SequenceResult q) lets clear m e =
+        let facts = clear_two (is_off s.mode) (is_some (sequence_of d q)) errors.SpiUninit errors.SpiParamSeq clear in
+        let lt = sequence_small q facts.1 in
+        record { at = (h, (q, (Is_this_frame, clear, facts.0), lt, below_byte q (omega (arith, lt)))); closed = refl; fuel = omega arith; room = omega arith }
+    query_begins (queries.HwUnitStatus u) lets clear m e =
+        let facts = clear_three (is_off s.mode) true (nat_lt 1 u) errors.SpiUninit errors.SpiUninit errors.SpiParamUnit clear in
+        let lt = is_past 1 u facts.2 in
+        record { at = (h, (u, (Is_this_frame, clear, facts.0), omega (arith, lt), below_byte u (omega (arith, lt)))); closed = refl; fuel = omega arith; room = omega arith }
+
+    module _ (a : AreRight) where
+      sequence_begins : (q : ℕ) (call : SequenceCall) → error_by d (calls.Sequence q call) (is_off s.mode) false ≡ None → Looks (calls.Sequence q call) (sequence_begun d (q % 256) call)
+      sequence_begins q AsyncTransmit clear =
+          let facts = clear_three (is_off s.mode) (is_some (sequence_of d q)) false errors.SpiUninit errors.SpiParamSeq errors.SpiSeqPending clear in
+          let lt = sequence_small q facts.1 in
+          subst (λ n. Looks (calls.Sequence q AsyncTransmit) (sequence_begun d n AsyncTransmit)) (sym (below_byte q (omega (arith, lt)))) (a.begins_request below chip w s q lt facts.0 clear h)
+      sequence_begins q Cancel clear =
+          let facts = clear_two (is_off s.mode) (is_some (sequence_of d q)) errors.SpiUninit errors.SpiParamSeq clear in
+          let lt = sequence_small q facts.1 in
+          subst (λ n. Looks (calls.Sequence q Cancel) (sequence_begun d n Cancel)) (sym (below_byte q (omega (arith, lt)))) (record {
+            at = (h, (q, (Is_this_frame, lt, clear, facts.0), record { sequence = refl; unit = refl; notes = refl }));
+            closed = refl;
+            fuel = omega arith;
+            room = omega arith;
+          })
+
+      init_begins : below ≡ [] → error_by d calls.Init (is_off s.mode) false ≡ None → Looks calls.Init (begins d calls.Init (mode_word s.mode))
+      init_begins e clear = by below e h
+        where
+          off_of : (off : Bool) → (if not off then Some errors.SpiAlreadyInitialized else None) ≡ None → off ≡ true
+          off_of true f = refl
+          off_of false f = absurd (cc)
+
+          by : (hs : Reservations) → hs ≡ [] → SpiRepresents d hs chip w s → Decides spi hs chip w s calls.Init (begins d calls.Init (mode_word s.mode))
+          by [] f g = record { at = (g, ((Is_this_frame, refl, refl), off_of (is_off s.mode) clear)); closed = refl; fuel = init_within d fits; room = omega arith }
+          by (x ∷ xs) f g = absurd (cc)
+
+      main_begins : (m : Mode) → s.mode ≡ m → Looks calls.MainFunctionHandling (begins d calls.MainFunctionHandling (mode_word m))
+      main_begins Polling e = a.begins_main below chip w s (ap is_polling e) h
+      main_begins Off e = declined (ap is_polling e)
+        where
+          declined : is_polling s.mode ≡ false → Declines spi w s calls.MainFunctionHandling (record { answer = no_answer; owed = Nothing })
+          declined f = record {
+            told = tells_nothing;
+            is = λ times. refl;
+            tells = (refl, refl, refl);
+            reset = refl;
+            polls = ap (λ b. if b then 26 ∷ 27 ∷ [] else []) f;
+          }
+      main_begins Interrupt e = declined (ap is_polling e)
+        where
+          declined : is_polling s.mode ≡ false → Declines spi w s calls.MainFunctionHandling (record { answer = no_answer; owed = Nothing })
+          declined f = record {
+            told = tells_nothing;
+            is = λ times. refl;
+            tells = (refl, refl, refl);
+            reset = refl;
+            polls = ap (λ b. if b then 26 ∷ 27 ∷ [] else []) f;
+          }
+
+      goes_on : (call : Call) → Beside (spi_setting d) (Called call) below → error_by d call (is_off s.mode) false ≡ None → Looks call (begins d call (mode_word s.mode))
+      goes_on calls.Init lets clear = init_begins (whole_begins calls.Init refl lets) clear
+      goes_on calls.DeInit lets clear = record { at = (h, ((Is_this_frame, clear, clear_one (is_off s.mode) errors.SpiUninit clear, whole_begins calls.DeInit refl lets), omega arith, none_before)); closed = refl; fuel = omega arith; room = omega arith }
+      goes_on (calls.SetAsyncMode m) lets clear = record { at = (h, ((Is_this_frame, clear, clear_one (is_off s.mode) errors.SpiUninit clear, whole_begins (calls.SetAsyncMode m) refl lets), omega arith, none_before)); closed = refl; fuel = omega arith; room = omega arith }
+      goes_on calls.MainFunctionHandling lets clear = main_begins s.mode refl
+      goes_on (calls.Channel c call) lets clear = on_channel c call lets clear
+      goes_on (calls.Sequence q call) lets clear = sequence_begins q call clear
+      goes_on (calls.Get x) lets clear = query_begins x lets clear s.mode refl
+
+      look_by : (call : Call) → Beside (spi_setting d) (Called call) below → (e : Option ErrorName) → error_by d call (is_off s.mode) false ≡ e → Looks call (looked_by (record { call = call; table = d }) (mode_word s.mode) e)
+      look_by call lets None e = goes_on call lets e
+      look_by call lets (Some x) e = declines call x e
+
+      -- the state word says whether the module is initialised
+      off_word : (m : Mode) → (mode_word m == 0) ≡ is_off m
+      off_word Off = refl
+      off_word Polling = refl
+      off_word Interrupt = refl
+
+      looks : (call : Call) → Beside (spi_setting d) (Called call) below → Looks call (spi_looked (record { call = call; table = d }) (word_of chip STATE))
+      looks call lets =
+          subst (λ v. Looks call (spi_looked (record { call = call; table = d }) v)) (sym h.words.state)
+          (subst (λ off. Looks call (looked_by (record { call = call; table = d }) (mode_word s.mode) (error_by d call off false))) (sym (off_word s.mode)) (look_by call lets (error_by d call (is_off s.mode) false) refl))
+
+  -- ---- the laws
+
+  module _ (fits : FitsSpi d) (a : AreRight) where
+    bodies_right : AreEnding (spi_basis d) (both firsts lasts) spi_ends
+    bodies_right =
+        let g = spi_basis d in
+        let first = both_right g (both (init_bodies d) (whole_bodies d)) (query_bodies d) (both_right g (init_bodies d) (whole_bodies d) (init_right d fits) (whole_right d fits)) (query_right d fits) in
+        let kept = both_ending g (write_bodies d) (read_bodies d) (λ k. spi_ends (Second (First (Second k)))) (write_right d fits) (read_right d fits) in
+        let of_channel = both_ending g (set_up_bodies d) (both (write_bodies d) (read_bodies d)) (λ k. spi_ends (Second (First k))) (set_up_right d fits) kept in
+        let of_sequence = both_right g unit_bodies (cancel_bodies d) a.units (cancel_right d fits) in
+        both_ending g firsts lasts spi_ends first (both_ending g (both (set_up_bodies d) (both (write_bodies d) (read_bodies d))) (both unit_bodies (cancel_bodies d)) (λ k. spi_ends (Second k)) of_channel of_sequence)
+
+    -- it reads no high half, and sets no output
+    no_windows : (made : Move) → may_name d made ≡ true → is_windowed made ≡ false
+    no_windows (Read (TimerHigh c)) e = absurd (cc)
+    no_windows (Read (CaptureCountHigh c)) e = absurd (cc)
+    no_windows (Read (CaptureTimeHigh c)) e = absurd (cc)
+    no_windows (Write (PulseCommit c) v) e = absurd (cc)
+    no_windows (Write (PulseIdle c) v) e = absurd (cc)
+    no_windows _ e = refl
+
+    handled : (line : ℕ) (q : Bool) → is_some (handled_by d line q) ≡ q
+    handled line true = refl
+    handled line false = refl
+
+    call_steps : (call : Call) → 7 + (steps_of d (Called call) - 7) ≤ steps_of d (Called call)
+    call_steps calls.Init = omega arith
+    call_steps calls.DeInit = omega arith
+    call_steps (calls.SetAsyncMode m) = omega arith
+    call_steps calls.MainFunctionHandling = omega arith
+    call_steps (calls.Channel c (WriteIb p)) = omega arith
+    call_steps (calls.Channel c ReadIb) = omega arith
+    call_steps (calls.Channel c (SetupEb p q n)) = omega arith
+    call_steps (calls.Sequence q AsyncTransmit) = omega arith
+    call_steps (calls.Sequence q Cancel) = omega arith
+    call_steps (calls.Get x) = omega arith
+
+    -- no frame leaves a unit waiting whose line it has served
+    abbrev Leaves : World → Chip → SpiState → SpiBody → Origin Call → ℕ → FrameHistory → Done → Type 0
+    Leaves w chip s k o y t n = LeavesBy d w s o t ((both firsts lasts).work_of k) y ((both firsts lasts).takes k (value_of chip ((both firsts lasts).work_of k))).1.event n
+
+    unpolled : (w : World) (chip : Chip) (s : SpiState) (k : SpiBody) (o : Origin Call) (y : ℕ) (t : FrameHistory) (n : Done) → PollsNone o t.polled → Leaves w chip s k o y t n
+    unpolled w chip s k o y t n none = leaves_unpolled d w s o t ((both firsts lasts).work_of k) y ((both firsts lasts).takes k (value_of chip ((both firsts lasts).work_of k))).1.event n none
+
+    done : (below : Reservations) (chip : Chip) (w : World) (s : SpiState) (k : SpiBody) (o : Origin Call) (y : ℕ) (t : FrameHistory) (n : Done) → AssertedAt (spi_basis d) (both firsts lasts) below chip w s k o t → ((both firsts lasts).takes k (value_of chip ((both firsts lasts).work_of k))).1.done ≡ Some n → Leaves w chip s k o y t n
+    done below chip w s (First (First (First k))) o y t n h e = unpolled w chip s (First (First (First k))) o y t n (init_unpolled d below chip w s o t k h)
+    done below chip w s (First (First (Second k))) o y t n h e = unpolled w chip s (First (First (Second k))) o y t n (whole_unpolled d below chip w s o t k h)
+    done below chip w s (First (Second k)) o y t n h e = unpolled w chip s (First (Second k)) o y t n (query_unpolled d below chip w s o t k h)
+    done below chip w s (Second (First (First k))) o y t n h e = unpolled w chip s (Second (First (First k))) o y t n (set_up_unpolled d below chip w s o t k h)
+    done below chip w s (Second (First (Second (First k)))) o y t n h e = unpolled w chip s (Second (First (Second (First k)))) o y t n (write_unpolled d below chip w s o t k h)
+    done below chip w s (Second (First (Second (Second k)))) o y t n h e = unpolled w chip s (Second (First (Second (Second k)))) o y t n (read_unpolled d below chip w s o t k h)
+    done below chip w s (Second (Second (First k))) o y t n h e = a.leaves below chip w s k o y t n h e
+    done below chip w s (Second (Second (Second k))) o y t n h e = unpolled w chip s (Second (Second (Second k))) o y t n (cancel_unpolled d below chip w s o t k h)
+
+    -- a read alone ends its frame itself
+    stops : (below : Reservations) (chip : Chip) (w : World) (s : SpiState) (k : SpiBody) (o : Origin Call) (t : FrameHistory) (x : Answer) → AssertedAt (spi_basis d) (both firsts lasts) below chip w s k o t → ended_at (both firsts lasts) spi_ends k (value_of chip ((both firsts lasts).work_of k)) ≡ Some x → LeavesNone (spi_machine d) w s o t.polled t.served
+    stops below chip w s (First k) o t x h e = absurd (cc)
+    stops below chip w s (Second (First (First k))) o t x h e = absurd (cc)
+    stops below chip w s (Second (First (Second (First k)))) o t x h e = absurd (cc)
+    stops below chip w s (Second (First (Second (Second k)))) o t x h e = unpolled_left d w s o t.polled t.served (read_unpolled d below chip w s o t k h)
+    stops below chip w s (Second (Second k)) o t x h e = absurd (cc)
+
+    pub spi_right : AreEndingServices spi spi_ends
+    spi_right = record {
+      basis = basis_right d fits;
+      bodies = bodies_right;
+      windows = free_windows spi bodies_right (λ k. refl) (λ o made m. no_windows made (and_parts (may_name d made) (names_there made) m).0);
+      unseen = λ below chip w s k call at. tt;
+      writes = no_duties spi (λ k call writes. tt) (λ call. refl);
+      starts = record { later = λ w s order rate line e. lets_none d w s order rate line e; done = done; stops = stops };
+      looks = λ below chip w s call can lets h. looks fits below chip w s h a call lets;
+      own_word = λ o. may_store d fits STATE 0 (own_first d STATE (omega arith) (omega arith));
+      word_there = omega arith;
+      handled = λ line. handled line (is_used d line);
+      enters = a.enters;
+      call_steps = λ call can. call_steps call;
+      call_window = λ call can. omega arith;
+      line_steps = a.line_steps;
+    }
+
+    -- whatever runs above them, the frames of the driver are right at each step
+    pub lawful : IsLawful (services_driver spi) (short_move STATE (both firsts lasts).work_of) (short_left spi_looked (both firsts lasts).takes) (ending_gave spi_looked (both firsts lasts).takes spi_ends)
+    lawful = services_lawful spi spi_right

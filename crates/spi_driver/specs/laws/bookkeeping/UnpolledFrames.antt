@@ -1,0 +1,153 @@
+-- Frames that poll no line leave no unit waiting, and the hardware lets none wait.
+-- Used by bookkeeping.Lawful, bookkeeping.NoneWaits.
+use Rattle.std.proofs.Common.{◌≡◌, ◌&&◌, [], ◌∙◌, if◌then◌else◌}
+use Rattle.spi_driver.specs.Terms
+use Terms.{Abort, Act, ap, AssertedAt, Bool, brought_by, Call, call_by, Called, cancel_bodies, CancelBody, Chip, Done}
+use Terms.{Error, Event, false, FrameHistory, happening_at, init_bodies, InitBody, InitPlace, is_left_waiting, is_off}
+use Terms.{is_some, Is_this_frame, IsInit, IsThisFrame, Leaves, LeavesNone, List, list_all, mode_later, Move, moved}
+use Terms.{next_at, next_by, next_on, None, not, Nothing, One, Option, Order, Origin, outcome_of, pending_later}
+use Terms.{polled_by, polls, query_bodies, QueryBody, read_bodies, ReadBody, ReadPlace, refl, Reservations, Run, run_at}
+use Terms.{runs_later, Serve, served_by, set_up_bodies, SetUpBody, Some, spi_basis, spi_machine, SpiState, SpiTable}
+use Terms.{Start, state_by, subst, sym, true, Two, unit_of, Whole, whole_bodies, WholeBody, World, world_after}
+use Terms.{write_bodies, WriteBody, ℕ}
+use Rattle.service_outline.specs.declared.done.Epilogue as owing
+use Rattle.spi_sequences.specs.declared.service.cancel.CancelBody.TheVariants as cancel
+use Rattle.spi_sequences.specs.declared.service.init.InitPlace.TheVariants as init
+use Rattle.spi_sequences.specs.declared.service.query.QueryBody.TheVariants as query
+use Rattle.spi_sequences.specs.declared.service.read.ReadPlace.TheVariants as read
+use Rattle.spi_sequences.specs.declared.service.set_up.SetUpBody.TheVariants as set_up
+use Rattle.spi_sequences.specs.declared.service.whole.Whole.TheVariants as wholes
+use Rattle.spi_sequences.specs.declared.service.whole.WholeBody.TheVariants as whole
+use Rattle.spi_sequences.specs.declared.service.write.WriteBody.TheVariants as write
+
+-- ---- what a frame leaves
+
+-- a body that is done so, at a step with this event, leaves no unit waiting
+abbrev pub LeavesBy : SpiTable → World → SpiState → Origin Call → FrameHistory → Move → (received : ℕ) → Option Event → Done → Type 0
+LeavesBy d w s o t made y e n = Leaves (spi_machine d) w (state_by s (outcome_of (spi_machine d) w s (happening_at o (brought_by w t.committed made y) e))) o (polled_by (spi_machine d) w s o t.polled e) (served_by t.served e) n.owed
+
+-- a frame that has polled no line, of a call that polls none
+pub data PollsNone : Origin Call → (polled : List ℕ) → Type 0 where
+  Polls_none : (c : Call) → ((s : SpiState) → polls s c ≡ []) → PollsNone (Called c) []
+
+module _ (d : SpiTable) (w : World) (s : SpiState) where
+  left_none : (o : Origin Call) (polled served : List ℕ) (e : Option Event) → PollsNone o polled → (w1 : World) (s1 : SpiState) → LeavesNone (spi_machine d) w1 s1 o (polled_by (spi_machine d) w s o polled e) served
+  left_none _ _ served (Some Act) (Polls_none c none) w1 s1 = ap (list_all (λ l. not (is_left_waiting (spi_machine d) w1 s1 served l))) (none s)
+  left_none _ _ served (Some (Serve k)) (Polls_none c none) w1 s1 = refl
+  left_none _ _ served (Some (Abort u)) (Polls_none c none) w1 s1 = refl
+  left_none _ _ served (Some (Start u)) (Polls_none c none) w1 s1 = refl
+  left_none _ _ served None (Polls_none c none) w1 s1 = refl
+
+  pub unpolled_left : (o : Origin Call) (polled served : List ℕ) → PollsNone o polled → LeavesNone (spi_machine d) w s o polled served
+  unpolled_left _ _ served (Polls_none c none) = refl
+
+  pub leaves_unpolled : (o : Origin Call) (t : FrameHistory) (made : Move) (y : ℕ) (e : Option Event) (n : Done) → PollsNone o t.polled → LeavesBy d w s o t made y e n
+  leaves_unpolled o t made y e n none = by n.owed
+    where
+      s1 : SpiState
+      s1 = state_by s (outcome_of (spi_machine d) w s (happening_at o (brought_by w t.committed made y) e))
+
+      by : (x : owing.Epilogue) → Leaves (spi_machine d) w s1 o (polled_by (spi_machine d) w s o t.polled e) (served_by t.served e) x
+      by Nothing = left_none o t.polled (served_by t.served e) e none w s1
+      by (Error x) = left_none o t.polled (served_by t.served e) e none
+      by (One k) = left_none o t.polled (served_by t.served e) e none
+      by (Two k j) = left_none o t.polled (served_by t.served e) e none
+
+-- ---- the bodies that start and serve no unit
+
+being_none : {c : Call} {p : FrameHistory} {o : Origin Call} {t : FrameHistory} → IsThisFrame (Called c) p o t → p.polled ≡ [] → ((s : SpiState) → polls s c ≡ []) → PollsNone o t.polled
+being_none {c} {p} Is_this_frame e none = subst (λ ls. PollsNone (Called c) ls) (sym e) (Polls_none c none)
+
+whole_polls : (x : Whole) (s : SpiState) → polls s (call_by x) ≡ []
+whole_polls wholes.DeInit s = refl
+whole_polls (wholes.Mode m) s = refl
+whole_polls wholes.Status s = refl
+
+module _ (d : SpiTable) (below : Reservations) (chip : Chip) (w : World) (s : SpiState) (o : Origin Call) (t : FrameHistory) where
+  init_is : (x : SpiTable) → IsInit d x below o t → PollsNone o t.polled
+  init_is x h = being_none h.0 refl (λ z. refl)
+
+  pub init_unpolled : (k : InitBody) → AssertedAt (spi_basis d) (init_bodies d) below chip w s k o t → PollsNone o t.polled
+  init_unpolled k h = by k.place h
+    where
+      by : (p : InitPlace) → AssertedAt (spi_basis d) (init_bodies d) below chip w s (record k { place = p }) o t → PollsNone o t.polled
+      by init.Opens h = init_is k.table h.1.0
+      by (init.Free u) h = init_is k.table h.1.0
+      by (init.Empty u) h = init_is k.table h.1.0
+      by (init.Job j) h = init_is k.table h.1.0
+      by (init.Sequence q) h = init_is k.table h.1.0
+      by (init.SetUp c) h = init_is k.table h.1.0
+      by (init.Choose c side) h = init_is k.table h.1.0
+      by (init.Fill c side b i) h = init_is k.table h.1.0
+      by (init.Shut c side b) h = init_is k.table h.1.0
+      by (init.Commit c side p) h = init_is k.table h.1.0
+      by (init.Reopen c side) h = init_is k.table h.1.0
+      by init.Closes h = init_is k.table h.1
+      by init.Store h = init_is k.table h.1
+
+  pub whole_unpolled : (k : WholeBody) → AssertedAt (spi_basis d) (whole_bodies d) below chip w s k o t → PollsNone o t.polled
+  whole_unpolled (whole.Look x q) h = being_none h.1.0.0 refl (whole_polls x)
+  whole_unpolled (whole.Store x) h = being_none h.1.0.0 refl (whole_polls x)
+  whole_unpolled (whole.Lines x) h = being_none h.1.0 refl (whole_polls x)
+
+  pub query_unpolled : (k : QueryBody) → AssertedAt (spi_basis d) (query_bodies d) below chip w s k o t → PollsNone o t.polled
+  query_unpolled (query.Job r) (h, (j, asking, is, at)) = being_none asking.0 refl (λ z. refl)
+  query_unpolled (query.Sequence q) (h, (n, asking, lt, is)) = being_none asking.0 refl (λ z. refl)
+  query_unpolled (query.Unit u) (h, (n, asking, lt, is)) = being_none asking.0 refl (λ z. refl)
+
+  pub set_up_unpolled : (k : SetUpBody) → AssertedAt (spi_basis d) (set_up_bodies d) below chip w s k o t → PollsNone o t.polled
+  set_up_unpolled (set_up.Store x by) h = being_none h.1.5 refl (λ z. refl)
+
+  pub write_unpolled : (k : WriteBody) → AssertedAt (spi_basis d) (write_bodies d) below chip w s k o t → PollsNone o t.polled
+  write_unpolled (write.Choose r) h = being_none h.1.0.2 refl (λ z. refl)
+  write_unpolled (write.Opens r b) h = being_none h.1.0.2 refl (λ z. refl)
+  write_unpolled (write.Load r b i) h = being_none h.1.0.2 refl (λ z. refl)
+  write_unpolled (write.Fill r b i v) h = being_none h.1.0.2 refl (λ z. refl)
+  write_unpolled (write.Shut r b) h = being_none h.1.0.2 refl (λ z. refl)
+  write_unpolled (write.Commit r b p) h = being_none h.1.0.2 refl (λ z. refl)
+
+  pub read_unpolled : (k : ReadBody) → AssertedAt (spi_basis d) (read_bodies d) below chip w s k o t → PollsNone o t.polled
+  read_unpolled k h = by k.place h
+    where
+      by : (p : ReadPlace) → AssertedAt (spi_basis d) (read_bodies d) below chip w s (record k { place = p }) o t → PollsNone o t.polled
+      by (read.Pin p) h = being_none h.1.0.2 refl (λ z. refl)
+      by read.Opens h = being_none h.1.3 refl (λ z. refl)
+      by read.Load h = being_none h.1.3 refl (λ z. refl)
+      by read.Shut h = being_none h.1.3 refl (λ z. refl)
+      by (read.Release p) h = being_none h.1.0.3 refl (λ z. refl)
+      by read.Leave h = being_none h.1.3 refl (λ z. refl)
+      by read.Over h = absurd h.1
+
+  pub cancel_unpolled : (k : CancelBody) → AssertedAt (spi_basis d) (cancel_bodies d) below chip w s k o t → PollsNone o t.polled
+  cancel_unpolled (cancel.Result r) h = being_none h.1.1.0 refl (λ z. refl)
+  cancel_unpolled (cancel.Running r) h = being_none h.1.1.0 refl (λ z. refl)
+  cancel_unpolled (cancel.Marks r) h = being_none h.1.1.0 refl (λ z. refl)
+  cancel_unpolled (cancel.Mark v) h = being_none h.1.1.0 refl (λ z. refl)
+  cancel_unpolled (cancel.Store r) h = being_none h.1.1.0 refl (λ z. refl)
+  cancel_unpolled (cancel.Drop r p) h = being_none h.1.1 refl (λ z. refl)
+
+-- ---- the hardware
+
+module _ (d : SpiTable) (w : World) (s : SpiState) (order : Order) where
+  abbrev s1 : SpiState
+  s1 = moved d w s order
+
+  waits_is : (z : SpiState) (u : ℕ) → is_some (next_at d z (Some u)) ≡ not (is_off z.mode) && (not (is_some (run_at z u)) && is_some (next_on d u z.pending))
+  waits_is z u = by (is_off z.mode) (run_at z u)
+    where
+      by : (q : Bool) (r : Option Run) → is_some (if q then None else next_by d z u r) ≡ not q && (not (is_some r) && is_some (next_on d u z.pending))
+      by true r = refl
+      by false None = refl
+      by false (Some r) = refl
+
+  same_waits : (u : Option ℕ) → is_some (next_at d s1 u) ≡ is_some (next_at d s u)
+  same_waits None = refl
+  same_waits (Some u) =
+      waits_is s1 u
+      ∙ ap (λ m. not (is_off m) && (not (is_some (run_at s1 u)) && is_some (next_on d u s1.pending))) (mode_later d w s order)
+      ∙ ap (λ q. not (is_off s.mode) && (not q && is_some (next_on d u s1.pending))) (runs_later d w s order u)
+      ∙ ap (λ ps. not (is_off s.mode) && (not (is_some (run_at s u)) && is_some (next_on d u ps))) (pending_later d w s order)
+      ∙ sym (waits_is s u)
+
+  pub lets_none : (rate line : ℕ) → (spi_machine d).line_waits w s line ≡ false → (spi_machine d).line_waits (world_after w rate order) s1 line ≡ false
+  lets_none rate line e = same_waits (unit_of line) ∙ e

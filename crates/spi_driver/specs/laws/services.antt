@@ -1,0 +1,9 @@
+pub mod RequestAsking
+pub mod ServePart
+pub mod StartPart
+pub mod UnitBegins
+pub mod UnitBounds
+pub mod UnitFrames
+pub mod UnitParts
+pub mod UnitRight
+pub mod UnitSteps

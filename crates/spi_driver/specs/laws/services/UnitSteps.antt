@@ -1,0 +1,411 @@
+-- Frames of units: their steps where they owe nothing.
+-- From services.UnitFrames, services.UnitParts, bookkeeping.MainFunctionHold, bookkeeping.PendingWritesRight.
+-- Used by services.UnitRight.
+use Rattle.std.proofs.Common.{◌≡◌, ◌+◌, ◌<◌, ◌||◌, [], ◌∷◌, ◌++◌, ◌∙◌, ◌⊎◌, if◌then◌else◌}
+use Rattle.spi_driver.specs.Terms
+use Terms.{acts, ActsRight, After, after_serve, after_start, agrees_after, ap, arith, asks_reset, AssertedAt}
+use Terms.{basis_right, BodyTaken, Bool, Brought, brought_by, Call, Called, caller_of, Chip, chip_after, clear_over}
+use Terms.{CommitsTo, Continues, Done, Entered, Event, false, FitsSpi, FrameHistory, FrameRole, fresh_history, gap_at}
+use Terms.{Handler, happening_of, has_line, holds_at, inl, inr, is_polling, is_shared, IsNext, List, list_any, Load}
+use Terms.{Main, MakesTo, Mask, may, MayDo, missed_after, Move, no_answer, None, not, Note, Notes, notes, Notice}
+use Terms.{opened, Option, Origin, Outcome, outcome_of, outcome_with, Owing, owing, passes, past_after, past_wrote}
+use Terms.{PendingWrites, place_at, plain_makes, plain_move, polls, ready, ReceivedRight, refl, Report, Reservations}
+use Terms.{resets_chip, Rest, rest_after, same_number, serve_move, serve_owes, serve_takes, ServePlace, Serves}
+use Terms.{ServeStep, Some, spi_bare, spi_basis, spi_machine, spi_owing, spi_setting, SpiRepresents, SpiState, SpiTable}
+use Terms.{spot_or, StandsAt, start_move, start_owes, start_takes, Started, StartPlace, Starts, STATE, subst, suc, sym}
+use Terms.{tells_nothing, Told, told_first, told_next, Transmit, true, unit_named, unit_over, UnitBody, UnitPlace}
+use Terms.{Units, Unmask, value_of, where_owed, with_holds, word_of, Works, World, zero, ℕ}
+use Rattle.spi_driver.specs.laws.services.UnitFrames.{Frame, Handles, HasDone, IsFor, Mains, OpensAt, OwedAt, Progress}
+use Rattle.spi_driver.specs.laws.services.UnitFrames.{Rests, Transmits, ahead_holds, and_other, at, holds_by, is_met}
+use Rattle.spi_driver.specs.laws.services.UnitFrames.{opens_holds, served_ahead, told_list, unit_bodies, unit_spot_at}
+use Rattle.spi_driver.specs.laws.services.UnitFrames.{unit_windows, with_cleared, with_debt}
+use Rattle.spi_driver.specs.laws.bookkeeping.MainFunctionHold.{handling_begins, handling_of, handling_over}
+use Rattle.spi_driver.specs.laws.bookkeeping.PendingWritesRight.{main_stops, passes_on}
+use Rattle.spi_driver.specs.laws.services.UnitParts.{IsServing, IsStarting, ServeHappens, ServeLeaves, ServeOwes}
+use Rattle.spi_driver.specs.laws.services.UnitParts.{Serving, StartBegins, StartLeaves, Starting, foot, serve_ahead}
+use Rattle.mcal_base.specs.declared.moves.Event.TheVariants as events
+use Rattle.mcal_base.specs.declared.moves.Unit as units
+use Rattle.spi_machine.specs.declared.call.Call.TheVariants as calls
+use Rattle.spi_sequences.specs.declared.service.serve.ServePlace.TheVariants as serve
+use Rattle.spi_sequences.specs.declared.service.serve.ServeStep.TheVariants as steps
+use Rattle.spi_sequences.specs.declared.service.start.StartPlace.TheVariants as start
+use Rattle.spi_sequences.specs.declared.service.start.Started.TheVariants as started
+use Rattle.spi_sequences.specs.declared.service.unit.After.TheVariants as after
+use Rattle.spi_sequences.specs.declared.service.unit.UnitPlace.TheVariants as place
+
+-- ---- lines that were served
+
+or_true : (x : Bool) {y : Bool} → y ≡ true → x || y ≡ true
+or_true true e = refl
+or_true false e = e
+
+met_still : (t t1 : FrameHistory) (l : ℕ) → t1.served ≡ t.served → t1.missed ≡ t.missed → is_met t l ≡ true → is_met t1 l ≡ true
+met_still t t1 l s m h = ap (λ ls. has_line ls l || has_line t1.missed l) s ∙ ap (λ ls. has_line t.served l || has_line ls l) m ∙ h
+
+-- the first line stays met where the second one is served
+met_too : (t t1 : FrameHistory) → t1.served ≡ 27 ∷ t.served → t1.missed ≡ t.missed → is_met t 26 ≡ true → is_met t1 26 ≡ true
+met_too t t1 s m h = ap (λ ls. has_line ls 26 || has_line t1.missed 26) s ∙ ap (λ ls. has_line t.served 26 || has_line ls 26) m ∙ h
+
+-- with its line served, the frame is done with the unit
+served_now : (e : FrameRole) (u : ℕ) → u < 2 → (t t1 : FrameHistory) → t1.served ≡ (26 + u) ∷ t.served → t1.missed ≡ t.missed → Progress e u false t → Progress e u true t1
+served_now (Transmit q) u lt t t1 s m h = absurd h
+served_now Handler u lt t t1 s m h = s ∙ ap (λ ls. (26 + u) ∷ ls) h
+served_now Main zero lt t t1 s m h = (ap (λ ls. has_line ls 26 || has_line t1.missed 26) s, ap (λ ls. has_line ls 27) (s ∙ ap (λ ls. 26 ∷ ls) h))
+served_now Main (suc zero) lt t t1 s m h = (met_too t t1 s m h.0, ap (λ ls. has_line ls 27 || has_line t1.missed 27) s, ap (λ ls. has_line ls 26) (s ∙ ap (λ ls. 27 ∷ ls) h.1))
+served_now Main (suc (suc u)) lt t t1 s m h = absurd (omega (arith, lt))
+served_now Rest zero lt t t1 s m h = absurd h
+served_now Rest (suc zero) lt t t1 s m h = (met_too t t1 s m h.0, ap (λ ls. has_line ls 27 || has_line t1.missed 27) s)
+served_now Rest (suc (suc u)) lt t t1 s m h = absurd (omega (arith, lt))
+
+-- a line is met that was missed now
+just_missed : (t : FrameHistory) (l : ℕ) → is_met (record t { missed = l ∷ t.missed }) l ≡ true
+just_missed t l = or_true (has_line t.served l) (ap (λ q. q || has_line t.missed l) (same_number l))
+
+-- the first unit wasn't served at a place that owes no moves
+rest_missed : (p : ServePlace) → serve_owes p ≡ false → rest_after (place.Serve p) ≡ Main
+rest_missed (serve.Stand q) e = absurd (cc)
+rest_missed _ e = refl
+
+-- the main function may serve the unit's line
+next_line : (u : ℕ) → u < 2 → (s : SpiState) (t : FrameHistory) → is_polling s.mode ≡ true → Progress Main u false t → IsNext (polls s calls.MainFunctionHandling) t.served (26 + u)
+next_line zero lt s t e h = subst (λ (q : Bool). IsNext (if q then 26 ∷ 27 ∷ [] else []) t.served 26) (sym e) (refl, ap (λ ls. list_any (has_line ls) (26 ∷ 27 ∷ [])) h)
+next_line (suc zero) lt s t e h = subst (λ (q : Bool). IsNext (if q then 26 ∷ 27 ∷ [] else []) t.served 27) (sym e) (refl, ap (λ ls. list_any (has_line ls) (27 ∷ [])) h.1)
+next_line (suc (suc u)) lt s t e h = absurd (omega (arith, lt))
+
+-- and that of the second unit after the first one's
+rest_line : (u : ℕ) → u < 2 → (s : SpiState) (t : FrameHistory) → is_polling s.mode ≡ true → Progress Rest u false t → IsNext (polls s calls.MainFunctionHandling) t.served (26 + u)
+rest_line zero lt s t e h = absurd h
+rest_line (suc zero) lt s t e h = subst (λ (q : Bool). IsNext (if q then 26 ∷ 27 ∷ [] else []) t.served 27) (sym e) (refl, ap (λ q. q || false) h.1)
+rest_line (suc (suc u)) lt s t e h = absurd (omega (arith, lt))
+
+-- ---- events of a unit, whatever the frame was begun for
+
+module _ (d : SpiTable) (w : World) (s : SpiState) (t : FrameHistory) where
+  started_is : (o : Origin Call) (b : Brought) (v : units.Unit) → happening_of o b (events.Start v) ≡ Some (Starts v (caller_of o) b.received)
+  started_is (Called c) b v = refl
+  started_is (Entered l) b v = refl
+
+  served_is : (o : Origin Call) (b : Brought) (k : ℕ) → happening_of o b (events.Serve k) ≡ Some (Serves k b.received)
+  served_is (Called c) b k = refl
+  served_is (Entered l) b k = refl
+
+  may_start : (o : Origin Call) (v : units.Unit) → t.owed ≡ [] → MayDo (spi_machine d) w s t (events.Start v) o
+  may_start (Called c) v e = e
+  may_start (Entered l) v e = e
+
+  start_acts : (o : Origin Call) (v : units.Unit) (made : Move) (told : Told) (left : Option Done) → ActsRight (spi_setting d) o (events.Start v) false made told left
+  start_acts (Called c) v made told left = tt
+  start_acts (Entered l) v made told left = tt
+
+  serve_acts : (o : Origin Call) (k : ℕ) (made : Move) (told : Told) (left : Option Done) → ActsRight (spi_setting d) o (events.Serve k) false made told left
+  serve_acts (Called c) k made told left = tt
+  serve_acts (Entered l) k made told left = tt
+
+  start_resets : (o : Origin Call) (v : units.Unit) (out : Option (Outcome SpiState)) → asks_reset (spi_machine d) o (Some (events.Start v)) out ≡ false
+  start_resets (Called c) v out = refl
+  start_resets (Entered l) v out = refl
+
+  serve_resets : (o : Origin Call) (k : ℕ) (out : Option (Outcome SpiState)) → asks_reset (spi_machine d) o (Some (events.Serve k)) out ≡ false
+  serve_resets (Called c) k out = refl
+  serve_resets (Entered l) k out = refl
+
+  past_started : (o : Origin Call) (v : units.Unit) (told : Told) (p : FrameHistory) → past_after (spi_machine d) w s o (events.Start v) told p ≡ record p { owed = p.owed ++ owing false told.notices }
+  past_started (Called c) v told p = refl
+  past_started (Entered l) v told p = refl
+
+  past_served : (o : Origin Call) (k : ℕ) (told : Told) (p : FrameHistory) → past_after (spi_machine d) w s o (events.Serve k) told p ≡ record p { served = k ∷ p.served; owed = p.owed ++ owing true told.notices }
+  past_served (Called c) k told p = refl
+  past_served (Entered l) k told p = refl
+
+-- what was served and missed stays so where nothing is added
+same_progress : (e : FrameRole) (u : ℕ) (q : Bool) (t t1 : FrameHistory) → t1.served ≡ t.served → t1.missed ≡ t.missed → Progress e u q t → Progress e u q t1
+same_progress (Transmit n) u false t t1 s m h = absurd h
+same_progress (Transmit n) u true t t1 s m h = tt
+same_progress Handler u false t t1 s m h = s ∙ h
+same_progress Handler u true t t1 s m h = s ∙ h
+same_progress Main zero false t t1 s m h = s ∙ h
+same_progress Main zero true t t1 s m h = (met_still t t1 26 s m h.0, ap (λ ls. has_line ls 27) s ∙ h.1)
+same_progress Main (suc u) false t t1 s m h = (met_still t t1 26 s m h.0, s ∙ h.1)
+same_progress Main (suc u) true t t1 s m h = (met_still t t1 26 s m h.0, met_still t t1 27 s m h.1, ap (λ ls. has_line ls 26) s ∙ h.2)
+same_progress Rest zero q t t1 s m h = absurd h
+same_progress Rest (suc u) false t t1 s m h = (met_still t t1 26 s m h.0, ap (λ ls. has_line ls 27) s ∙ h.1)
+same_progress Rest (suc u) true t t1 s m h = (met_still t t1 26 s m h.0, met_still t t1 27 s m h.1)
+
+-- so does what a frame has done, with other notices owed
+same_done : (e : FrameRole) (u : ℕ) (q : Bool) (t t1 : FrameHistory) (owed owed1 : List Owing) → t1.acted ≡ t.acted → t1.polled ≡ t.polled → t1.report ≡ t.report → t1.served ≡ t.served → t1.missed ≡ t.missed → t1.owed ≡ owed1 → HasDone e u q owed t → HasDone e u q owed1 t1
+same_done e u q t t1 owed owed1 acted polled report served missed told h = record { acted = acted ∙ h.acted; polled = polled ∙ h.polled; report = report ∙ h.report; owed = told; progress = same_progress e u q t t1 served missed h.progress }
+
+module _ (a : Starting) (b : Serving) (d : SpiTable) (fits : FitsSpi d) where
+  -- a move of the mask changes nothing
+  pub shared_agrees : (held : Reservations) (chip : Chip) (w : World) (s : SpiState) (made : Move) (y : ℕ) → is_shared made ≡ true → SpiRepresents d held chip w s → SpiRepresents d held (chip_after chip made y) w s
+  shared_agrees held chip w s Mask y e h = (basis_right d fits).agrees_apart held chip w s Mask y (λ o. refl) h
+  shared_agrees held chip w s Unmask y e h = (basis_right d fits).agrees_apart held chip w s Unmask y (λ o. refl) h
+  shared_agrees held chip w s (Note n) y e h = (basis_right d fits).agrees_apart held chip w s (Note n) y (λ o. refl) h
+  shared_agrees held chip w s (Report n) y e h = (basis_right d fits).agrees_apart held chip w s (Report n) y (λ o. refl) h
+  shared_agrees held chip w s _ y e h = absurd (cc)
+
+  -- ---- where a frame stands
+
+  abbrev StandAt : Reservations → Chip → World → SpiState → UnitBody → Origin Call → FrameHistory → Type 0
+  StandAt below chip w s k o t = AssertedAt (spi_basis d) (unit_bodies a b d) below chip w s k o t
+
+  -- at a place of its serving that owes nothing
+  pub serve_stands : (e : FrameRole) (u : ℕ) (p : ServePlace) (below : Reservations) (chip : Chip) (w : World) (s : SpiState) (o : Origin Call) (t : FrameHistory) → serve_owes p ≡ false → Frame d d e u o → HasDone e u false [] t → SpiRepresents d (with_holds o t.acted (holds_by e) below) chip w s → b.place d u p (foot d chip) w s
+      → StandAt below chip w s (at d e u (place.Serve p)) o t
+  serve_stands e u serve.Shut below chip w s o t i frame done h here = (h, (frame, done))
+  serve_stands e u serve.State below chip w s o t i frame done h here = (h, (here, frame, done))
+  serve_stands e u (serve.Running q) below chip w s o t i frame done h here = (h, (here, frame, done))
+  serve_stands e u (serve.Position r q) below chip w s o t i frame done h here = (h, (here, frame, done))
+  serve_stands e u (serve.Taker r) below chip w s o t i frame done h here = (h, (here, frame, done))
+  serve_stands e u (serve.Receive r q) below chip w s o t i frame done h here = (h, (here, frame, done))
+  serve_stands e u (serve.Width r q) below chip w s o t i frame done h here = (h, (here, frame, done))
+  serve_stands e u (serve.Find r q f) below chip w s o t i frame done h here = (h, (here, frame, done))
+  serve_stands e u (serve.Begin r q v) below chip w s o t i frame done h here = (h, (here, frame, done))
+  serve_stands e u (serve.Marks r) below chip w s o t i frame done h here = (h, (here, frame, done))
+  serve_stands e u (serve.Nexts r q) below chip w s o t i frame done h here = (h, (here, frame, done))
+  serve_stands e u (serve.Acknowledge r q) below chip w s o t i frame done h here = (h, (here, frame, done))
+  serve_stands e u _ below chip w s o t i frame done h here = absurd (cc)
+
+  -- and of its start
+  pub start_stands : (e : FrameRole) (u : ℕ) (p : StartPlace) (below : Reservations) (chip : Chip) (w : World) (s : SpiState) (o : Origin Call) (t : FrameHistory) → start_owes p ≡ false → Frame d d e u o → HasDone e u true [] t → SpiRepresents d (with_holds o t.acted (with_debt e u) below) chip w s → a.place d u p (foot d chip) s
+      → StandAt below chip w s (at d e u (place.Start p)) o t
+  start_stands e u start.Shut below chip w s o t i frame done h here = (h, (frame, done))
+  start_stands e u start.Running below chip w s o t i frame done h here = (h, (here, frame, done))
+  start_stands e u start.Nexts below chip w s o t i frame done h here = (h, (here, frame, done))
+  start_stands e u (start.Marks v) below chip w s o t i frame done h here = (h, (here, frame, done))
+  start_stands e u (start.Front v m p) below chip w s o t i frame done h here = (h, (here, frame, done))
+  start_stands e u (start.Find c p) below chip w s o t i frame done h here = (h, (here, frame, done))
+  start_stands e u (start.Select c v) below chip w s o t i frame done h here = (h, (here, frame, done))
+  start_stands e u (start.Width c v) below chip w s o t i frame done h here = (h, (here, frame, done))
+  start_stands e u (start.Begin c v) below chip w s o t i frame done h here = (h, (here, frame, done))
+  start_stands e u _ below chip w s o t i frame done h here = absurd (cc)
+
+  -- ---- a step that names a register or a word
+
+  module _ (below : Reservations) (chip : Chip) (w : World) (s : SpiState) (y : ℕ) (m : ℕ → Bool) where
+    abbrev Work : Origin Call → FrameHistory → Move → (value : ℕ) → UnitBody × BodyTaken → Type 0
+    Work o t made value r = Works (spi_basis d) (unit_bodies a b d) below chip (chip_after chip made y) w s o made false value y t m r.0 r.1.event r.1.done
+
+    -- how a frame stands after a move, by what it owes
+    abbrev StandsBy : Chip → SpiState → UnitBody → Origin Call → FrameHistory → Option PendingWrites → Type 0
+    StandsBy c s1 k o t q = let x = spot_or (unit_windows a b d) q (unit_spot_at a b d k.table k.errand k.unit k.place) in agrees_after (spi_bare d) (spi_owing d) (with_holds o t.acted (holds_at x) below) (gap_at x) c w s1 × place_at x below (foot d c) w s1 o t
+
+    -- a window that is over goes on without an event
+    over_works : (e : FrameRole) (u : ℕ) (p q : UnitPlace) (made : Move) (value : ℕ) (o : Origin Call) (t : FrameHistory) → let r = unit_over (at d e u p) q e u in Continues (spi_basis d) (unit_bodies a b d) below (chip_after chip made y) w s o (past_wrote w made t) m r.0 r.1.done → Work o t made value r
+    over_works Main zero p q made value o t h = h
+    over_works Main (suc u) p q made value o t h = h
+    over_works Rest u p q made value o t h = h
+    over_works Handler u p q made value o t h = h
+    over_works (Transmit k) u p q made value o t h = h
+
+    -- the first word of a job begins
+    begins_so : (e : FrameRole) (u : ℕ) (q : StartPlace) (x : Event) (made : Move) (value : ℕ) (o : Origin Call) (t : FrameHistory) → Frame d d e u o → HasDone e u true [] t → resets_chip made ≡ false → StartBegins d e (with_holds o t.acted (with_cleared e u) below) u chip (chip_after chip made y) w s made value y q x
+        → Work o t made value (at d e u (place.Start q), passes (Some x))
+    begins_so e u q x made value o t frame done still g =
+        subst (λ z. Work o t made value (at d e u (place.Start q), passes (Some z))) (sym g.is_start) (record {
+          may = may_start d w s t o (unit_named u) done.owed;
+          stands = subst (λ z. StandsAt z made value) g.is_start g.stands;
+          state = g.state;
+          told = tells_nothing;
+          begins = Some g.begins;
+          is = ap (outcome_of (spi_machine d) w s) (started_is d w s t o (brought_by w t.committed made y) (unit_named u)) ∙ g.is (caller_of o);
+          sends = g.sends;
+          acts = start_acts d w s t o (unit_named u) made tells_nothing None;
+          reset = still ∙ sym (start_resets d w s t o (unit_named u) (Some (outcome_with g.state tells_nothing (Some g.begins))));
+          next = subst (λ z. Continues (spi_basis d) (unit_bodies a b d) below (chip_after chip made y) w g.state o z m (at d e u (place.Start q)) None) (sym (past_started d w s t o (unit_named u) tells_nothing (past_wrote w made t)))
+              (subst (λ z. StandsBy (chip_after chip made y) g.state (at d e u (place.Start q)) o later (where_owed z (Units (at d e u (place.Start q))))) (sym g.owing) (g.owes, (frame, same_done e u true t later [] [] refl refl refl refl refl (ap (λ ns. ns ++ []) done.owed) done)));
+        })
+      where
+        later : FrameHistory
+        later = record (past_wrote w made t) { owed = t.owed ++ owing false [] }
+
+    start_works : (e : FrameRole) (u : ℕ) (p : StartPlace) (made : Move) (value : ℕ) (o : Origin Call) (t : FrameHistory) → Frame d d e u o → HasDone e u true [] t → resets_chip made ≡ false → (z : StartPlace × Started) → StartLeaves a d e (with_holds o t.acted (holds_by e) below) o t.acted u chip (chip_after chip made y) w s made value y z
+        → Work o t made value (after_start (at d e u (place.Start p)) z)
+    start_works e u p made value o t frame done still (r, started.Goes None) (h, here, free) = start_stands e u r below (chip_after chip made y) w s o (past_wrote w made t) free frame (same_done e u true t (past_wrote w made t) [] [] refl refl refl refl refl done.owed done) h here
+    start_works e u p made value o t frame done still (r, started.Over) h = over_works e u (place.Start p) (place.Start r) made value o t (passes_on a b d d e u (place.Start p) (place.Start r) below (chip_after chip made y) w s o (past_wrote w made t) m refl frame (same_done e u true t (past_wrote w made t) [] [] refl refl refl refl refl done.owed done) h)
+    start_works e u p made value o t frame done still (r, started.Goes (Some x)) g = begins_so e u r x made value o t frame done still g
+
+    -- the word is served
+    may_serve : (e : FrameRole) (u : ℕ) (o : Origin Call) (t : FrameHistory) → u < 2 → IsFor u e o → Progress e u false t → t.owed ≡ [] → SpiRepresents d (with_holds o t.acted (holds_by e) below) chip w s → MayDo (spi_machine d) w s t (events.Serve (26 + u)) o
+    may_serve (Transmit q) u _ t lt (Transmits _) done none h = absurd done
+    may_serve Handler u _ t lt Handles done none h = (refl, done)
+    may_serve Main u _ t lt Mains done none h = (next_line u lt s t h.right.0 done, none)
+    may_serve Rest u _ t lt Rests done none h = (rest_line u lt s t h.right.1.0 done, none)
+
+    serves_so : (e : FrameRole) (u : ℕ) (q : ServePlace) (x : Event) (made : Move) (value : ℕ) (o : Origin Call) (t : FrameHistory) → Frame d d e u o → HasDone e u false [] t → SpiRepresents d (with_holds o t.acted (holds_by e) below) chip w s → resets_chip made ≡ false
+        → ServeHappens d e (with_holds o t.acted (holds_by e) below) u chip (chip_after chip made y) w s made y q x → Work o t made value (at d e u (place.Serve q), passes (Some x))
+    serves_so e u q x made value o t frame done h still g =
+        subst (λ z. Work o t made value (at d e u (place.Serve q), passes (Some z))) (sym g.is_serve) (record {
+          may = may_serve e u o t frame.small frame.of done.progress done.owed h;
+          stands = tt;
+          state = g.state;
+          told = notes g.notices;
+          begins = g.begins;
+          is = ap (outcome_of (spi_machine d) w s) (served_is d w s t o (brought_by w t.committed made y) (26 + u)) ∙ g.is;
+          sends = g.sends;
+          acts = serve_acts d w s t o (26 + u) made (notes g.notices) None;
+          reset = still ∙ sym (serve_resets d w s t o (26 + u) (Some (outcome_with g.state (notes g.notices) g.begins)));
+          next = subst (λ z. Continues (spi_basis d) (unit_bodies a b d) below (chip_after chip made y) w g.state o z m (at d e u (place.Serve q)) None) (sym (past_served d w s t o (26 + u) (notes g.notices) (past_wrote w made t)))
+              (subst (λ z. StandsBy (chip_after chip made y) g.state (at d e u (place.Serve q)) o (later g.notices) (where_owed z (Units (at d e u (place.Serve q))))) (sym g.owing) (owes (serve_ahead d q) g.owes));
+        })
+      where
+        later : List Notice → FrameHistory
+        later ns = record (past_wrote w made t) { served = (26 + u) ∷ t.served; owed = t.owed ++ owing true ns }
+
+        told : (ns : List Notice) → HasDone e u true (owing true ns) (later ns)
+        told ns = record { acted = done.acted; polled = done.polled; report = done.report; owed = ap (λ os. os ++ owing true ns) done.owed; progress = served_now e u frame.small t (later ns) refl refl done.progress }
+
+        owes : (n : Option (List Notice)) → ServeOwes d e (with_holds o t.acted (holds_by e) below) u (chip_after chip made y) w g.state g.notices q n
+            → ((k : ℕ) × CommitsTo (spi_owing d) k (Units (at d e u (place.Serve q))) (chip_after chip made y) (λ c. SpiRepresents d (with_holds o t.acted (ahead_holds e u (served_ahead n)) below) c w g.state)) × OwedAt d (Some (record { table = d; errand = e; unit = u; ahead = served_ahead n })) o (later g.notices)
+        owes None (none, k) = (k o t.acted, (frame, subst (λ ns. HasDone e u true [] (later ns)) (sym none) (told [])))
+        owes (Some ns) (are, k) = (k o t.acted, (frame, subst (λ xs. HasDone e u true (owing true ns) (later xs)) (sym are) (told ns)))
+
+    -- nothing may be there to serve
+    serve_works : (e : FrameRole) (u : ℕ) (p : ServePlace) (made : Move) (value : ℕ) (o : Origin Call) (t : FrameHistory) → Frame d d e u o → HasDone e u false [] t → SpiRepresents d (with_holds o t.acted (holds_by e) below) chip w s → resets_chip made ≡ false → ((l : ℕ) → ready w s l ≡ false → m l ≡ true)
+        → (z : ServePlace × ServeStep) → ServeLeaves b d e (with_holds o t.acted (holds_by e) below) u chip (chip_after chip made y) w s made y z
+        → Work o t made value (after_serve (at d e u (place.Serve p)) z) ⊎ ((l : ℕ) × (ready w s l ≡ false) × Work o (record t { missed = l ∷ t.missed }) made value (after_serve (at d e u (place.Serve p)) z))
+    serve_works e u p made value o t frame done h still misses (r, steps.Goes None) (g, here, free) = inl (serve_stands e u r below (chip_after chip made y) w s o (past_wrote w made t) free frame (same_done e u false t (past_wrote w made t) [] [] refl refl refl refl refl done.owed done) g here)
+    serve_works e u p made value o t frame done h still misses (r, steps.Goes (Some x)) g = inl (serves_so e u r x made value o t frame done h still g)
+    serve_works e u p made value o t frame done h still misses (r, steps.JobOver x) g = absurd g
+    serve_works e u p made value o t frame done h still misses (r, steps.Over) (g, none, free) = by e u o frame.of frame done g none
+      where
+        o_main : Origin Call
+        o_main = Called calls.MainFunctionHandling
+
+        by : (e : FrameRole) (u : ℕ) (o : Origin Call) → IsFor u e o → Frame d d e u o → HasDone e u false [] t → SpiRepresents d (with_holds o t.acted (holds_by e) below) (chip_after chip made y) w s → ready w s (26 + u) ≡ false
+            → Work o t made value (unit_over (at d e u (place.Serve p)) (place.Serve r) e u) ⊎ ((l : ℕ) × (ready w s l ≡ false) × Work o (record t { missed = l ∷ t.missed }) made value (unit_over (at d e u (place.Serve p)) (place.Serve r) e u))
+        by (Transmit q) u _ (Transmits _) frame done g none = absurd done.progress
+        by Handler u _ Handles frame done g none = inl (g, record { may = (or_true (has_line t.served (26 + u)) (misses (26 + u) none), refl); served = false; owed = done.owed; shown = λ i. absurd (cc); report = done.report })
+        by Main zero _ Mains frame done g none = inr (
+          26,
+          none,
+          subst (λ e1. AssertedAt (spi_basis d) (unit_bodies a b d) below (chip_after chip made y) w s (at d e1 1 (place.Opens after.Serve)) o_main (past_wrote w made (record t { missed = 26 ∷ t.missed }))) (sym (rest_missed r free))
+              (g, (record { table = frame.table; small = omega arith; of = Mains }, record { acted = done.acted; polled = done.polled; report = done.report; owed = done.owed; progress = (just_missed t 26, done.progress) })),
+        )
+        by Main (suc zero) _ Mains frame done g none = inr (27, none, (handling_over d o_main t.acted below (chip_after chip made y) w s g, main_stops a b d (past_wrote w made (record t { missed = 27 ∷ t.missed })) m done.acted done.polled done.report done.owed done.progress.0 (just_missed t 27)))
+        by Main (suc (suc u)) _ Mains frame done g none = absurd (let lt = frame.small in omega (arith, lt))
+        by Rest zero _ Rests frame done g none = absurd done.progress
+        by Rest (suc zero) _ Rests frame done g none = inr (
+          27,
+          none,
+          (
+            handling_over d o_main t.acted below (chip_after chip made y) w s (clear_over d (handling_of o_main t.acted ∷ below) (chip_after chip made y) w s 0 o_main t.acted g),
+            main_stops a b d (past_wrote w made (record t { missed = 27 ∷ t.missed })) m done.acted done.polled done.report done.owed done.progress.0 (just_missed t 27),
+          ),
+        )
+        by Rest (suc (suc u)) _ Rests frame done g none = absurd (let lt = frame.small in omega (arith, lt))
+
+    -- ---- the main function acts, the mask is opened, and notices are told
+
+    pub acts_so : (e : FrameRole) (u : ℕ) (o : Origin Call) → e ≡ Main → u ≡ 0 → Frame d d e u o → is_polling s.mode ≡ true → SpiRepresents d below chip w s → Work o fresh_history (Load STATE) (word_of chip STATE) (at d e u (place.Opens after.Serve), acts)
+    acts_so e u o is first frame polling h = by e u o frame.of is first frame
+      where
+        by : (e : FrameRole) (u : ℕ) (o : Origin Call) → IsFor u e o → e ≡ Main → u ≡ 0 → Frame d d e u o → Work o fresh_history (Load STATE) (word_of chip STATE) (at d e u (place.Opens after.Serve), acts)
+        by (Transmit q) u o for is first frame = absurd (cc)
+        by Handler u o for is first frame = absurd (cc)
+        by Rest u o for is first frame = absurd (cc)
+        by Main (suc u) o for is first frame = absurd (cc)
+        by Main zero _ Mains is first frame = record {
+          may = refl;
+          stands = tt;
+          state = s;
+          told = tells_nothing;
+          begins = None;
+          is = refl;
+          sends = tt;
+          acts = tt;
+          reset = refl;
+          next = (handling_begins d (Called calls.MainFunctionHandling) (Some no_answer) below (chip_after chip (Load STATE) y) w s polling h, (frame, record { acted = refl; polled = ap (λ (q : Bool). if q then 26 ∷ 27 ∷ [] else []) polling; report = refl; owed = refl; progress = refl }));
+        }
+
+    -- after the opening it tells the notices, or starts
+    pub opens_so : (e : FrameRole) (u : ℕ) (x : After) (o : Origin Call) (t : FrameHistory) → Frame d d e u o → OpensAt e u x t → SpiRepresents d (with_holds o t.acted (opens_holds e u x) below) chip w s → StandAt below chip w s (at d e u (opened x)) o t
+    opens_so e u after.Serve o t frame done h = (h, (frame, done))
+    opens_so e u after.Start o t frame done h = (h, (frame, done))
+    opens_so e u (after.Tell x) o t frame done h = by x.job x.sequence done
+      where
+        by : (i j : Option Notice) → HasDone e u true (owing true (told_list i j)) t → StandAt below chip w s (at d e u (told_first i j)) o t
+        by (Some i) j done = (h, (frame, done))
+        by None (Some j) done = (h, (frame, done))
+        by None None done = (h, (frame, done))
+
+    pub tells_so : (e : FrameRole) (u : ℕ) (n : Notice) (other : Option Notice) (o : Origin Call) (t : FrameHistory) → Frame d d e u o → HasDone e u true (owing true (n ∷ and_other other)) t → SpiRepresents d (with_holds o t.acted (with_debt e u) below) chip w s → Notes (spi_basis d) (unit_bodies a b d) below chip w s o n (at d e u (told_next other)) t
+    tells_so e u n other o t frame done h = record {
+      served = true;
+      others = owing true (and_other other);
+      is = done.owed;
+      shown = λ i c named. h.arrays c;
+      next = by other refl;
+    }
+      where
+        later : FrameHistory
+        later = record t { owed = owing true (and_other other) }
+
+        rest : HasDone e u true (owing true (and_other other)) later
+        rest = same_done e u true t later (owing true (n ∷ and_other other)) (owing true (and_other other)) refl refl refl refl refl refl done
+
+        by : (z : Option Notice) → z ≡ other → StandAt below chip w s (at d e u (told_next z)) o later
+        by None is = (h, (frame, subst (λ z. HasDone e u true (owing true (and_other z)) later) (sym is) rest))
+        by (Some i) is = (h, (frame, subst (λ z. HasDone e u true (owing true (and_other z)) later) (sym is) rest))
+
+  -- ---- all of them
+
+  -- a move of its serving window, and of its start window
+  pub serve_right_at : IsServing d b → (below : Reservations) (chip : Chip) (w : World) (s : SpiState) (e : FrameRole) (u : ℕ) (p : ServePlace) (o : Origin Call) (y : ℕ) (t : FrameHistory) (m : ℕ → Bool) → serve_owes p ≡ false → ReceivedRight chip w (serve_move d u p) y → Frame d d e u o → HasDone e u false [] t
+      → SpiRepresents d (with_holds o t.acted (holds_by e) below) chip w s → b.place d u p (foot d chip) w s → is_shared (serve_move d u p) ≡ false
+      → (MakesTo (spi_basis d) (unit_bodies a b d) below chip (chip_after chip (serve_move d u p) y) w s o (serve_move d u p) false (value_of chip (serve_move d u p)) y t (missed_after (spi_machine d) w s m) (after_serve (at d e u (place.Serve p)) (serve_takes d u p (value_of chip (serve_move d u p)))))
+      ⊎ ((l : ℕ) × (ready w s l ≡ false) × MakesTo (spi_basis d) (unit_bodies a b d) below chip (chip_after chip (serve_move d u p) y) w s o (serve_move d u p) false (value_of chip (serve_move d u p)) y (record t { missed = l ∷ t.missed }) (missed_after (spi_machine d) w s m) (after_serve (at d e u (place.Serve p)) (serve_takes d u p (value_of chip (serve_move d u p)))))
+  serve_right_at serving below chip w s e u p o y t m free come frame done h here plain = by (serve_works below chip w s y missed e u p made value o t frame done h still (λ l none. or_true (m l) (ap not none)) (serve_takes d u p value) (serving.right u frame.small e (with_holds o t.acted (holds_by e) below) chip w s p y free plain h here come))
+    where
+      made : Move
+      made = serve_move d u p
+
+      value : ℕ
+      value = value_of chip made
+
+      missed : ℕ → Bool
+      missed = missed_after (spi_machine d) w s m
+
+      r : UnitBody × BodyTaken
+      r = after_serve (at d e u (place.Serve p)) (serve_takes d u p value)
+
+      still : resets_chip made ≡ false
+      still = (plain_move d made (own (is_shared made) plain (serving.may u frame.small (with_holds o t.acted (holds_by e) below) chip w s p free h here))).0
+        where
+          own : (q : Bool) {z : Bool} → q ≡ false → q || z ≡ true → z ≡ true
+          own true i j = absurd (cc)
+          own false i j = j
+
+      Makes_at : FrameHistory → Type 0
+      Makes_at t1 = MakesTo (spi_basis d) (unit_bodies a b d) below chip (chip_after chip made y) w s o made false value y t1 missed r
+
+      makes : (t1 : FrameHistory) → Works (spi_basis d) (unit_bodies a b d) below chip (chip_after chip made y) w s o made false value y t1 missed r.0 r.1.event r.1.done → Makes_at t1
+      makes t1 works = plain_makes (spi_basis d) (unit_bodies a b d) below chip (chip_after chip made y) w s o false value y t1 missed r.0 r.1.event r.1.done made plain works
+
+      by : Works (spi_basis d) (unit_bodies a b d) below chip (chip_after chip made y) w s o made false value y t missed r.0 r.1.event r.1.done ⊎ ((l : ℕ) × (ready w s l ≡ false) × Works (spi_basis d) (unit_bodies a b d) below chip (chip_after chip made y) w s o made false value y (record t { missed = l ∷ t.missed }) missed r.0 r.1.event r.1.done)
+          → Makes_at t ⊎ ((l : ℕ) × (ready w s l ≡ false) × Makes_at (record t { missed = l ∷ t.missed }))
+      by (inl works) = inl (makes t works)
+      by (inr (l, none, works)) = inr (l, none, makes (record t { missed = l ∷ t.missed }) works)
+
+  pub start_right_at : IsStarting d a → (below : Reservations) (chip : Chip) (w : World) (s : SpiState) (e : FrameRole) (u : ℕ) (p : StartPlace) (o : Origin Call) (y : ℕ) (t : FrameHistory) (m : ℕ → Bool) → start_owes p ≡ false → ReceivedRight chip w (start_move d u p) y → Frame d d e u o → HasDone e u true [] t
+      → SpiRepresents d (with_holds o t.acted (with_debt e u) below) chip w s → a.place d u p (foot d chip) s → is_shared (start_move d u p) ≡ false
+      → MakesTo (spi_basis d) (unit_bodies a b d) below chip (chip_after chip (start_move d u p) y) w s o (start_move d u p) false (value_of chip (start_move d u p)) y t (missed_after (spi_machine d) w s m) (after_start (at d e u (place.Start p)) (start_takes d u p (value_of chip (start_move d u p))))
+  start_right_at starting below chip w s e u p o y t m free come frame done h here plain =
+      plain_makes (spi_basis d) (unit_bodies a b d) below chip (chip_after chip made y) w s o false value y t (missed_after (spi_machine d) w s m) r.0 r.1.event r.1.done made plain
+      (start_works below chip w s y (missed_after (spi_machine d) w s m) e u p made value o t frame done still (start_takes d u p value) (starting.right u e (with_holds o t.acted (holds_by e) below) o t.acted chip w s p y free plain h here come))
+    where
+      made : Move
+      made = start_move d u p
+
+      value : ℕ
+      value = value_of chip made
+
+      r : UnitBody × BodyTaken
+      r = after_start (at d e u (place.Start p)) (start_takes d u p value)
+
+      still : resets_chip made ≡ false
+      still = (plain_move d made (own (is_shared made) plain (starting.may u (with_holds o t.acted (holds_by e) below) o t.acted chip w s p free h here))).0
+        where
+          own : (q : Bool) {z : Bool} → q ≡ false → q || z ≡ true → z ≡ true
+          own true i j = absurd (cc)
+          own false i j = j

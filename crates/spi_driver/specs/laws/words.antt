@@ -1,0 +1,2 @@
+pub mod ConfigurationFits
+pub mod WordsToState

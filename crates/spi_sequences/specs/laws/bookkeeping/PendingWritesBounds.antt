@@ -1,0 +1,343 @@
+-- Each move that is owed leaves fewer: what is owed are loads and stores of the module's words, and writes for its
+-- lines.
+-- From services.ServeSteps, services.StartSteps, services.UnitSteps, services.CancelSteps, bookkeeping.RefinementRight.
+-- Used by services.ReadRight, services.CancelRight, services.ModuleRight.
+use Rattle.std.proofs.Common.{◌≡◌, ◌+◌, ◌-◌, ◌*◌, ◌<◌, ◌≤◌, ◌==◌, ◌&&◌, if◌then◌else◌, [], ◌∷◌}
+use Rattle.spi_sequences.specs.Terms
+use Terms.{after_serve, after_start, All, and_parts, ap, arith, Bool, cancel_drops, cancel_owed_at, Cancels}
+use Terms.{channel_at_place, channel_number, choice_in, Commit, commit_at, commit_by, commit_ends, commit_last}
+use Terms.{commit_left, commit_more, commits_left, count_in, drop_after, drop_gave, drop_left, drop_more, Dropped}
+use Terms.{false, first_internal, first_pinned, FitsSpi, FrameRole, gives, goes_on, Handler, has_ended, is_pinned_at}
+use Terms.{is_simple, IsBasis, Keep, keep_ends, keep_left, keep_more, keep_of, keeping, Leaving, list_of, Main, may}
+use Terms.{meets_at, More, more_owed, nat_le, nat_lt, nat_tests, Next, next_after, next_gave, next_gives, next_left}
+use Terms.{next_more, None, none, Option, owed_left, owing_basis, PendingWrites, pinning, Placed, placed_of, Places}
+use Terms.{Prepare, prepare_at, prepare_by, prepare_ends, prepare_left, prepare_more, prepared, preparing, refl}
+use Terms.{release_by, release_last, releasing, RequestPlace, Rest, Running, same_chip, Search, search_more, Sent}
+use Terms.{SequenceNext, serve_commits, serve_drops, serve_keeps, serve_keeps_last, serve_lets, serve_releases, Served}
+use Terms.{ServePlace, ServeStep, simple_owed, Some, Sought, sought, spi_bare, spi_basis, spi_owing, SpiTable}
+use Terms.{start_chooses, start_prepares, start_releases, Started, StartPlace, subst, suc, Take, take_gave, take_left}
+use Terms.{take_more, Taker, tally_cleared, tally_less, Transmit, true, unit_more, unit_over, unit_owed, unit_owes}
+use Terms.{unit_took, UnitBody, UnitPlace, Units, unless_done, Wholes, zero, ℕ}
+use Rattle.word_shapes.specs.Playing.{goes}
+use Rattle.service_outline.specs.DeferredWrites.{AreOwed}
+use Rattle.spi_sequences.specs.laws.bookkeeping.RefinementRight.{bare_right}
+use Rattle.word_shapes.specs.declared.choosing.Next.TheVariants as next
+use Rattle.word_shapes.specs.declared.dropped.Dropped.TheVariants as drops
+use Rattle.word_shapes.specs.declared.search.Search.TheVariants as search
+use Rattle.word_shapes.specs.declared.take.Take.TheVariants as take
+use Rattle.word_shapes.specs.declared.add.Add.TheVariants as add
+use Rattle.word_shapes.specs.declared.again.Again.TheVariants as again
+use Rattle.word_shapes.specs.declared.put.Put.TheVariants as puts
+use Rattle.spi_jobs.specs.declared.banks.Commit.TheVariants as commits
+use Rattle.spi_jobs.specs.declared.keeping.Keep.TheVariants as keeps
+use Rattle.spi_jobs.specs.declared.keeping.Taker.TheVariants as takers
+use Rattle.spi_jobs.specs.declared.preparing.Prepare.TheVariants as prepares
+use Rattle.spi_sequences.specs.declared.service.cancel.CancelBody.TheVariants as cancels
+use Rattle.spi_sequences.specs.declared.service.request.RequestPlace.TheVariants as requests
+use Rattle.spi_sequences.specs.declared.service.serve.SequenceNext.TheVariants as courses
+use Rattle.spi_sequences.specs.declared.service.serve.ServePlace.TheVariants as serves
+use Rattle.spi_sequences.specs.declared.service.start.StartPlace.TheVariants as starts
+use Rattle.spi_sequences.specs.declared.service.start.Started.TheVariants as started
+use Rattle.spi_sequences.specs.declared.service.serve.ServeStep.TheVariants as steps
+use Rattle.spi_sequences.specs.declared.service.unit.UnitPlace.TheVariants as units
+use Rattle.spi_sequences.specs.declared.service.whole.WholeBody.TheVariants as wholes
+
+-- ---- the routines
+
+abbrev SoughtLess : ℕ → Sought → Type 0
+SoughtLess n (More s) = search_more s < n
+SoughtLess n (All at p) = Unit {0}
+
+search_less : (s : Search) (v : ℕ) → SoughtLess (search_more s) (sought s v)
+search_less (search.Tally at) v = omega arith
+search_less (search.Low at tally) v = by (nat_le (count_in tally) 8)
+  where
+    by : (q : Bool) → SoughtLess 1 (if q then All at (record { low = v; high = 0; tally = tally }) else More (search.High at tally v))
+    by true = tt
+    by false = omega arith
+search_less (search.High at tally low) v = tt
+
+pub take_less : (p : Take) (v : ℕ) → has_ended (take_gave p v) ≡ false → take_more (take_left p v) < take_more p
+take_less (take.Pin c) v e = omega arith
+take_less (take.Hold c x b) v e = absurd (cc)
+take_less (take.Word k) v e = absurd (cc)
+take_less (take.Release c) v e = omega arith
+take_less (take.Free c x) v e = absurd (cc)
+
+pub next_less : (p : Next) (v : ℕ) → has_ended (next_gave p v) ≡ false → next_more (next_left p v) < next_more p
+next_less (next.Tell at tally n) v e = absurd (cc)
+next_less (next.Look s ranks) v e = by (sought s v) (search_less s v) e
+  where
+    chosen : (at : Places) (tally n : ℕ) (q : Bool) → has_ended (if q then goes else gives (n ∷ [])) ≡ false → next_more (if q then next.Tell at (tally_cleared tally n) n else next.Look s ranks) < 1 + search_more s
+    chosen at tally n true e = omega arith
+    chosen at tally n false e = absurd (cc)
+
+    by : (t : Sought) → SoughtLess (search_more s) t → has_ended (next_gives ranks t) ≡ false → next_more (next_after (next.Look s ranks) ranks t) < 1 + search_more s
+    by (More r) lt e = omega (arith, lt)
+    by (All at p) lt e = chosen at p.tally (choice_in ranks p) (nat_lt (choice_in ranks p) none) e
+
+pub drop_less : (p : Dropped) (v : ℕ) → has_ended (drop_gave p v) ≡ false → drop_more (drop_left p v) < drop_more p
+drop_less (drops.Look s n) v e = by (sought s v) (search_less s v)
+  where
+    by : (t : Sought) → SoughtLess (search_more s) t → drop_more (drop_after n t) < 3 + search_more s
+    by (More r) lt = omega (arith, lt)
+    by (All at p) lt = omega arith
+drop_less (drops.Low at p) v e = by (nat_le (count_in p.tally) 8)
+  where
+    by : (q : Bool) → drop_more (if q then drops.Tell at (tally_less p.tally) else drops.High at p) < 2
+    by true = omega arith
+    by false = omega arith
+drop_less (drops.High at p) v e = omega arith
+drop_less (drops.Tell at tally) v e = absurd (cc)
+
+keep_few : (x : Placed) (i : ℕ) (t : Taker) (w : ℕ) → keep_more (keeping x i t w) ≤ 1
+keep_few x i (takers.Bank b) w = by (i == 0)
+  where
+    by : (q : Bool) → keep_more (if q then keeps.Hold x b w else keeps.Fill x i b w) ≤ 1
+    by true = omega arith
+    by false = omega arith
+keep_few x i (takers.SetUp by) w = split by.destination
+  where
+    split : (q : Bool) → keep_more (if q then keeps.Store x i w else keeps.Drop x) ≤ 1
+    split true = omega arith
+    split false = omega arith
+
+keep_less : (k : Keep) → keep_ends k ≡ false → keep_more (keep_left k) < keep_more k
+keep_less (keeps.Hold x b w) e = omega arith
+keep_less (keeps.Fill x i b w) e = absurd (cc)
+keep_less (keeps.Store x i w) e = absurd (cc)
+keep_less (keeps.Drop x) e = absurd (cc)
+
+commit_less : (c : Commit) (v : ℕ) → commit_ends c v ≡ false → commit_more (commit_left c v) < commit_more c
+commit_less (commits.Held x) v e = omega arith
+commit_less (commits.Put (puts.Choose c)) v e = absurd (cc)
+commit_less (commits.Put (puts.Fill k x)) v e = absurd (cc)
+commit_less (commits.Put (puts.Commit c b)) v e = omega arith
+commit_less (commits.Put (puts.Tell c x)) v e = absurd (cc)
+
+prepare_less : (p : Prepare) (v : ℕ) → prepare_ends p v ≡ false → prepare_more (prepare_left p v) < prepare_more p
+prepare_less (prepares.Pin p) v e = take_less p v e
+prepare_less (prepares.Load x) v e = omega arith
+prepare_less (prepares.Hold x by) v e = absurd (cc)
+
+prepare_few : (x : Placed) → prepare_more (preparing x) ≤ 1
+prepare_few x = by x.channel.internal
+  where
+    by : (q : Bool) → prepare_more (if q then prepares.Pin (pinning x Sent) else prepares.Load x) ≤ 1
+    by true = omega arith
+    by false = omega arith
+
+-- ---- the places of a unit's frame
+
+abbrev Less : ℕ → Option PendingWrites → Type 0
+Less n None = Unit {0}
+Less n (Some y) = more_owed y < n
+
+-- after a step of a start or of a serving
+abbrev StartLess : UnitBody → ℕ → StartPlace × Started → Type 0
+StartLess k n r = Less n (unless_done (after_start k r).1.done (unit_owed (after_start k r).0))
+
+abbrev ServeLess : UnitBody → ℕ → ServePlace × ServeStep → Type 0
+ServeLess k n r = Less n (unless_done (after_serve k r).1.done (unit_owed (after_serve k r).0))
+
+over_less : (k : UnitBody) (p : UnitPlace) (n : ℕ) (e : FrameRole) (u : ℕ) → Less n (unless_done (unit_over k p e u).1.done (unit_owed (unit_over k p e u).0))
+over_less k p n Main zero = tt
+over_less k p n Main (suc u) = tt
+over_less k p n Rest u = tt
+over_less k p n Handler u = tt
+over_less k p n (Transmit q) u = tt
+
+module _ (k : UnitBody) where
+  prepared_less : (r : Running) (n : ℕ) → 3 < n → StartLess k n (prepared k.table r, started.Goes None)
+  prepared_less r n lt = by (x.channel.internal && nat_le x.channel.length 1)
+    where
+      x : Placed
+      x = channel_at_place k.table r.job 0
+
+      by : (q : Bool) → StartLess k n (if q then starts.Release r (releasing x Sent) else starts.Run r, started.Goes None)
+      by true = lt
+      by false = omega (arith, lt)
+
+  prepares_less : (r : Running) (i n : ℕ) → 3 < n → 5 + 2 * (3 - i) < n → StartLess k n (prepare_at k.table r i, started.Goes None)
+  prepares_less r i n lt more = by (channel_number (list_of k.table r.job) i)
+    where
+      by : (c : Option ℕ) → StartLess k n (prepare_by k.table r i c, started.Goes None)
+      by None = prepared_less r n lt
+      by (Some c) = let few = prepare_few (placed_of k.table c) in omega (arith, few, more)
+
+  start_less : (p : StartPlace) (v : ℕ) → Less (unit_more k.table (units.Start p)) (if unit_owes (units.Start p) then unless_done (unit_took k (units.Start p) v).1.done (unit_owed (unit_took k (units.Start p) v).0) else None)
+  start_less (starts.Choose c p) v = by (has_ended (next_gave p v)) refl
+    where
+      by : (q : Bool) → has_ended (next_gave p v) ≡ q → StartLess k (13 + next_more p) (start_chooses c p v q)
+      by true e = omega arith
+      by false e = let lt = next_less p v e in omega (arith, lt)
+  start_less (starts.Mark c) v = prepares_less c.run 0 12 (omega arith) (omega arith)
+  start_less (starts.Prepare r i p) v = by (prepare_ends p v) refl
+    where
+      onward : (q : Bool) → nat_lt i 3 ≡ q → StartLess k (4 + 2 * (3 - i) + prepare_more p) (if q then prepare_at k.table r (i + 1) else prepared k.table r, started.Goes None)
+      onward true e = let lt : i < 3 = grind (arith, nat_tests) in prepares_less r (i + 1) _ (omega arith) (omega (arith, lt))
+      onward false e = prepared_less r _ (omega arith)
+
+      by : (q : Bool) → prepare_ends p v ≡ q → StartLess k (4 + 2 * (3 - i) + prepare_more p) (start_prepares k.table r i p v q)
+      by true e = onward (nat_lt i 3) refl
+      by false e = let lt = prepare_less p v e in omega (arith, lt)
+  start_less (starts.Release r p) v = by (has_ended (take_gave p v)) refl
+    where
+      by : (q : Bool) → has_ended (take_gave p v) ≡ q → StartLess k (2 + take_more p) (start_releases r p v q)
+      by true e = omega arith
+      by false e = let lt = take_less p v e in omega (arith, lt)
+  start_less (starts.Run r) v = omega arith
+  start_less starts.Stand v = over_less k (units.Start starts.Stand) 0 k.errand k.unit
+  start_less starts.Shut v = tt
+  start_less starts.Running v = tt
+  start_less starts.Nexts v = tt
+  start_less (starts.Marks x) v = tt
+  start_less (starts.Front x m p) v = tt
+  start_less (starts.Find c p) v = tt
+  start_less (starts.Select c x) v = tt
+  start_less (starts.Width c x) v = tt
+  start_less (starts.Begin c x) v = tt
+
+  request_less : (p : RequestPlace) (v : ℕ) → Less (unit_more k.table (units.Request p)) (if unit_owes (units.Request p) then unless_done (unit_took k (units.Request p) v).1.done (unit_owed (unit_took k (units.Request p) v).0) else None)
+  request_less (requests.Look q) v = tt
+  request_less requests.Accept v = tt
+  request_less requests.Nexts v = omega arith
+  request_less (requests.First x) v = omega arith
+  request_less requests.Marks v = omega arith
+  request_less (requests.Unmark x) v = omega arith
+  request_less (requests.Add (add.Count at n)) v = omega arith
+  request_less (requests.Add (add.Find at n tally)) v = omega arith
+  request_less (requests.Add (add.Place at word x tally)) v = omega arith
+  request_less (requests.Add (add.Tell at tally)) v = tt
+
+  -- the first of the last n channels whose pin stands comes after those before them
+  pinned_after : (r : Served) (n i : ℕ) → first_pinned k.table r n ≡ Some i → (4 - n ≤ i) × (i < 4)
+  pinned_after r zero i e = absurd (cc)
+  pinned_after r (suc n) i e = by (nat_lt 3 n) (meets_at k.table (is_pinned_at r (4 - suc n)) (channel_number (list_of k.table r.run.job) (4 - suc n))) refl e (pinned_after r n i)
+    where
+      by : (p q : Bool) → nat_lt 3 n ≡ p → (if p then None else if q then Some (4 - suc n) else first_pinned k.table r n) ≡ Some i → (first_pinned k.table r n ≡ Some i → (4 - n ≤ i) × (i < 4)) → (4 - suc n ≤ i) × (i < 4)
+      by true q f g rest = absurd (cc)
+      by false true f g rest = let at : 4 - suc n ≡ i = cc in (omega (arith, at), omega (arith, at))
+      by false false f g rest = let r = rest g in let low = r.0 in (omega (arith, low), r.1)
+
+  release_less : (l : Leaving) (n m : ℕ) → 7 < m → ((i : ℕ) → 4 - n ≤ i → i < 4 → 8 + 2 * (3 - i) + 1 < m) → ServeLess k m (release_last k.table l n, steps.Goes None)
+  release_less l n m lt more = by (first_pinned k.table l.served n) refl
+    where
+      by : (o : Option ℕ) → first_pinned k.table l.served n ≡ o → ServeLess k m (release_by k.table l o, steps.Goes None)
+      by None e = lt
+      by (Some i) e = let at = pinned_after l.served n i e in more i at.0 at.1
+
+  -- and the first internal one takes its moves of those that are left
+  internal_after : (l : Leaving) (n i : ℕ) → first_internal k.table l.served n ≡ Some i → commits_left k.table l n ≡ 1 + commit_more (commit_at k.table l i) + commits_left k.table l (3 - i)
+  internal_after l zero i e = absurd (cc)
+  internal_after l (suc n) i e = by (nat_lt 3 n) (meets_at k.table (λ x. x.channel.internal) (channel_number (list_of k.table l.served.run.job) (4 - suc n))) refl e (internal_after l n i)
+    where
+      by : (p q : Bool) → nat_lt 3 n ≡ p → (if p then None else if q then Some (4 - suc n) else first_internal k.table l.served n) ≡ Some i → (first_internal k.table l.served n ≡ Some i → commits_left k.table l n ≡ 1 + commit_more (commit_at k.table l i) + commits_left k.table l (3 - i))
+          → (if q then 1 + commit_more (commit_at k.table l (4 - suc n)) else 0) + commits_left k.table l n ≡ 1 + commit_more (commit_at k.table l i) + commits_left k.table l (3 - i)
+      by true q f g rest = absurd (cc)
+      by false true f g rest =
+          let at : 4 - suc n ≡ i = cc in
+          let few : n ≤ 3 = grind (arith, nat_tests) in
+          let back : n ≡ 3 - (4 - suc n) = omega (arith, few) in
+          subst (λ j. (1 + commit_more (commit_at k.table l (4 - suc n))) + commits_left k.table l n ≡ 1 + commit_more (commit_at k.table l j) + commits_left k.table l (3 - j)) at (ap (λ m. (1 + commit_more (commit_at k.table l (4 - suc n))) + commits_left k.table l m) back)
+      by false false f g rest = let is = rest g in omega (arith, is)
+
+  commits_less : (l : Leaving) (n m : ℕ) → 7 + commits_left k.table l n < m → ServeLess k m (commit_last k.table l n, steps.Goes None)
+  commits_less l n m lt = by (first_internal k.table l.served n) refl
+    where
+      by : (o : Option ℕ) → first_internal k.table l.served n ≡ o → ServeLess k m (commit_by k.table l o, steps.Goes None)
+      by None e = omega (arith, lt)
+      by (Some i) e = let is = internal_after l n i e in omega (arith, lt, is)
+
+  serve_less : (p : ServePlace) (v : ℕ) → Less (unit_more k.table (units.Serve p)) (if unit_owes (units.Serve p) then unless_done (unit_took k (units.Serve p) v).1.done (unit_owed (unit_took k (units.Serve p) v).0) else None)
+  serve_less (serves.Let r p t) v = by (has_ended (take_gave t v)) refl
+    where
+      by : (q : Bool) → has_ended (take_gave t v) ≡ q → ServeLess k (3 + take_more t) (serve_lets k.table r p t v q)
+      by true e = let few = keep_few (channel_at_place k.table r.served.run.job r.served.at.channel) r.served.at.word r.taker r.word in omega (arith, few)
+      by false e = let lt = take_less t v e in omega (arith, lt)
+  serve_less (serves.Keep x p) v = by (keep_ends x) refl
+    where
+      by : (q : Bool) → keep_ends x ≡ q → ServeLess k (1 + keep_more x) (serve_keeps x p q)
+      by true e = omega arith
+      by false e = let lt = keep_less x e in omega (arith, lt)
+  serve_less (serves.Stand p) v = over_less k (units.Serve (serves.Stand p)) 0 k.errand k.unit
+  serve_less (serves.Free r c) v = by r.served.failed
+    where
+      l : Leaving
+      l = record { served = r.served; taker = r.taker; course = c }
+
+      by : (q : Bool) → ServeLess k (if q then 16 else 10 + commits_left k.table l 4) (if q then release_last k.table l (4 - r.served.at.channel) else serves.KeepLast l (keep_of k.table r), steps.Goes None)
+      by true = release_less l (4 - r.served.at.channel) 16 (omega arith) (λ i low high. omega arith)
+      by false = let few = keep_few (channel_at_place k.table r.served.run.job r.served.at.channel) r.served.at.word r.taker r.word in omega (arith, few)
+  serve_less (serves.Release l i t) v = by (has_ended (take_gave t v)) refl
+    where
+      by : (q : Bool) → has_ended (take_gave t v) ≡ q → ServeLess k (8 + 2 * (3 - i) + take_more t) (serve_releases k.table l i t v q)
+      by true e = release_less l (3 - i) _ (omega arith) (λ j low high. omega (arith, low, high))
+      by false e = let lt = take_less t v e in omega (arith, lt)
+  serve_less (serves.KeepLast l x) v = by (keep_ends x) refl
+    where
+      by : (q : Bool) → keep_ends x ≡ q → ServeLess k (8 + commits_left k.table l 4 + keep_more x) (serve_keeps_last k.table l x q)
+      by true e = commits_less l 4 _ (omega arith)
+      by false e = let lt = keep_less x e in omega (arith, lt)
+  serve_less (serves.Commit l i c) v = by (commit_ends c v) refl
+    where
+      by : (q : Bool) → commit_ends c v ≡ q → ServeLess k (8 + commits_left k.table l (3 - i) + commit_more c) (serve_commits k.table l i c v q)
+      by true e = commits_less l (3 - i) _ (omega arith)
+      by false e = let lt = commit_less c v e in omega (arith, lt)
+  serve_less (serves.Result l) v = by l.course
+    where
+      by : (c : SequenceNext) → ServeLess k 7 (goes_on l.served c, steps.Goes None)
+      by (courses.Further x) = omega arith
+      by (courses.Ends x) = omega arith
+  serve_less (serves.Further r x) v = omega arith
+  serve_less (serves.Again r (again.Look at n)) v = omega arith
+  serve_less (serves.Again r (again.Tell at tally)) v = tt
+  serve_less (serves.End r x) v = omega arith
+  serve_less (serves.Drop r p) v = by (has_ended (drop_gave p v)) refl
+    where
+      by : (q : Bool) → has_ended (drop_gave p v) ≡ q → ServeLess k (drop_more p) (serve_drops k.table r p v q)
+      by true e = tt
+      by false e = drop_less p v e
+  serve_less serves.Shut v = tt
+  serve_less serves.State v = tt
+  serve_less (serves.Running f) v = tt
+  serve_less (serves.Position r f) v = tt
+  serve_less (serves.Taker r) v = tt
+  serve_less (serves.Receive r t) v = tt
+  serve_less (serves.Width r p) v = tt
+  serve_less (serves.Find r p f) v = tt
+  serve_less (serves.Begin r p x) v = tt
+  serve_less (serves.Marks r) v = tt
+  serve_less (serves.Nexts r c) v = tt
+  serve_less (serves.Acknowledge r c) v = tt
+
+  unit_less : (p : UnitPlace) (v : ℕ) → Less (unit_more k.table p) (if unit_owes p then unless_done (unit_took k p v).1.done (unit_owed (unit_took k p v).0) else None)
+  unit_less (units.Request p) v = request_less p v
+  unit_less (units.Start p) v = start_less p v
+  unit_less (units.Serve p) v = serve_less p v
+  unit_less units.Act v = tt
+  unit_less (units.Opens a) v = tt
+  unit_less (units.Tell n o) v = tt
+
+owed_less : (x : PendingWrites) (v : ℕ) → Less (more_owed x) (owed_left x v)
+owed_less (Units k) v = unit_less k k.place v
+owed_less (Cancels (cancels.Drop r p)) v = by (has_ended (drop_gave p v)) refl
+  where
+    by : (q : Bool) → has_ended (drop_gave p v) ≡ q → Less (drop_more p) (unless_done (cancel_drops r p v q).1.done (cancel_owed_at (cancel_drops r p v q).0))
+    by true e = tt
+    by false e = drop_less p v e
+owed_less (Cancels (cancels.Result r)) v = tt
+owed_less (Cancels (cancels.Running r)) v = tt
+owed_less (Cancels (cancels.Marks r)) v = tt
+owed_less (Cancels (cancels.Mark x)) v = tt
+owed_less (Cancels (cancels.Store r)) v = tt
+owed_less (Wholes (wholes.Look x q)) v = tt
+owed_less (Wholes (wholes.Store x)) v = tt
+owed_less (Wholes (wholes.Lines x)) v = tt
+
+pub owed_right : (d : SpiTable) → AreOwed (spi_bare d) (spi_owing d) same_chip
+owed_right d = simple_owed (spi_bare d) (spi_owing d) (λ made e. (and_parts (is_simple made) (may d made) e).0) (λ x chip. tt) (λ x y v e. subst (Less (more_owed x)) e (owed_less x v))
+
+-- so the basis with them is a basis
+pub basis_right : (d : SpiTable) → FitsSpi d → IsBasis (spi_basis d)
+basis_right d fits = owing_basis (spi_bare d) (spi_owing d) same_chip (owed_right d) (bare_right d fits)

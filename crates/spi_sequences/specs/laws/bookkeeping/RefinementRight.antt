@@ -1,0 +1,379 @@
+-- The basis keeps what it owes: at the start, in time, under moves elsewhere, over a reset and at rest.
+-- From hardware.SourceFilled, hardware.AfterReset, hardware.StableUnderHardware, words.WordsToState and 1 more.
+-- Used by services.WriteRight, services.ReadRight, services.InitWords, bookkeeping.PendingWritesBounds.
+use Rattle.std.proofs.Common.{◌≡◌, ◌≢◌, ◌+◌, ◌-◌, ◌*◌, ◌/◌, ◌%◌, ◌^◌, ◌<◌, ◌==◌, ◌&&◌, ◌||◌, [], ◌∷◌, ◌∙◌, ◌⊎◌}
+use Rattle.std.proofs.Common.{if◌then◌else◌}
+use Rattle.spi_sequences.specs.Terms
+use Terms.{act-leaves, Adc0, Adc1, after_read, and_parts, ap, arith, best, Bool, Called, CaptureCountLow}
+use Terms.{CaptureTimeLow, channel_of, channels_by, channels_of, Chip, chip_after, clear_apart, ClockPll, ClockRate}
+use Terms.{Contains, ConverterAbort, due, EnableClear, EnableSet, false, Fill, fills_there, filter, first_state}
+use Terms.{FitsSpi, Going, happened, Hardware, has_bit, has_bit-or, has_bit-pow_other, has_bit-without, has_done}
+use Terms.{has_lines, Init, inl, inr, InTransfer, is_done, is_for, is_for_lines, is_in_use, is_interrupt, is_masked}
+use Terms.{is_off, is_on_unit, is_owed, is_shared, is_some, is_used, is_word_of, IsBasis, Job, job_of, jobs_of, Level}
+use Terms.{level_leaves, line-serial, List, list_any, Load, Made, may, may_name, may_write, MayCome, Move, move_there}
+use Terms.{moved, names_there, nat_lt, nat_tests, next_at, next_by, next_job, next_on, None, not, number_of, Option}
+use Terms.{Order, outcome, owns_written, Pending, PinFlip, PowerOn, rate-left, Read, reads_from, ready, refl, Reg}
+use Terms.{Reservations, ResetRequest, resets_chip, Run, run_at, RunsNext, Serial, SerialAck, SerialData, SerialSelect}
+use Terms.{SerialWidth, set_apart, sets_rate, Some, Spi0, Spi1, spi_bare, spi_owns, spi_setting, SpiFault}
+use Terms.{SpiRepresents, SpiState, SpiTable, stands-event, stands-move, StandsIn, Steady, Store, stores_in, subst, suc}
+use Terms.{sym, tells_nothing, TimerLow, true, unit_at, unit_of, UnitAgrees, uses_by, uses_channel, uses_unit, view}
+use Terms.{wiring-left, word-left, word_apart, word_of, World, world_after, Write, zero, ℕ}
+use Rattle.chip_model.specs.Chip.{is_pending}
+use Rattle.spi_machine.specs.Machine.{run_of}
+use Rattle.spi_sequences.specs.laws.{hardware.SourceFilled.{fill_agrees, not_both, spared_by, spared_none}}
+use Rattle.spi_sequences.specs.laws.{hardware.AfterReset.{by_two, none_in, reset_agrees}}
+use Rattle.spi_sequences.specs.laws.{hardware.StableUnderHardware.{done_same, fault_agrees, same_agrees}}
+use Rattle.spi_sequences.specs.laws.{words.WordsOfModule.{some_at}, words.WordsToState.{any_some, is_number, not_true}}
+use Rattle.chip_units.specs.Serials as serials
+use Rattle.chip_units.specs.declared.serial.Word as chips
+use Rattle.mcal_base.specs.declared.moves.Unit as units
+
+-- ---- in time
+
+same_orders : (d : SpiTable) → FitsSpi d → (held : Reservations) (chip : Chip) (w : World) (s : SpiState) (order : Order) → StandsIn (happened chip order) (world_after w chip.clock.rate order) → (happened chip order).serials.units ≡ chip.serials.units → ((k : ℕ) → word_of (happened chip order) k ≡ word_of chip k)
+    → ((u : ℕ) → u < 2 → has_bit (happened chip order).control.enabled (26 + u) ≡ has_bit chip.control.enabled (26 + u)) → SpiRepresents d held chip w s → SpiRepresents d held (happened chip order) (world_after w chip.clock.rate order) s
+same_orders d fits held chip w s order stands units words enabled h = same_agrees d fits held chip (happened chip order) w (world_after w chip.clock.rate order) s stands (wiring-left chip (Hardware order)) units (λ k own. words k) enabled h
+
+-- no job uses a channel that isn't there
+unused_none : (d : SpiTable) → FitsSpi d → (c : ℕ) (ps : List Pending) → is_some (channel_of d c) ≡ false → is_in_use d c ps ≡ false
+unused_none d fits c ps none = not_true (is_in_use d c ps) (λ e. by_pending (any_some (λ p. list_any (uses_channel d c) (jobs_of d p.sequence)) ps e))
+  where
+    there : (j n : ℕ) → Contains (channels_of d j) n → (o : Option Job) → job_of d j ≡ o → is_some (channel_of d n) ≡ true
+    there j n is None e = absurd (none_in n (subst (λ k. Contains (channels_by k) n) e is))
+    there j n is (Some k) e = ap is_some ((fits.jobs j k e).there n is).2
+
+    by_channel : (j : ℕ) → (n : ℕ) × Contains (channels_of d j) n × ((n == c) ≡ true) → ⊥
+    by_channel j (n, is, same) = let f = sym (ap (λ m. is_some (channel_of d m)) (is_number n c same)) ∙ there j n is (job_of d j) refl in let g = sym f ∙ none in cc
+
+    by_job : (q : ℕ) → (j : ℕ) × Contains (jobs_of d q) j × (uses_channel d c j ≡ true) → ⊥
+    by_job q (j, is, uses) = by_channel j (any_some (λ k. k == c) (channels_of d j) uses)
+
+    by_pending : (p : Pending) × Contains ps p × (list_any (uses_channel d c) (jobs_of d p.sequence) ≡ true) → ⊥
+    by_pending (p, is, uses) = by_job p.sequence (any_some (uses_channel d c) (jobs_of d p.sequence) uses)
+
+later_agrees : (d : SpiTable) → FitsSpi d → (held : Reservations) (chip : Chip) (w : World) (s : SpiState) (order : Order) → MayCome (spi_setting d) held chip w s order → SpiRepresents d held chip w s → SpiRepresents d held (happened chip order) (world_after w chip.clock.rate order) (moved d w s order)
+later_agrees d fits held chip w s order come h = by order come (stands-event chip w order (fills_there (spi_setting d) (is_masked chip) w s come.frames order come.free) h.outside)
+  where
+    nor : (a b q : Bool) → a || (b || q) ≡ false → (b ≡ false) × (q ≡ false)
+    nor true b q e = absurd (cc)
+    nor false true q e = absurd (cc)
+    nor false false q e = (refl, e)
+
+    fill : (c : ℕ) (ws : List ℕ) → MayCome (spi_setting d) held chip w s (Fill c ws) → (q : Bool) → is_some (channel_of d c) ≡ q → SpiRepresents d held (happened chip (Fill c ws)) (world_after w chip.clock.rate (Fill c ws)) (moved d w s (Fill c ws))
+    fill c ws come true e =
+        let none = nor (is_masked chip) (is_in_use d c s.pending) (list_any (reads_from (spi_setting d) c) come.frames) (ap (λ q. is_masked chip || (q && (is_in_use d c s.pending || list_any (reads_from (spi_setting d) c) come.frames))) (sym e) ∙ come.free.0) in
+        fill_agrees d fits held chip w s c ws come.free.1 none.0 h (spared_by d s.mode s.channels c held (come.among (reads_from (spi_setting d) c) none.1) h.right)
+    fill c ws come false e = fill_agrees d fits held chip w s c ws come.free.1 (unused_none d fits c s.pending e) h (spared_none d s.mode s.channels c held e h.right)
+
+    by : (order : Order) → MayCome (spi_setting d) held chip w s order → StandsIn (happened chip order) (world_after w chip.clock.rate order) → SpiRepresents d held (happened chip order) (world_after w chip.clock.rate order) (moved d w s order)
+    by (SpiFault u) come stands = fault_agrees d held chip w s u h
+    by (Fill c ws) come stands = fill c ws come (is_some (channel_of d c)) refl
+    by (Level p v) come stands = same_orders d fits held chip w s (Level p v) stands (level_leaves (λ c. c.serials.units) chip p v refl) (λ k. word-left k chip (Hardware (Level p v)) tt) (λ u lt. level_leaves (λ c. has_bit c.control.enabled (26 + u)) chip p v refl) h
+    by order come stands = same_orders d fits held chip w s order stands refl (λ k. refl) (λ u lt. refl) h
+
+-- ---- moves elsewhere
+
+read_apart : (chip : Chip) (r : Reg) → (after_read chip r).serials ≡ chip.serials
+read_apart chip (TimerLow c) = refl
+read_apart chip (CaptureCountLow c) = refl
+read_apart chip (CaptureTimeLow c) = refl
+read_apart chip (ConverterAbort u) = refl
+read_apart chip (PinFlip p) = refl
+read_apart chip _ = refl
+
+written_apart : (chip : Chip) (r : Reg) (v received : ℕ) → owns_written r v ≡ false → (chip_after chip (Write r v) received).serials ≡ chip.serials
+written_apart chip (SerialSelect u) v received e = absurd (cc)
+written_apart chip (SerialWidth u) v received e = absurd (cc)
+written_apart chip (SerialData u) v received e = absurd (cc)
+written_apart chip (SerialAck u) v received e = absurd (cc)
+written_apart chip _ v received e = refl
+
+serials_apart : (d : SpiTable) (chip : Chip) (made : Move) (received : ℕ) → spi_owns d made ≡ false → (chip_after chip made received).serials ≡ chip.serials
+serials_apart d chip (Read r) received e = read_apart chip r
+serials_apart d chip (Write r v) received e = written_apart chip r v received e
+serials_apart d chip _ received e = refl
+
+either_none : (a b c : Bool) → (a || b) || c ≡ false → (a ≡ false) × (b ≡ false) × (c ≡ false)
+either_none true b c e = absurd (cc)
+either_none false true c e = absurd (cc)
+either_none false false c e = (refl, refl, e)
+
+no_line : (v u : ℕ) → u < 2 → has_lines v ≡ false → has_bit v (26 + u) ≡ false
+no_line v u lt e = let p = either_none (has_bit v 26) (has_bit v 27) (not (nat_lt v 4294967296)) e in by_two (λ n. has_bit v (26 + n) ≡ false) p.0 p.1 u lt
+
+lines_fit : (v : ℕ) → has_lines v ≡ false → v < 2 ^ 32
+lines_fit v e = let p = (either_none (has_bit v 26) (has_bit v 27) (not (nat_lt v 4294967296)) e).2 in small v p
+  where
+    small : (v : ℕ) → not (nat_lt v 4294967296) ≡ false → v < 2 ^ 32
+    small v e = grind (arith, nat_tests)
+
+written_enabled : (chip : Chip) (r : Reg) (v received u : ℕ) → owns_written r v ≡ false → u < 2 → has_bit (chip_after chip (Write r v) received).control.enabled (26 + u) ≡ has_bit chip.control.enabled (26 + u)
+written_enabled chip EnableSet v received u e lt = has_bit-or chip.control.enabled v (26 + u) ∙ set_apart (has_bit chip.control.enabled (26 + u)) (has_bit v (26 + u)) (no_line v u lt e)
+written_enabled chip EnableClear v received u e lt = has_bit-without chip.control.enabled v (26 + u) (lines_fit v e) (omega (arith, lt)) ∙ clear_apart (has_bit chip.control.enabled (26 + u)) (has_bit v (26 + u)) (no_line v u lt e)
+written_enabled chip _ v received u e lt = refl
+
+read_enabled : (chip : Chip) (r : Reg) → (after_read chip r).control ≡ chip.control
+read_enabled chip (TimerLow c) = refl
+read_enabled chip (CaptureCountLow c) = refl
+read_enabled chip (CaptureTimeLow c) = refl
+read_enabled chip (ConverterAbort u) = refl
+read_enabled chip (PinFlip p) = refl
+read_enabled chip _ = refl
+
+enabled_apart : (d : SpiTable) (chip : Chip) (made : Move) (received u : ℕ) → spi_owns d made ≡ false → u < 2 → has_bit (chip_after chip made received).control.enabled (26 + u) ≡ has_bit chip.control.enabled (26 + u)
+enabled_apart d chip (Read r) received u e lt = ap (λ k. has_bit k.enabled (26 + u)) (read_enabled chip r)
+enabled_apart d chip (Write r v) received u e lt = written_enabled chip r v received u e lt
+enabled_apart d chip _ received u e lt = refl
+
+unstored : (d : SpiTable) (made : Move) → spi_owns d made ≡ false → stores_in (is_word_of d) made ≡ false
+unstored d (Store k v) e = e
+unstored d _ e = refl
+
+pub apart_agrees : (d : SpiTable) → FitsSpi d → (held : Reservations) (chip : Chip) (w : World) (s : SpiState) (made : Move) (received : ℕ) → spi_owns d made ≡ false → SpiRepresents d held chip w s → SpiRepresents d held (chip_after chip made received) w s
+apart_agrees d fits held chip w s made received e h =
+    same_agrees d fits held chip (chip_after chip made received) w w s (stands-move chip w made received h.outside) (wiring-left chip (Made made received)) (ap (λ b. b.units) (serials_apart d chip made received e)) (λ k own. word_apart (is_word_of d) chip made received k (unstored d made e) own)
+    (λ u lt. enabled_apart d chip made received u e lt) h
+
+-- ---- what a frame may do
+
+owned_plain : (d : SpiTable) (made : Move) → spi_owns d made ≡ true → is_shared made ≡ false
+owned_plain d (Read r) e = refl
+owned_plain d (Write r v) e = refl
+owned_plain d (Load k) e = refl
+owned_plain d (Store k v) e = refl
+owned_plain d _ e = absurd (cc)
+
+-- a value for lines of the module alone is for one of them, or for both
+one_of_three : (n : ℕ) → not (67108864 * n == 0) ≡ true → n < 4 → (n ≡ 1) ⊎ ((n ≡ 2) ⊎ (n ≡ 3))
+one_of_three zero e lt = absurd (cc)
+one_of_three (suc zero) e lt = inl refl
+one_of_three (suc (suc zero)) e lt = inr (inl refl)
+one_of_three (suc (suc (suc zero))) e lt = inr (inr refl)
+one_of_three (suc (suc (suc (suc n)))) e lt = absurd (omega (arith, lt))
+
+for_lines : (v : ℕ) → is_for_lines v ≡ true → (v ≡ 67108864) ⊎ ((v ≡ 134217728) ⊎ (v ≡ 201326592))
+for_lines v e = by (one_of_three (v / 67108864) (subst (λ n. not (n == 0) ≡ true) (whole v e) (some v e)) (few v e))
+  where
+    whole : (v : ℕ) → is_for_lines v ≡ true → v ≡ 67108864 * (v / 67108864)
+    whole v e = let zero_rest : v % 67108864 ≡ 0 = grind (arith, nat_tests) in omega (arith, zero_rest)
+
+    some : (v : ℕ) → is_for_lines v ≡ true → not (v == 0) ≡ true
+    some v e = grind (arith, nat_tests)
+
+    few : (v : ℕ) → is_for_lines v ≡ true → v / 67108864 < 4
+    few v e = let lt : v < 268435456 = grind (arith, nat_tests) in omega (arith, lt)
+
+    by : (v / 67108864 ≡ 1) ⊎ ((v / 67108864 ≡ 2) ⊎ (v / 67108864 ≡ 3)) → (v ≡ 67108864) ⊎ ((v ≡ 134217728) ⊎ (v ≡ 201326592))
+    by (inl f) = inl (let g = whole v e in omega (arith, f, g))
+    by (inr (inl f)) = inr (inl (let g = whole v e in omega (arith, f, g)))
+    by (inr (inr f)) = inr (inr (let g = whole v e in omega (arith, f, g)))
+
+lines_named : (v : ℕ) → is_for_lines v ≡ true → has_lines v ≡ true
+lines_named v e = by (for_lines v e)
+  where
+    by : (v ≡ 67108864) ⊎ ((v ≡ 134217728) ⊎ (v ≡ 201326592)) → has_lines v ≡ true
+    by (inl f) = ap has_lines f
+    by (inr (inl f)) = ap has_lines f
+    by (inr (inr f)) = ap has_lines f
+
+other_line : (bits line : ℕ) → is_for_lines bits ≡ true → (line == 26 || line == 27) ≡ false → has_bit bits line ≡ false
+other_line bits line e f = by (for_lines bits e)
+  where
+    unlike : (line : ℕ) → (line == 26 || line == 27) ≡ false → (line ≢ 26) × (line ≢ 27)
+    unlike line f = (first line f, second line f)
+      where
+        first : (line : ℕ) → (line == 26 || line == 27) ≡ false → line ≢ 26
+        first line f = grind (arith, nat_tests)
+
+        second : (line : ℕ) → (line == 26 || line == 27) ≡ false → line ≢ 27
+        second line f = grind (arith, nat_tests)
+
+    first_bit : has_bit 67108864 line ≡ false
+    first_bit = has_bit-pow_other 26 line (unlike line f).0
+
+    second_bit : has_bit 134217728 line ≡ false
+    second_bit = has_bit-pow_other 27 line (unlike line f).1
+
+    by : (bits ≡ 67108864) ⊎ ((bits ≡ 134217728) ⊎ (bits ≡ 201326592)) → has_bit bits line ≡ false
+    by (inl g) = ap (λ n. has_bit n line) g ∙ first_bit
+    by (inr (inl g)) = ap (λ n. has_bit n line) g ∙ second_bit
+    by (inr (inr g)) = ap (λ n. has_bit n line) g ∙ has_bit-or 67108864 134217728 line ∙ ap (λ q. q || has_bit 134217728 line) first_bit ∙ second_bit
+
+written_owned : (r : Reg) (v : ℕ) → may_write r v ≡ true → owns_written r v ≡ true
+written_owned EnableSet v e = lines_named v e
+written_owned EnableClear v e = lines_named v e
+written_owned _ v e = e
+
+may_owned : (d : SpiTable) (made : Move) → may_name d made ≡ true → spi_owns d made ≡ true
+may_owned d (Write r v) e = written_owned r v e
+may_owned d _ e = e
+
+pub may_parts : (d : SpiTable) (made : Move) → may d made ≡ true → (spi_owns d made ≡ true) × (names_there made ≡ true)
+may_parts d made e = let p = and_parts (may_name d made) (names_there made) e in (may_owned d made p.0, p.1)
+
+-- it resets nothing and sets no rate
+abbrev pub IsPlain : Move → Type 0
+IsPlain made = (resets_chip made ≡ false) × (sets_rate made ≡ false)
+
+written_plain : (d : SpiTable) (r : Reg) (v : ℕ) → may_name d (Write r v) ≡ true → IsPlain (Write r v)
+written_plain d ResetRequest v e = absurd (cc)
+written_plain d ClockPll v e = absurd (cc)
+written_plain d ClockRate v e = absurd (cc)
+written_plain d _ v e = (refl, refl)
+
+pub plain_move : (d : SpiTable) (made : Move) → may d made ≡ true → IsPlain made
+plain_move d (Write r v) e = written_plain d r v (and_parts (may_name d (Write r v)) (names_there (Write r v)) e).0
+plain_move d _ e = (refl, refl)
+
+-- ---- what is due
+
+-- a unit's word is done on the chip where it is in the machine
+unit_done : (d : SpiTable) (x : Serial) (r : Option Run) (now : ℕ) (g : Option Going) → UnitAgrees d x r g → serials.is_done x now ≡ has_done now r
+unit_done d x r now None h = ap (λ o. serials.has_ended o now) h.0 ∙ sym (ap (λ o. has_done now o) h.1)
+unit_done d x r now (Some g) h = by x.word refl h.2 ∙ sym (ap (λ o. has_done now o) h.1)
+  where
+    by : (o : Option chips.Word) → x.word ≡ o → InTransfer o h.0 → serials.has_ended x.word now ≡ is_done now h.0
+    by None e a = absurd a
+    by (Some y) e a = ap (λ o. serials.has_ended o now) e ∙ done_same y h.0 now a.start
+
+module _ (d : SpiTable) (fits : FitsSpi d) (held : Reservations) (chip : Chip) (w : World) (s : SpiState) (h : SpiRepresents d held chip w s) where
+  -- and it is unserved where it runs a job of an initialised module
+  off_none : (u : ℕ) → is_off s.mode ≡ true → run_at s u ≡ None
+  off_none u e = none (run_at s u) ((h.sound.off e).1 u)
+    where
+      none : (r : Option Run) → not (is_some r) ≡ true → r ≡ None
+      none None i = refl
+      none (Some r) i = absurd (cc)
+
+  due_unit : (u line : ℕ) → u < 2 → line ≡ 26 + u → unit_of line ≡ Some u → is_pending chip line ≡ due w s line
+  due_unit u line lt at is =
+      line-serial chip line (omega (arith, at)) (omega (arith, at, lt))
+      ∙ ap (λ n. serials.is_done (unit_at chip.serials n) chip.serials.time && has_bit chip.control.enabled line) back
+      ∙ ap (λ q. q && has_bit chip.control.enabled line) (unit_done d (unit_at chip.serials u) (run_at s u) chip.serials.time (h.going u) (h.units u lt) ∙ ap (λ t. has_done t (run_at s u)) time)
+      ∙ ap (λ q. has_done w.now (run_at s u) && q) (ap (λ n. has_bit chip.control.enabled n) at ∙ h.lines u lt)
+      ∙ ap (λ q. q && is_interrupt s.mode) on
+      ∙ sym (ap (λ o. (not (is_off s.mode) && has_done w.now (run_of s o)) && is_interrupt s.mode) is)
+    where
+      back : line - 26 ≡ u
+      back = omega (arith, at)
+
+      time : chip.serials.time ≡ w.now
+      time = h.outside.together.serials ∙ h.outside.now
+
+      on : has_done w.now (run_at s u) ≡ (not (is_off s.mode) && has_done w.now (run_at s u))
+      on = by (is_off s.mode) refl
+        where
+          by : (q : Bool) → is_off s.mode ≡ q → has_done w.now (run_at s u) ≡ (not q && has_done w.now (run_at s u))
+          by true e = ap (λ r. has_done w.now r) (off_none u e)
+          by false e = refl
+
+  pub due_line : (line : ℕ) → (line == 26 || line == 27) ≡ true → is_pending chip line ≡ due w s line
+  due_line line e = by (line == 26) refl e
+    where
+      equal : (n : ℕ) → (line == n) ≡ true → line ≡ n
+      equal n e = grind (arith, nat_tests)
+
+      by : (q : Bool) → (line == 26) ≡ q → q || line == 27 ≡ true → is_pending chip line ≡ due w s line
+      by true i f = due_unit 0 line (omega arith) (equal 26 i) (ap unit_of (equal 26 i))
+      by false i f = due_unit 1 line (omega arith) (equal 27 f) (ap unit_of (equal 27 f))
+
+  -- a unit that runs a job is used
+  runs_used : (u : ℕ) → u < 2 → is_some (run_at s u) ≡ true → uses_unit d u ≡ true
+  runs_used u lt e = by (h.going u) refl (h.units u lt) (h.nexts u lt)
+    where
+      by : (g : Option Going) → h.going u ≡ g → UnitAgrees d (unit_at chip.serials u) (run_at s u) g → RunsNext d (view s) u g → uses_unit d u ≡ true
+      by None i a n = absurd (let f = sym e ∙ ap is_some a.1 in cc)
+      by (Some g) i a n = some_at (is_on_unit u) d.jobs (next_job d g.pending) refl n.2
+
+  done_some : (now : ℕ) (r : Option Run) → has_done now r ≡ true → is_some r ≡ true
+  done_some now None e = e
+  done_some now (Some r) e = refl
+
+  pub due_used : (line : ℕ) → due w s line ≡ true → is_used d line ≡ true
+  due_used line e = by (line == 26) (line == 27) refl refl (and_parts (not (is_off s.mode)) (has_done w.now (run_of s (unit_of line))) (and_parts (ready w s line) (is_interrupt s.mode) e).0).1
+    where
+      by : (p q : Bool) → (line == 26) ≡ p → (line == 27) ≡ q → has_done w.now (run_of s (unit_of line)) ≡ true → is_used d line ≡ true
+      by true q i j f = let at : unit_of line ≡ Some 0 = ap (λ b. if b then Some 0 else if line == 27 then Some 1 else None) i in ap (uses_by d) at ∙ runs_used 0 (omega arith) (done_some w.now (run_at s 0) (sym (ap (λ o. has_done w.now (run_of s o)) at) ∙ f))
+      by false true i j f = let at : unit_of line ≡ Some 1 = ap (λ b. if b then Some 0 else if line == 27 then Some 1 else None) i ∙ ap (λ b. if b then Some 1 else None) j in ap (uses_by d) at ∙ runs_used 1 (omega arith) (done_some w.now (run_at s 1) (sym (ap (λ o. has_done w.now (run_of s o)) at) ∙ f))
+      by false false i j f = let at : unit_of line ≡ None = ap (λ b. if b then Some 0 else if line == 27 then Some 1 else None) i ∙ ap (λ b. if b then Some 1 else None) j in absurd (let g = sym f ∙ ap (λ o. has_done w.now (run_of s o)) at in cc)
+
+  pub unused_line : (line : ℕ) → is_used d line ≡ false → due w s line ≡ false
+  unused_line line e = by (due w s line) refl
+    where
+      by : (q : Bool) → due w s line ≡ q → due w s line ≡ false
+      by true i = not_both (is_used d line) (due_used line i) e
+      by false i = i
+
+  -- ---- starts
+
+  none_for : (u : ℕ) → ((p : Pending) → Contains s.pending p → is_for d u p ≡ true → ⊥) → next_on d u s.pending ≡ None
+  none_for u none = ap (λ ps. best d ps) (by s.pending none)
+    where
+      by : (ps : List Pending) → ((p : Pending) → Contains ps p → is_for d u p ≡ true → ⊥) → filter (is_for d u) ps ≡ []
+      by [] none = refl
+      by (p ∷ ps) none = split (is_for d u p) refl (by ps (λ x there. none x (suc there.0, let lt = there.1 in omega (arith, lt), there.2)))
+        where
+          split : (q : Bool) → is_for d u p ≡ q → filter (is_for d u) ps ≡ [] → filter (is_for d u) (p ∷ ps) ≡ []
+          split true e rest = absurd (none p (0, omega arith, refl) e)
+          split false e rest = ap (λ b. if b then p ∷ filter (is_for d u) ps else filter (is_for d u) ps) e ∙ rest
+
+used_line : (d : SpiTable) (line : ℕ) → is_used d line ≡ true → (line == 26 || line == 27) ≡ true
+used_line d line e = by (line == 26) (line == 27) refl refl
+  where
+    by : (p q : Bool) → (line == 26) ≡ p → (line == 27) ≡ q → (line == 26 || line == 27) ≡ true
+    by true q i j = ap (λ b. b || line == 27) i
+    by false true i j = ap (λ b. b || line == 27) i ∙ j
+    by false false i j = absurd (let at : unit_of line ≡ None = ap (λ b. if b then Some 0 else if line == 27 then Some 1 else None) i ∙ ap (λ b. if b then Some 1 else None) j in let g = sym e ∙ ap (uses_by d) at in cc)
+
+-- no unit waits to which no start is owed
+pub waits_none : (d : SpiTable) → FitsSpi d → (held : Reservations) (chip : Chip) (w : World) (s : SpiState) (u : ℕ) → u < 2 → is_owed u held ≡ false → SpiRepresents d held chip w s → is_some (next_at d s (Some u)) ≡ false
+waits_none d fits held chip w s u lt free h = by (is_off s.mode) (run_at s u) refl
+  where
+    by : (q : Bool) (r : Option Run) → run_at s u ≡ r → is_some (if q then None else next_by d s u r) ≡ false
+    by true r e = refl
+    by false (Some r) e = refl
+    by false None e = ap is_some (none_for d fits held chip w s h u (λ p there for. let owed = sym free ∙ h.owed u p lt (idle (h.going u) refl) there for in cc))
+      where
+        idle : (g : Option Going) → h.going u ≡ g → h.going u ≡ None
+        idle None i = i
+        idle (Some g) i = absurd (let a = subst (λ o. UnitAgrees d (unit_at chip.serials u) (run_at s u) o) i (h.units u lt) in let f = sym e ∙ a.1 in cc)
+
+waits : (d : SpiTable) → FitsSpi d → (chip : Chip) (w : World) (s : SpiState) (u : units.Unit) → SpiRepresents d [] chip w s → is_some (next_at d s (number_of u)) ≡ false
+waits d fits chip w s Adc0 h = refl
+waits d fits chip w s Adc1 h = refl
+waits d fits chip w s Spi0 h = waits_none d fits [] chip w s 0 (omega arith) refl h
+waits d fits chip w s Spi1 h = waits_none d fits [] chip w s 1 (omega arith) refl h
+
+pub bare_right : (d : SpiTable) → FitsSpi d → IsBasis (spi_bare d)
+bare_right d fits = record {
+  starts = λ chip w wired stands. reset_agrees d fits chip w PowerOn stands wired;
+  moves = λ held chip w s order come. refl;
+  resets = λ held gap chip w s reason h. (outcome first_state tells_nothing, refl, reset_agrees d fits chip w reason h.outside h.wired);
+  agrees_later = λ held gap chip w s order come shut h. later_agrees d fits held chip w s order come h;
+  agrees_apart = λ held chip w s made received e h. apart_agrees d fits held chip w s made received (e (Called Init)) h;
+  may_owns = λ o made e. (may_parts d made e).0;
+  owns_plain = λ o made e. owned_plain d made e;
+  may_there = λ o made e. move_there made (may_parts d made e).1;
+  enables = λ o bits line e other. other_line bits line (and_parts (is_for_lines bits) true e).0 other;
+  loads = λ origin value h. h;
+  watched = λ held gap chip w s has osc h. cc;
+  unwatched = λ w s none. refl;
+  owns_called = λ line made e. (Init, e);
+  used_lines = λ line e. used_line d line e;
+  due_used = λ held chip w s line h e. due_used d fits held chip w s h line e;
+  pends = λ held chip w s line there h e. due_line d fits held chip w s h line there ∙ e;
+  rests = λ chip w s line there h. due_line d fits [] chip w s h line there;
+  unused = λ held chip w s line there h free. due_line d fits held chip w s h line there ∙ unused_line d fits held chip w s h line free;
+  unmasked = λ held chip w s origins among h. tt;
+  rest = λ chip w s h. h.arrays;
+  waits = λ chip w s u h. waits d fits chip w s u h;
+  error_leaves = λ w s call times out e. act-leaves d w s call times out e;
+  count_first = refl;
+  count_happens = λ w s h out e. omega arith;
+  count_moves = λ w s order out e. omega arith;
+  count_resets = λ w s reason out e. omega arith;
+  rated = Steady (λ chip o made received e. rate-left chip made received (plain_move d made e).1) (λ w s h out e. refl);
+  rate_starts = refl;
+  rate_moves = λ w s order out e. refl;
+  rate_resets = λ chip w s reason out e. refl;
+}

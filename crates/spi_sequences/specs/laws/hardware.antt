@@ -1,0 +1,3 @@
+pub mod AfterReset
+pub mod SourceFilled
+pub mod StableUnderHardware

@@ -1,0 +1,176 @@
+-- The agreement stays while nothing of the module's changes, and as the hardware moves.
+-- From words.WordsOfModule, words.SameWords.
+-- Used by services.CancelRight, services.QueryRight, bookkeeping.RefinementRight, services.WriteRight and 6 more.
+use Rattle.std.proofs.Common.{◌≡◌, ◌≢◌, ◌+◌, ◌-◌, ◌<◌, ◌||◌, [], ◌∷◌, ◌∙◌, ◌⊎◌, if◌then◌else◌}
+use Rattle.spi_sequences.specs.Terms
+use Terms.{ap, arith, Bool, Channel, channel_of, Chip, Destination, false, faulted, faulted_run, Fill, FitsSpi}
+use Terms.{get_or-set_other, get_or-set_same, Going, happened, has_bit, HoldsArrays, idle, inl, inr, InTransfer}
+use Terms.{is_done, is_done_at, is_running, is_some, is_word_of, IsSoundState, item-other, item-same, length}
+use Terms.{length-set, length_by, List, list_any, moved, nat_le, nat_tests, None, not, Option, Order, Part, place_of}
+use Terms.{placed_of, refl, Reservations, Run, run_at, runs_sequence, RunsNext, same_or_other, Serial, slice_get}
+use Terms.{slice_index, slice_index_or, Some, Source, source_word, SpiFault, SpiRepresents, SpiState, SpiTable}
+use Terms.{stands-event, StandsIn, subst, suc, sym, Transfer, true, unit_at, UnitAgrees, view, with_item, with_run}
+use Terms.{word_of, WordAgrees, WordsAgree, World, zero, ℕ}
+use Rattle.spi_sequences.specs.laws.words.SameWords.{words_alike}
+use Rattle.spi_sequences.specs.laws.words.WordsOfModule.{word_of_own, own_set_up, source_own, destination_own}
+use Rattle.chip_units.specs.Serials as serials
+use Rattle.chip_units.specs.declared.serial.Word as chips
+
+-- the words of arrays that are as they were
+pub arrays_alike : (d : SpiTable) → FitsSpi d → (m m1 : ℕ → ℕ) (s : SpiState) (c : ℕ) → ((k : ℕ) → is_word_of d k ≡ true → m1 k ≡ m k) → HoldsArrays m d s c → HoldsArrays m1 d s c
+arrays_alike d fits m m1 s c same h = record {
+  source = λ i lt. same (place_of (Source c) i) (source_own d fits c i lt) ∙ h.source i lt;
+  destination = λ i lt. same (place_of (Destination c) i) (destination_own d fits c i lt) ∙ h.destination i lt;
+}
+
+-- a chip with the same words of the module, units and enable bits
+pub same_agrees : (d : SpiTable) → FitsSpi d → (held : Reservations) (chip chip1 : Chip) (w w1 : World) (s : SpiState) → StandsIn chip1 w1 → chip1.wiring ≡ chip.wiring → chip1.serials.units ≡ chip.serials.units
+    → ((k : ℕ) → is_word_of d k ≡ true → word_of chip1 k ≡ word_of chip k) → ((u : ℕ) → u < 2 → has_bit chip1.control.enabled (26 + u) ≡ has_bit chip.control.enabled (26 + u)) → SpiRepresents d held chip w s → SpiRepresents d held chip1 w1 s
+same_agrees d fits held chip chip1 w w1 s outside wiring units words enabled h = record {
+  right = h.right;
+  outside = outside;
+  wired = λ c lt. ap (λ x. slice_index x.sources c) wiring ∙ h.wired c lt;
+  size = ap length units ∙ h.size;
+  sound = h.sound;
+  going = h.going;
+  nexts = h.nexts;
+  units = λ u lt. subst (λ xs. UnitAgrees d (slice_index_or xs u idle) (run_at s u) (h.going u)) (sym units) (h.units u lt);
+  words = words_alike d fits h.going (word_of chip) (word_of chip1) (view s) (λ k own. words k (word_of_own d k own)) sources h.nexts held h.words;
+  set_ups = λ on c k e external. words _ (word_of_own d _ (own_set_up d fits c k e)) ∙ h.set_ups on c k e external;
+  sizes = h.sizes;
+  arrays = λ c. arrays_alike d fits (word_of chip) (word_of chip1) s c words (h.arrays c);
+  lines = λ u lt. enabled u lt ∙ h.lines u lt;
+  owed = h.owed;
+}
+  where
+    sources : (u : ℕ) (g : Going) (n : ℕ) (x : Part) (k : Channel) (i : ℕ) → u < 2 → h.going u ≡ Some g → slice_get g.parts n ≡ Some x → channel_of d x.channel ≡ Some k → i < length_by (channel_of d x.channel) → word_of chip1 (source_word (placed_of d x.channel) i) ≡ word_of chip (source_word (placed_of d x.channel) i)
+    sources u g n x k i lt is e there few = words _ (source_own d fits x.channel i few)
+
+-- ---- a fault
+
+pub pointwise : {A B : Type 0} (f g : A → B) → ((x : A) → f x ≡ g x) → f ≡ g
+pointwise f g h = λ i x. h x i
+
+-- some item of a list is so after another one was put in its place that is so alike
+pub any_changed : {A : Type 0} (p : A → Bool) (first : A) (xs : List A) (k : ℕ) (x : A) → p first ≡ false → p x ≡ p (slice_index_or xs k first) → list_any p (with_item first xs k x) ≡ list_any p xs
+any_changed p first [] zero x none e = ap (λ q. q || false) (e ∙ none)
+any_changed p first [] (suc k) x none e = ap (λ q. q || list_any p (with_item first [] k x)) none ∙ any_changed p first [] k x none e
+any_changed p first (y ∷ ys) zero x none e = ap (λ q. q || list_any p ys) e
+any_changed p first (y ∷ ys) (suc k) x none e = ap (λ q. p y || q) (any_changed p first ys k x none e)
+
+module _ (now : ℕ) where
+  runs_same : (q : ℕ) (r : Option Run) → runs_sequence q (faulted_run now r) ≡ runs_sequence q r
+  runs_same q None = refl
+  runs_same q (Some r) = refl
+
+  idle_same : (r : Option Run) → is_some (faulted_run now r) ≡ is_some r
+  idle_same None = refl
+  idle_same (Some r) = refl
+
+  module _ (s : SpiState) (u : ℕ) where
+    abbrev faulted_state : SpiState
+    faulted_state = with_run s u (faulted_run now (run_at s u))
+
+    pub running_same : is_running faulted_state ≡ is_running s
+    running_same = pointwise (is_running faulted_state) (is_running s) (λ q. any_changed (runs_sequence q) None s.units u (faulted_run now (run_at s u)) refl (runs_same q (run_at s u)))
+
+    pub runs_alike : (n : ℕ) → is_some (run_at faulted_state n) ≡ is_some (run_at s n)
+    runs_alike n = by n (same_or_other n u)
+      where
+        by : (n : ℕ) → (n ≡ u) ⊎ (n ≢ u) → is_some (run_at faulted_state n) ≡ is_some (run_at s n)
+        by n (inl e) = subst (λ k. is_some (run_at faulted_state k) ≡ is_some (run_at s k)) (sym e) (ap is_some (item-same None s.units u (faulted_run now (run_at s u))) ∙ idle_same (run_at s u))
+        by n (inr ne) = ap is_some (item-other None s.units u n (faulted_run now (run_at s u)) ne)
+
+    free_same : (view faulted_state).idle ≡ (view s).idle
+    free_same = pointwise (view faulted_state).idle (view s).idle (λ n. ap not (runs_alike n))
+
+    view_same : view faulted_state ≡ view s
+    view_same = ap (λ f. record (view faulted_state) { running = f }) running_same ∙ ap (λ f. record (view s) { idle = f }) free_same
+
+-- a word in transfer fails on the chip and in the machine
+pub done_same : (w : chips.Word) (t : Transfer) (now : ℕ) → w.start ≡ t.began → is_done_at w now ≡ is_done now t
+done_same w t now e = subst (λ b. nat_le 8 (now - b) ≡ nat_le (t.began + 8) now) (sym e) (by t.began now)
+  where
+    by : (a b : ℕ) → nat_le 8 (b - a) ≡ nat_le (a + 8) b
+    by a b = grind (arith, nat_tests)
+
+fails_alike : (d : SpiTable) (x : Serial) (t : Transfer) (now : ℕ) → InTransfer x.word t → InTransfer (serials.faulted now x).word (faulted now t)
+fails_alike d x t now h = by x.word refl h
+  where
+    both : (w : chips.Word) → WordAgrees w t → (q : Bool) → InTransfer (if not q then record x { word = Some (record w { failed = true }) } else record x { word = Some w }).word (if q then t else record t { failed = true })
+    both w a true = a
+    both w a false = record { start = a.start; incoming = λ e. absurd (cc); failed = refl }
+
+    by : (o : Option chips.Word) → x.word ≡ o → InTransfer o t → InTransfer (serials.faulted now x).word (faulted now t)
+    by None e a = absurd a
+    by (Some w) e a =
+        let same = done_same w t now a.start in
+        subst (λ o. InTransfer (if serials.in_transfer o now then record x { word = serials.failing o } else record x { word = o }).word (faulted now t)) (sym e)
+        (subst (λ q. InTransfer (if not q then record x { word = Some (record w { failed = true }) } else record x { word = Some w }).word (faulted now t)) (sym same) (both w a (is_done now t)))
+
+free_word : (x : Serial) (now : ℕ) → x.word ≡ None → (serials.faulted now x).word ≡ None
+free_word x now e = subst (λ o. (if serials.in_transfer o now then record x { word = serials.failing o } else record x { word = o }).word ≡ None) (sym e) refl
+
+same_select : (x : Serial) (o : Option chips.Word) (q : Bool) → (if q then record x { word = o } else x).select ≡ x.select
+same_select x o true = refl
+same_select x o false = refl
+
+fault_unit : (d : SpiTable) (x : Serial) (r : Option Run) (now : ℕ) (g : Option Going) → UnitAgrees d x r g → UnitAgrees d (serials.faulted now x) (faulted_run now r) g
+fault_unit d x r now None h = (free_word x now h.0, ap (faulted_run now) h.1)
+fault_unit d x r now (Some g) h = (faulted now h.0, ap (faulted_run now) h.1, fails_alike d x h.0 now h.2, same_select x (serials.failing x.word) (serials.is_busy x now) ∙ h.3)
+
+pub fault_agrees : (d : SpiTable) (held : Reservations) (chip : Chip) (w : World) (s : SpiState) (u : ℕ) → SpiRepresents d held chip w s → SpiRepresents d held (happened chip (SpiFault u)) w (moved d w s (SpiFault u))
+fault_agrees d held chip w s u h = record {
+  right = h.right;
+  outside = stands-event chip w (SpiFault u) tt h.outside;
+  wired = h.wired;
+  size = length-set chip.serials.units u _ ∙ h.size;
+  sound = subst (λ v. IsSoundState d v) (sym same) h.sound;
+  going = h.going;
+  nexts = λ n lt. subst (λ v. RunsNext d v n (h.going n)) (sym same) (h.nexts n lt);
+  units = λ n lt. unit_by n lt (same_or_other n u);
+  words = subst (λ v. WordsAgree d held h.going (word_of chip) v) (sym same) h.words;
+  set_ups = h.set_ups;
+  sizes = h.sizes;
+  arrays = λ c. record { source = (h.arrays c).source; destination = (h.arrays c).destination };
+  lines = h.lines;
+  owed = h.owed;
+}
+  where
+    same : view (moved d w s (SpiFault u)) ≡ view s
+    same = view_same w.now s u
+
+    time : chip.serials.time ≡ w.now
+    time = h.outside.together.serials ∙ h.outside.now
+
+    unit_by : (n : ℕ) → n < 2 → (n ≡ u) ⊎ (n ≢ u) → UnitAgrees d (unit_at (serials.after_fault chip.serials u) n) (run_at (moved d w s (SpiFault u)) n) (h.going n)
+    unit_by n lt (inl e) =
+        subst (λ k. UnitAgrees d (unit_at (serials.after_fault chip.serials k) n) (run_at (moved d w s (SpiFault k)) n) (h.going n)) e
+        (subst (λ x. UnitAgrees d x (run_at (moved d w s (SpiFault n)) n) (h.going n)) (sym (get_or-set_same chip.serials.units n _ idle (subst (λ k. n < k) (sym h.size) lt)))
+        (subst (λ r. UnitAgrees d (serials.faulted chip.serials.time (unit_at chip.serials n)) r (h.going n)) (sym (item-same None s.units n (faulted_run w.now (run_at s n))))
+        (subst (λ t. UnitAgrees d (serials.faulted t (unit_at chip.serials n)) (faulted_run w.now (run_at s n)) (h.going n)) (sym time) (fault_unit d (unit_at chip.serials n) (run_at s n) w.now (h.going n) (h.units n lt)))))
+    unit_by n lt (inr ne) =
+        subst (λ x. UnitAgrees d x (run_at (moved d w s (SpiFault u)) n) (h.going n)) (sym (get_or-set_other chip.serials.units u n _ idle ne))
+        (subst (λ r. UnitAgrees d (unit_at chip.serials n) r (h.going n)) (sym (item-other None s.units u n (faulted_run w.now (run_at s u)) ne)) (h.units n lt))
+
+-- ---- what the hardware leaves of the state
+
+pub running_later : (d : SpiTable) (w : World) (s : SpiState) (order : Order) → is_running (moved d w s order) ≡ is_running s
+running_later d w s (Fill c ws) = refl
+running_later d w s (SpiFault u) = running_same w.now s u
+running_later d w s order = refl
+
+pub runs_later : (d : SpiTable) (w : World) (s : SpiState) (order : Order) (u : ℕ) → is_some (run_at (moved d w s order) u) ≡ is_some (run_at s u)
+runs_later d w s (Fill c ws) u = refl
+runs_later d w s (SpiFault n) u = runs_alike w.now s n u
+runs_later d w s order u = refl
+
+pub pending_later : (d : SpiTable) (w : World) (s : SpiState) (order : Order) → (moved d w s order).pending ≡ s.pending
+pending_later d w s (Fill c ws) = refl
+pending_later d w s (SpiFault u) = refl
+pending_later d w s order = refl
+
+pub mode_later : (d : SpiTable) (w : World) (s : SpiState) (order : Order) → (moved d w s order).mode ≡ s.mode
+mode_later d w s (Fill c ws) = refl
+mode_later d w s (SpiFault u) = refl
+mode_later d w s order = refl

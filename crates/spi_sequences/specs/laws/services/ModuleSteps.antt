@@ -1,0 +1,58 @@
+-- Spi_DeInit, Spi_SetAsyncMode and Spi_GetStatus: their steps.
+-- Used by services.ModuleRight, service/whole/rt, PendingWrites.
+use Rattle.std.specs.Prelude.{ℕ, ◌+◌, ◌==◌, nat_lt, Bool, true, false, if◌then◌else◌, None, Some}
+use Rattle.mcal_base.specs.declared.answer_name.AnswerName.{AnswerName}
+use Rattle.mcal_base.specs.declared.answer_name.AnswerName.TheVariants.{EOk, ENotOk, SpiIdle, SpiBusy}
+use Rattle.mcal_base.specs.declared.moves.Event.TheVariants.{Act}
+use Rattle.mcal_base.specs.declared.moves.Move.{Move}
+use Rattle.mcal_base.specs.declared.moves.Move.TheVariants.{Write, Load, Store}
+use Rattle.mcal_base.specs.declared.register.Reg.{Reg}
+use Rattle.mcal_base.specs.declared.register.Reg.TheVariants.{EnableSet, EnableClear}
+use Rattle.service_outline.specs.Done.{goes, acts, ends, named}
+use Rattle.service_outline.specs.declared.done.BodyTaken.{BodyTaken}
+use Rattle.service_outline.specs.declared.done.Epilogue.TheVariants.{Nothing}
+use Rattle.spi_sequences.specs.Words.{sequence_word}
+use Rattle.spi_machine.specs.declared.call.AsyncMode.TheVariants.{Polling, Interrupt}
+use Rattle.spi_sequences.specs.declared.service.whole.Whole.{Whole}
+use Rattle.spi_sequences.specs.declared.service.whole.Whole.TheVariants.{DeInit, Mode, Status}
+use Rattle.spi_sequences.specs.declared.service.whole.WholeBody.{WholeBody}
+use Rattle.spi_sequences.specs.declared.service.whole.WholeBody.TheVariants as whole
+use Rattle.spi_sequences.specs.declared.words.TheConstants.{STATE, LINES, PENDING}
+
+-- the state word afterwards, what enables the lines or disables them, and the answer while a sequence is pending
+abbrev pub state_word_after : Whole → ℕ
+state_word_after DeInit = 0
+state_word_after (Mode Polling) = 1
+state_word_after (Mode Interrupt) = 2
+state_word_after Status = 1
+
+abbrev pub lines_register : Whole → Reg
+lines_register DeInit = EnableClear
+lines_register (Mode Polling) = EnableClear
+lines_register (Mode Interrupt) = EnableSet
+lines_register Status = EnableClear
+
+abbrev pub busy_answer : Whole → AnswerName
+busy_answer DeInit = ENotOk
+busy_answer (Mode m) = ENotOk
+busy_answer Status = SpiBusy
+
+abbrev pub whole_work : WholeBody → Move
+whole_work (whole.Look x q) = Load (sequence_word q)
+whole_work (whole.Store x) = Store STATE (state_word_after x)
+whole_work (whole.Lines x) = Write (lines_register x) LINES
+
+-- after the last sequence
+abbrev pub all_looked : Whole → ℕ → WholeBody × BodyTaken
+all_looked DeInit q = (whole.Store DeInit, goes)
+all_looked (Mode m) q = (whole.Store (Mode m), goes)
+all_looked Status q = (whole.Look Status q, ends (Some Act) (named SpiIdle) Nothing)
+
+abbrev pub looked_at : Whole → ℕ → (pending : Bool) → WholeBody × BodyTaken
+looked_at x q true = (whole.Look x q, ends (Some Act) (named (busy_answer x)) Nothing)
+looked_at x q false = if nat_lt q 7 then (whole.Look x (q + 1), goes) else all_looked x q
+
+abbrev pub whole_takes : WholeBody → ℕ → WholeBody × BodyTaken
+whole_takes (whole.Look x q) v = looked_at x q (v == PENDING)
+whole_takes (whole.Store x) v = (whole.Lines x, acts)
+whole_takes (whole.Lines x) v = (whole.Lines x, ends None (named EOk) Nothing)

@@ -1,0 +1,396 @@
+-- Spi_GetJobResult, Spi_GetSequenceResult and Spi_GetHWUnitStatus: that they are right.
+-- From words.WordsToState, services.QuerySteps, words.JobPlaces, hardware.StableUnderHardware and 3 more.
+-- Used by services.ModuleRight, services.CancelRight, services.RequestRight.
+use Rattle.std.proofs.Common.{◌≡◌, ◌+◌, ◌-◌, ◌<◌, ◌≤◌, ◌==◌, ◌&&◌, ◌||◌, [], ◌∙◌, if◌then◌else◌}
+use Rattle.spi_sequences.specs.Terms
+use Terms.{Act, acts_by, AnswerName, answers, ap, AreLong, arith, asks_no, AssertedAt, AsyncTransmit, begins_word, Bool}
+use Terms.{Call, Called, Cancel, Chip, chip_after, Contains, DeInit, error_by, false, FitsSpi, FrameHistory}
+use Terms.{fresh_history, Get, get_or_default, Going, has_job, HwUnitStatus, Init, is_for, is_left, is_off, is_on_unit}
+use Terms.{is_pending, is_reset_service, is_running, is_shared, Is_this_frame, IsThisFrame, Job, job_of, job_result}
+use Terms.{job_result_in, job_word, JobPlace, JobQuery, JobResult, jobs_list, jobs_of, length, List, list_any, Load}
+use Terms.{LongBodies, MainFunctionHandling, MakesTo, may, missed_after, moved, named, nat_le, nat_lt, nat_tests}
+use Terms.{never_clean, next_in, next_job, NEXTS, None, Nothing, Option, Order, Origin, outcome, PENDING, Pending}
+use Terms.{place_in, PointAssertion, Query, query_answer, QueryBody, ReadIb, refl, Reservations, resets_chip, Right}
+use Terms.{run_in, running_word, sequence_result_in, sequence_word, SequenceResult, service_of, SetAsyncMode, SetupEb}
+use Terms.{shares_job, Shortens, ShortensTo, slice_index_or, Some, spi_basis, spi_machine, SpiBusy, SpiIdle}
+use Terms.{SpiJobPending, SpiJobQueued, SpiRepresents, SpiState, SpiTable, STATE, Status, subst, sym, true, TurnsMask}
+use Terms.{TurnsTo, Under, value_of, Within, word_of, Works, World, WriteIb, ℕ}
+use Rattle.spi_machine.specs.declared.call.Call.TheVariants.{Channel, Sequence}
+use Rattle.spi_sequences.specs.laws.hardware.StableUnderHardware.{mode_later, pending_later, running_later}
+use Rattle.spi_sequences.specs.laws.words.WordsOfModule.{in_list, own_first}
+use Rattle.spi_sequences.specs.laws.words.JobPlaces.{at_left, place_found, place_missing, one_place}
+use Rattle.spi_sequences.specs.laws.services.QuerySteps.{job_move, job_took, job_looked, by_place, after_look}
+use Rattle.spi_sequences.specs.laws.services.QuerySteps.{is_running_job, answers_by, query_work, query_takes}
+use Rattle.spi_sequences.specs.laws.hardware.SourceFilled.{any_in}
+use Rattle.spi_sequences.specs.laws.words.WordsToState.{RunsOn, is_below, is_number, is_past, is_there, entry_of}
+use Rattle.spi_sequences.specs.laws.words.WordsToState.{job_said, none_any, not_true, one_by_job, one_pending, one_unit}
+use Rattle.spi_sequences.specs.laws.words.WordsToState.{pending_word, running_by, running_says, runs_on, same_number}
+use Rattle.spi_sequences.specs.laws.words.WordsToState.{sequence_word_says, unit_word_says, going_next, going_runs}
+use Rattle.spi_sequences.specs.laws.services.SetUpRight.{may_store}
+use Rattle.spi_sequences.specs.declared.service.query.JobPlace.TheVariants as place
+use Rattle.spi_sequences.specs.declared.service.query.QueryBody.TheVariants as query
+
+-- ---- acts of queries
+
+-- no call asks for a reset
+pub asks_none : (c : Call) → is_reset_service (service_of c) ≡ false
+asks_none Init = refl
+asks_none DeInit = refl
+asks_none (SetAsyncMode m) = refl
+asks_none MainFunctionHandling = refl
+asks_none (Channel c (WriteIb p)) = refl
+asks_none (Channel c ReadIb) = refl
+asks_none (Channel c (SetupEb p q n)) = refl
+asks_none (Sequence q AsyncTransmit) = refl
+asks_none (Sequence q Cancel) = refl
+asks_none (Get Status) = refl
+asks_none (Get (JobResult j)) = refl
+asks_none (Get (SequenceResult q)) = refl
+asks_none (Get (HwUnitStatus u)) = refl
+
+-- a query acts at a load with its answer
+pub answers_now : {Body : Type 0} (d : SpiTable) (b : LongBodies (spi_basis d) Body) (below : Reservations) (chip : Chip) (w : World) (s : SpiState) (x : Query) (n value y : ℕ) (m : ℕ → Bool) (clean : Bool) (k : Body) (name : AnswerName)
+    → error_by d (Get x) (is_off s.mode) false ≡ None → name ≡ query_answer s x → SpiRepresents d below chip w s
+    → Works (spi_basis d) b below chip chip w s (Called (Get x)) (Load n) clean value y fresh_history m k (Some Act) (Some (record { answer = named name; owed = Nothing }))
+answers_now d b below chip w s x n value y m clean k name clear same h = record {
+  may = refl;
+  stands = tt;
+  state = s;
+  told = answers (named (query_answer s x));
+  begins = None;
+  is = ap (λ e. Some (acts_by d s (Get x) e)) clear;
+  sends = tt;
+  acts = tt;
+  reset = sym (asks_no (spi_machine d) (Get x) (Some Act) (Some (outcome s (answers (named (query_answer s x))))) (asks_none (Get x)));
+  next = (h, record { may = (ap (λ a. Some (named a)) (sym same), refl); served = false; owed = refl; shown = λ e. absurd (cc); report = refl });
+}
+
+-- ---- places
+
+-- the call finds no error, and the module is initialised
+abbrev pub IsAsking : SpiTable → (off : Bool) → Query → Origin Call → FrameHistory → Type 0
+IsAsking d off x o t = IsThisFrame (Called (Get x)) fresh_history o t × (error_by d (Get x) off false ≡ None) × (off ≡ false)
+
+-- the frame asks for a configured job
+pub record IsJobQuery (d : SpiTable) (r : JobQuery) (j : ℕ) : Type 0 where
+  pub job : Job
+  pub known : job_of d j ≡ Some job
+  pub table : r.table ≡ d
+  pub number : r.job ≡ j
+  pub unit : r.unit ≡ job.unit
+
+-- no sequence runs it, and no pending one of these has it left
+abbrev pub RunsNone : SpiTable → List Pending → (running : ℕ → Bool) → (job : ℕ) → Type 0
+RunsNone d ps running j = (p : Pending) → Contains ps p → next_job d p ≡ j → running p.sequence ≡ false
+
+abbrev pub LeftNone : SpiTable → List Pending → (job sequence : ℕ) → Type 0
+LeftNone d ps j q = (p : Pending) → Contains ps p → p.sequence < q → is_left d j p ≡ false
+
+-- a pending sequence has the job at this place
+abbrev pub HasPlace : SpiTable → List Pending → (job sequence place : ℕ) → Type 0
+HasPlace d ps j q i = (p : Pending) × Contains ps p × (p.sequence ≡ q) × (i < length (jobs_of d q)) × (slice_index_or (jobs_of d q) i 0 ≡ j)
+
+abbrev pub JobAt : SpiTable → List Pending → (running : ℕ → Bool) → (job : ℕ) → JobPlace → Type 0
+JobAt d ps running j place.Running = Unit {0}
+JobAt d ps running j (place.Look q) = (q < 8) × RunsNone d ps running j × LeftNone d ps j q
+JobAt d ps running j (place.Next q i) = (q < 8) × RunsNone d ps running j × HasPlace d ps j q i
+JobAt d ps running j place.Result = list_any (is_left d j) ps ≡ false
+
+abbrev pub query_place : SpiTable → QueryBody → SpiState → Origin Call → FrameHistory → Type 0
+query_place d (query.Job r) s o t = (j : ℕ) × IsAsking d (is_off s.mode) (JobResult j) o t × IsJobQuery d r j × JobAt d s.pending (is_running s) j r.place
+query_place d (query.Sequence q) s o t = (n : ℕ) × IsAsking d (is_off s.mode) (SequenceResult n) o t × (n < 8) × (q ≡ n)
+query_place d (query.Unit u) s o t = (n : ℕ) × IsAsking d (is_off s.mode) (HwUnitStatus n) o t × (n < 2) × (u ≡ n)
+
+abbrev pub query_spot : (d : SpiTable) → QueryBody → PointAssertion (spi_basis d)
+query_spot d k = Within (Under tt) [] (λ below f w s o t. query_place d k s o t)
+
+abbrev pub job_fuel : JobPlace → ℕ
+job_fuel place.Running = 12
+job_fuel (place.Look q) = 3 + (8 - q)
+job_fuel (place.Next q i) = 2
+job_fuel place.Result = 1
+
+abbrev pub query_fuel : QueryBody → ℕ
+query_fuel (query.Job r) = job_fuel r.place
+query_fuel (query.Sequence q) = 1
+query_fuel (query.Unit u) = 1
+
+abbrev pub query_bodies : (d : SpiTable) → LongBodies (spi_basis d) QueryBody
+query_bodies d = record { work_of = query_work; takes = query_takes; fuel = query_fuel; room = query_fuel; clean = λ k. false; assertion = query_spot d }
+
+-- ---- the job's steps
+
+module _ (d : SpiTable) (fits : FitsSpi d) (below : Reservations) (chip : Chip) (w : World) (s : SpiState) (h : SpiRepresents d below chip w s) (j : ℕ) (k : Job) (known : job_of d j ≡ Some k) (on : is_off s.mode ≡ false) where
+  small : j < 16
+  small = let lt = in_list d.jobs j k known in omega (arith, lt, fits.rows.1)
+
+  on_unit : is_on_unit k.unit (job_of d j) ≡ true
+  on_unit = ap (is_on_unit k.unit) known ∙ same_number k.unit
+
+  -- where its unit runs another job or none, no sequence runs it
+  runs_none : ((g : Going) → h.going k.unit ≡ Some g → next_job d g.pending ≡ j → ⊥) → RunsNone d s.pending (is_running s) j
+  runs_none other p there e = not_true (is_running s p.sequence) (λ f. by (runs_on d fits below chip w s h p.sequence f))
+    where
+      by : RunsOn d fits below chip w s h p.sequence → ⊥
+      by r =
+          let next = going_next d fits below chip w s h r.unit r.job r.few r.is in
+          let same : r.job.pending ≡ p = one_pending d fits below chip w s h r.job.pending p next.0 there r.of in
+          let job : next_job d r.job.pending ≡ j = ap (next_job d) same ∙ e in
+          let unit : r.unit ≡ k.unit = one_unit d r.unit k.unit j (sym (ap (λ n. is_on_unit r.unit (job_of d n)) job) ∙ next.2) on_unit in
+          other r.job (ap h.going (sym unit) ∙ r.is) job
+
+  -- it waits at a place that is left
+  queued : (p : Pending) (i : ℕ) → Contains s.pending p → RunsNone d s.pending (is_running s) j → p.next ≤ i → i < length (jobs_of d p.sequence) → slice_index_or (jobs_of d p.sequence) i 0 ≡ j → job_result s.job_results j ≡ SpiJobQueued
+  queued p i there none le lt at = ap (job_result s.job_results) (sym at) ∙ h.sound.results.queued p i there le lt ∙ by (i == p.next) refl
+    where
+      by : (q : Bool) → (i == p.next) ≡ q → (if i == p.next && is_running s p.sequence then SpiJobPending else SpiJobQueued) ≡ SpiJobQueued
+      by true e = ap (λ b. if b && is_running s p.sequence then SpiJobPending else SpiJobQueued) e ∙ ap (λ b. if b then SpiJobPending else SpiJobQueued) (none p there (ap (λ n. slice_index_or (jobs_of d p.sequence) n 0) (sym (is_number i p.next e)) ∙ at))
+      by false e = ap (λ b. if b && is_running s p.sequence then SpiJobPending else SpiJobQueued) e
+
+  -- two that have it are one
+  shares_it : (a b : Pending) → Contains (jobs_of d a.sequence) j → Contains (jobs_of d b.sequence) j → shares_job d a.sequence b.sequence ≡ true
+  shares_it a b there also = any_in (has_job d a.sequence) (jobs_of d b.sequence) j also (any_in (λ n. n == j) (jobs_of d a.sequence) j there (same_number j))
+
+  has_it : (q i : ℕ) → i < length (jobs_of d q) → slice_index_or (jobs_of d q) i 0 ≡ j → Contains (jobs_of d q) j
+  has_it q i lt at = (i, lt, get_or_default (jobs_of d q) i j 0 lt ∙ at)
+
+  left_has : (p : Pending) → is_left d j p ≡ true → Contains (jobs_of d p.sequence) j
+  left_has p e = let l = at_left (jobs_of d p.sequence) p.next j e in has_it p.sequence l.place l.within l.is
+
+  -- a sequence that has it no longer, and so no other one has it
+  left_none : (p : Pending) (i : ℕ) → Contains s.pending p → i < p.next → i < length (jobs_of d p.sequence) → slice_index_or (jobs_of d p.sequence) i 0 ≡ j → list_any (is_left d j) s.pending ≡ false
+  left_none p i there past lt at = none_any (is_left d j) s.pending (λ x also. not_true (is_left d j x) (λ e. by x also e))
+    where
+      by : (x : Pending) → Contains s.pending x → is_left d j x ≡ true → ⊥
+      by x also e =
+          let same : x ≡ p = one_by_job d fits below chip w s h x p also there (shares_it x p (left_has x e) (has_it p.sequence i lt at)) (shares_it p x (has_it p.sequence i lt at) (left_has x e)) in
+          let l = at_left (jobs_of d p.sequence) p.next j (subst (λ z. is_left d j z ≡ true) same e) in
+          let one : l.place ≡ i = one_place d fits p.sequence l.place i l.within lt (l.is ∙ sym at) in
+          let from = l.from in
+          omega (arith, from, one, past)
+
+  module _ (r : JobQuery) (is : IsJobQuery d r j) (clear : error_by d (Get (JobResult j)) (is_off s.mode) false ≡ None) (y : ℕ) (m : ℕ → Bool) where
+    -- what a step at a place has to make
+    abbrev JobMakes : (n value : ℕ) → JobPlace × Option AnswerName → Type 0
+    JobMakes n value p = Works (spi_basis d) (query_bodies d) below chip chip w s (Called (Get (JobResult j))) (Load n) false value y fresh_history m (query.Job (record r { place = p.0 })) (answers_by p.1).event (answers_by p.1).done
+
+    goes_to : (n value : ℕ) (p : JobPlace) → JobAt d s.pending (is_running s) j p → JobMakes n value (p, None)
+    goes_to n value p at = (h, (j, (Is_this_frame, clear, on), record { job = is.job; known = is.known; table = is.table; number = is.number; unit = is.unit }, at))
+
+    tells : (n value : ℕ) (p : JobPlace) (name : AnswerName) → name ≡ job_result s.job_results j → JobMakes n value (p, Some name)
+    tells n value p name e = answers_now d (query_bodies d) below chip w s (JobResult j) n value y m false (query.Job (record r { place = p })) name clear e h
+
+    unit_is : r.unit ≡ k.unit
+    unit_is = let same : Some is.job ≡ Some k = sym is.known ∙ known in let one : is.job ≡ k = cc in is.unit ∙ ap (λ x. x.unit) one
+
+    -- the unit's word
+    runs_by : (n value : ℕ) (g : Option Going) → h.going k.unit ≡ g → JobMakes n value (if is_running_job r.job (running_by d g) then (place.Running, Some SpiJobPending) else (place.Look 0, None))
+    runs_by n value None e = goes_to n value (place.Look 0) (omega arith, runs_none (λ g f i. let c = sym e ∙ f in cc), λ p there lt. absurd (omega (arith, lt)))
+    runs_by n value (Some g) e = by (next_job d g.pending == r.job) refl
+      where
+        next : Contains s.pending g.pending × (g.pending.started ≡ true) × (is_for d k.unit g.pending ≡ true)
+        next = going_next d fits below chip w s h k.unit g ((fits.jobs j k known).unit) e
+
+        by : (q : Bool) → (next_job d g.pending == r.job) ≡ q → JobMakes n value (if next_job d g.pending == r.job then (place.Running, Some SpiJobPending) else (place.Look 0, None))
+        by true f = subst (λ b. JobMakes n value (if b then (place.Running, Some SpiJobPending) else (place.Look 0, None))) (sym f) (tells n value place.Running SpiJobPending (sym runs))
+          where
+            job : next_job d g.pending ≡ j
+            job = is_number (next_job d g.pending) r.job f ∙ is.number
+
+            runs : job_result s.job_results j ≡ SpiJobPending
+            runs =
+                let entry = h.sound.entries g.pending next.0 in
+                ap (job_result s.job_results) (sym job) ∙ h.sound.results.queued g.pending g.pending.next next.0 (omega arith) entry.next
+                ∙ ap (λ b. if b && is_running s g.pending.sequence then SpiJobPending else SpiJobQueued) (same_number g.pending.next)
+                ∙ ap (λ b. if b then SpiJobPending else SpiJobQueued) (going_runs d fits below chip w s h k.unit g ((fits.jobs j k known).unit) e)
+        by false f = subst (λ b. JobMakes n value (if b then (place.Running, Some SpiJobPending) else (place.Look 0, None))) (sym f) (goes_to n value (place.Look 0) (
+          omega arith,
+          runs_none (λ g1 i same. let one : g ≡ g1 = let c = sym e ∙ i in cc in let job : next_job d g.pending ≡ r.job = ap (λ x. next_job d x.pending) one ∙ same ∙ sym is.number in let no = sym f ∙ ap (λ n. n == r.job) job ∙ same_number r.job in cc),
+          λ p there lt. absurd (omega (arith, lt)),
+        ))
+
+    -- the place after a look at a sequence that doesn't have it left
+    looks_on : (n value q : ℕ) → q < 8 → RunsNone d s.pending (is_running s) j → LeftNone d s.pending j q → ((p : Pending) → Contains s.pending p → p.sequence ≡ q → is_left d j p ≡ false) → JobMakes n value (after_look q, None)
+    looks_on n value q lt none left this = by (nat_lt q 7) refl
+      where
+        split : (a b : ℕ) → a < b + 1 → nat_lt a b ≡ false → a ≡ b
+        split a b l f = grind (arith, nat_tests)
+
+        upto : LeftNone d s.pending j (q + 1)
+        upto p there less = by_order (nat_lt p.sequence q) refl
+          where
+            by_order : (b : Bool) → nat_lt p.sequence q ≡ b → is_left d j p ≡ false
+            by_order true f = left p there (is_below p.sequence q f)
+            by_order false f = this p there (split p.sequence q less f)
+
+        by : (b : Bool) → nat_lt q 7 ≡ b → JobMakes n value (if nat_lt q 7 then place.Look (q + 1) else place.Result, None)
+        by true f = subst (λ b. JobMakes n value (if b then place.Look (q + 1) else place.Result, None)) (sym f) (goes_to n value (place.Look (q + 1)) (let less = is_below q 7 f in omega (arith, less), none, upto))
+        by false f = subst (λ b. JobMakes n value (if b then place.Look (q + 1) else place.Result, None)) (sym f) (goes_to n value place.Result (none_any (is_left d j) s.pending (λ p there. upto p there (let few = (h.sound.entries p there).number in let past = is_past q 7 f in omega (arith, few, past, lt)))))
+
+    looks : (n value q : ℕ) → q < 8 → RunsNone d s.pending (is_running s) j → LeftNone d s.pending j q → (b : Bool) → is_pending q s.pending ≡ b → JobMakes n value (job_looked r q b, None)
+    looks n value q lt none left false e = looks_on n value q lt none left (λ p there same. absurd (let f = sym (ap (λ k. is_pending k s.pending) (sym same) ∙ is_there d fits below chip w s h p there) ∙ sym (sym e) in let g = subst (λ k. is_pending k s.pending ≡ true) same (is_there d fits below chip w s h p there) in let c = sym e ∙ g in cc))
+    looks n value q lt none left true e = by (place_in (jobs_list r.table q) r.job) refl (entry_of d fits below chip w s h q e)
+      where
+        same_place : place_in (jobs_list r.table q) r.job ≡ place_in (jobs_list d q) j
+        same_place = ap (λ x. place_in (jobs_list x q) r.job) is.table ∙ ap (λ n. place_in (jobs_list d q) n) is.number
+
+        by : (o : Option ℕ) → place_in (jobs_list r.table q) r.job ≡ o → (p : Pending) × Contains s.pending p × (p.sequence ≡ q) → JobMakes n value (by_place q (place_in (jobs_list r.table q) r.job), None)
+        by None f (p, there, of) = subst (λ o. JobMakes n value (by_place q o, None)) (sym f) (looks_on n value q lt none left (λ x also same. not_true (is_left d j x) (λ l. let a = at_left (jobs_of d x.sequence) x.next j l in place_missing d fits q j a.place (sym same_place ∙ f) (subst (λ i. a.place < length (jobs_of d i)) same a.within) (subst (λ i. slice_index_or (jobs_of d i) a.place 0 ≡ j) same a.is))))
+        by (Some i) f (p, there, of) = let found = place_found d fits q j i (sym same_place ∙ f) in subst (λ o. JobMakes n value (by_place q o, None)) (sym f) (goes_to n value (place.Next q i) (lt, none, (p, there, of, found.0, found.1)))
+
+    nexts : (n value q i v : ℕ) → RunsNone d s.pending (is_running s) j → (p : Pending) → Contains s.pending p → p.sequence ≡ q → i < length (jobs_of d q) → slice_index_or (jobs_of d q) i 0 ≡ j → v ≡ p.next
+        → JobMakes n value (if nat_le v i then (place.Next q i, Some SpiJobQueued) else (place.Result, None))
+    nexts n value q i v none p there of lt at e = by (nat_le v i) refl
+      where
+        le : (a b : ℕ) → nat_le a b ≡ true → a ≤ b
+        le a b f = grind (arith, nat_tests)
+
+        gt : (a b : ℕ) → nat_le a b ≡ false → b < a
+        gt a b f = grind (arith, nat_tests)
+
+        within : i < length (jobs_of d p.sequence)
+        within = subst (λ k. i < length (jobs_of d k)) (sym of) lt
+
+        is_at : slice_index_or (jobs_of d p.sequence) i 0 ≡ j
+        is_at = subst (λ k. slice_index_or (jobs_of d k) i 0 ≡ j) (sym of) at
+
+        by : (b : Bool) → nat_le v i ≡ b → JobMakes n value (if nat_le v i then (place.Next q i, Some SpiJobQueued) else (place.Result, None))
+        by true f = subst (λ b. JobMakes n value (if b then (place.Next q i, Some SpiJobQueued) else (place.Result, None))) (sym f) (tells n value (place.Next q i) SpiJobQueued (sym (queued p i there none (let l = le v i f in omega (arith, l, e)) within is_at)))
+        by false f = subst (λ b. JobMakes n value (if b then (place.Next q i, Some SpiJobQueued) else (place.Result, None))) (sym f) (goes_to n value place.Result (left_none p i there (let l = gt v i f in omega (arith, l, e)) within is_at))
+
+    job_steps : (p : JobPlace) → JobAt d s.pending (is_running s) j p → (n value : ℕ) → job_move r p ≡ Load n → value ≡ word_of chip n → JobMakes n value (job_took r p value)
+    job_steps place.Running at n value move is_value = by (h.going k.unit) refl
+      where
+        word : n ≡ running_word k.unit
+        word = let same : Load (running_word r.unit) ≡ Load n = move in let one : running_word r.unit ≡ n = cc in sym one ∙ ap running_word unit_is
+
+        says : (g : Option Going) → h.going k.unit ≡ g → run_in value ≡ running_by d g
+        says g e = ap run_in (is_value ∙ ap (word_of chip) word) ∙ running_says d fits below chip w s h on k.unit ((fits.jobs j k known).unit) g e
+
+        by : (g : Option Going) → h.going k.unit ≡ g → JobMakes n value (if is_running_job r.job (run_in value) then (place.Running, Some SpiJobPending) else (place.Look 0, None))
+        by g e = subst (λ o. JobMakes n value (if is_running_job r.job o then (place.Running, Some SpiJobPending) else (place.Look 0, None))) (sym (says g e)) (runs_by n value g e)
+    job_steps (place.Look q) (lt, none, left) n value move is_value =
+        let one : sequence_word q ≡ n = cc in
+        subst (λ b. JobMakes n value (job_looked r q b, None)) (sym (ap (λ v. v == PENDING) (is_value ∙ ap (word_of chip) (sym one)) ∙ pending_word d fits below chip w s h on q lt)) (looks n value q lt none left (is_pending q s.pending) refl)
+    job_steps (place.Next q i) (lt, none, (p, there, of, few, at)) n value move is_value =
+        let one : NEXTS ≡ n = cc in
+        nexts n value q i (next_in value q) none p there of few at (ap (λ k. next_in value k) (sym of) ∙ ap (λ v. next_in v p.sequence) (is_value ∙ ap (word_of chip) (sym one)) ∙ ((h.words.on on).sequences.pending p there).next)
+    job_steps place.Result none n value move is_value =
+        let one : job_word r.job ≡ n = cc in
+        tells n value place.Result (job_result_in value) (ap job_result_in (is_value ∙ ap (word_of chip) (sym one ∙ ap job_word is.number) ∙ (h.words.on on).sequences.jobs j small none) ∙ job_said (job_result s.job_results j) (h.sound.results.last j none))
+
+    -- a step by the place
+    job_right : (p : JobPlace) → JobAt d s.pending (is_running s) j p → MakesTo (spi_basis d) (query_bodies d) below chip (chip_after chip (job_move r p) y) w s (Called (Get (JobResult j))) (job_move r p) false (value_of chip (job_move r p)) y fresh_history m
+        (query.Job (record r { place = (job_took r p (value_of chip (job_move r p))).0 }), answers_by (job_took r p (value_of chip (job_move r p))).1)
+    job_right place.Running at = job_steps place.Running at (running_word r.unit) (word_of chip (running_word r.unit)) refl refl
+    job_right (place.Look q) at = job_steps (place.Look q) at (sequence_word q) (word_of chip (sequence_word q)) refl refl
+    job_right (place.Next q i) at = job_steps (place.Next q i) at NEXTS (word_of chip NEXTS) refl refl
+    job_right place.Result at = job_steps place.Result at (job_word r.job) (word_of chip (job_word r.job)) refl refl
+
+-- ---- the bodies
+
+-- each step leaves fewer
+job_less : (r : JobQuery) (p : JobPlace) (x : ℕ) → ShortensTo (job_fuel p) (job_fuel (job_took r p x).0) (answers_by (job_took r p x).1).done
+job_less r place.Running x = by (is_running_job r.job (run_in x))
+  where
+    by : (q : Bool) → let t : JobPlace × Option AnswerName = if q then (place.Running, Some SpiJobPending) else (place.Look 0, None) in ShortensTo 12 (job_fuel t.0) (answers_by t.1).done
+    by true = omega arith
+    by false = omega arith
+job_less r (place.Look q) x = by (x == PENDING)
+  where
+    after : (b : Bool) → nat_lt q 7 ≡ b → job_fuel (if b then place.Look (q + 1) else place.Result) < 3 + (8 - q)
+    after true e = let lt : q < 7 = is_below q 7 e in omega (arith, lt)
+    after false e = omega arith
+
+    places : (o : Option ℕ) → job_fuel (by_place q o) < 3 + (8 - q)
+    places None = after (nat_lt q 7) refl
+    places (Some i) = omega arith
+
+    by : (b : Bool) → job_fuel (job_looked r q b) < 3 + (8 - q)
+    by true = places (place_in (jobs_list r.table q) r.job)
+    by false = after (nat_lt q 7) refl
+job_less r (place.Next q i) x = by (nat_le (next_in x q) i)
+  where
+    by : (b : Bool) → let t : JobPlace × Option AnswerName = if b then (place.Next q i, Some SpiJobQueued) else (place.Result, None) in ShortensTo 2 (job_fuel t.0) (answers_by t.1).done
+    by true = omega arith
+    by false = omega arith
+job_less r place.Result x = omega arith
+
+query_less : (k : QueryBody) (x : ℕ) → Shortens query_fuel k (query_takes k x)
+query_less (query.Job r) x = job_less r r.place x
+query_less (query.Sequence q) x = omega arith
+query_less (query.Unit u) x = omega arith
+
+-- so it is in a window
+in_window : (bound room later n : ℕ) (o : Option AnswerName) → ShortensTo room later (answers_by o).done → TurnsMask bound true true room later (Load n) (answers_by o).event (answers_by o).done
+in_window bound room later n None h = (refl, h)
+in_window bound room later n (Some x) h = h
+
+job_window : (bound room later : ℕ) (r : JobQuery) (p : JobPlace) (o : Option AnswerName) → ShortensTo room later (answers_by o).done → TurnsMask bound true true room later (job_move r p) (answers_by o).event (answers_by o).done
+job_window bound room later r place.Running o h = in_window bound room later (running_word r.unit) o h
+job_window bound room later r (place.Look q) o h = in_window bound room later (sequence_word q) o h
+job_window bound room later r (place.Next q i) o h = in_window bound room later NEXTS o h
+job_window bound room later r place.Result o h = in_window bound room later (job_word r.job) o h
+
+module _ (d : SpiTable) (fits : FitsSpi d) where
+  query_turns : (k : QueryBody) (x : ℕ) → TurnsTo (query_bodies d) 32 k (query_takes k x)
+  query_turns (query.Job r) x = job_window 32 (job_fuel r.place) (job_fuel (job_took r r.place x).0) r r.place (job_took r r.place x).1 (job_less r r.place x)
+  query_turns (query.Sequence q) x = omega arith
+  query_turns (query.Unit u) x = omega arith
+
+  query_calm : (k : QueryBody) → (resets_chip (query_work k) ≡ false) × (begins_word (query_work k) ≡ false)
+  query_calm (query.Job r) = by r.place
+    where
+      by : (p : JobPlace) → (resets_chip (job_move r p) ≡ false) × (begins_word (job_move r p) ≡ false)
+      by place.Running = (refl, refl)
+      by (place.Look q) = (refl, refl)
+      by (place.Next q i) = (refl, refl)
+      by place.Result = (refl, refl)
+  query_calm (query.Sequence q) = (refl, refl)
+  query_calm (query.Unit u) = (refl, refl)
+
+  pub may_first : (k : ℕ) → STATE ≤ k → k < STATE + 64 → may d (Load k) ≡ true
+  may_first k low high = may_store d fits k 0 (own_first d k low high)
+
+  query_own : (below : Reservations) (chip : Chip) (w : World) (s : SpiState) (k : QueryBody) (o : Origin Call) (t : FrameHistory) → AssertedAt (spi_basis d) (query_bodies d) below chip w s k o t → is_shared (query_work k) || may d (query_work k) ≡ true
+  query_own below chip w s (query.Job r) o t (h, (j, asks, is, at)) = by r.place at
+    where
+      unit : r.unit < 2
+      unit = subst (λ n. n < 2) (sym is.unit) (fits.jobs j is.job is.known).unit
+
+      small : r.job < 16
+      small = let lt = in_list d.jobs j is.job is.known in let n = is.number in omega (arith, lt, n, fits.rows.1)
+
+      by : (p : JobPlace) → JobAt d s.pending (is_running s) j p → is_shared (job_move r p) || may d (job_move r p) ≡ true
+      by place.Running i = may_first (running_word r.unit) (omega arith) (omega (arith, unit))
+      by (place.Look q) i = may_first (sequence_word q) (omega arith) (let lt = i.0 in omega (arith, lt))
+      by (place.Next q n) i = may_first NEXTS (omega arith) (omega arith)
+      by place.Result i = may_first (job_word r.job) (omega arith) (omega (arith, small))
+  query_own below chip w s (query.Sequence q) o t (h, (n, asks, lt, at)) = may_first (sequence_word q) (omega arith) (omega (arith, lt, at))
+  query_own below chip w s (query.Unit u) o t (h, (n, asks, lt, at)) = may_first (running_word u) (omega arith) (omega (arith, lt, at))
+
+  query_steps : (below : Reservations) (chip : Chip) (w : World) (s : SpiState) (k : QueryBody) (o : Origin Call) (y : ℕ) (t : FrameHistory) (m : ℕ → Bool) → AssertedAt (spi_basis d) (query_bodies d) below chip w s k o t → Right (spi_basis d) (query_bodies d) below chip w s k o y t m
+  query_steps below chip w s (query.Job r) o y t m (h, (j, (Is_this_frame, clear, on), is, at)) = job_right d fits below chip w s h j is.job is.known on r is clear y (missed_after (spi_machine d) w s m) r.place at
+  query_steps below chip w s (query.Sequence q) o y t m (h, (n, (Is_this_frame, clear, on), lt, at)) =
+      answers_now d (query_bodies d) below chip w s (SequenceResult n) (sequence_word q) (word_of chip (sequence_word q)) y (missed_after (spi_machine d) w s m) false (query.Sequence q) (sequence_result_in (word_of chip (sequence_word q))) clear (ap (λ i. sequence_result_in (word_of chip (sequence_word i))) at ∙ sequence_word_says d fits below chip w s h on n lt) h
+  query_steps below chip w s (query.Unit u) o y t m (h, (n, (Is_this_frame, clear, on), lt, at)) =
+      answers_now d (query_bodies d) below chip w s (HwUnitStatus n) (running_word u) (word_of chip (running_word u)) y (missed_after (spi_machine d) w s m) false (query.Unit u) (if word_of chip (running_word u) == 0 then SpiIdle else SpiBusy) clear (ap (λ i. if word_of chip (running_word i) == 0 then SpiIdle else SpiBusy) at ∙ unit_word_says d fits below chip w s h on n lt) h
+
+  asks_later : (w : World) (s : SpiState) (order : Order) (x : Query) (o : Origin Call) (t : FrameHistory) → IsAsking d (is_off s.mode) x o t → IsAsking d (is_off (moved d w s order).mode) x o t
+  asks_later w s order x o t h = subst (λ mode. IsAsking d (is_off mode) x o t) (sym (mode_later d w s order)) h
+
+  query_stays : (w : World) (s : SpiState) (order : Order) (k : QueryBody) (o : Origin Call) (t : FrameHistory) → query_place d k s o t → query_place d k (moved d w s order) o t
+  query_stays w s order (query.Job r) o t (j, asks, is, at) = (j, asks_later w s order (JobResult j) o t asks, is, subst (λ ps. JobAt d ps (is_running (moved d w s order)) j r.place) (sym (pending_later d w s order)) (subst (λ f. JobAt d s.pending f j r.place) (sym (running_later d w s order)) at))
+  query_stays w s order (query.Sequence q) o t (n, asks, lt, at) = (n, asks_later w s order (SequenceResult n) o t asks, lt, at)
+  query_stays w s order (query.Unit u) o t (n, asks, lt, at) = (n, asks_later w s order (HwUnitStatus n) o t asks, lt, at)
+
+  pub query_right : AreLong (spi_basis d) (query_bodies d)
+  query_right = record {
+    own = query_own;
+    turns = λ below chip w s k o t h. query_turns k (value_of chip (query_work k));
+    steps = λ below chip w s k o y t m come few h. query_steps below chip w s k o y t m h;
+    later = λ below chip w s order k o t come shut h. query_stays w s order k o t h.1;
+    calm = λ below chip w s k o t h e. query_calm k;
+    shortens = query_less;
+    cleans = λ k x. never_clean (query_work k) k (query_takes k x);
+  }

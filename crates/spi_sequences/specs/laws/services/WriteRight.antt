@@ -1,0 +1,550 @@
+-- Spi_WriteIB: that it is right.
+-- From words.SideWords, services.WriteSteps, words.WordsOfModule, words.WordsToState and 7 more.
+-- Used by services.InitWords, services.InitRight, words.FirstParts.
+use Rattle.std.proofs.Common.{◌≡◌, ◌+◌, ◌-◌, ◌*◌, ◌/◌, ◌%◌, ◌<◌, ◌≤◌, ◌==◌, ◌||◌, [], ◌∷◌, ◌++◌, ◌∙◌, if◌then◌else◌}
+use Rattle.spi_sequences.specs.Terms
+use Terms.{acts_by, AllRight, answers, ap, AreLong, arith, AssertedAt, bank_word, Banks, BanksAgree, begins_word, Bool}
+use Terms.{Call, Called, Channel, channel-seen, channel_at, channel_of, ChannelState, Chip, chip_after, chooses}
+use Terms.{choosing, commits, committing, Contains, control_word, DiffersIn, EOk, error_by, false, filling, fills}
+use Terms.{first_items, FitsSpi, FrameHistory, free_bank, fresh_history, get_or-replicate, happened, has_ended}
+use Terms.{is_closed, is_off, is_own_word, is_shared, is_some, Is_this_frame, IsReady, IsThisFrame, item-other}
+use Terms.{item-same, length, length-replicate, length-take-le, length_by, List, Load, LongBodies, Mask, may, Memory}
+use Terms.{moved, named, nat_lt, nat_tests, never_clean, None, Null, Option, or_rest, Order, Origin, Outside}
+use Terms.{own-control, own-word, place_at, place_of, placed_of, PointAssertion, Pointer, prepares, Put, put_gave}
+use Terms.{put_held, put_left, put_more, Putting, readied_in, refl, Reservation, Reservations, resets_chip, Right, Sent}
+use Terms.{Shortens, slice_index_or, Some, Source, source_word, spi_basis, SpiRepresents, SpiState, SpiTable}
+use Terms.{stands-move, Store, subst, suc, sym, take, take_all, to_write, trio_of, TripleBuffer, true, TurnsTo, Under}
+use Terms.{Unmask, untouched, Users, value_of, view, with_channel, Within, word_later, word_of, WORDS, words_from}
+use Terms.{World, world_after, WriteBody, WriteIb, Writing, Written, written_from, zero, ℕ}
+use Rattle.std.proofs.lemmas.List.{take_more}
+use Rattle.spi_sequences.specs.laws.{words.SideWords.{IsBeside, IsLike, banks_changed, beside_back, beside_one}}
+use Rattle.spi_sequences.specs.laws.{words.SideWords.{beside_then, differs_by_store, differs_none, mine, none_readied}}
+use Rattle.spi_sequences.specs.laws.{words.SideWords.{sent_changed, stands_by_store, trio_fits}}
+use Rattle.spi_sequences.specs.laws.{hardware.SourceFilled.{own_low}, hardware.AfterReset.{none_in}}
+use Rattle.spi_sequences.specs.laws.{bookkeeping.RefinementRight.{apart_agrees}, words.KeptWords.{right_as}}
+use Rattle.spi_sequences.specs.laws.{hardware.StableUnderHardware.{mode_later, pointwise}}
+use Rattle.spi_sequences.specs.laws.{words.WordsOfModule.{has_channel, of_sixteen, own_banks, source_own}}
+use Rattle.spi_sequences.specs.laws.{services.ReadRight.{length-first}, words.WordsToState.{is_below, is_past}}
+use Rattle.spi_sequences.specs.laws.{words.WordsToState.{same_number}, services.SetUpRight.{may_store, may_users}}
+use Rattle.spi_sequences.specs.laws.{services.WriteSteps.{word_by, write_commits, write_from, write_takes, write_work}}
+use Rattle.word_shapes.specs.TripleBuffer as trio
+use Rattle.word_shapes.specs.declared.put.Put.TheVariants as puts
+use Rattle.spi_machine.specs.declared.call.Call.TheVariants as calls
+use Rattle.spi_sequences.specs.declared.service.write.WriteBody.TheVariants as write
+
+-- ---- the words that are written
+
+pub first-at : (n : ℕ) (xs : List ℕ) (i : ℕ) → i < n → slice_index_or (first_items 0 n xs) i 0 ≡ slice_index_or xs i 0
+first-at zero xs i lt = absurd (omega (arith, lt))
+first-at (suc n) [] zero lt = refl
+first-at (suc n) [] (suc i) lt = first-at n [] i (omega (arith, lt))
+first-at (suc n) (x ∷ xs) zero lt = refl
+first-at (suc n) (x ∷ xs) (suc i) lt = first-at n xs i (omega (arith, lt))
+
+first-all : (n : ℕ) (xs : List ℕ) → length xs ≡ n → first_items 0 n xs ≡ xs
+first-all zero [] e = refl
+first-all zero (x ∷ xs) e = absurd (omega (arith, e))
+first-all (suc n) [] e = absurd (omega (arith, e))
+first-all (suc n) (x ∷ xs) e = ap (λ ys. x ∷ ys) (first-all n xs (omega (arith, e)))
+
+from_length : (p : Pointer) (k : Channel) (x : ChannelState) → length (words_from p k.length k x) ≡ k.length
+from_length Users k x = length-first k.length x.source
+from_length Null k x = length-replicate k.length k.default_data
+
+from_source : (p : Pointer) (k : Channel) (x : ChannelState) → words_from p k.length k (record untouched { source = x.source }) ≡ words_from p k.length k x
+from_source Users k x = refl
+from_source Null k x = refl
+
+-- ---- places
+
+abbrev pub asks : ℕ → Pointer → Call
+asks c p = calls.Channel c (WriteIb p)
+
+-- the frame writes this internal channel, which no other one does
+pub record IsWriter (d : SpiTable) (r : Written) (below : Reservations) (c : ℕ) (k : Channel) : Type 0 where
+  pub known : channel_of d c ≡ Some k
+  pub internal : k.internal ≡ true
+  pub placed : r.placed ≡ placed_of d c
+  pub alone : (sources : ℕ → List ℕ) → put_held d sources c false below ≡ None
+  pub clear : error_by d (asks c r.source) false false ≡ None
+
+abbrev pub IsWriting : SpiTable → Written → Reservations → Origin Call → FrameHistory → Type 0
+IsWriting d r below o t = (c : ℕ) × (k : Channel) × IsThisFrame (Called (asks c r.source)) fresh_history o t × IsWriter d r below c k
+
+-- the put is committed, by the control word
+abbrev pub IsCommitting : Written → (bank : ℕ) → Memory → Put → Type 0
+IsCommitting r b m (puts.Commit c n) = (c ≡ control_word r.placed Sent) × (n ≡ b)
+IsCommitting r b m (puts.Tell c v) = (c ≡ control_word r.placed Sent) × (v ≡ b % 4 + 4 * (m c / 4))
+IsCommitting r b m _ = ⊥
+
+abbrev pub writes : Written → (bank count : ℕ) → Option ℕ → List Reservation
+writes r b i x = Writing r.placed.number r.source b i x ∷ []
+
+abbrev pub write_spot : (d : SpiTable) → WriteBody → PointAssertion (spi_basis d)
+write_spot d (write.Choose r) = Within (Under tt) [] (λ below f w s o t. IsWriting d r below o t × (is_off s.mode ≡ false))
+write_spot d (write.Opens r b) = Within (Under tt) (writes r b 0 None) (λ below f w s o t. IsWriting d r below o t × (b < 3))
+write_spot d (write.Load r b i) = Outside (writes r b i None) (λ below o t. IsWriting d r below o t × (b < 3) × (i < r.placed.channel.length) × (r.source ≡ Users))
+write_spot d (write.Fill r b i v) = Outside (writes r b i (Some v)) (λ below o t. IsWriting d r below o t × (b < 3) × (i < r.placed.channel.length))
+write_spot d (write.Shut r b) = Outside (writes r b r.placed.channel.length None) (λ below o t. IsWriting d r below o t × (b < 3))
+write_spot d (write.Commit r b p) = Within (Under tt) (writes r b r.placed.channel.length None) (λ below f w s o t. IsWriting d r below o t × (b < 3) × IsCommitting r b f.0 p)
+
+abbrev pub write_fuel : WriteBody → ℕ
+write_fuel (write.Choose r) = 7 + 2 * r.placed.channel.length
+write_fuel (write.Opens r b) = 6 + 2 * r.placed.channel.length
+write_fuel (write.Load r b i) = 5 + 2 * (r.placed.channel.length - i)
+write_fuel (write.Fill r b i v) = 4 + 2 * (r.placed.channel.length - i)
+write_fuel (write.Shut r b) = 3
+write_fuel (write.Commit r b p) = 1 + put_more p
+
+abbrev pub write_room : WriteBody → ℕ
+write_room (write.Choose r) = 1
+write_room (write.Commit r b p) = 1 + put_more p
+write_room _ = 0
+
+abbrev pub write_bodies : (d : SpiTable) → LongBodies (spi_basis d) WriteBody
+write_bodies d = record { work_of = write_work; takes = write_takes; fuel = write_fuel; room = write_room; clean = λ k. false; assertion = write_spot d }
+
+-- ---- what is held
+
+module _ (d : SpiTable) (fits : FitsSpi d) (below : Reservations) (r : Written) (c : ℕ) (k : Channel) (i : IsWriter d r below c k) where
+  number : r.placed.number ≡ c
+  number = ap (λ x. x.number) i.placed
+
+  len : r.placed.channel.length ≡ k.length
+  len = ap (λ x. x.channel.length) i.placed ∙ ap (λ x. x.length) (has_channel d fits c k i.known)
+
+  abbrev banks : TripleBuffer
+  banks = trio_of (placed_of d c) Sent
+
+  fit : trio.Fits banks
+  fit = trio_fits d fits c k i.known i.internal Sent
+
+  is_one : (r.placed.number == c) ≡ true
+  is_one = ap (λ n. n == c) number ∙ same_number c
+
+  control : control_word r.placed Sent ≡ banks.control
+  control = ap (λ x. control_word x Sent) i.placed
+
+  abbrev holding : (bank count : ℕ) → Option ℕ → Reservations
+  holding b n x = record { by = Called (asks c r.source); what = Writing r.placed.number r.source b n x; acted = None } ∷ below
+
+  aside : (b n : ℕ) (x : Option ℕ) → IsBeside d fits c k i.known i.internal Sent below (holding b n x)
+  aside b n x = beside_one d fits c k i.known i.internal Sent _ below is_one
+
+  -- its put
+  puts_it : (sources : ℕ → List ℕ) (b n : ℕ) (x : Option ℕ) → put_held d sources c false (holding b n x) ≡ Some (record { bank = b; filled = take n (to_write (channel_of d c) r.source (sources c)) })
+  puts_it sources b n x = ap (λ q. or_rest (if q then Some (record { bank = b; filled = take n (to_write (channel_of d c) r.source (sources c)) }) else None) (put_held d sources c false below)) is_one
+
+  module _ (s : SpiState) where
+    -- all that it writes
+    abbrev all : List ℕ
+    all = to_write (channel_of d c) r.source (channel_at s c).source
+
+    all_is : all ≡ words_from r.source k.length k (channel_at s c)
+    all_is = ap (λ o. to_write o r.source (channel_at s c).source) i.known ∙ from_source r.source k (channel_at s c)
+
+    all_length : length all ≡ k.length
+    all_length = ap length all_is ∙ from_length r.source k (channel_at s c)
+
+    right_for : (b n : ℕ) (x : Option ℕ) → is_off s.mode ≡ false → IsReady all n x → AllRight d s.mode s.channels below → AllRight d s.mode s.channels (holding b n x)
+    right_for b n x on ready right = ((ap (λ j. Called (asks j r.source)) (sym number), subst (λ j. IsReady (to_write (channel_of d j) r.source (channel_at s j).source) n x) (sym number) ready, on, ap is_some (ap (channel_of d) number ∙ i.known)), right)
+
+    ready_of : (b n : ℕ) (x : Option ℕ) → AllRight d s.mode s.channels (holding b n x) → IsReady all n x
+    ready_of b n x right = subst (λ j. IsReady (to_write (channel_of d j) r.source (channel_at s j).source) n x) number right.0.1
+
+    same_channels : IsLike d fits c k i.known i.internal Sent s.channels s
+    same_channels = record { source = λ n. refl; destination = λ n. refl; set_up = λ n. refl; written = λ n ne. refl; received = λ n ne. refl }
+
+-- ---- what the steps leave
+
+module _ (d : SpiTable) (fits : FitsSpi d) (below : Reservations) (chip : Chip) (w : World) (s : SpiState) (r : Written) (c : ℕ) (k : Channel) (i : IsWriter d r below c k) where
+  abbrev at : TripleBuffer
+  at = banks d fits below r c k i
+
+  abbrev has : (bank count : ℕ) → Option ℕ → Reservations
+  has b n x = holding d fits below r c k i b n x
+
+  abbrev own : ℕ → Bool
+  own = mine d fits c k i.known i.internal Sent
+
+  abbrev written : List ℕ
+  written = all d fits below r c k i s
+
+  -- a bank is chosen
+  chosen_now : is_off s.mode ≡ false → SpiRepresents d below chip w s → (b : ℕ) → b ≡ trio.free (word_of chip at.control) → SpiRepresents d (has b 0 None) chip w s
+  chosen_now on h b e = banks_changed d fits c k i.known i.internal Sent below (has b 0 None) chip chip w s h on s.channels (same_channels d fits below r c k i s) h.outside (differs_none own chip h.outside.all.words) beside (λ internal. (h.sizes on c k i.known).written internal) (right_for d fits below r c k i s b 0 None on tt h.right) (λ internal. agreed)
+    where
+      beside : IsBeside d fits c k i.known i.internal Sent below (has b 0 None)
+      beside = aside d fits below r c k i b 0 None
+
+      x : BanksAgree d below h.going (word_of chip) (view s) c k
+      x = h.words.banks c k i.known i.internal
+
+      none : (readied_in below ≡ []) × (prepares below ≡ false)
+      none = none_readied d s.mode s.channels below on h.right
+
+      agreed : BanksAgree d (has b 0 None) h.going (word_of chip) (view s) c k
+      agreed = sent_changed d fits c k i.known i.internal below (has b 0 None) chip chip h.going (view s) (view s) (differs_none own chip h.outside.all.words) beside refl refl refl (choosing b x.sent)
+          (subst (λ n. trio.Stands at (word_of chip) (choosing n x.sent)) (sym e) (chooses at (word_of chip) x.sent x.sends))
+          (λ p. x.written none.1) (λ is. absurd (none_in _ (subst (λ xs. Contains xs (c, false)) (beside.readied ∙ none.0) is))) x.pinned (sym (puts_it d fits below r c k i (view s).sources b 0 None)) x
+
+  -- the next word is ready, or isn't any more
+  ready_now : (b n : ℕ) (x y : Option ℕ) → SpiRepresents d (has b n x) chip w s → IsReady written n y → SpiRepresents d (has b n y) chip w s
+  ready_now b n x y h ready = banks_changed d fits c k i.known i.internal Sent (has b n x) (has b n y) chip chip w s h on s.channels (same_channels d fits below r c k i s) h.outside (differs_none own chip h.outside.all.words) beside (λ internal. (h.sizes on c k i.known).written internal) (right_for d fits below r c k i s b n y on ready h.right.1) (λ internal. agreed)
+    where
+      on : is_off s.mode ≡ false
+      on = h.right.0.2
+
+      beside : IsBeside d fits c k i.known i.internal Sent (has b n x) (has b n y)
+      beside = beside_then d fits c k i.known i.internal Sent (has b n x) (has b n y) below (aside d fits below r c k i b n x) (aside d fits below r c k i b n y)
+
+      z : BanksAgree d (has b n x) h.going (word_of chip) (view s) c k
+      z = h.words.banks c k i.known i.internal
+
+      none : (readied_in (has b n x) ≡ []) × (prepares (has b n x) ≡ false)
+      none = none_readied d s.mode s.channels (has b n x) on h.right
+
+      agreed : BanksAgree d (has b n y) h.going (word_of chip) (view s) c k
+      agreed = sent_changed d fits c k i.known i.internal (has b n x) (has b n y) chip chip h.going (view s) (view s) (differs_none own chip h.outside.all.words) beside refl refl refl z.sent z.sends
+          (λ p. z.written none.1) (λ is. absurd (none_in _ (subst (λ xs. Contains xs (c, false)) (beside.readied ∙ none.0) is))) z.pinned
+          (z.writes ∙ puts_it d fits below r c k i (view s).sources b n x ∙ sym (puts_it d fits below r c k i (view s).sources b n y)) z
+
+  -- it is filled in
+  filled_now : (b n v : ℕ) → SpiRepresents d (has b n (Some v)) chip w s → n < k.length → SpiRepresents d (has b (n + 1) None) (chip_after chip (Store (trio.word_at at b n) v) 0) w s
+  filled_now b n v h lt = banks_changed d fits c k i.known i.internal Sent (has b n (Some v)) (has b (n + 1) None) chip chip1 w s h on s.channels (same_channels d fits below r c k i s) (stands-move chip w (Store (trio.word_at at b n) v) 0 h.outside) differs beside (λ internal. (h.sizes on c k i.known).written internal) (right_for d fits below r c k i s b (n + 1) None on tt h.right.1) (λ internal. agreed)
+    where
+      chip1 : Chip
+      chip1 = chip_after chip (Store (trio.word_at at b n) v) 0
+
+      on : is_off s.mode ≡ false
+      on = h.right.0.2
+
+      whole : length chip.words ≡ WORDS
+      whole = h.outside.all.words
+
+      beside : IsBeside d fits c k i.known i.internal Sent (has b n (Some v)) (has b (n + 1) None)
+      beside = beside_then d fits c k i.known i.internal Sent (has b n (Some v)) (has b (n + 1) None) below (aside d fits below r c k i b n (Some v)) (aside d fits below r c k i b (n + 1) None)
+
+      z : BanksAgree d (has b n (Some v)) h.going (word_of chip) (view s) c k
+      z = h.words.banks c k i.known i.internal
+
+      none : (readied_in (has b n (Some v)) ≡ []) × (prepares (has b n (Some v)) ≡ false)
+      none = none_readied d s.mode s.channels (has b n (Some v)) on h.right
+
+      p : Putting
+      p = record { bank = b; filled = take n written }
+
+      open_put : z.sent.put ≡ Some p
+      open_put = z.writes ∙ puts_it d fits below r c k i (view s).sources b n (Some v)
+
+      few : length (take n written) ≡ n
+      few = length-take-le n written (let a = all_length d fits below r c k i s in omega (arith, a, lt))
+
+      width : at.len ≡ k.length
+      width = ap (λ x. x.length) (has_channel d fits c k i.known)
+
+      stands : trio.Stands at (word_of chip) z.sent
+      stands = z.sends
+
+      put_at : trio.PutStands at (word_of chip) z.sent.bank z.sent.take p
+      put_at = subst (λ o. trio.PutIn at (word_of chip) z.sent.bank z.sent.take o) open_put stands.put
+
+      owned : own (trio.word_at at b n) ≡ true
+      owned = own-word at b n put_at.below (omega (arith, lt, width))
+
+      differs : DiffersIn own chip chip1
+      differs = differs_by_store own chip (trio.word_at at b n) v whole owned
+
+      more : take n written ++ v ∷ [] ≡ take (n + 1) written
+      more = ap (λ y. take n written ++ y ∷ []) (ready_of d fits below r c k i s b n (Some v) h.right) ∙ sym (take_more written n 0 (let a = all_length d fits below r c k i s in omega (arith, a, lt)))
+
+      filled_stands : trio.Stands at (word_of chip1) (filling v p z.sent)
+      filled_stands = subst (λ j. trio.Stands at (word_of (chip_after chip (Store (trio.word_at at b j) v) 0)) (filling v p z.sent)) few
+          (stands_by_store at chip (trio.word_at at b (length (take n written))) v (filling v p z.sent) (fit d fits below r c k i) whole (subst (λ j. own (trio.word_at at b j) ≡ true) (sym few) owned)
+          (fills at (word_of chip) z.sent p v (fit d fits below r c k i) (omega (arith, few, lt, width)) open_put stands))
+
+      agreed : BanksAgree d (has b (n + 1) None) h.going (word_of chip1) (view s) c k
+      agreed = sent_changed d fits c k i.known i.internal (has b n (Some v)) (has b (n + 1) None) chip chip1 h.going (view s) (view s) differs beside refl refl refl (filling v p z.sent) filled_stands
+          (λ q. z.written none.1) (λ is. absurd (none_in _ (subst (λ xs. Contains xs (c, false)) (beside.readied ∙ none.0) is))) z.pinned
+          (ap (λ ys. Some (record { bank = b; filled = ys })) more ∙ sym (puts_it d fits below r c k i (view s).sources b (n + 1) None)) z
+
+  -- the state with the words written
+  abbrev after : SpiState
+  after = with_channel s c (written_from r.source (channel_of d c) (channel_at s c))
+
+  kept_by : (o : Option Channel) (x : ChannelState) → ((written_from r.source o x).source ≡ x.source) × ((written_from r.source o x).destination ≡ x.destination) × ((written_from r.source o x).set_up ≡ x.set_up) × ((written_from r.source o x).received ≡ x.received)
+  kept_by None x = (refl, refl, refl, refl)
+  kept_by (Some k) x = (refl, refl, refl, refl)
+
+  written_like : IsLike d fits c k i.known i.internal Sent after.channels s
+  written_like =
+      let x = kept_by (channel_of d c) (channel_at s c) in
+      record {
+        source = λ n. channel-seen (λ z. z.source) s c n (written_from r.source (channel_of d c) (channel_at s c)) x.0;
+        destination = λ n. channel-seen (λ z. z.destination) s c n (written_from r.source (channel_of d c) (channel_at s c)) x.1;
+        set_up = λ n. channel-seen (λ z. z.set_up) s c n (written_from r.source (channel_of d c) (channel_at s c)) x.2;
+        written = λ n ne. ap (λ z. z.written) (item-other untouched s.channels c n (written_from r.source (channel_of d c) (channel_at s c)) ne);
+        received = λ n ne. ap (λ z. z.received) (item-other untouched s.channels c n (written_from r.source (channel_of d c) (channel_at s c)) ne);
+      }
+
+  -- the act: the bank is the newest
+  committed_now : (b : ℕ) → SpiRepresents d (has b k.length None) chip w s → SpiRepresents d below (chip_after chip (Store at.control (b % 4 + 4 * (word_of chip at.control / 4))) 0) w after
+  committed_now b h = banks_changed d fits c k i.known i.internal Sent (has b k.length None) below chip chip1 w s h on after.channels written_like (stands-move chip w (Store at.control told) 0 h.outside) differs beside (λ internal. ap length sends_now ∙ from_length r.source k (channel_at s c)) (right_as d s.mode s.channels after.channels written_like.source below h.right.1) (λ internal. agreed)
+    where
+      told : ℕ
+      told = b % 4 + 4 * (word_of chip at.control / 4)
+
+      chip1 : Chip
+      chip1 = chip_after chip (Store at.control told) 0
+
+      on : is_off s.mode ≡ false
+      on = h.right.0.2
+
+      whole : length chip.words ≡ WORDS
+      whole = h.outside.all.words
+
+      beside : IsBeside d fits c k i.known i.internal Sent (has b k.length None) below
+      beside = beside_back d fits c k i.known i.internal Sent below (has b k.length None) (aside d fits below r c k i b k.length None)
+
+      z : BanksAgree d (has b k.length None) h.going (word_of chip) (view s) c k
+      z = h.words.banks c k i.known i.internal
+
+      none : (readied_in below ≡ []) × (prepares below ≡ false)
+      none = none_readied d s.mode s.channels below on h.right.1
+
+      p : Putting
+      p = record { bank = b; filled = take k.length written }
+
+      open_put : z.sent.put ≡ Some p
+      open_put = z.writes ∙ puts_it d fits below r c k i (view s).sources b k.length None
+
+      width : at.len ≡ k.length
+      width = ap (λ x. x.length) (has_channel d fits c k i.known)
+
+      few : length (take k.length written) ≡ k.length
+      few = length-take-le k.length written (let a = all_length d fits below r c k i s in omega (arith, a))
+
+      differs : DiffersIn own chip chip1
+      differs = differs_by_store own chip at.control told whole (own-control at)
+
+      -- what it sends now
+      sends_now : (channel_at after c).written ≡ words_from r.source k.length k (channel_at s c)
+      sends_now = ap (λ x. x.written) (item-same untouched s.channels c (written_from r.source (channel_of d c) (channel_at s c))) ∙ ap (λ o. (written_from r.source o (channel_at s c)).written) i.known
+
+      newest : take k.length written ≡ first_items 0 k.length (channel_at after c).written
+      newest =
+          take_all k.length written (let a = all_length d fits below r c k i s in omega (arith, a)) ∙ all_is d fits below r c k i s
+          ∙ sym (first-all k.length (words_from r.source k.length k (channel_at s c)) (from_length r.source k (channel_at s c))) ∙ ap (λ xs. first_items 0 k.length xs) (sym sends_now)
+
+      agreed : BanksAgree d below h.going (word_of chip1) (view after) c k
+      agreed = sent_changed d fits c k i.known i.internal (has b k.length None) below chip chip1 h.going (view s) (view after) differs beside received_same puts_same refl (committing p z.sent)
+          (stands_by_store at chip at.control told (committing p z.sent) (fit d fits below r c k i) whole (own-control at) (commits at (word_of chip) z.sent p (fit d fits below r c k i) (few ∙ sym width) open_put z.sends))
+          (λ q. newest) (λ is. absurd (none_in _ (subst (λ xs. Contains xs (c, false)) none.0 is))) z.pinned (sym (i.alone (view after).sources)) z
+        where
+          received_same : (channel_at after c).received ≡ (channel_at s c).received
+          received_same = ap (λ x. x.received) (item-same untouched s.channels c (written_from r.source (channel_of d c) (channel_at s c))) ∙ (kept_by (channel_of d c) (channel_at s c)).3
+
+          puts_same : put_held d (view after).sources c true below ≡ put_held d (view s).sources c true below
+          puts_same = ap (λ f. put_held d f c true below) (pointwise (view after).sources (view s).sources written_like.source)
+
+-- ---- the steps
+
+-- a bank that is free is one of three
+pub free_few : (v : ℕ) → free_bank v ≡ trio.free v
+free_few v = grind (arith, nat_tests)
+
+put_small : (t : TripleBuffer) (m : Memory) (x : Banks) (p : Putting) → x.put ≡ Some p → trio.Stands t m x → p.bank < 3
+put_small t m x p e h = (subst (λ o. trio.PutIn t m x.bank x.take o) e h.put).below
+
+-- the frame stands at the word of a place, or after the last one
+onward : (d : SpiTable) (fits : FitsSpi d) (below : Reservations) (chip : Chip) (w : World) (s : SpiState) (r : Written) (b n c : ℕ) (k : Channel) (i : IsWriter d r below c k) → b < 3 → n ≤ k.length → SpiRepresents d (holding d fits below r c k i b n None) chip w s
+    → AssertedAt (spi_basis d) (write_bodies d) below chip w s (write_from r b n) (Called (asks c r.source)) fresh_history
+onward d fits below chip w s r b n c k i lt few h = by (nat_lt n r.placed.channel.length) refl
+  where
+    width : r.placed.channel.length ≡ k.length
+    width = len d fits below r c k i
+
+    default : n < r.placed.channel.length → r.source ≡ Null → r.placed.channel.default_data ≡ slice_index_or (all d fits below r c k i s) n 0
+    default less e =
+        ap (λ x. x.channel.default_data) i.placed ∙ ap (λ x. x.default_data) (has_channel d fits c k i.known)
+        ∙ sym (get_or-replicate k.length n k.default_data 0 (omega (arith, less, width))) ∙ sym (ap (λ q. slice_index_or (words_from q k.length k (channel_at s c)) n 0) e) ∙ sym (ap (λ xs. slice_index_or xs n 0) (all_is d fits below r c k i s))
+
+    words : (p : Pointer) → r.source ≡ p → n < r.placed.channel.length → AssertedAt (spi_basis d) (write_bodies d) below chip w s (word_by p r b n) (Called (asks c r.source)) fresh_history
+    words Users e less = (h, ((c, k, Is_this_frame, i), lt, less, e))
+    words Null e less = (ready_now d fits below chip w s r c k i b n None (Some r.placed.channel.default_data) h (default less e), ((c, k, Is_this_frame, i), lt, less))
+
+    by : (q : Bool) → nat_lt n r.placed.channel.length ≡ q → AssertedAt (spi_basis d) (write_bodies d) below chip w s (if nat_lt n r.placed.channel.length then word_by r.source r b n else write.Shut r b) (Called (asks c r.source)) fresh_history
+    by true e = subst (λ q. AssertedAt (spi_basis d) (write_bodies d) below chip w s (if q then word_by r.source r b n else write.Shut r b) (Called (asks c r.source)) fresh_history) (sym e) (words r.source refl (is_below n r.placed.channel.length e))
+    by false e = subst (λ q. AssertedAt (spi_basis d) (write_bodies d) below chip w s (if q then word_by r.source r b n else write.Shut r b) (Called (asks c r.source)) fresh_history) (sym e)
+        (subst (λ j. SpiRepresents d (holding d fits below r c k i b j None) chip w s) (let past = is_past n r.placed.channel.length e in omega (arith, past, few, width)) h, ((c, k, Is_this_frame, i), lt))
+
+module _ (d : SpiTable) (fits : FitsSpi d) where
+  write_steps : (below : Reservations) (chip : Chip) (w : World) (s : SpiState) (k : WriteBody) (o : Origin Call) (y : ℕ) (t : FrameHistory) (m : ℕ → Bool) → AssertedAt (spi_basis d) (write_bodies d) below chip w s k o t → Right (spi_basis d) (write_bodies d) below chip w s k o y t m
+  write_steps below chip w s (write.Choose r) o y t m (h, ((c, k, Is_this_frame, i), on)) =
+      (chosen_now d fits below chip w s r c k i on h (free_bank v) is, ((c, k, Is_this_frame, i), small))
+    where
+      v : ℕ
+      v = word_of chip (control_word r.placed Sent)
+
+      is : free_bank v ≡ trio.free (word_of chip (banks d fits below r c k i).control)
+      is = free_few v ∙ ap (λ j. trio.free (word_of chip j)) (control d fits below r c k i)
+
+      small : free_bank v < 3
+      small = let x = chosen_now d fits below chip w s r c k i on h (free_bank v) is in let z = x.words.banks c k i.known i.internal in put_small (banks d fits below r c k i) (word_of chip) z.sent (record { bank = free_bank v; filled = [] }) (z.writes ∙ puts_it d fits below r c k i (view s).sources (free_bank v) 0 None) z.sends
+  write_steps below chip w s (write.Opens r b) o y t m (h, ((c, k, Is_this_frame, i), lt)) = onward d fits below (chip_after chip Unmask y) w s r b 0 c k i lt (omega arith) (apart_agrees d fits _ chip w s Unmask y refl h)
+  write_steps below chip w s (write.Load r b n) o y t m (h, ((c, k, Is_this_frame, i), lt, less, e)) =
+      (ready_now d fits below chip w s r c k i b n None (Some (word_of chip (source_word r.placed n))) h is, ((c, k, Is_this_frame, i), lt, less))
+    where
+      width : r.placed.channel.length ≡ k.length
+      width = len d fits below r c k i
+
+      is : word_of chip (source_word r.placed n) ≡ slice_index_or (all d fits below r c k i s) n 0
+      is =
+          ap (λ x. word_of chip (source_word x n)) i.placed ∙ (h.arrays c).source n (subst (λ z. n < length_by z) (sym i.known) (omega (arith, less, width)))
+          ∙ sym (first-at k.length (channel_at s c).source n (omega (arith, less, width))) ∙ sym (ap (λ q. slice_index_or (words_from q k.length k (channel_at s c)) n 0) e) ∙ sym (ap (λ xs. slice_index_or xs n 0) (all_is d fits below r c k i s))
+  write_steps below chip w s (write.Fill r b n v) o y t m (h, ((c, k, Is_this_frame, i), lt, less)) =
+      subst (λ q. AssertedAt (spi_basis d) (write_bodies d) below (chip_after chip (Store (bank_word r.placed Sent b n) v) y) w s (if q then write_from r b (n + 1) else write.Shut r b) (Called (asks c r.source)) fresh_history) (sym (few n (omega (arith, less, width, small))))
+      (onward d fits below (chip_after chip (Store (bank_word r.placed Sent b n) v) y) w s r b (n + 1) c k i lt (omega (arith, less, width))
+      (subst (λ x. SpiRepresents d (holding d fits below r c k i b (n + 1) None) (chip_after chip (Store (bank_word x Sent b n) v) y) w s) (sym i.placed) (filled_now d fits below chip w s r c k i b n v h (omega (arith, less, width)))))
+    where
+      width : r.placed.channel.length ≡ k.length
+      width = len d fits below r c k i
+
+      small : k.length ≤ 64
+      small = (fits.channels c k i.known).few
+
+      few : (n : ℕ) → n < 255 → nat_lt n 255 ≡ true
+      few n lt = grind (arith, nat_tests)
+  write_steps below chip w s (write.Shut r b) o y t m (h, ((c, k, Is_this_frame, i), lt)) = (apart_agrees d fits _ chip w s Mask y refl h, ((c, k, Is_this_frame, i), lt, (refl, refl)))
+  write_steps below chip w s (write.Commit r b (puts.Commit j n)) o y t m (h, (writing, lt, (at, is))) = (h, (writing, lt, (at, ap (λ z. z % 4 + 4 * (word_of chip j / 4)) is)))
+  write_steps below chip w s (write.Commit r b (puts.Tell j v)) o y t m (h, ((c, k, Is_this_frame, i), lt, (at, is))) = record {
+    may = refl;
+    stands = tt;
+    state = with_channel s c (written_from r.source (channel_of d c) (channel_at s c));
+    told = answers (named EOk);
+    begins = None;
+    is = ap (λ off. Some (acts_by d s (asks c r.source) (error_by d (asks c r.source) off false))) h.right.0.2 ∙ ap (λ e. Some (acts_by d s (asks c r.source) e)) i.clear;
+    sends = tt;
+    acts = tt;
+    reset = refl;
+    next = (subst (λ z. SpiRepresents d below (chip_after chip (Store z v) y) w (with_channel s c (written_from r.source (channel_of d c) (channel_at s c)))) (sym same) (subst (λ n. SpiRepresents d below (chip_after chip (Store (banks d fits below r c k i).control n) y) w (with_channel s c (written_from r.source (channel_of d c) (channel_at s c)))) (sym (is ∙ ap (λ z. b % 4 + 4 * (word_of chip z / 4)) same)) (committed_now d fits below chip w s r c k i b whole)), record { may = (refl, refl); served = false; owed = refl; shown = λ e. absurd (cc); report = refl });
+  }
+    where
+      same : j ≡ (banks d fits below r c k i).control
+      same = at ∙ control d fits below r c k i
+
+      whole : SpiRepresents d (holding d fits below r c k i b k.length None) chip w s
+      whole = subst (λ n. SpiRepresents d (holding d fits below r c k i b n None) chip w s) (len d fits below r c k i) h
+  write_steps below chip w s (write.Commit r b (puts.Choose j)) o y t m (h, (writing, lt, at)) = absurd at
+  write_steps below chip w s (write.Commit r b (puts.Fill j v)) o y t m (h, (writing, lt, at)) = absurd at
+
+-- ---- the bodies
+
+pub put_less : (p : Put) (v : ℕ) → has_ended (put_gave p v) ≡ false → put_more (put_left p v) < put_more p
+put_less (puts.Choose c) v e = absurd (cc)
+put_less (puts.Fill k x) v e = absurd (cc)
+put_less (puts.Commit c b) v e = omega arith
+put_less (puts.Tell c x) v e = absurd (cc)
+
+from_less : (r : Written) (b n m : ℕ) → 3 < m → (n < r.placed.channel.length → 5 + 2 * (r.placed.channel.length - n) < m) → write_fuel (write_from r b n) < m
+from_less r b n m many more = by (nat_lt n r.placed.channel.length) refl
+  where
+    words : (p : Pointer) → n < r.placed.channel.length → write_fuel (word_by p r b n) < m
+    words Users lt = more lt
+    words Null lt = let l = more lt in omega (arith, l)
+
+    by : (q : Bool) → nat_lt n r.placed.channel.length ≡ q → write_fuel (if q then word_by r.source r b n else write.Shut r b) < m
+    by true e = words r.source (is_below n r.placed.channel.length e)
+    by false e = omega (arith, many)
+
+write_less : (k : WriteBody) (x : ℕ) → Shortens write_fuel k (write_takes k x)
+write_less (write.Choose r) x = omega arith
+write_less (write.Opens r b) x = from_less r b 0 (6 + 2 * r.placed.channel.length) (omega arith) (λ lt. omega arith)
+write_less (write.Load r b n) x = omega arith
+write_less (write.Fill r b n v) x = by (nat_lt n 255)
+  where
+    by : (q : Bool) → write_fuel (if q then write_from r b (n + 1) else write.Shut r b) < 4 + 2 * (r.placed.channel.length - n)
+    by true = from_less r b (n + 1) (4 + 2 * (r.placed.channel.length - n)) (omega arith) (λ lt. omega (arith, lt))
+    by false = omega arith
+write_less (write.Shut r b) x = omega arith
+write_less (write.Commit r b p) x = by (has_ended (put_gave p x)) refl
+  where
+    by : (q : Bool) → has_ended (put_gave p x) ≡ q → Shortens write_fuel (write.Commit r b p) (write_commits r b p x q)
+    by true e = omega arith
+    by false e = let lt = put_less p x e in omega (arith, lt)
+
+module _ (d : SpiTable) where
+  from_open : (r : Written) (b n : ℕ) → is_closed (write_spot d (write_from r b n)) ≡ false
+  from_open r b n = by (nat_lt n r.placed.channel.length) r.source
+    where
+      by : (q : Bool) (p : Pointer) → is_closed (write_spot d (if q then word_by p r b n else write.Shut r b)) ≡ false
+      by true Users = refl
+      by true Null = refl
+      by false p = refl
+
+  write_turns : (k : WriteBody) (x : ℕ) → TurnsTo (write_bodies d) 32 k (write_takes k x)
+  write_turns (write.Choose r) x = (refl, omega arith)
+  write_turns (write.Opens r b) x = (refl, from_open r b 0, refl, refl)
+  write_turns (write.Load r b n) x = refl
+  write_turns (write.Fill r b n v) x = by (nat_lt n 255)
+    where
+      by : (q : Bool) → is_closed (write_spot d (if q then write_from r b (n + 1) else write.Shut r b)) ≡ false
+      by true = from_open r b (n + 1)
+      by false = refl
+  write_turns (write.Shut r b) x = (refl, refl, omega arith, refl, refl)
+  write_turns (write.Commit r b (puts.Commit c n)) x = (refl, omega arith)
+  write_turns (write.Commit r b (puts.Tell c v)) x = omega arith
+  write_turns (write.Commit r b (puts.Choose c)) x = omega arith
+  write_turns (write.Commit r b (puts.Fill c v)) x = omega arith
+
+  module _ (fits : FitsSpi d) where
+    own_control_of : (below : Reservations) (r : Written) (c : ℕ) (k : Channel) → IsWriter d r below c k → is_own_word d (control_word r.placed Sent) ≡ true
+    own_control_of below r c k i = ap (λ x. is_own_word d (control_word x Sent)) i.placed ∙ own_banks d fits c k i.known i.internal Sent _ (own-control (trio_of (placed_of d c) Sent))
+
+    write_own : (below : Reservations) (chip : Chip) (w : World) (s : SpiState) (k : WriteBody) (o : Origin Call) (t : FrameHistory) → AssertedAt (spi_basis d) (write_bodies d) below chip w s k o t → is_shared (write_work k) || may d (write_work k) ≡ true
+    write_own below chip w s (write.Choose r) o t (h, ((c, k, being, i), on)) = may_store d fits _ 0 (own_control_of below r c k i)
+    write_own below chip w s (write.Opens r b) o t h = refl
+    write_own below chip w s (write.Load r b n) o t (h, ((c, k, being, i), lt, less, e)) =
+        ap (λ x. may d (Load (source_word x n))) i.placed ∙ may_users d fits (place_of (Source c) n) (source_own d fits c n (subst (λ z. n < length_by z) (sym i.known) (let width = len d fits below r c k i in omega (arith, less, width))))
+        (let few = (fits.channels c k i.known).few in let width = len d fits below r c k i in let small = of_sixteen d c k fits i.known in omega (arith, less, few, width, small))
+    write_own below chip w s (write.Fill r b n v) o t (h, ((c, k, being, i), lt, less)) =
+        may_store d fits _ v (ap (λ x. is_own_word d (bank_word x Sent b n)) i.placed ∙ own_banks d fits c k i.known i.internal Sent _ (own-word (trio_of (placed_of d c) Sent) b n lt (let width = len d fits below r c k i in let n1 = ap (λ x. x.length) (has_channel d fits c k i.known) in omega (arith, less, width, n1))))
+    write_own below chip w s (write.Shut r b) o t h = refl
+    write_own below chip w s (write.Commit r b (puts.Commit j n)) o t (h, ((c, k, being, i), lt, (at, is))) = may_store d fits j 0 (ap (is_own_word d) at ∙ own_control_of below r c k i)
+    write_own below chip w s (write.Commit r b (puts.Tell j v)) o t (h, ((c, k, being, i), lt, (at, is))) = may_store d fits j v (ap (is_own_word d) at ∙ own_control_of below r c k i)
+    write_own below chip w s (write.Commit r b (puts.Choose j)) o t (h, (writing, lt, at)) = absurd at
+    write_own below chip w s (write.Commit r b (puts.Fill j v)) o t (h, (writing, lt, at)) = absurd at
+
+    write_later : (below : Reservations) (chip : Chip) (w : World) (s : SpiState) (order : Order) (k : WriteBody) (o : Origin Call) (t : FrameHistory) → AssertedAt (spi_basis d) (write_bodies d) below chip w s k o t → place_at (write_spot d k) below ((spi_basis d).foot (happened chip order)) (world_after w chip.clock.rate order) (moved d w s order) o t
+    write_later below chip w s order (write.Choose r) o t (h, (writing, on)) = (writing, ap is_off (mode_later d w s order) ∙ on)
+    write_later below chip w s order (write.Opens r b) o t (h, place) = place
+    write_later below chip w s order (write.Load r b n) o t (h, place) = place
+    write_later below chip w s order (write.Fill r b n v) o t (h, place) = place
+    write_later below chip w s order (write.Shut r b) o t (h, place) = place
+    write_later below chip w s order (write.Commit r b (puts.Commit j n)) o t (h, place) = place
+    write_later below chip w s order (write.Commit r b (puts.Tell j v)) o t (h, ((c, k, being, i), lt, (at, is))) =
+        ((c, k, being, i), lt, (at, is ∙ ap (λ n. b % 4 + 4 * (n / 4)) (sym (word_later chip order j h.outside.all.words (own_low d fits j (ap (is_own_word d) at ∙ own_control_of below r c k i))))))
+    write_later below chip w s order (write.Commit r b (puts.Choose j)) o t (h, (writing, lt, at)) = absurd at
+    write_later below chip w s order (write.Commit r b (puts.Fill j v)) o t (h, (writing, lt, at)) = absurd at
+
+    pub write_right : AreLong (spi_basis d) (write_bodies d)
+    write_right = record {
+      own = write_own;
+      turns = λ below chip w s k o t h. write_turns k (value_of chip (write_work k));
+      steps = λ below chip w s k o y t m come few h. write_steps d fits below chip w s k o y t m h;
+      later = λ below chip w s order k o t come shut h. write_later below chip w s order k o t h;
+      calm = λ below chip w s k o t h e. calm k;
+      shortens = write_less;
+      cleans = λ k x. never_clean (write_work k) k (write_takes k x);
+    }
+      where
+        calm : (k : WriteBody) → (resets_chip (write_work k) ≡ false) × (begins_word (write_work k) ≡ false)
+        calm (write.Choose r) = (refl, refl)
+        calm (write.Opens r b) = (refl, refl)
+        calm (write.Load r b n) = (refl, refl)
+        calm (write.Fill r b n v) = (refl, refl)
+        calm (write.Shut r b) = (refl, refl)
+        calm (write.Commit r b (puts.Commit j n)) = (refl, refl)
+        calm (write.Commit r b (puts.Tell j v)) = (refl, refl)
+        calm (write.Commit r b (puts.Choose j)) = (refl, refl)
+        calm (write.Commit r b (puts.Fill j v)) = (refl, refl)

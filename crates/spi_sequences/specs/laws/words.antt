@@ -1,0 +1,11 @@
+pub mod ConfigurationFits
+pub mod FirstParts
+pub mod JobPlaces
+pub mod KeptWords
+pub mod NumbersApart
+pub mod PendingWords
+pub mod SameWords
+pub mod SequenceDigits
+pub mod SideWords
+pub mod WordsOfModule
+pub mod WordsToState

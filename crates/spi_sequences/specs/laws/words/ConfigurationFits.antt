@@ -1,0 +1,52 @@
+-- What a driver that is made of a configuration has by its form: its rows.
+use Rattle.std.proofs.Common.{◌≡◌, ◌==◌, [], ◌∷◌, if◌then◌else◌}
+use Rattle.spi_sequences.specs.Terms
+use Terms.{Bool, false, is_some, Job, job_in, job_of, jobs_by_number, length, List, None, Option, refl, same_Some}
+use Terms.{Sequence, sequence_in, sequence_of, sequences_by_number, slice_index_or, Some, SpiConfig, SpiJob}
+use Terms.{SpiSequence, subst, suc, table_of, taken_job, taken_sequence, true, zero, ℕ}
+
+-- each configured item of a row is so
+abbrev pub AllSo : {A : Type 0} → (A → Type 0) → List (Option A) → Type 0
+AllSo {A = A} P [] = Unit {0}
+AllSo {A = A} P (o ∷ os) = ((k : A) → o ≡ Some k → P k) × AllSo P os
+
+pub so_at : {A : Type 0} (P : A → Type 0) (os : List (Option A)) → AllSo P os → (i : ℕ) (k : A) → slice_index_or os i None ≡ Some k → P k
+so_at P [] all i k e = absurd (cc)
+so_at P (o ∷ os) all zero k e = all.0 k e
+so_at P (o ∷ os) all (suc i) k e = so_at P os all.1 i k e
+
+-- one that is there
+pub some_of : {A : Type 0} (k : Option A) → is_some k ≡ true → (x : A) × (k ≡ Some x)
+some_of None e = absurd (cc)
+some_of (Some x) e = (x, refl)
+
+abbrev JobRow : Job → Type 0
+JobRow k = length k.channels.numbers ≡ 4
+
+abbrev SequenceRow : Sequence → Type 0
+SequenceRow k = length k.jobs.numbers ≡ 16
+
+job_row_in : (xs : List SpiJob) (j : ℕ) (k : Job) → job_in xs j ≡ Some k → JobRow k
+job_row_in [] j k e = absurd (cc)
+job_row_in (x ∷ xs) j k e = by (x.id == j) e (λ f. job_row_in xs j k f)
+  where
+    by : (q : Bool) → (if q then Some (taken_job x) else job_in xs j) ≡ Some k → (job_in xs j ≡ Some k → JobRow k) → JobRow k
+    by true f rest = subst JobRow (same_Some (taken_job x) k f) refl
+    by false f rest = rest f
+
+sequence_row_in : (xs : List SpiSequence) (q : ℕ) (k : Sequence) → sequence_in xs q ≡ Some k → SequenceRow k
+sequence_row_in [] q k e = absurd (cc)
+sequence_row_in (x ∷ xs) q k e = by (x.id == q) e (λ f. sequence_row_in xs q k f)
+  where
+    by : (b : Bool) → (if b then Some (taken_sequence x) else sequence_in xs q) ≡ Some k → (sequence_in xs q ≡ Some k → SequenceRow k) → SequenceRow k
+    by true f rest = subst SequenceRow (same_Some (taken_sequence x) k f) refl
+    by false f rest = rest f
+
+pub job_row : (g : SpiConfig) (j : ℕ) (k : Job) → job_of (table_of g) j ≡ Some k → length k.channels.numbers ≡ 4
+job_row g j k e = let r = job_row_in g.jobs in so_at JobRow (jobs_by_number g.jobs) (r 0, (r 1, (r 2, (r 3, (r 4, (r 5, (r 6, (r 7, (r 8, (r 9, (r 10, (r 11, (r 12, (r 13, (r 14, (r 15, tt)))))))))))))))) j k e
+
+pub sequence_row : (g : SpiConfig) (q : ℕ) (k : Sequence) → sequence_of (table_of g) q ≡ Some k → length k.jobs.numbers ≡ 16
+sequence_row g q k e = let r = sequence_row_in g.sequences in so_at SequenceRow (sequences_by_number g.sequences) (r 0, (r 1, (r 2, (r 3, (r 4, (r 5, (r 6, (r 7, tt)))))))) q k e
+
+pub rows : (g : SpiConfig) → (length (table_of g).channels ≡ 16) × (length (table_of g).jobs ≡ 16) × (length (table_of g).sequences ≡ 8) × (length (table_of g).blocks ≡ 16)
+rows g = (refl, refl, refl, refl)

@@ -1,0 +1,144 @@
+-- Jobs by their places in a sequence, and the places that are left of a pending one.
+-- From words.WordsToState, hardware.SourceFilled.
+-- Used by services.QueryRight, bookkeeping.SequenceEnded, bookkeeping.AcceptedState, services.CancelRight and 2 more.
+use Rattle.std.proofs.Common.{◌≡◌, ◌≢◌, ◌+◌, ◌-◌, ◌<◌, ◌≤◌, ◌==◌, ◌∙◌, if◌then◌else◌}
+use Rattle.spi_sequences.specs.Terms
+use Terms.{ap, arith, Bool, Contains, Contains-get_or, drop, false, FitsSpi, get_or-drop, get_or-take, get_or_default}
+use Terms.{is_on_unit, Job, job_at_place, job_number, job_of, jobs_by, jobs_list, jobs_of, length, length-drop}
+use Terms.{length-take-le, List, list_any, nat_lt, nat_tests, None, Option, or_else, place_before, place_in, refl}
+use Terms.{Sequence, sequence_of, slice_get, slice_index_or, Some, SpiTable, subst, suc, sym, true, unit_by}
+use Terms.{unit_of_sequence, zero, ℕ}
+use Rattle.spi_sequences.specs.laws.hardware.SourceFilled.{any_in}
+use Rattle.spi_sequences.specs.laws.words.WordsToState.{any_some, at_contained, is_number, same_number}
+use Rattle.spi_machine.specs.Wiring as wiring
+
+-- ---- what is left of a list
+
+pub left_at : (xs : List ℕ) (n i j : ℕ) → i < length xs → n ≤ i → slice_index_or xs i 0 ≡ j → list_any (λ k. k == j) (drop n xs) ≡ true
+left_at xs n i j lt le e = any_in (λ k. k == j) (drop n xs) j (i - n, less, at) (same_number j)
+  where
+    less : i - n < length (drop n xs)
+    less = let rest = length-drop n xs in omega (arith, rest, lt, le)
+
+    back : n + (i - n) ≡ i
+    back = omega (arith, le)
+
+    at : slice_index_or (drop n xs) (i - n) j ≡ j
+    at = get_or-drop n xs (i - n) j ∙ ap (λ k. slice_index_or xs k j) back ∙ get_or_default xs i j 0 lt ∙ e
+
+-- it stands at a place that is left
+pub record LeftAt (xs : List ℕ) (n j : ℕ) : Type 0 where
+  pub place : ℕ
+  pub from : n ≤ place
+  pub within : place < length xs
+  pub is : slice_index_or xs place 0 ≡ j
+
+pub at_left : (xs : List ℕ) (n j : ℕ) → list_any (λ k. k == j) (drop n xs) ≡ true → LeftAt xs n j
+at_left xs n j e = by (any_some (λ k. k == j) (drop n xs) e)
+  where
+    by : (x : ℕ) × Contains (drop n xs) x × ((x == j) ≡ true) → LeftAt xs n j
+    by (x, (k, lt, at), is) =
+        let rest = length-drop n xs in
+        record { place = n + k; from = omega arith; within = omega (arith, rest, lt); is = sym (get_or-drop n xs k 0) ∙ get_or_default (drop n xs) k 0 x lt ∙ at ∙ is_number x j is }
+
+-- ---- places among the jobs of a sequence
+
+found_before : (xs : List ℕ) (j n i : ℕ) → place_before xs j n ≡ Some i → (i < n) × (slice_index_or xs i 0 ≡ j)
+found_before xs j zero i e = absurd (cc)
+found_before xs j (suc n) i e = by (slice_index_or xs n 0 == j) refl e (found_before xs j n i)
+  where
+    by : (q : Bool) → (slice_index_or xs n 0 == j) ≡ q → (if q then Some n else place_before xs j n) ≡ Some i → (place_before xs j n ≡ Some i → (i < n) × (slice_index_or xs i 0 ≡ j)) → (i < suc n) × (slice_index_or xs i 0 ≡ j)
+    by true f g rest = let same : n ≡ i = cc in (omega (arith, same), ap (λ k. slice_index_or xs k 0) (sym same) ∙ is_number (slice_index_or xs n 0) j f)
+    by false f g rest = let r = rest g in let lt = r.0 in (omega (arith, lt), r.1)
+
+missing_before : (xs : List ℕ) (j n i : ℕ) → place_before xs j n ≡ None → i < n → slice_index_or xs i 0 ≢ j
+missing_before xs j zero i e lt f = absurd (omega (arith, lt))
+missing_before xs j (suc n) i e lt f = by (slice_index_or xs n 0 == j) refl e (λ g less. missing_before xs j n i g less f)
+  where
+    by : (q : Bool) → (slice_index_or xs n 0 == j) ≡ q → (if q then Some n else place_before xs j n) ≡ None → (place_before xs j n ≡ None → i < n → ⊥) → ⊥
+    by true g h rest = cc
+    by false g h rest = last (nat_lt i n) refl
+      where
+        unlike : (a b : ℕ) → (a == b) ≡ false → a ≡ b → ⊥
+        unlike a b u v = grind (arith, nat_tests)
+
+        last : (b : Bool) → nat_lt i n ≡ b → ⊥
+        last true u = rest h (below i n u)
+          where
+            below : (i n : ℕ) → nat_lt i n ≡ true → i < n
+            below i n u = grind (arith, nat_tests)
+        last false u = unlike (slice_index_or xs n 0) j g (ap (λ k. slice_index_or xs k 0) (sym (at i n lt u)) ∙ f)
+          where
+            at : (i n : ℕ) → i < suc n → nat_lt i n ≡ false → i ≡ n
+            at i n lt u = grind (arith, nat_tests)
+
+module _ (d : SpiTable) (fits : FitsSpi d) (q : ℕ) where
+  -- the list that a frame reads has its jobs
+  pub record Listed : Type 0 where
+    pub count : length (jobs_of d q) ≡ (jobs_list d q).count
+    pub at : (i : ℕ) → i < (jobs_list d q).count → slice_index_or (jobs_of d q) i 0 ≡ slice_index_or (jobs_list d q).numbers i 0
+
+  listed_by : (k : Option Sequence) → sequence_of d q ≡ k → (length (jobs_by k) ≡ (wiring.jobs_by k).count) × ((i : ℕ) → i < (wiring.jobs_by k).count → slice_index_or (jobs_by k) i 0 ≡ slice_index_or (wiring.jobs_by k).numbers i 0)
+  listed_by None e = (refl, λ i lt. absurd (omega (arith, lt)))
+  listed_by (Some k) e =
+      let f = fits.sequences q k e in
+      let few = f.few in
+      let row = f.row in
+      (length-take-le k.jobs.count k.jobs.numbers (omega (arith, few, row)), λ i lt. get_or-take k.jobs.count k.jobs.numbers i 0 lt)
+
+  pub listed : Listed
+  listed = let l = listed_by (sequence_of d q) refl in record { count = l.0; at = l.1 }
+
+  pub place_found : (j i : ℕ) → place_in (jobs_list d q) j ≡ Some i → (i < length (jobs_of d q)) × (slice_index_or (jobs_of d q) i 0 ≡ j)
+  place_found j i e = let r = found_before (jobs_list d q).numbers j (jobs_list d q).count i e in let l = listed in (subst (λ n. i < n) (sym l.count) r.0, l.at i r.0 ∙ r.1)
+
+  pub place_missing : (j i : ℕ) → place_in (jobs_list d q) j ≡ None → i < length (jobs_of d q) → slice_index_or (jobs_of d q) i 0 ≢ j
+  place_missing j i e lt f = let l = listed in let less : i < (jobs_list d q).count = subst (λ n. i < n) l.count lt in missing_before (jobs_list d q).numbers j (jobs_list d q).count i e less (sym (l.at i less) ∙ f)
+
+  -- a job has one place
+  pub one_place : (i k : ℕ) → i < length (jobs_of d q) → k < length (jobs_of d q) → slice_index_or (jobs_of d q) i 0 ≡ slice_index_or (jobs_of d q) k 0 → i ≡ k
+  one_place i k lt less e = by (sequence_of d q) refl
+    where
+      get_at : (n : ℕ) → n < length (jobs_of d q) → slice_get (jobs_of d q) n ≡ Some (slice_index_or (jobs_of d q) n 0)
+      get_at n few = at_contained (jobs_of d q) n (slice_index_or (jobs_of d q) n 0) few (get_or_default (jobs_of d q) n (slice_index_or (jobs_of d q) n 0) 0 few)
+
+      by : (o : Option Sequence) → sequence_of d q ≡ o → i ≡ k
+      by None f = absurd (let none : length (jobs_of d q) ≡ 0 = ap (λ o. length (jobs_by o)) f in omega (arith, lt, none))
+      by (Some x) f = (fits.sequences q x f).once i k (slice_index_or (jobs_of d q) i 0) (get_at i lt) (get_at k less ∙ ap (λ n. Some n) (sym e))
+
+  -- ---- the unit
+
+  pub number_there : (i : ℕ) → job_number (jobs_list d q) i ≡ slice_get (jobs_of d q) i
+  number_there i = by (sequence_of d q)
+    where
+      by : (o : Option Sequence) → job_number (wiring.jobs_by o) i ≡ slice_get (jobs_by o) i
+      by None = refl
+      by (Some k) = refl
+
+  -- the job at a place
+  pub job_place : (i : ℕ) → i < length (jobs_of d q) → job_at_place d q i ≡ slice_index_or (jobs_of d q) i 0
+  job_place i lt = ap (or_else 0) (number_there i ∙ at_contained (jobs_of d q) i (slice_index_or (jobs_of d q) i 0) lt (get_or_default (jobs_of d q) i (slice_index_or (jobs_of d q) i 0) 0 lt))
+
+  pub unit_few : unit_of_sequence d q < 2
+  unit_few = by (job_of d (job_at_place d q 0))
+    where
+      by : (o : Option Job) → unit_by o < 2
+      by None = omega arith
+      by (Some k) = omega arith
+
+  -- its jobs are for its unit
+  pub job_unit : (i : ℕ) → i < length (jobs_of d q) → is_on_unit (unit_of_sequence d q) (job_of d (slice_index_or (jobs_of d q) i 0)) ≡ true
+  job_unit i lt = by (sequence_of d q) refl
+    where
+      by : (o : Option Sequence) → sequence_of d q ≡ o → is_on_unit (unit_of_sequence d q) (job_of d (slice_index_or (jobs_of d q) i 0)) ≡ true
+      by None e = absurd (let none : length (jobs_of d q) ≡ 0 = ap (λ o. length (jobs_by o)) e in omega (arith, lt, none))
+      by (Some k) e =
+          let f = fits.sequences q k e in
+          let first = Contains-get_or (jobs_of d q) 0 0 (omega (arith, lt)) in
+          let own = Contains-get_or (jobs_of d q) i 0 lt in
+          let a = f.there (slice_index_or (jobs_of d q) 0 0) first in
+          let b = f.there (slice_index_or (jobs_of d q) i 0) own in
+          let same = f.unit (slice_index_or (jobs_of d q) 0 0) (slice_index_or (jobs_of d q) i 0) a.1 b.1 first own a.2 b.2 in
+          let small = (fits.jobs (slice_index_or (jobs_of d q) 0 0) a.1 a.2).unit in
+          let unit : unit_of_sequence d q ≡ a.1.unit = ap (λ j. unit_by (job_of d j)) (job_place 0 (omega (arith, lt))) ∙ ap unit_by a.2 ∙ omega (arith, small) in
+          ap (is_on_unit (unit_of_sequence d q)) b.2 ∙ ap (λ n. b.1.unit == n) (unit ∙ same) ∙ same_number b.1.unit

@@ -1,0 +1,134 @@
+-- Words of sequences, jobs and orders change with what is pending; the rest of the agreement stays.
+-- From words.WordsOfModule, words.SameWords, hardware.AfterReset, words.KeptWords, words.WordsToState and 1 more.
+-- Used by services.CancelRight, services.RequestRight, bookkeeping.ClearedUnit.
+use Rattle.std.proofs.Common.{◌≡◌, ◌+◌, ◌<◌, ◌≤◌, ◌∷◌, ◌∙◌}
+use Rattle.spi_sequences.specs.Terms
+use Terms.{AllRight, AnswerName, ap, AreOwed, arith, BanksAgree, Bool, Call, Channel, channel_of, Chip, Contains, Debt}
+use Terms.{Destination, DiffersIn, false, FitsSpi, flat_map-cons, Going, has_bit, held_word, idle, is_off, IsSoundState}
+use Terms.{length, List, Memory, None, Option, Pending, place_of, placed_of, position_word, prepares, put_held}
+use Terms.{PutRight, readied_by, readied_in, refl, Reservation, Reservations, ReservedBy, run_at, RunAgrees}
+use Terms.{running_word, RunsNext, SequencesAgree, set_up_word, slice_index, slice_index_or, Some, Source, source_word}
+use Terms.{SpiRepresents, SpiState, SpiTable, StandsIn, STATE, stored_by, stored_in, subst, sym, take_held, true}
+use Terms.{UnitAgrees, View, view, word_of, World, ℕ}
+use Rattle.spi_sequences.specs.laws.{words.SameWords.{banks_words, going_words}, hardware.AfterReset.{none_in}}
+use Rattle.spi_sequences.specs.laws.{words.KeptWords.{banks_view}, words.WordsOfModule.{of_banks, of_held, of_set_up}}
+use Rattle.spi_sequences.specs.laws.{words.WordsOfModule.{past_the_first}, words.WordsToState.{going_next}}
+use Rattle.spi_sequences.specs.laws.{services.SetUpRight.{none_stored}}
+
+-- frames that hold the same of channels
+pub record HoldsLike (d : SpiTable) (held held1 : Reservations) : Type 0 where
+  pub puts : (sources : ℕ → List ℕ) (n : ℕ) (r : Bool) → put_held d sources n r held1 ≡ put_held d sources n r held
+  pub takes : (n : ℕ) → take_held n held1 ≡ take_held n held
+  pub prepares : prepares held1 ≡ prepares held
+  pub readied : readied_in held1 ≡ readied_in held
+  pub stored : stored_in held1 ≡ stored_in held
+
+pub holds_back : (d : SpiTable) (held held1 : Reservations) → HoldsLike d held held1 → HoldsLike d held1 held
+holds_back d held held1 h = record { puts = λ sources n r. sym (h.puts sources n r); takes = λ n. sym (h.takes n); prepares = sym h.prepares; readied = sym h.readied; stored = sym h.stored }
+
+pub holds_same : (d : SpiTable) (held : Reservations) → HoldsLike d held held
+holds_same d held = record { puts = λ sources n r. refl; takes = λ n. refl; prepares = refl; readied = refl; stored = refl }
+
+-- a frame that owes a start holds nothing of them
+pub holds_debt : (d : SpiTable) (x : ReservedBy Call Reservation) (u : ℕ) (held : Reservations) → x.what ≡ Debt u → HoldsLike d held (x ∷ held)
+holds_debt d x u held e = subst (λ y. HoldsLike d held (record { by = x.by; what = y; acted = x.acted } ∷ held)) (sym e) (record {
+  puts = λ sources n r. refl;
+  takes = λ n. refl;
+  prepares = refl;
+  readied = flat_map-cons (λ h. readied_by h.what) (record { by = x.by; what = Debt u; acted = x.acted }) held;
+  stored = flat_map-cons (λ h. stored_by h.what) (record { by = x.by; what = Debt u; acted = x.acted }) held;
+})
+
+pub banks_held : (d : SpiTable) (held held1 : Reservations) (going : ℕ → Option Going) (m : Memory) (v : View) (c : ℕ) (k : Channel) → HoldsLike d held held1 → BanksAgree d held going m v c k → BanksAgree d held1 going m v c k
+banks_held d held held1 going m v c k b h = record {
+  sent = h.sent;
+  sends = h.sends;
+  written = λ none. h.written (sym b.prepares ∙ none);
+  readied_sent = λ is. h.readied_sent (subst (λ xs. Contains xs (c, false)) b.readied is);
+  pinned = h.pinned;
+  writes = h.writes ∙ sym (b.puts v.sources c false);
+  received = h.received;
+  receives = h.receives;
+  readable = λ none. h.readable (sym b.prepares ∙ none);
+  readied_received = λ is. h.readied_received (subst (λ xs. Contains xs (c, true)) b.readied is);
+  reads = h.reads ∙ sym (b.takes c);
+  keeps = subst (λ o. PutRight going m (placed_of d c) o h.received.put) (sym (b.puts v.sources c true)) h.keeps;
+}
+
+-- what is held changes alone
+pub holds_changed : (d : SpiTable) (held held1 : Reservations) (chip : Chip) (w : World) (s : SpiState) (h : SpiRepresents d held chip w s) → HoldsLike d held held1 → AllRight d s.mode s.channels held1 → AreOwed d held1 h.going s → SpiRepresents d held1 chip w s
+holds_changed d held held1 chip w s h like right owed = record {
+  right = right;
+  outside = h.outside;
+  wired = h.wired;
+  size = h.size;
+  sound = h.sound;
+  going = h.going;
+  nexts = h.nexts;
+  units = h.units;
+  words = record {
+    state = h.words.state;
+    on = h.words.on;
+    banks = λ c k known internal. banks_held d held held1 h.going (word_of chip) (view s) c k like (h.words.banks c k known internal);
+    stored = λ j v is. h.words.stored j v (subst (λ xs. Contains xs (j, v)) like.stored is);
+  };
+  set_ups = h.set_ups;
+  sizes = h.sizes;
+  arrays = h.arrays;
+  lines = h.lines;
+  owed = owed;
+}
+
+-- a chip that differs in driver words stands in the world
+pub stands_owed : (own : ℕ → Bool) (chip c : Chip) (w : World) → DiffersIn own chip c → StandsIn chip w → StandsIn c w
+stands_owed own chip c w differs h = subst (λ x. StandsIn x w) (sym differs.rest) (record {
+  all = record { words = differs.whole; ram = h.all.ram; outside = h.all.outside; incoming = h.all.incoming; timers = h.all.timers; inputs = h.all.inputs; sources = h.all.sources };
+  together = record { pulses = h.together.pulses; captures = h.together.captures; converters = h.together.converters; serials = h.together.serials };
+  osc = h.osc;
+  now = h.now;
+  levels = h.levels;
+  analog = h.analog;
+  past = h.past;
+})
+
+-- the state with other sequences pending
+abbrev pub with_pending : SpiState → List Pending → ℕ → (sequence_results job_results : List AnswerName) → SpiState
+with_pending s ps n qs js = record s { pending = ps; requests = n; sequence_results = qs; job_results = js }
+
+module _ (d : SpiTable) (fits : FitsSpi d) (below held1 : Reservations) (chip chip1 : Chip) (w : World) (s : SpiState) (h : SpiRepresents d below chip w s) (on : is_off s.mode ≡ false) (like : HoldsLike d below held1)
+    (outside : StandsIn chip1 w) (wiring : chip1.wiring ≡ chip.wiring) (units : chip1.serials.units ≡ chip.serials.units) (control : chip1.control ≡ chip.control)
+    (above : (j : ℕ) → STATE + 64 ≤ j → word_of chip1 j ≡ word_of chip j) (state : word_of chip1 STATE ≡ word_of chip STATE) (runs : (u : ℕ) → u < 2 → (word_of chip1 (running_word u) ≡ word_of chip (running_word u)) × (word_of chip1 (position_word u) ≡ word_of chip (position_word u)))
+    (ps : List Pending) (n : ℕ) (qs js : List AnswerName) where
+  abbrev later : SpiState
+  later = with_pending s ps n qs js
+
+  run_kept : (u : ℕ) → u < 2 → (g : Option Going) → h.going u ≡ g → RunAgrees d (word_of chip) u g → RunAgrees d (word_of chip1) u g
+  run_kept u lt None e r = (runs u lt).0 ∙ r
+  run_kept u lt (Some g) e r = going_words d fits u (word_of chip) (word_of chip1) g (going_next d fits below chip w s h u g lt e).2 (runs u lt).0 (runs u lt).1
+      (λ c x known. above (held_word (placed_of d c)) (past_the_first d c x _ (fits.channels c x known) (of_held d fits c x known))) (λ n x c i at known few. above (source_word (placed_of d x.channel) i) (omega arith)) r
+
+  pub firsts_changed : AllRight d s.mode s.channels held1 → IsSoundState d (view later) → ((u : ℕ) → u < 2 → RunsNext d (view later) u (h.going u)) → SequencesAgree d (word_of chip1) (view later) → AreOwed d held1 h.going later → SpiRepresents d held1 chip1 w later
+  firsts_changed right sound nexts sequences owed = record {
+    right = right;
+    outside = outside;
+    wired = λ c lt. ap (λ x. slice_index x.sources c) wiring ∙ h.wired c lt;
+    size = ap length units ∙ h.size;
+    sound = sound;
+    going = h.going;
+    nexts = nexts;
+    units = λ u lt. subst (λ xs. UnitAgrees d (slice_index_or xs u idle) (run_at s u) (h.going u)) (sym units) (h.units u lt);
+    words = record {
+      state = state ∙ h.words.state;
+      on = λ still. record { sequences = sequences; runs = λ u lt. run_kept u lt (h.going u) refl ((h.words.on on).runs u lt) };
+      banks = λ c x known internal. banks_view d held1 h.going (word_of chip1) (view s) (view later) c x refl refl (λ r. refl) (banks_held d below held1 h.going (word_of chip1) (view s) c x like (banks_kept c x known internal));
+      stored = λ j v is. absurd (none_in (j, v) (subst (λ xs. Contains xs (j, v)) (like.stored ∙ none_stored d s.mode s.channels below on h.right) is));
+    };
+    set_ups = λ still c x known external. above (set_up_word (placed_of d c)) (past_the_first d c x _ (fits.channels c x known) (of_set_up d fits c x known)) ∙ h.set_ups on c x known external;
+    sizes = λ still. h.sizes on;
+    arrays = λ c. record { source = λ i lt. above (place_of (Source c) i) (omega arith) ∙ (h.arrays c).source i lt; destination = λ i lt. above (place_of (Destination c) i) (omega arith) ∙ (h.arrays c).destination i lt };
+    lines = λ u lt. ap (λ x. has_bit x.enabled (26 + u)) control ∙ h.lines u lt;
+    owed = owed;
+  }
+    where
+      banks_kept : (c : ℕ) (x : Channel) → channel_of d c ≡ Some x → x.internal ≡ true → BanksAgree d below h.going (word_of chip1) (view s) c x
+      banks_kept c x known internal = banks_words d fits below h.going (word_of chip) (word_of chip1) (view s) c x known (above (held_word (placed_of d c)) (past_the_first d c x _ (fits.channels c x known) (of_held d fits c x known))) (λ side j is. above j (past_the_first d c x j (fits.channels c x known) (of_banks d fits c x known internal side j is))) (h.words.banks c x known internal)

@@ -1,0 +1,154 @@
+-- A job ends well and its sequence goes on: it waits with its next job, and the state is sound.
+-- Used by services.GoesOnRight, words.NextWords.
+use Rattle.std.proofs.Common.{◌≡◌, ◌≢◌, ◌+◌, ◌<◌, ◌≤◌, ◌==◌, ◌&&◌, ◌∙◌, ◌⊎◌, if◌then◌else◌}
+use Rattle.spi_serving.specs.Terms
+use Terms.{AnswerName, any_in, any_mapped, any_none, ap, arith, at_contained, at_left, Bool, changed, Chip, Contains}
+use Terms.{Contains-get_or, contains_back, contains_map, false, FitsSpi, get_back, goes_to_next, has_job, inl, inr}
+use Terms.{is_left, is_of, is_off, is_pending, IsEntry, IsSoundState, item-other, item-same, job_result, jobs_of}
+use Terms.{left_at, LeftAt, length, List, list_any, next_job, none_any, not_true, one_by_job, one_pending, one_place}
+use Terms.{other_number, Pending, refl, Reservations, same_number, same_or_other, shares_job, slice_get, slice_index_or}
+use Terms.{Some, SpiJobOk, SpiJobPending, SpiJobQueued, SpiRepresents, SpiState, SpiTable, subst, sym, true, View, view}
+use Terms.{with_item, World, ℕ}
+use Rattle.spi_sequences.specs.Refinement.{IsLast}
+
+module _ (d : SpiTable) (fits : FitsSpi d) (below : Reservations) (chip : Chip) (w : World) (s : SpiState) (h : SpiRepresents d below chip w s) (p : Pending) (there : Contains s.pending p) (more : p.next + 1 < length (jobs_of d p.sequence)) (good : p.cancelled ≡ false)
+    (running idle : ℕ → Bool) (over : running p.sequence ≡ false) (others : (n : ℕ) → n ≢ p.sequence → running n ≡ (view s).running n) (few : (u : ℕ) → 2 ≤ u → idle u ≡ true) (on : is_off s.mode ≡ false) (result : AnswerName) (last : IsLast result) where
+  abbrev item : Pending → Pending
+  item x = if is_of p.sequence x then goes_to_next x else x
+
+  abbrev pub results : List AnswerName
+  results = with_item SpiJobOk s.job_results (next_job d p) result
+
+  abbrev pub next_view : View
+  next_view = record (view s) { pending = changed p.sequence goes_to_next s.pending; job_results = results; running = running; idle = idle }
+
+  pub item_other : (x : Pending) → x.sequence ≢ p.sequence → item x ≡ x
+  item_other x ne = ap (λ q. if q then goes_to_next x else x) (other_number x.sequence p.sequence ne)
+
+  item_own : item p ≡ goes_to_next p
+  item_own = ap (λ q. if q then goes_to_next p else p) (same_number p.sequence)
+
+  item_sequence : (x : Pending) → (item x).sequence ≡ x.sequence
+  item_sequence x = by (is_of p.sequence x)
+    where
+      by : (q : Bool) → (if q then goes_to_next x else x).sequence ≡ x.sequence
+      by true = refl
+      by false = refl
+
+  item_request : (x : Pending) → (item x).request ≡ x.request
+  item_request x = by (is_of p.sequence x)
+    where
+      by : (q : Bool) → (if q then goes_to_next x else x).request ≡ x.request
+      by true = refl
+      by false = refl
+
+  -- what is so of the entry that went on and of the others is so of each
+  pub each_entry : (P : Pending → Type 0) → P (goes_to_next p) → ((x : Pending) → Contains s.pending x → x.sequence ≢ p.sequence → P x) → (x : Pending) → Contains (changed p.sequence goes_to_next s.pending) x → P x
+  each_entry P own other x is = by (contains_back item s.pending x is)
+    where
+      by : (z : Pending) × Contains s.pending z × (x ≡ item z) → P x
+      by (z, at, same) = subst P (sym same) (split (same_or_other z.sequence p.sequence))
+        where
+          split : (z.sequence ≡ p.sequence) ⊎ (z.sequence ≢ p.sequence) → P (item z)
+          split (inl e) = subst (λ k. P (item k)) (sym (one_pending d fits below chip w s h z p at there e)) (subst P (sym item_own) own)
+          split (inr ne) = subst P (sym (item_other z ne)) (other z at ne)
+
+  pub still_there : (x : Pending) → Contains s.pending x → Contains (changed p.sequence goes_to_next s.pending) (item x)
+  still_there x (n, lt, e) = contains_map item s.pending n x (at_contained s.pending n x lt e)
+
+  shared : (a b j : ℕ) → Contains (jobs_of d a) j → Contains (jobs_of d b) j → shares_job d a b ≡ true
+  shared a b j x y = any_in (has_job d a) (jobs_of d b) j y (any_in (λ k. k == j) (jobs_of d a) j x (same_number j))
+
+  own_job : Contains (jobs_of d p.sequence) (next_job d p)
+  own_job = Contains-get_or (jobs_of d p.sequence) p.next 0 (omega (arith, more))
+
+  -- its job is none of another pending sequence's
+  pub not_of_other : (x : Pending) → Contains s.pending x → x.sequence ≢ p.sequence → (i : ℕ) → i < length (jobs_of d x.sequence) → slice_index_or (jobs_of d x.sequence) i 0 ≢ next_job d p
+  not_of_other x at ne i lt e =
+      let has : Contains (jobs_of d x.sequence) (next_job d p) = subst (λ j. Contains (jobs_of d x.sequence) j) e (Contains-get_or (jobs_of d x.sequence) i 0 lt) in
+      ne (ap (λ z. z.sequence) (one_by_job d fits below chip w s h x p at there (shared x.sequence p.sequence (next_job d p) has own_job) (shared p.sequence x.sequence (next_job d p) own_job has)))
+
+  entry : (x : Pending) → Contains (changed p.sequence goes_to_next s.pending) x → IsEntry d next_view x
+  entry = each_entry (λ x. IsEntry d next_view x) own (λ x at ne. other x ne (h.sound.entries x at))
+    where
+      own : IsEntry d next_view (goes_to_next p)
+      own = let e = h.sound.entries p there in record { number = e.number; next = more; had = e.had; last = e.last; cancelled = λ c. absurd (let f = sym good ∙ c in cc) }
+
+      other : (x : Pending) → x.sequence ≢ p.sequence → IsEntry d (view s) x → IsEntry d next_view x
+      other x ne e = record { number = e.number; next = e.next; had = e.had; last = e.last; cancelled = λ c. others x.sequence ne ∙ e.cancelled c }
+
+  abbrev Queued : Pending → Type 0
+  Queued x = (i : ℕ) → x.next ≤ i → i < length (jobs_of d x.sequence) → job_result results (slice_index_or (jobs_of d x.sequence) i 0) ≡ (if i == x.next && running x.sequence then SpiJobPending else SpiJobQueued)
+
+  queued : (x : Pending) → Contains (changed p.sequence goes_to_next s.pending) x → Queued x
+  queued = each_entry Queued own other
+    where
+      own : Queued (goes_to_next p)
+      own i le lt =
+          item-other SpiJobOk s.job_results (next_job d p) (slice_index_or (jobs_of d p.sequence) i 0) result (λ e. let same = one_place d fits p.sequence i p.next lt (omega (arith, more)) e in omega (arith, same, le))
+          ∙ h.sound.results.queued p i there (omega (arith, le)) lt
+          ∙ ap (λ q. if q && (view s).running p.sequence then SpiJobPending else SpiJobQueued) (other_number i p.next (λ e. omega (arith, e, le)))
+          ∙ sym (ap (λ q. if i == p.next + 1 && q then SpiJobPending else SpiJobQueued) over ∙ none (i == p.next + 1))
+        where
+          none : (q : Bool) → (if q && false then SpiJobPending else SpiJobQueued) ≡ SpiJobQueued
+          none true = refl
+          none false = refl
+
+      other : (x : Pending) → Contains s.pending x → x.sequence ≢ p.sequence → Queued x
+      other x at ne i le lt =
+          item-other SpiJobOk s.job_results (next_job d p) (slice_index_or (jobs_of d x.sequence) i 0) result (not_of_other x at ne i lt)
+          ∙ h.sound.results.queued x i at le lt ∙ ap (λ q. if i == x.next && q then SpiJobPending else SpiJobQueued) (sym (others x.sequence ne))
+
+  -- a job that none has left had none left before, but for the one that ended
+  pub none_left : (j : ℕ) → j ≢ next_job d p → list_any (is_left d j) (changed p.sequence goes_to_next s.pending) ≡ false → list_any (is_left d j) s.pending ≡ false
+  none_left j ne none = none_any (is_left d j) s.pending (λ x at. by x at (same_or_other x.sequence p.sequence))
+    where
+      own : is_left d j p ≡ false
+      own = not_true (is_left d j p) (λ e. left (at_left (jobs_of d p.sequence) p.next j e))
+        where
+          left : LeftAt (jobs_of d p.sequence) p.next j → ⊥
+          left l = split (same_or_other l.place p.next)
+            where
+              gone : is_left d j (goes_to_next p) ≡ false
+              gone = ap (is_left d j) (sym item_own) ∙ any_none (is_left d j) (changed p.sequence goes_to_next s.pending) none (item p) (still_there p there)
+
+              split : (l.place ≡ p.next) ⊎ (l.place ≢ p.next) → ⊥
+              split (inl e) = ne (sym l.is ∙ ap (λ n. slice_index_or (jobs_of d p.sequence) n 0) e)
+              split (inr other) = let from = l.from in let later : p.next < l.place = greater p.next l.place from other in let f = sym gone ∙ left_at (jobs_of d p.sequence) (p.next + 1) l.place j l.within (omega (arith, later)) l.is in cc
+                where
+                  greater : (a b : ℕ) → a ≤ b → b ≢ a → a < b
+                  greater a b le ne = grind arith
+
+      by : (x : Pending) → Contains s.pending x → (x.sequence ≡ p.sequence) ⊎ (x.sequence ≢ p.sequence) → is_left d j x ≡ false
+      by x at (inl e) = subst (λ z. is_left d j z ≡ false) (sym (one_pending d fits below chip w s h x p at there e)) own
+      by x at (inr other) = ap (is_left d j) (sym (item_other x other)) ∙ any_none (is_left d j) (changed p.sequence goes_to_next s.pending) none (item x) (still_there x at)
+
+  pub still_pending : (n : ℕ) → is_pending n (changed p.sequence goes_to_next s.pending) ≡ is_pending n s.pending
+  still_pending n = any_mapped (is_of n) item s.pending (λ x. ap (λ z. z == n) (item_sequence x))
+
+  pub next_sound : IsSoundState d next_view
+  next_sound = record {
+    entries = entry;
+    apart = λ i j x y lt a b. apart i j x y lt (get_back item s.pending i x a) (get_back item s.pending j y b);
+    requests = each_entry (λ x. x.request ≤ s.requests) (h.sound.requests p there) (λ x at ne. h.sound.requests x at);
+    results = record {
+      queued = λ x i at le lt. queued x at i le lt;
+      last = λ j none. by_job j none (same_or_other j (next_job d p));
+      named = h.sound.results.named;
+      sequences = λ n lt. let r = h.sound.results.sequences n lt in (λ e. still_pending n ∙ r.0 e, λ e. r.1 (sym (still_pending n) ∙ e));
+    };
+    few = few;
+    off = λ e. absurd (let f = sym on ∙ e in cc);
+  }
+    where
+      apart : (i j : ℕ) (x y : Pending) → i < j → (a : Pending) × (slice_get s.pending i ≡ Some a) × (x ≡ item a) → (b : Pending) × (slice_get s.pending j ≡ Some b) × (y ≡ item b) → (x.request < y.request) × (shares_job d x.sequence y.sequence ≡ false)
+      apart i j x y lt (a, at, isa) (b, bt, isb) =
+          let r = h.sound.apart i j a b lt at bt in
+          let less = r.0 in
+          let first : x.request ≡ a.request = ap (λ z. z.request) isa ∙ item_request a in
+          let second : y.request ≡ b.request = ap (λ z. z.request) isb ∙ item_request b in
+          (omega (arith, less, first, second), ap (λ z. shares_job d z y.sequence) (ap (λ z. z.sequence) isa ∙ item_sequence a) ∙ ap (λ z. shares_job d a.sequence z) (ap (λ z. z.sequence) isb ∙ item_sequence b) ∙ r.1)
+
+      by_job : (j : ℕ) → list_any (is_left d j) (changed p.sequence goes_to_next s.pending) ≡ false → (j ≡ next_job d p) ⊎ (j ≢ next_job d p) → IsLast (job_result results j)
+      by_job j none (inl e) = subst (λ k. IsLast (job_result results k)) (sym e) (subst (λ x. IsLast x) (sym (item-same SpiJobOk s.job_results (next_job d p) result)) last)
+      by_job j none (inr ne) = subst (λ x. IsLast x) (sym (item-other SpiJobOk s.job_results (next_job d p) j result ne)) (h.sound.results.last j (none_left j ne none))

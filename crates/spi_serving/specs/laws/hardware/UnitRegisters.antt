@@ -1,0 +1,52 @@
+-- Writes of a unit's registers: what they leave of the agreement.
+-- Used by services.FurtherRight, services.ServeDecisions, services.JobOverRight, bookkeeping.JobEnd.
+use Rattle.std.proofs.Common.{◌≡◌, ◌≢◌, ◌<◌, ◌∙◌, ◌⊎◌}
+use Rattle.spi_serving.specs.Terms
+use Terms.{ap, Chip, chip_after, get_or-set_other, get_or-set_same, Going, idle, inl, inr, length, length-set, None}
+use Terms.{Option, Reservations, run_at, same_or_other, Serial, SerialWidth, Some, SpiRepresents, SpiState, SpiTable}
+use Terms.{stands-move, subst, sym, unit_at, UnitAgrees, World, Write, ℕ}
+use Rattle.chip_units.specs.Serials as serials
+
+-- a unit among those of a chip, and the others
+pub unit_same : (chip : Chip) (u : ℕ) (x : Serial) → length chip.serials.units ≡ 2 → u < 2 → unit_at (serials.with_unit chip.serials u x) u ≡ x
+unit_same chip u x size few = get_or-set_same chip.serials.units u x idle (subst (λ n. u < n) (sym size) few)
+
+pub unit_other : (chip : Chip) (u n : ℕ) (x : Serial) → n ≢ u → unit_at (serials.with_unit chip.serials u x) n ≡ unit_at chip.serials n
+unit_other chip u n x ne = get_or-set_other chip.serials.units u n x idle ne
+
+module _ (d : SpiTable) (below : Reservations) (chip : Chip) (w : World) (s : SpiState) (h : SpiRepresents d below chip w s) (u : ℕ) (few : u < 2) where
+  -- a width is neither a unit's word nor its device
+  width_unit : (v : ℕ) (r : Option Going) → UnitAgrees d (unit_at chip.serials u) (run_at s u) r → UnitAgrees d (record (unit_at chip.serials u) { width = v }) (run_at s u) r
+  width_unit v None a = a
+  width_unit v (Some g) a = a
+
+  pub width_agrees : (v y : ℕ) → SpiRepresents d below (chip_after chip (Write (SerialWidth u) v) y) w s
+  width_agrees v y = record {
+    right = h.right;
+    outside = stands-move chip w (Write (SerialWidth u) v) y h.outside;
+    wired = h.wired;
+    size = length-set chip.serials.units u _ ∙ h.size;
+    sound = h.sound;
+    going = h.going;
+    nexts = h.nexts;
+    units = λ n lt. unit_by n lt (same_or_other n u);
+    words = h.words;
+    set_ups = h.set_ups;
+    sizes = h.sizes;
+    arrays = λ c. record { source = (h.arrays c).source; destination = (h.arrays c).destination };
+    lines = h.lines;
+    owed = h.owed;
+  }
+    where
+      new : Serial
+      new = record (unit_at chip.serials u) { width = v }
+
+      unit_by : (n : ℕ) → n < 2 → (n ≡ u) ⊎ (n ≢ u) → UnitAgrees d (unit_at (serials.with_unit chip.serials u new) n) (run_at s n) (h.going n)
+      unit_by n lt (inl e) =
+          subst (λ k. UnitAgrees d (unit_at (serials.with_unit chip.serials u new) k) (run_at s k) (h.going k)) (sym e)
+          (subst (λ x. UnitAgrees d x (run_at s u) (h.going u)) (sym (unit_same chip u new h.size few)) (width_unit v (h.going u) (h.units u few)))
+      unit_by n lt (inr ne) = subst (λ x. UnitAgrees d x (run_at s n) (h.going n)) (sym (unit_other chip u n new ne)) (h.units n lt)
+
+  -- and it is the unit's
+  pub width_is : (v y : ℕ) → (unit_at (chip_after chip (Write (SerialWidth u) v) y).serials u).width ≡ v
+  width_is v y = ap (λ x. x.width) (unit_same chip u (record (unit_at chip.serials u) { width = v }) h.size few)

@@ -1,0 +1,14 @@
+pub mod FailedEnded
+pub mod FreedUnit
+pub mod FurtherBegun
+pub mod FurtherRight
+pub mod GoesOnRight
+pub mod JobOverRight
+pub mod SequenceOverRight
+pub mod ServeAround
+pub mod ServeBounds
+pub mod ServeDecisions
+pub mod ServeMoves
+pub mod ServeRight
+pub mod ToldRight
+pub mod WellEnded

@@ -1,0 +1,257 @@
+-- A further word has begun and what came in is kept: the words and registers stand for the machine's state.
+-- From bookkeeping.MovedOn, bookkeeping.PinsTurned, bookkeeping.JobsApart, words.JoinedLists, ToServe.
+-- Used by services.FurtherRight, services.FreedUnit, bookkeeping.StoredWord, words.KeepingWords.
+use Rattle.std.proofs.Common.{◌≡◌, ◌≢◌, ◌+◌, ◌<◌, ◌≤◌, ◌||◌, [], ◌∷◌, ◌∙◌, ◌⊎◌, if◌then◌else◌}
+use Rattle.spi_serving.specs.Terms
+use Terms.{AllRight, ap, arith, BanksAgree, Bool, Call, cancelled_bit, Channel, channel_at, channel_of, ChannelState}
+use Terms.{Chip, Contains, Destination, entries_of, false, from_order, Going, GoingAgrees, has_bit, has_channel}
+use Terms.{has_mark, held_word, HeldRight, holds-agree, inl, inr, is_some, IsReady, IsSoundState, item-other, item-same}
+use Terms.{job_small, job_word, jobs_of, length, length-append, length_by, List, list_any, MARKS, next_in, NEXTS, None}
+use Terms.{none_in, none_stored, not, of_sixteen, Option, order_word, packed_position, Part, part_there, PartBy}
+use Terms.{place_of, placed_of, pointwise, Position, position_word, refl, Reservation, Reservations, ReservedBy, Run}
+use Terms.{run_at, RunAgrees, running_word, runs_sequence, RunsNext, same_or_other, sequence_word, SequencesAgree}
+use Terms.{set_up_code, set_up_word, SetUpFits, slice_get, slice_index, slice_index_or, Some, Source, source_word}
+use Terms.{SpiRepresents, SpiState, SpiTable, StandsIn, started_bit, STATE, subst, suc, sym, to_order, to_write, true}
+use Terms.{unit_at, UnitAgrees, untouched, view, with_item, word_at, word_of, WordsAgree, Writing, zero, ℕ}
+use Rattle.spi_serving.specs.laws.{bookkeeping.JobsApart.{agrees_at, for_at}, bookkeeping.MovedOn.{ahead_still}}
+use Rattle.spi_serving.specs.laws.{bookkeeping.MovedOn.{by_unit, going_here, going_other}}
+use Rattle.spi_serving.specs.laws.{words.JoinedLists.{get_within}, bookkeeping.PinsTurned.{After, At, going1, later}}
+use Rattle.spi_serving.specs.laws.{ToServe.{ToServe}}
+use Rattle.word_shapes.specs.PriorityQueue as ranked
+
+-- ---- channels that differ in the users' destinations alone
+
+pub record IsLike (cs : List ChannelState) (s : SpiState) : Type 0 where
+  pub source : (n : ℕ) → (slice_index_or cs n untouched).source ≡ (channel_at s n).source
+  pub set_up : (n : ℕ) → (slice_index_or cs n untouched).set_up ≡ (channel_at s n).set_up
+  pub written : (n : ℕ) → (slice_index_or cs n untouched).written ≡ (channel_at s n).written
+  pub received : (n : ℕ) → (slice_index_or cs n untouched).received ≡ (channel_at s n).received
+
+-- what is held is right as it was
+pub right_like : (d : SpiTable) (s : SpiState) (cs : List ChannelState) → ((n : ℕ) → (slice_index_or cs n untouched).source ≡ (channel_at s n).source) → (hs : Reservations) → AllRight d s.mode s.channels hs → AllRight d s.mode cs hs
+right_like d s cs like [] r = tt
+right_like d s cs like (x ∷ xs) r = (one x x.what r.0, right_like d s cs like xs r.1)
+  where
+    one : (x : ReservedBy Call Reservation) (y : Reservation) → HeldRight d s.mode s.channels x y → HeldRight d s.mode cs x y
+    one x (Writing n p b i y) r = (r.0, subst (λ xs. IsReady (to_write (channel_of d n) p xs) i y) (sym (like n)) r.1, r.2, r.3)
+    one x _ r = r
+
+-- ---- a state with another run on a unit
+
+-- some item of a list is so after another one was put in its place that is so alike
+pub any_changed : {A : Type 0} (p : A → Bool) (first : A) (xs : List A) (k : ℕ) (x : A) → p first ≡ false → p x ≡ p (slice_index_or xs k first) → list_any p (with_item first xs k x) ≡ list_any p xs
+any_changed p first [] zero x none e = ap (λ q. q || false) (e ∙ none)
+any_changed p first [] (suc k) x none e = ap (λ q. q || list_any p (with_item first [] k x)) none ∙ any_changed p first [] k x none e
+any_changed p first (y ∷ ys) zero x none e = ap (λ q. q || list_any p ys) e
+any_changed p first (y ∷ ys) (suc k) x none e = ap (λ q. p y || q) (any_changed p first ys k x none e)
+
+abbrev pub with_run_and : SpiState → (number : ℕ) → Run → List ChannelState → List (List (ℕ × ℕ)) → SpiState
+with_run_and s u r cs ws = record s { channels = cs; units = with_item None s.units u (Some r); wires = ws }
+
+module _ (s : SpiState) (u : ℕ) (q r : Run) (runs : run_at s u ≡ Some q) (same : r.sequence ≡ q.sequence) (cs : List ChannelState) (ws : List (List (ℕ × ℕ))) where
+  abbrev after : SpiState
+  after = with_run_and s u r cs ws
+
+  running_as : (view after).running ≡ (view s).running
+  running_as = pointwise (view after).running (view s).running (λ n. any_changed (runs_sequence n) None s.units u (Some r) refl (ap (runs_sequence n) (ap (λ z. Some (record q { sequence = z })) same) ∙ sym (ap (runs_sequence n) runs)))
+
+  idle_as : (view after).idle ≡ (view s).idle
+  idle_as = pointwise (view after).idle (view s).idle (λ n. ap not (by n (same_or_other n u)))
+    where
+      by : (n : ℕ) → (n ≡ u) ⊎ (n ≢ u) → is_some (run_at after n) ≡ is_some (run_at s n)
+      by n (inl e) = subst (λ k. is_some (run_at after k) ≡ is_some (run_at s k)) (sym e) (ap is_some (item-same None s.units u (Some r)) ∙ sym (ap is_some runs))
+      by n (inr ne) = ap is_some (item-other None s.units u n (Some r) ne)
+
+  pub view_as : IsLike cs s → view after ≡ view s
+  view_as like =
+      ap (λ f. record (view after) { running = f }) running_as ∙ ap (λ f. record (view after) { running = (view s).running; idle = f }) idle_as
+      ∙ ap (λ f. record (view s) { written = f; received = (view after).received; sources = (view after).sources }) (pointwise (view after).written (view s).written like.written)
+      ∙ ap (λ f. record (view s) { received = f; sources = (view after).sources }) (pointwise (view after).received (view s).received like.received)
+      ∙ ap (λ f. record (view s) { sources = f }) (pointwise (view after).sources (view s).sources like.source)
+
+-- ---- the words and registers after them
+
+module _ (st : ToServe) (at : At st st.g.at (length st.g.received)) (p : Position)
+    (next : At st p (length st.g.received + 1)) (follows : After st st.g.at p (length at.part.values)) (v : ℕ) where
+  open st use {d, fits, below, chip, w, s, h, on, u, few, g, is}
+
+  abbrev pub going_on : Going
+  going_on = later st at p next follows v
+
+  abbrev pub going_after : ℕ → Option Going
+  going_after = going1 st at p next follows v
+
+  -- the words that are left of the agreement: the place of the word, what is held of its channels, and their banks
+  pub record WordsAfter (c : Chip) : Type 0 where
+    pub position : word_of c (position_word u) ≡ packed_position p
+    pub first : (j : ℕ) → STATE ≤ j → j < STATE + 64 → j ≢ position_word u → word_of c j ≡ word_of chip j
+    pub held : (n : ℕ) (k : Channel) → channel_of d n ≡ Some k → k.internal ≡ false → word_of c (held_word (placed_of d n)) ≡ word_of chip (held_word (placed_of d n))
+    pub set_ups : (n : ℕ) (k : Channel) → channel_of d n ≡ Some k → word_of c (set_up_word (placed_of d n)) ≡ word_of chip (set_up_word (placed_of d n))
+    pub sources : (n i : ℕ) → n < 16 → i < 64 → word_of c (place_of (Source n) i) ≡ word_of chip (place_of (Source n) i)
+    pub banks : (n : ℕ) (k : Channel) → channel_of d n ≡ Some k → k.internal ≡ true → BanksAgree d below going_after (word_of c) (view s) n k
+
+  module _ (c : Chip) (words : WordsAfter c) where
+    abbrev represents : GoingAgrees d (word_of chip) u g
+    represents = agrees_at d fits below chip w s h on u g few is
+
+    -- a part of the job looks at what is held of it, where it is external, and at its source
+    part_as : (n : ℕ) (x : Part) (q : Bool) → (placed_of d x.channel).channel.internal ≡ q → slice_get g.parts n ≡ Some x → PartBy q (word_of chip) (placed_of d x.channel) g.at n x → PartBy q (word_of c) (placed_of d x.channel) p n x
+    part_as n x true e there a = a
+    part_as n x false e there a = by (part_there d fits u g n x (for_at d fits below chip w s h on u g few is) represents.channels there)
+      where
+        by : (x.channel < 16) × (k : Channel) × (channel_of d x.channel ≡ Some k) → PartBy false (word_of c) (placed_of d x.channel) p n x
+        by (lt, k, known) = record {
+          by = a.by;
+          held = words.held x.channel k known (ap (λ (z : Channel). z.internal) (sym (has_channel d fits x.channel k known)) ∙ e) ∙ a.held;
+          count = a.count;
+          few = a.few;
+          goes = a.goes;
+          ahead = λ i less ahead. a.ahead i less (ahead_still d fits u (word_of chip) g (for_at d fits below chip w s h on u g few is) represents at p next follows v n i ahead) ∙ from a.by.source i (small i less);
+        }
+          where
+            small : (i : ℕ) → i < a.by.length → i < 64
+            small i less =
+                let fewer = a.few in
+                let same : (placed_of d x.channel).channel.length ≡ k.length = ap (λ (z : Channel). z.length) (has_channel d fits x.channel k known) in
+                let most = (fits.channels x.channel k known).few in
+                omega (arith, less, fewer, same, most)
+
+            from : (q : Bool) (i : ℕ) → i < 64 → (if q then word_of chip (source_word (placed_of d x.channel) i) else (placed_of d x.channel).channel.default_data) ≡ (if q then word_of c (source_word (placed_of d x.channel) i) else (placed_of d x.channel).channel.default_data)
+            from true i less = sym (words.sources x.channel i lt less)
+            from false i less = refl
+
+    run_going : RunAgrees d (word_of c) u (Some going_on)
+    run_going = record {
+      channels = represents.channels;
+      running = words.first (running_word u) (omega arith) (omega (arith, few)) (λ e. omega (arith, e)) ∙ represents.running;
+      position = words.position;
+      place = get_within g.parts p.channel next.part next.there;
+      inside = λ x e. subst (λ z. p.word < length z.values) (some_is next.part x (sym next.there ∙ e)) next.inside;
+      count = length-append g.received (v ∷ []) ∙ next.count;
+      parts = λ n x e. ((represents.parts n x e).0, part_as n x (placed_of d x.channel).channel.internal refl e (represents.parts n x e).1);
+    }
+      where
+        some_is : (a b : Part) → Some a ≡ Some b → a ≡ b
+        some_is a b e = cc
+
+    -- another unit's job looks at words that are as they were
+    run_other : (n : ℕ) → n < 2 → n ≢ u → (o : Option Going) → h.going n ≡ o → RunAgrees d (word_of chip) n o → RunAgrees d (word_of c) n o
+    run_other n lt ne None e r = words.first (running_word n) (omega arith) (omega (arith, lt)) (λ f. omega (arith, f, lt, few)) ∙ r
+    run_other n lt ne (Some k) e r = record {
+      channels = r.channels;
+      running = words.first (running_word n) (omega arith) (omega (arith, lt)) (λ f. omega (arith, f, lt, few)) ∙ r.running;
+      position = words.first (position_word n) (omega arith) (omega (arith, lt)) (λ f. ne (omega (arith, f))) ∙ r.position;
+      place = r.place;
+      inside = r.inside;
+      count = r.count;
+      parts = λ i x there. ((r.parts i x there).0, part_of i x (placed_of d x.channel).channel.internal refl there (r.parts i x there).1);
+    }
+      where
+        part_of : (i : ℕ) (x : Part) (q : Bool) → (placed_of d x.channel).channel.internal ≡ q → slice_get k.parts i ≡ Some x → PartBy q (word_of chip) (placed_of d x.channel) k.at i x → PartBy q (word_of c) (placed_of d x.channel) k.at i x
+        part_of i x true f there a = a
+        part_of i x false f there a = by (part_there d fits n k i x (for_at d fits below chip w s h on n k lt e) r.channels there)
+          where
+            by : (x.channel < 16) × (z : Channel) × (channel_of d x.channel ≡ Some z) → PartBy false (word_of c) (placed_of d x.channel) k.at i x
+            by (less, z, known) = record {
+              by = a.by;
+              held = words.held x.channel z known (ap (λ (y : Channel). y.internal) (sym (has_channel d fits x.channel z known)) ∙ f) ∙ a.held;
+              count = a.count;
+              few = a.few;
+              goes = a.goes;
+              ahead = λ j below ahead. a.ahead j below ahead ∙ from a.by.source j (small j below);
+            }
+              where
+                small : (j : ℕ) → j < a.by.length → j < 64
+                small j below =
+                    let fewer = a.few in
+                    let same : (placed_of d x.channel).channel.length ≡ z.length = ap (λ (y : Channel). y.length) (has_channel d fits x.channel z known) in
+                    let most = (fits.channels x.channel z known).few in
+                    omega (arith, below, fewer, same, most)
+
+                from : (q : Bool) (j : ℕ) → j < 64 → (if q then word_of chip (source_word (placed_of d x.channel) j) else (placed_of d x.channel).channel.default_data) ≡ (if q then word_of c (source_word (placed_of d x.channel) j) else (placed_of d x.channel).channel.default_data)
+                from true j below = sym (words.sources x.channel j less below)
+                from false j below = refl
+
+    pub runs_after : (n : ℕ) → n < 2 → RunAgrees d (word_of c) n (going_after n)
+    runs_after n lt = by (same_or_other n u)
+      where
+        by : (n ≡ u) ⊎ (n ≢ u) → RunAgrees d (word_of c) n (going_after n)
+        by (inl e) = subst (λ k. RunAgrees d (word_of c) k (going_after k)) (sym e) (subst (λ o. RunAgrees d (word_of c) u o) (sym (going_here h.going u (Some going_on))) run_going)
+        by (inr ne) = subst (λ o. RunAgrees d (word_of c) n o) (sym (going_other h.going u (Some going_on) n ne)) (run_other n lt ne (h.going n) refl ((h.words.on on).runs n lt))
+
+    -- the words of sequences and jobs are as they were
+    sequences_after : SequencesAgree d (word_of c) (view s)
+    sequences_after = record {
+      sequences = λ q lt. words.first (sequence_word q) (omega arith) (omega (arith, lt)) (λ e. omega (arith, e, few)) ∙ was.sequences q lt;
+      pending = λ z there. let a = was.pending z there in record { next = ap (λ n. next_in n z.sequence) nexts ∙ a.next; started = ap (λ n. has_mark n (started_bit z.sequence)) marks ∙ a.started; cancelled = ap (λ n. has_mark n (cancelled_bit z.sequence)) marks ∙ a.cancelled };
+      had = λ z i there le lt. let small = job_small d fits z.sequence i lt in words.first (job_word (slice_index_or (jobs_of d z.sequence) i 0)) (omega arith) (omega (arith, small)) (λ e. omega (arith, e, few)) ∙ was.had z i there le lt;
+      jobs = λ j lt none. words.first (job_word j) (omega arith) (omega (arith, lt)) (λ e. omega (arith, e, few)) ∙ was.jobs j lt none;
+      orders = λ n lt. holds-agree (record { at = order_word n }) (word_of chip) (word_of c) (entries_of d (view s) n) (λ j own. sym (order_same n j lt own)) (was.orders n lt);
+    }
+      where
+        was : SequencesAgree d (word_of chip) (view s)
+        was = (h.words.on on).sequences
+
+        nexts : word_of c NEXTS ≡ word_of chip NEXTS
+        nexts = words.first NEXTS (omega arith) (omega arith) (λ e. omega (arith, e))
+
+        marks : word_of c MARKS ≡ word_of chip MARKS
+        marks = words.first MARKS (omega arith) (omega arith) (λ e. omega (arith, e))
+
+        order_same : (n j : ℕ) → n < 2 → ranked.own_of (record { at = order_word n }) j ≡ true → word_of c j ≡ word_of chip j
+        order_same n j lt own = let low = from_order n j own in let high = to_order n j own in words.first j (omega (arith, low)) (omega (arith, high, lt)) (λ e. omega (arith, e, low, high, lt, few))
+
+    module _ (r1 : Run) (cs : List ChannelState) (ws : List (List (ℕ × ℕ))) (q : Run) (runs : run_at s u ≡ Some q) (same : r1.sequence ≡ q.sequence) (like : IsLike cs s) where
+      abbrev pub begun_state : SpiState
+      begun_state = with_run_and s u r1 cs ws
+
+      seen : view begun_state ≡ view s
+      seen = view_as s u q r1 runs same cs ws like
+
+      pub begun_agrees : StandsIn c w → c.wiring ≡ chip.wiring → c.control ≡ chip.control → length c.serials.units ≡ 2 → UnitAgrees d (unit_at c.serials u) (Some r1) (Some going_on) → ((n : ℕ) → n ≢ u → unit_at c.serials n ≡ unit_at chip.serials n)
+          → ((n i : ℕ) → i < length_by (channel_of d n) → word_of c (place_of (Destination n) i) ≡ word_at (slice_index_or cs n untouched).destination i) → SpiRepresents d below c w begun_state
+      begun_agrees outside wiring control size unit others destinations = record {
+        right = right_like d s cs like.source below h.right;
+        outside = outside;
+        wired = λ n lt. ap (λ x. slice_index x.sources n) wiring ∙ h.wired n lt;
+        size = size;
+        sound = subst (λ v. IsSoundState d v) (sym seen) h.sound;
+        going = going_after;
+        nexts = λ n lt. subst (λ v. RunsNext d v n (going_after n)) (sym seen) (by_unit (λ k o. RunsNext d (view s) k o) h.going u (Some going_on) (subst (λ o. RunsNext d (view s) u o) is (h.nexts u few)) n (h.nexts n lt));
+        units = λ n lt. unit_by n lt (same_or_other n u);
+        words = subst (λ v. WordsAgree d below going_after (word_of c) v) (sym seen) (record {
+          state = words.first STATE (omega arith) (omega arith) (λ e. omega (arith, e)) ∙ h.words.state;
+          on = λ still. record { sequences = sequences_after; runs = runs_after };
+          banks = words.banks;
+          stored = λ j n is. absurd (none_in (j, n) (subst (λ xs. Contains xs (j, n)) (none_stored d s.mode s.channels below on h.right) is));
+        });
+        set_ups = λ still n k known external. words.set_ups n k known ∙ h.set_ups on n k known external ∙ ap (λ o. set_up_code o) (sym (like.set_up n));
+        sizes = λ still n k known. record { written = λ i. ap length (like.written n) ∙ (h.sizes on n k known).written i; set_up = λ i. subst (λ o. SetUpFits k o) (sym (like.set_up n)) ((h.sizes on n k known).set_up i) };
+        arrays = λ n. record { source = λ i lt. words.sources n i (fewer n i lt).0 (fewer n i lt).1 ∙ (h.arrays n).source i lt ∙ ap (λ xs. word_at xs i) (sym (like.source n)); destination = λ i lt. destinations n i lt };
+        lines = λ n lt. ap (λ x. has_bit x.enabled (26 + n)) control ∙ h.lines n lt;
+        owed = λ n z lt free there for. h.owed n z lt (still_free n free) there for;
+      }
+        where
+          unit_by : (n : ℕ) → n < 2 → (n ≡ u) ⊎ (n ≢ u) → UnitAgrees d (unit_at c.serials n) (run_at begun_state n) (going_after n)
+          unit_by n lt (inl e) =
+              subst (λ k. UnitAgrees d (unit_at c.serials k) (run_at begun_state k) (going_after k)) (sym e)
+              (subst (λ r. UnitAgrees d (unit_at c.serials u) r (going_after u)) (sym (item-same None s.units u (Some r1)))
+              (subst (λ o. UnitAgrees d (unit_at c.serials u) (Some r1) o) (sym (going_here h.going u (Some going_on))) unit))
+          unit_by n lt (inr ne) =
+              subst (λ x. UnitAgrees d x (run_at begun_state n) (going_after n)) (sym (others n ne))
+              (subst (λ r. UnitAgrees d (unit_at chip.serials n) r (going_after n)) (sym (item-other None s.units u n (Some r1) ne))
+              (subst (λ o. UnitAgrees d (unit_at chip.serials n) (run_at s n) o) (sym (going_other h.going u (Some going_on) n ne)) (h.units n lt)))
+
+          still_free : (n : ℕ) → going_after n ≡ None → h.going n ≡ None
+          still_free n free = by (same_or_other n u)
+            where
+              by : (n ≡ u) ⊎ (n ≢ u) → h.going n ≡ None
+              by (inl e) = absurd (let f = sym (ap going_after e ∙ going_here h.going u (Some going_on)) ∙ free in cc)
+              by (inr ne) = sym (going_other h.going u (Some going_on) n ne) ∙ free
+
+          fewer : (n i : ℕ) → i < length_by (channel_of d n) → (n < 16) × (i < 64)
+          fewer n i lt = by (channel_of d n) refl lt
+            where
+              by : (o : Option Channel) → channel_of d n ≡ o → i < length_by o → (n < 16) × (i < 64)
+              by None e less = absurd (omega (arith, less))
+              by (Some k) e less = (of_sixteen d n k fits e, let most = (fits.channels n k e).few in omega (arith, less, most))

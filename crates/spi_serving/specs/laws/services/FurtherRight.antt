@@ -1,0 +1,410 @@
+-- A further word begins: the event, and the moves that the window owes after it.
+-- From words.KeepingWords, words.FacingWords, words.Positions, bookkeeping.StoredWord, words.SidesApart and 8 more.
+-- Used by services.ServeRight, services.JobOverRight, services.GoesOnRight, services.SequenceOverRight and 4 more.
+use Rattle.std.proofs.Common.{◌≡◌, ◌≢◌, ◌+◌, ◌%◌, ◌^◌, ◌<◌, ◌≤◌, ◌==◌, ◌&&◌, [], ◌∷◌, ◌++◌, ◌∙◌, ◌⊎◌, if◌then◌else◌}
+use Rattle.spi_serving.specs.Terms
+use Terms.{Answer, ap, arith, Arrived, as_begun, asked_word, bank_of, bank_word, begins, begins_on, Begun, begun, Bool}
+use Terms.{Call, Channel, channel_at, channel_next, channel_of, channel_served, ChannelState, Chip, chip_after}
+use Terms.{cleared_of, clears, CommitsTo, control_word, Destination, destination_own, destination_word, ExternalAgrees}
+use Terms.{false, find, FitsSpi, found_entry, FrameRole, free_bank, Goes, goes_by, Going, Handler, has_channel}
+use Terms.{has_done, held_word, inl, inr, InTransfer, is_last_place, is_number, is_of, is_there, IsFound, IsFurther}
+use Terms.{IsServed, item-same, JobWord, Keep, keep_of, keeping, length, length-set, length_by, lets_of, lets_with}
+use Terms.{List, Main, may, may_store, may_users, min, mod-mod, nat_le, nat_lt, nat_tests, None, not, notes, Nowhere}
+use Terms.{of_sixteen, on_wire, one_owed, one_pending, Option, Origin, outcome_with, own-control, own_first, own_held}
+use Terms.{own_low, packed_position, PartBy, pending_of, place_of, Placed, placed_of, Position, position_word, Received}
+use Terms.{received_with, refl, releasing, Reservations, Rest, Run, run_at, run_of, same_or_other, SendsRight, Sent}
+use Terms.{SerialData, served, served_by, ServePlace, Serves, SetUp, slice_index_or, Some, SOURCES, spi_machine}
+use Terms.{spi_owing, SpiRepresents, SpiState, SpiTable, stands-move, StandsIn, Store, stored, stored_other}
+use Terms.{stored_same, subst, suc, sym, taker_of, ToChannel, ToDestination, Transmit, trio_of, true, unit_at, unit_of}
+use Terms.{unit_over, unit_owed, UnitAgrees, UnitBody, UnitPlace, Units, unless_done, unpacked, untouched, wire_at}
+use Terms.{with_item, with_word, word_after, word_at, word_of, World, Write, zero, ℕ}
+use Rattle.spi_serving.specs.laws.{services.FurtherBegun.{begun_agrees, with_run_and}, words.FacingWords.{at_is}}
+use Rattle.spi_serving.specs.laws.{words.FacingWords.{goes_further, next_at, next_channel, next_word}}
+use Rattle.spi_serving.specs.laws.{words.FacingWords.{served_by as by_served, served_is, standing, way, word_is}}
+use Rattle.spi_serving.specs.laws.{words.FoundWord.{narrow, width_same}, words.KeepingWords.{IsKept, IsLet, NotLet}}
+use Rattle.spi_serving.specs.laws.{words.KeepingWords.{here_known, kept_first, kept_more, kept_nowhere, kept_outside}}
+use Rattle.spi_serving.specs.laws.{words.KeepingWords.{let_ends, let_none, own_first_word, own_word_more, there_known}}
+use Rattle.spi_serving.specs.laws.{words.KeepingWords.{words_after}, bookkeeping.MovedOn.{moved_on}}
+use Rattle.spi_serving.specs.laws.{words.Positions.{Follows, Same, Next, Stands, held_back, part_few}}
+use Rattle.spi_serving.specs.laws.{hardware.UnitRegisters.{unit_other, unit_same}, words.SidesApart.{banks_low}}
+use Rattle.spi_serving.specs.laws.{words.SidesApart.{banks_own, is_inside}, bookkeeping.StoredWord.{stored_elsewhere}}
+use Rattle.spi_serving.specs.laws.{bookkeeping.StoredWord.{stored_is, stored_like, stored_there}}
+use Rattle.spi_serving.specs.laws.{bookkeeping.PinsTurned.{After, At}, bookkeeping.UnderWay.{UnderWay, is_ready}}
+use Rattle.spi_serving.specs.laws.{bookkeeping.UnderWay.{unit_line}, ToServe.{ToServe}}
+use Rattle.chip_units.specs.Serials as serials
+use Rattle.word_shapes.specs.declared.take.Take.TheVariants as takes
+use Rattle.spi_jobs.specs.declared.keeping.Keep.TheVariants as keeps
+use Rattle.spi_jobs.specs.declared.keeping.Taker.TheVariants as takers
+use Rattle.spi_machine.specs.Machine as machine
+use Rattle.spi_machine.specs.Transfers as transfers
+use Rattle.spi_sequences.specs.declared.service.serve.ServePlace.TheVariants as serve
+use Rattle.spi_sequences.specs.declared.service.unit.UnitPlace.TheVariants as units
+use Rattle.spi_serving.specs.laws.words.Positions as positions
+
+-- a frame with a place of its serving window
+abbrev pub serving : SpiTable → FrameRole → (number : ℕ) → ServePlace → UnitBody
+serving d e u q = record { table = d; errand = e; unit = u; place = units.Serve q }
+
+-- a frame whose window is over owes nothing
+pub over_none : (k : UnitBody) (q : UnitPlace) (e : FrameRole) (n : ℕ) → unless_done (unit_over k q e n).1.done (unit_owed (unit_over k q e n).0) ≡ None
+over_none k q Main zero = refl
+over_none k q Main (suc n) = refl
+over_none k q Rest n = refl
+over_none k q Handler n = refl
+over_none k q (Transmit r) n = refl
+
+-- ---- how the word is kept, by its channel
+
+pub kept_as : (x : Placed) (i : ℕ) (m : ℕ → ℕ) (v : ℕ) (q : Bool) → x.channel.internal ≡ q → (z : Bool) → (i == 0) ≡ z
+    → keeping x i (taker_of x i (m (asked_word x i))) v ≡ (if q then (if z then keeps.Hold x (free_bank (m (control_word x Received))) v else keeps.Fill x i (bank_of (m (held_word x))) v) else (if (unpacked (m (held_word x))).destination then keeps.Store x i v else keeps.Drop x))
+kept_as x i m v true e true f =
+    ap (λ q. keeping x i (if not q then takers.SetUp (unpacked (m (if q && i == 0 then control_word x Received else held_word x))) else if i == 0 then takers.Bank (free_bank (m (if q && i == 0 then control_word x Received else held_word x))) else takers.Bank (bank_of (m (if q && i == 0 then control_word x Received else held_word x)))) v) e
+    ∙ ap (λ z. keeping x i (if z then takers.Bank (free_bank (m (if z then control_word x Received else held_word x))) else takers.Bank (bank_of (m (if z then control_word x Received else held_word x)))) v) f
+    ∙ ap (λ z. if z then keeps.Hold x (free_bank (m (control_word x Received))) v else keeps.Fill x i (free_bank (m (control_word x Received))) v) f
+kept_as x i m v true e false f =
+    ap (λ q. keeping x i (if not q then takers.SetUp (unpacked (m (if q && i == 0 then control_word x Received else held_word x))) else if i == 0 then takers.Bank (free_bank (m (if q && i == 0 then control_word x Received else held_word x))) else takers.Bank (bank_of (m (if q && i == 0 then control_word x Received else held_word x)))) v) e
+    ∙ ap (λ z. keeping x i (if z then takers.Bank (free_bank (m (if z then control_word x Received else held_word x))) else takers.Bank (bank_of (m (if z then control_word x Received else held_word x)))) v) f
+    ∙ ap (λ z. if z then keeps.Hold x (bank_of (m (held_word x))) v else keeps.Fill x i (bank_of (m (held_word x))) v) f
+kept_as x i m v false e z f =
+    ap (λ q. keeping x i (if not q then takers.SetUp (unpacked (m (if q && i == 0 then control_word x Received else held_word x))) else if i == 0 then takers.Bank (free_bank (m (if q && i == 0 then control_word x Received else held_word x))) else takers.Bank (bank_of (m (if q && i == 0 then control_word x Received else held_word x)))) v) e
+
+module _ (d : SpiTable) (fits : FitsSpi d) (below : Reservations) (chip : Chip) (w : World) (s : SpiState) (h : SpiRepresents d below chip w s) (u : ℕ) (few : u < 2) (a : Arrived) (p : Position) (v y : ℕ)
+    (i : IsFurther d (word_of chip) s w.now u a p) (wide : (unit_at chip.serials u).width ≡ (channel_next d a p).channel.width) (is_word : (run : Run) → run_at s u ≡ Some run → v ≡ (word_after run).sent) where
+  abbrev by : IsServed (word_of chip) s w.now u a.served
+  by = by_served d fits below chip w s h u few a p i
+
+  abbrev under : UnderWay d below chip w s h u by.done.run
+  under = way d fits below chip w s h u few a.served by
+
+  abbrev pub going : Going
+  going = under.job
+
+  abbrev run : Run
+  run = by.done.run
+
+  abbrev first : Stands d fits u (word_of chip) going under.for under.represents going.at (length going.received)
+  first = standing d fits below chip w s h u few a.served by
+
+  abbrev second : Stands d fits u (word_of chip) going under.for under.represents p (length going.received + 1)
+  second = (next_at d fits below chip w s h u few a p i).0
+
+  abbrev st : ToServe
+  st = record { d = d; fits = fits; below = below; chip = chip; w = w; s = s; h = h; on = under.on; u = u; few = few; g = going; is = under.is }
+
+  abbrev pub at : At st going.at (length going.received)
+  at = record { part = first.part; there = first.there; inside = first.inside; count = first.count }
+
+  abbrev pub next : At st p (length going.received + 1)
+  next = record { part = second.part; there = second.there; inside = second.inside; count = second.count }
+
+  pub follows : After st going.at p (length at.part.values)
+  follows = again (next_at d fits below chip w s h u few a p i).1
+    where
+      again : Follows d fits u (word_of chip) going under.for under.represents going.at p (length first.part.values) → After st going.at p (length at.part.values)
+      again (Same e f) = Same e f
+      again (Next e f g) = Next e f g
+
+  -- what came in
+  abbrev pub came : ℕ
+  came = under.transfer.incoming
+
+  came_is : a.word ≡ came
+  came_is = i.arrived.word run by.done.is (by.done.failed ∙ i.good) ∙ ap (λ (z : Run). z.transfer.incoming) under.runs
+
+  abbrev pub here : Placed
+  here = placed_of d at.part.channel
+
+  abbrev pub there : Placed
+  there = placed_of d next.part.channel
+
+  abbrev word : JobWord
+  word = word_after run
+
+  abbrev chip1 : Chip
+  chip1 = chip_after chip (Write (SerialData u) v) y
+
+  outside1 : StandsIn chip1 w
+  outside1 = stands-move chip w (Write (SerialData u) v) y h.outside
+
+  -- ---- the event
+
+  abbrev stored_word : JobWord
+  stored_word = transfers.word_of run
+
+  abbrev later_run : Run
+  later_run = begun w.now y run.sequence run.words (received_with run)
+
+  abbrev pub channels : List ChannelState
+  channels = (stored s stored_word stored_word.goes run.transfer.incoming).channels
+
+  abbrev wires : List (List (ℕ × ℕ))
+  wires = with_item [] s.wires u (wire_at s u ++ on_wire y (transfers.word_of later_run) ∷ [])
+
+  -- the machine's state after it, and the word that begins
+  abbrev pub state1 : SpiState
+  state1 = with_run_and s u later_run channels wires
+
+  abbrev pub word1 : Begun
+  word1 = as_begun d u (Some going.pending) word
+
+  found : IsFound going.pending.sequence s.pending
+  found = found_entry going.pending.sequence s.pending (is_there d fits below chip w s h going.pending under.there)
+
+  pending_is : pending_of s run ≡ Some going.pending
+  pending_is = ap (λ (z : Run). find (is_of z.sequence) s.pending) under.runs ∙ found.is ∙ ap (λ z. Some z) (one_pending d fits below chip w s h found.entry going.pending found.there under.there found.of)
+
+  pub further_is : (spi_machine d).happens w s (Serves (26 + u) y) ≡ Some (outcome_with state1 (notes []) (Some word1))
+  further_is =
+      ap (λ q. if q then Some (served d w s (unit_of (26 + u)) y (machine.run_of s (unit_of (26 + u)))) else None) (is_ready d fits below chip w s h u few under.on (ap (has_done w.now) by.done.is ∙ by.done.done))
+      ∙ ap (λ o. Some (served d w s o y (machine.run_of s o))) (unit_line u few)
+      ∙ ap (λ r. Some (served d w s (Some u) y r)) by.done.is
+      ∙ ap (λ q. Some (served_by d w s u y run q)) (goes_further d fits below chip w s h u few a p i)
+      ∙ ap (λ o. Some (begins_on d (stored s stored_word stored_word.goes run.transfer.incoming) u y o later_run)) pending_is
+      ∙ ap (λ z. Some (outcome_with (with_word z u y later_run) (notes []) (Some word1))) (stored_is s stored_word stored_word.goes run.transfer.incoming)
+
+  -- ---- the word on the wire
+
+  wide_is : (unit_at chip.serials u).width ≡ there.channel.width
+  wide_is = wide ∙ ap (λ (x : Placed). x.channel.width) (next_channel d fits below chip w s h u few a p i)
+
+  least : min there.channel.width 16 ≡ there.channel.width
+  least = let le = narrow d fits below chip w s h u few a p i in omega (arith, le)
+
+  width_is : word.width ≡ there.channel.width
+  width_is = ap (λ (z : JobWord). z.width) (next_word d fits below chip w s h u few a p i) ∙ width_same d fits below chip w s h u few a p i
+
+  sent_is : word.sent ≡ slice_index_or next.part.values p.word 0 % 2 ^ there.channel.width
+  sent_is = ap (λ (z : JobWord). z.sent) (next_word d fits below chip w s h u few a p i) ∙ ap (λ n. slice_index_or next.part.values p.word 0 % 2 ^ n) (width_same d fits below chip w s h u few a p i)
+
+  pub further_sends : SendsRight chip (Some word1) (Write (SerialData u) v)
+  further_sends = record {
+    on = refl;
+    word =
+        ap (λ n. v % 2 ^ min n 16) wide_is ∙ ap (λ n. v % 2 ^ n) least ∙ ap (λ z. z % 2 ^ there.channel.width) (is_word run by.done.is ∙ sent_is)
+        ∙ mod-mod (slice_index_or next.part.values p.word 0) (2 ^ there.channel.width) ∙ sym sent_is;
+    width = ap (λ n. min n 16) wide_is ∙ least ∙ sym width_is;
+    select = under.select;
+  }
+
+  -- ---- the unit after it
+
+  unit1 : UnitAgrees d (unit_at chip1.serials u) (Some later_run) (Some (moved_on going p came))
+  unit1 = subst (λ x. UnitAgrees d x (Some later_run) (Some (moved_on going p came))) (sym (unit_same chip u (serials.begun y chip.serials.time (unit_at chip.serials u)) h.size few))
+      (begins w.now y (word_after (run_of d going under.transfer)), ap (λ (z : Run). Some (begun w.now y z.sequence z.words (received_with z))) under.runs, transfers1, under.select)
+    where
+      transfers1 : InTransfer (serials.begun y chip.serials.time (unit_at chip.serials u)).word (begins w.now y (word_after (run_of d going under.transfer)))
+      transfers1 = record {
+        start = h.outside.together.serials ∙ h.outside.now;
+        incoming = λ e. ap (λ n. y % 2 ^ min n 16) wide_is ∙ ap (λ n. y % 2 ^ n) (least ∙ sym width_is) ∙ ap (λ (z : Run). y % 2 ^ (word_after z).width) under.runs;
+        failed = refl;
+      }
+
+  -- ---- the moves that are owed
+
+  abbrev Lets : Chip → Type 0
+  Lets c = IsLet st at p next follows came c
+
+  abbrev Keeps : Chip → Type 0
+  Keeps c = IsKept st at p next follows came c
+
+  -- the chip has what the beginning left beside the words
+  record IsAfter (c : Chip) : Type 0 where
+    serials : c.serials ≡ chip1.serials
+    wiring : c.wiring ≡ chip.wiring
+    control : c.control ≡ chip.control
+
+  abbrev Destinations : Chip → Type 0
+  Destinations c = (n j : ℕ) → j < length_by (channel_of d n) → word_of c (place_of (Destination n) j) ≡ word_at (slice_index_or channels n untouched).destination j
+
+  own_position : may d (Store (position_word u) (packed_position p)) ≡ true
+  own_position = may_store d fits (position_word u) (packed_position p) (own_first d (position_word u) (omega arith) (omega (arith, few)))
+
+  module _ (e : FrameRole) (owner : Origin Call) (acted : Option Answer) where
+    abbrev Done : Chip → Type 0
+    Done c = SpiRepresents d (cleared_of u owner acted ∷ below) c w state1
+
+    abbrev Owes : ServePlace → Chip → Type 0
+    Owes q c = (n : ℕ) × CommitsTo (spi_owing d) n (Units (serving d e u q)) c Done
+
+    stand : (c : Chip) → Keeps c → IsAfter c → ((n j : ℕ) → j < length_by (channel_of d n) → word_of c (place_of (Destination n) j) ≡ word_at (slice_index_or channels n untouched).destination j) → Owes (serve.Stand p) c
+    stand c kept rest destinations = one_owed (spi_owing d) Done (Units (serving d e u (serve.Stand p))) c None own_position tt (over_none (serving d e u (serve.Stand p)) (units.Serve (serve.Stand p)) e u)
+        (clears d below final w state1 u owner acted fits (begun_agrees st at p next follows came final (words_after st at p next follows came c kept) later_run channels wires run by.done.is refl (stored_like s stored_word stored_word.goes run.transfer.incoming)
+        (stands-move c w (Store (position_word u) (packed_position p)) 0 kept.outside) rest.wiring rest.control (ap (λ x. length x.units) rest.serials ∙ length-set chip.serials.units u _ ∙ h.size)
+        (subst (λ x. UnitAgrees d (unit_at x u) (Some later_run) (Some (moved_on going p came))) (sym rest.serials) unit1)
+        (λ n ne. ap (λ x. unit_at x n) rest.serials ∙ unit_other chip u n (serials.begun y chip.serials.time (unit_at chip.serials u)) ne)
+        (λ n j lt. stored_other c (position_word u) (packed_position p) 0 (place_of (Destination n) j) (λ f. omega (arith, f, few)) ∙ destinations n j lt)) (λ q none also for. let runs = sym (item-same None s.units u (Some later_run)) ∙ none in cc))
+      where
+        final : Chip
+        final = chip_after c (Store (position_word u) (packed_position p)) 0
+
+    -- ---- the word is kept
+
+    abbrev kept_way : Placed → ℕ → ℕ → Keep
+    kept_way x n z = keeping x n (taker_of x n (word_of chip (asked_word x n))) z
+
+    keep_is : keep_of d a ≡ kept_way here going.at.word came
+    keep_is =
+        ap (λ t. keeping (channel_served d a.served) a.served.at.word t a.word) i.arrived.taken.taker
+        ∙ ap (λ x. kept_way x a.served.at.word a.word) (served_is d fits below chip w s h u few a.served by)
+        ∙ ap (λ (q : Position). kept_way here q.word a.word) (at_is d fits below chip w s h u few a.served by)
+        ∙ ap (λ z. kept_way here going.at.word z) came_is
+
+    abbrev known : (k : Channel) × (channel_of d at.part.channel ≡ Some k)
+    known = here_known st at p next follows came
+
+    agrees_here : PartBy here.channel.internal (word_of chip) here going.at going.at.channel at.part
+    agrees_here = (under.represents.parts going.at.channel first.part first.there).1
+
+    -- what the machine stores of it
+    abbrev here_word : JobWord
+    here_word = positions.word_at d fits u (word_of chip) going under.for under.represents first.part going.at.word
+
+    channels_are : channels ≡ (stored s here_word here_word.goes came).channels
+    channels_are = ap (λ (x : JobWord). (stored s x x.goes run.transfer.incoming).channels) (word_is d fits below chip w s h u few a.served by) ∙ ap (λ (z : Run). (stored s here_word here_word.goes z.transfer.incoming).channels) under.runs
+
+    goes_there : (g : Goes) → at.part.goes ≡ g → channels ≡ (stored s here_word g came).channels
+    goes_there g f = channels_are ∙ ap (λ z. (stored s here_word z came).channels) f
+
+    small_place : (n j : ℕ) → j < length_by (channel_of d n) → (n < 16) × (j < 64)
+    small_place n j lt = by_channel (channel_of d n) refl lt
+      where
+        by_channel : (o : Option Channel) → channel_of d n ≡ o → j < length_by o → (n < 16) × (j < 64)
+        by_channel None f less = absurd (omega (arith, less))
+        by_channel (Some k) f less = (of_sixteen d n k fits f, let most = (fits.channels n k f).few in omega (arith, less, most))
+
+    not_let : (j : ℕ) → SOURCES ≤ j → NotLet st at p next follows came j
+    not_let j le = λ q. let k = there_known st at p next follows came in banks_low d fits next.part.channel k.0 k.1 (is_inside d fits next.part.channel k.0 k.1 q) Sent j le
+
+    held_low : held_word here < SOURCES
+    held_low = own_low d fits (held_word here) (own_held d fits at.part.channel known.0 known.1)
+
+    -- destinations that are as they were
+    same_destinations : (c : Chip) → ((n j : ℕ) → n < 16 → j < 64 → word_of c (place_of (Destination n) j) ≡ word_of chip (place_of (Destination n) j)) → channels ≡ s.channels → Destinations c
+    same_destinations c same f n j lt = let small = small_place n j lt in same n j small.0 small.1 ∙ (h.arrays n).destination j lt ∙ ap (λ cs. word_at (slice_index_or cs n untouched).destination j) (sym f)
+
+    -- where an internal channel keeps it
+    module _ (c : Chip) (l : Lets c) (rest : IsAfter c) where
+      internal_destinations : here.channel.internal ≡ true → (c1 : Chip) → Keeps c1 → Destinations c1
+      internal_destinations q c1 kept = same_destinations c1 (λ n j lt less. kept.others (place_of (Destination n) j) (not_let (place_of (Destination n) j) (omega arith)) (λ r. (banks_low d fits at.part.channel known.0 known.1 (is_inside d fits at.part.channel known.0 known.1 r) Received (place_of (Destination n) j) (omega arith), λ f. let low = held_low in absurd (omega (arith, low, f))), λ r. absurd (let f = sym q ∙ r in cc))) (goes_there ToChannel (subst (λ b. PartBy b (word_of chip) here going.at going.at.channel at.part) q agrees_here).goes)
+
+      keep_first : here.channel.internal ≡ true → going.at.word ≡ 0 → Owes (serve.Keep (keeps.Hold here (free_bank (word_of chip (control_word here Received))) came) p) c
+      keep_first q z =
+          one_owed (spi_owing d) Done (Units (serving d e u (serve.Keep (keeps.Hold here b came) p))) c (Some (Units (serving d e u (serve.Keep (keeps.Fill here 0 b came) p)))) (may_store d fits (held_word here) b (own_held d fits at.part.channel known.0 known.1)) tt refl
+          (one_owed (spi_owing d) Done (Units (serving d e u (serve.Keep (keeps.Fill here 0 b came) p))) held_c (Some (Units (serving d e u (serve.Stand p)))) (may_store d fits (bank_word here Received b 0) came (banks_own d fits at.part.channel known.0 known.1 (is_inside d fits at.part.channel known.0 known.1 q) Received (bank_word here Received b 0) (own_first_word st at p next follows came c l q z))) tt refl
+          (stand (chip_after held_c (Store (bank_word here Received b 0) came) 0) kept (record { serials = rest.serials; wiring = rest.wiring; control = rest.control }) (internal_destinations q (chip_after held_c (Store (bank_word here Received b 0) came) 0) kept)))
+        where
+          b : ℕ
+          b = free_bank (word_of chip (control_word here Received))
+
+          held_c : Chip
+          held_c = chip_after c (Store (held_word here) b) 0
+
+          kept : Keeps (chip_after held_c (Store (bank_word here Received b 0) came) 0)
+          kept = kept_first st at p next follows came c l q z
+
+      keep_more : here.channel.internal ≡ true → 0 < going.at.word → Owes (serve.Keep (keeps.Fill here going.at.word (bank_of (word_of chip (held_word here))) came) p) c
+      keep_more q z =
+          one_owed (spi_owing d) Done (Units (serving d e u (serve.Keep (keeps.Fill here going.at.word b came) p))) c (Some (Units (serving d e u (serve.Stand p)))) (may_store d fits (bank_word here Received b going.at.word) came (banks_own d fits at.part.channel known.0 known.1 (is_inside d fits at.part.channel known.0 known.1 q) Received (bank_word here Received b going.at.word) (own_word_more st at p next follows came c l q z))) tt refl
+          (stand (chip_after c (Store (bank_word here Received b going.at.word) came) 0) kept (record { serials = rest.serials; wiring = rest.wiring; control = rest.control }) (internal_destinations q (chip_after c (Store (bank_word here Received b going.at.word) came) 0) kept))
+        where
+          b : ℕ
+          b = bank_of (word_of chip (held_word here))
+
+          kept : Keeps (chip_after c (Store (bank_word here Received b going.at.word) came) 0)
+          kept = kept_more st at p next follows came c l q z
+
+      -- an external channel's word goes to the user's destination, or nowhere
+      module _ (q : here.channel.internal ≡ false) where
+        external : ExternalAgrees (word_of chip) here going.at going.at.channel at.part
+        external = subst (λ b. PartBy b (word_of chip) here going.at going.at.channel at.part) q agrees_here
+
+        by_is : unpacked (word_of chip (held_word here)) ≡ external.by
+        by_is = held_back d fits u (word_of chip) going under.for under.represents going.at.channel first.part first.there external
+
+        goes_is : (b : Bool) → (unpacked (word_of chip (held_word here))).destination ≡ b → at.part.goes ≡ goes_by b
+        goes_is b f = external.goes ∙ ap goes_by (ap (λ (z : SetUp). z.destination) (sym by_is) ∙ f)
+
+        keep_nowhere : (unpacked (word_of chip (held_word here))).destination ≡ false → Owes (serve.Keep (keeps.Drop here) p) c
+        keep_nowhere f =
+            one_owed (spi_owing d) Done (Units (serving d e u (serve.Keep (keeps.Drop here) p))) c (Some (Units (serving d e u (serve.Stand p)))) (may_store d fits (held_word here) 0 (own_held d fits at.part.channel known.0 known.1)) tt refl
+            (stand c (kept_nowhere st at p next follows came c l q) rest
+            (same_destinations c (λ n j lt less. l.others (place_of (Destination n) j) (not_let (place_of (Destination n) j) (omega arith))) (goes_there Nowhere (goes_is false f))))
+
+        keep_outside : (unpacked (word_of chip (held_word here))).destination ≡ true → Owes (serve.Keep (keeps.Store here going.at.word came) p) c
+        keep_outside f =
+            one_owed (spi_owing d) Done (Units (serving d e u (serve.Keep (keeps.Store here going.at.word came) p))) c (Some (Units (serving d e u (serve.Stand p)))) (may_users d fits (destination_word here going.at.word) (destination_own d fits at.part.channel going.at.word within) (omega (arith, small.0, small.1))) tt refl
+            (stand (chip_after c (Store (destination_word here going.at.word) came) 0) kept (record { serials = rest.serials; wiring = rest.wiring; control = rest.control }) there_now)
+          where
+            within : going.at.word < length_by (channel_of d at.part.channel)
+            within = subst (λ o. going.at.word < length_by o) (sym known.1) (subst (λ (z : Channel). going.at.word < z.length) (has_channel d fits at.part.channel known.0 known.1) (let lt = first.inside in let le = part_few d fits u (word_of chip) going under.for under.represents going.at.channel first.part first.there in omega (arith, lt, le)))
+
+            small : (at.part.channel < 16) × (going.at.word < 64)
+            small = small_place at.part.channel going.at.word within
+
+            kept : Keeps (chip_after c (Store (destination_word here going.at.word) came) 0)
+            kept = kept_outside st at p next follows came c l q
+
+            there_now : (n j : ℕ) → j < length_by (channel_of d n) → word_of (chip_after c (Store (destination_word here going.at.word) came) 0) (place_of (Destination n) j) ≡ word_at (slice_index_or channels n untouched).destination j
+            there_now n j lt = split (same_or_other n at.part.channel) (same_or_other j going.at.word) ∙ ap (λ cs. word_at (slice_index_or cs n untouched).destination j) (sym (goes_there ToDestination (goes_is true f)))
+              where
+                apart : place_of (Destination n) j ≢ destination_word here going.at.word → word_of (chip_after c (Store (destination_word here going.at.word) came) 0) (place_of (Destination n) j) ≡ word_at (channel_at s n).destination j
+                apart ne = stored_other c (destination_word here going.at.word) came 0 (place_of (Destination n) j) ne ∙ l.others (place_of (Destination n) j) (not_let (place_of (Destination n) j) (omega arith)) ∙ (h.arrays n).destination j lt
+
+                less : j < 64
+                less = (small_place n j lt).1
+
+                split : (n ≡ at.part.channel) ⊎ (n ≢ at.part.channel) → (j ≡ going.at.word) ⊎ (j ≢ going.at.word) → word_of (chip_after c (Store (destination_word here going.at.word) came) 0) (place_of (Destination n) j) ≡ word_at (slice_index_or (stored s here_word ToDestination came).channels n untouched).destination j
+                split (inl a1) (inl b1) =
+                    subst (λ k. word_of (chip_after c (Store (destination_word here going.at.word) came) 0) (place_of (Destination k) j) ≡ word_at (slice_index_or (stored s here_word ToDestination came).channels k untouched).destination j) (sym a1)
+                    (subst (λ k. word_of (chip_after c (Store (destination_word here going.at.word) came) 0) (place_of (Destination at.part.channel) k) ≡ word_at (slice_index_or (stored s here_word ToDestination came).channels at.part.channel untouched).destination k) (sym b1)
+                    (stored_same c (destination_word here going.at.word) came 0 (omega (arith, small.0, small.1)) l.outside.all.words ∙ sym (stored_there s here_word came)))
+                split (inr a1) b1 = apart (λ g1. a1 (omega (arith, g1, less, small.1))) ∙ sym (stored_elsewhere s here_word came n j (inl a1))
+                split (inl a1) (inr b1) = apart (λ g1. b1 (omega (arith, g1, a1))) ∙ sym (stored_elsewhere s here_word came n j (inr b1))
+
+      -- the word is kept, wherever it goes
+      keep_owes : Owes (serve.Keep (keep_of d a) p) c
+      keep_owes = split here.channel.internal refl (going.at.word == 0) refl (unpacked (word_of chip (held_word here))).destination refl
+        where
+          split : (q : Bool) → here.channel.internal ≡ q → (z : Bool) → (going.at.word == 0) ≡ z → (b : Bool) → (unpacked (word_of chip (held_word here))).destination ≡ b → Owes (serve.Keep (keep_of d a) p) c
+          split true f true g1 b k1 = subst (λ k. Owes (serve.Keep k p) c) (sym (keep_is ∙ kept_as here going.at.word (word_of chip) came true f true g1)) (keep_first f (is_number going.at.word 0 g1))
+          split true f false g1 b k1 = subst (λ k. Owes (serve.Keep k p) c) (sym (keep_is ∙ kept_as here going.at.word (word_of chip) came true f false g1)) (keep_more f (positive going.at.word g1))
+            where
+              positive : (n : ℕ) → (n == 0) ≡ false → 0 < n
+              positive n h1 = grind (arith, nat_tests)
+          split false f z g1 true k1 = subst (λ k. Owes (serve.Keep k p) c) (sym (keep_is ∙ kept_as here going.at.word (word_of chip) came false f z g1 ∙ ap (λ b. if b then keeps.Store here going.at.word came else keeps.Drop here) k1)) (keep_outside f k1)
+          split false f z g1 false k1 = subst (λ k. Owes (serve.Keep k p) c) (sym (keep_is ∙ kept_as here going.at.word (word_of chip) came false f z g1 ∙ ap (λ b. if b then keeps.Store here going.at.word came else keeps.Drop here) k1)) (keep_nowhere f k1)
+
+    -- ---- the pin of the next channel ends with its last word
+
+    after_begin : IsAfter chip1
+    after_begin = record { serials = refl; wiring = refl; control = refl }
+
+    last_says : (n l : ℕ) → nat_lt (n + 1) l ≡ not (nat_le l (n + 1))
+    last_says n l = grind (arith, nat_tests)
+
+    is_last : there.channel.internal ≡ true → (b : Bool) → is_last_place there p.word ≡ b → nat_lt (p.word + 1) (length next.part.values) ≡ not b
+    is_last q b f =
+        let represents = subst (λ z. PartBy z (word_of chip) there going.at p.channel next.part) q (under.represents.parts p.channel second.part second.there).1 in
+        ap (nat_lt (p.word + 1)) represents.count ∙ last_says p.word there.channel.length ∙ ap not f
+
+    lets_by : (q : Bool) → there.channel.internal ≡ q → (b : Bool) → is_last_place there p.word ≡ b → Owes (lets_with d a p there) chip1
+    lets_by true f true g1 =
+        subst (λ z. Owes (if z then serve.Let a p (releasing there Sent) else serve.Keep (keep_of d a) p) chip1) (sym (ap (λ z. z && is_last_place there p.word) f ∙ g1))
+        (one_owed (spi_owing d) Done (Units (serving d e u (serve.Let a p (takes.Release cw)))) chip1 (Some (Units (serving d e u (serve.Let a p (takes.Free cw (word_of chip1 cw % 4)))))) (own f) tt refl
+        (one_owed (spi_owing d) Done (Units (serving d e u (serve.Let a p (takes.Free cw (word_of chip1 cw % 4))))) chip1 (Some (Units (serving d e u (serve.Keep (keep_of d a) p)))) (own f) tt refl
+        (keep_owes (chip_after chip1 (Store cw (word_of chip1 cw % 4)) 0) (let_ends st at p next follows came chip1 outside1 (λ j. refl) f (is_last f true g1)) (record { serials = refl; wiring = refl; control = refl }))))
+      where
+        cw : ℕ
+        cw = control_word there Sent
+
+        own : there.channel.internal ≡ true → may d (Store (control_word there Sent) (word_of chip1 (control_word there Sent) % 4)) ≡ true
+        own q = let k = there_known st at p next follows came in may_store d fits (control_word there Sent) (word_of chip1 (control_word there Sent) % 4) (banks_own d fits next.part.channel k.0 k.1 (is_inside d fits next.part.channel k.0 k.1 q) Sent (control_word there Sent) (own-control (trio_of there Sent)))
+    lets_by true f false g1 =
+        subst (λ z. Owes (if z then serve.Let a p (releasing there Sent) else serve.Keep (keep_of d a) p) chip1) (sym (ap (λ z. z && is_last_place there p.word) f ∙ g1))
+        (keep_owes chip1 (let_none st at p next follows came chip1 outside1 (λ j. refl) (λ q. is_last f false g1)) after_begin)
+    lets_by false f b g1 =
+        subst (λ z. Owes (if z && is_last_place there p.word then serve.Let a p (releasing there Sent) else serve.Keep (keep_of d a) p) chip1) (sym f)
+        (keep_owes chip1 (let_none st at p next follows came chip1 outside1 (λ j. refl) (λ q. absurd (let k = sym f ∙ q in cc))) after_begin)
+
+    pub further_owes : Owes (lets_of d a p) chip1
+    further_owes = subst (λ x. Owes (lets_with d a p x) chip1) (sym (next_channel d fits below chip w s h u few a p i)) (lets_by there.channel.internal refl (is_last_place there p.word) refl)

@@ -1,0 +1,245 @@
+-- A job has ended and its sequence with it: both results and the order of the unit are told, and the words stand for the
+-- machine's state.
+-- From services.FreedUnit, services.ToldRight, bookkeeping.MovedOn, services.FurtherRight, ToServe.
+-- Used by services.JobOverRight.
+use Rattle.std.proofs.Common.{◌≡◌, ◌≢◌, ◌+◌, ◌<◌, ◌≤◌, ◌==◌, ◌&&◌, [], ◌∷◌, ◌∙◌, ◌⊎◌}
+use Rattle.spi_serving.specs.Terms
+use Terms.{after_serve, Answer, AnswerName, ap, AreOwed, arith, at_left, Bool, Call, ChannelState, Chip, CommitsTo}
+use Terms.{Contains, DiffersIn, drop, drop-ends, drop_gave, Dropped, dropping, ended_sound, ended_view, ended_words}
+use Terms.{entries_of, failed_word, false, filter, filter_back, filter_keeps, FitsSpi, FrameRole, given_back, Going}
+use Terms.{going_next, inl, inr, is_for, is_left, is_of, is_off, is_some, IsOfSequence, IsPart, IsSoundState}
+use Terms.{item-other, item-same, job_code, job_result, job_word, jobs_of, Leaving, left_at, left_order, LeftAt, length}
+use Terms.{List, list_any, MARKS, may_store, named_own, next_job, next_small, NEXTS, None, not, not_order, not_true}
+use Terms.{one_owed, one_place, Option, order_there, order_word, Origin, other_number, own_first, own_order, PartTo}
+use Terms.{Pending, refl, result_by, RunsNext, same_or_other, search_of, sequence_code, sequence_word, sequences_as}
+use Terms.{SequencesAgree, serve_drops, Served, ServePlace, settles_part, slice_index_or, Some, sound_as, spi_owing}
+use Terms.{SpiJobOk, SpiRepresents, SpiSeqOk, SpiSeqPending, SpiState, SpiTable, STATE, stay, subst, sym, Taker}
+use Terms.{there_by, true, unit_owed, Units, unless_done, view, with_item, without, word_of, ℕ}
+use Rattle.spi_sequences.specs.Refinement.{IsLast}
+use Rattle.spi_serving.specs.laws.{services.FreedUnit.{in_no_other, order_left, IsFilled, Left, few_run, freed_agrees}}
+use Rattle.spi_serving.specs.laws.{services.FreedUnit.{going_left, other_free, others_differ, others_run, owed_left}}
+use Rattle.spi_serving.specs.laws.{services.FreedUnit.{start_owed, with_free}, services.FurtherRight.{serving}}
+use Rattle.spi_serving.specs.laws.{bookkeeping.MovedOn.{going_here, going_other}, services.ToldRight.{IsAside}}
+use Rattle.spi_serving.specs.laws.{services.ToldRight.{aside_high, both_outside, both_told, first_told, is_told}}
+use Rattle.spi_serving.specs.laws.{services.ToldRight.{order_before, order_other, told_first, told_other, told_second}}
+use Rattle.spi_serving.specs.laws.{ToServe.{ToServe}}
+use Rattle.word_shapes.specs.Order as order
+use Rattle.word_shapes.specs.PriorityQueue as ranked
+use Rattle.word_shapes.specs.declared.dropped.Dropped.TheVariants as drops
+use Rattle.spi_sequences.specs.declared.service.serve.SequenceNext.TheVariants as courses
+use Rattle.spi_sequences.specs.declared.service.serve.ServePlace.TheVariants as serve
+
+-- ---- the sequence leaves the order: a part of what is owed
+
+module _ (d : SpiTable) (fits : FitsSpi d) (e : FrameRole) (u : ℕ) (few : u < 2) (r : Served) where
+  drop_steps : (a : Dropped) (v : ℕ) (o : Option Answer) → (drop_gave a v).ended ≡ o → PartTo dropping (spi_owing d) (λ x. Units (serving d e u (serve.Drop r x))) (λ xs. None) a v o
+  drop_steps a v None f = ap (λ b. unless_done (after_serve (serving d e u (serve.Drop r a)) (serve_drops d r a v b)).1.done (unit_owed (after_serve (serving d e u (serve.Drop r a)) (serve_drops d r a v b)).0)) (ap is_some f)
+  drop_steps a v (Some x) f = ap (λ b. unless_done (after_serve (serving d e u (serve.Drop r a)) (serve_drops d r a v b)).1.done (unit_owed (after_serve (serving d e u (serve.Drop r a)) (serve_drops d r a v b)).0)) (ap is_some f)
+
+  pub drop_part : IsPart dropping (ranked.own_of (record { at = order_word u })) (spi_owing d) (λ x. Units (serving d e u (serve.Drop r x))) (λ xs. None)
+  drop_part = record {
+    moves = λ a. refl;
+    steps = λ a v. drop_steps a v (drop_gave a v).ended refl;
+    named = named_own d fits (ranked.own_of (record { at = order_word u })) (λ j own. own_order d u j few own);
+    fits = λ a chip. tt;
+  }
+
+-- the result of a job, as its word has it
+last_result : (b : Bool) → IsLast (result_by b)
+last_result true = tt
+last_result false = tt
+
+told_result : (b : Bool) → failed_word b ≡ job_code (result_by b)
+told_result true = refl
+told_result false = refl
+
+-- ---- the words
+
+module _ (st : ToServe) (owner : Origin Call) (acted : Option Answer) (cs : List ChannelState)
+    (like : IsFilled cs st.s) (c : Chip) (l : Left st owner acted cs like c) (failed : Bool) (x : AnswerName)
+    (named : IsOfSequence x) (done : x ≡ SpiSeqPending → ⊥) where
+  open st use {d, fits, below, chip, w, s, h, on, u, few, g, is}
+
+  abbrev p : Pending
+  p = g.pending
+
+  there : Contains s.pending p
+  there = (going_next d fits below chip w s h u g few is).0
+
+  for : is_for d u p ≡ true
+  for = (going_next d fits below chip w s h u g few is).2
+
+  within : p.next < length (jobs_of d p.sequence)
+  within = (h.sound.entries p there).next
+
+  abbrev results : List AnswerName
+  results = with_item SpiJobOk s.job_results (next_job d p) (result_by failed)
+
+  -- the machine's state then
+  abbrev pub after : SpiState
+  after = with_free s u cs (without p.sequence s.pending) (with_item SpiSeqOk s.sequence_results p.sequence x) (given_back d p (p.next + 1) results)
+
+  abbrev runs : ℕ → Bool
+  runs = (view after).running
+
+  abbrev idle : ℕ → Bool
+  idle = (view after).idle
+
+  others : (n : ℕ) → n ≢ p.sequence → runs n ≡ (view s).running n
+  others = others_run st
+
+  rest : (n : ℕ) → 2 ≤ n → idle n ≡ true
+  rest = few_run st
+
+  -- of the jobs that were left its own alone has run
+  abbrev later : ℕ → Bool
+  later j = list_any (λ k. k == j) (drop (p.next + 1) (jobs_of d p.sequence))
+
+  own_left : is_left d (next_job d p) p ≡ true
+  own_left = left_at (jobs_of d p.sequence) p.next p.next (next_job d p) within (omega arith) refl
+
+  own_run : later (next_job d p) ≡ false
+  own_run = not_true (later (next_job d p)) (λ e. by (at_left (jobs_of d p.sequence) (p.next + 1) (next_job d p) e))
+    where
+      by : LeftAt (jobs_of d p.sequence) (p.next + 1) (next_job d p) → ⊥
+      by a = let same = one_place d fits p.sequence a.place p.next a.within within a.is in let from = a.from in omega (arith, same, from)
+
+  is_own : (j : ℕ) → is_left d j p ≡ true → later j ≡ false → j ≡ next_job d p
+  is_own j left none = by (at_left (jobs_of d p.sequence) p.next j left)
+    where
+      by : LeftAt (jobs_of d p.sequence) p.next j → j ≡ next_job d p
+      by a = split (same_or_other a.place p.next)
+        where
+          split : (a.place ≡ p.next) ⊎ (a.place ≢ p.next) → j ≡ next_job d p
+          split (inl e) = sym a.is ∙ ap (λ n. slice_index_or (jobs_of d p.sequence) n 0) e
+          split (inr ne) = absurd (let from = a.from in let past : p.next + 1 ≤ a.place = greater p.next a.place from ne in let f = sym none ∙ left_at (jobs_of d p.sequence) (p.next + 1) a.place j a.within past a.is in cc)
+            where
+              greater : (n k : ℕ) → n ≤ k → k ≢ n → n + 1 ≤ k
+              greater n k le other = grind arith
+
+  ran : (j : ℕ) → is_left d j p ≡ true → later j ≡ false → IsLast (job_result results j)
+  ran j left none = subst (λ k. IsLast (job_result results k)) (sym (is_own j left none)) (subst (λ z. IsLast z) (sym (item-same SpiJobOk s.job_results (next_job d p) (result_by failed))) (last_result failed))
+
+  unrun : (j : ℕ) → is_left d j p ≡ false → job_result results j ≡ job_result s.job_results j
+  unrun j none = item-other SpiJobOk s.job_results (next_job d p) j (result_by failed) (λ e. let f = sym none ∙ ap (λ k. is_left d k p) e ∙ own_left in cc)
+
+  off : is_off s.mode ≡ true → (n : ℕ) → idle n ≡ true
+  off e = absurd (let f = sym on ∙ e in cc)
+
+  sound : IsSoundState d (view after)
+  sound = sound_as d (ended_view d fits (view s) h.sound p there (p.next + 1) (omega arith) results ran unrun runs idle x named done others rest off) s.mode (view after).written (view after).received (view after).sources (λ e. absurd (let f = sym on ∙ e in cc))
+      (ended_sound d fits (view s) h.sound p there (p.next + 1) (omega arith) results ran unrun runs idle x named done others rest off)
+
+  nexts : (n : ℕ) → n < 2 → RunsNext d (view after) n (going_left st n)
+  nexts n lt = by (same_or_other n u)
+    where
+      other : n ≢ u → (o : Option Going) → h.going n ≡ o → RunsNext d (view s) n o → RunsNext d (view after) n o
+      other ne None e r = tt
+      other ne (Some k) e r = (filter_keeps (λ z. not (is_of p.sequence z)) s.pending k.pending r.0 (ap not (other_number k.pending.sequence p.sequence (others_differ st n k lt ne e))), r.1, r.2)
+
+      by : (n ≡ u) ⊎ (n ≢ u) → RunsNext d (view after) n (going_left st n)
+      by (inl e) = subst (λ k. RunsNext d (view after) k (going_left st k)) (sym e) (subst (λ o. RunsNext d (view after) u o) (sym (going_here h.going u None)) tt)
+      by (inr ne) = subst (λ o. RunsNext d (view after) n o) (sym (going_other h.going u None n ne)) (other ne (h.going n) refl (h.nexts n lt))
+
+  owed : AreOwed d (start_owed u owner acted ∷ below) (going_left st) after
+  owed n z lt free at mine = owed_left st owner acted n lt free (λ ne. h.owed n z lt (other_free st n ne free) (filter_back (λ y. not (is_of p.sequence y)) s.pending z at).0 mine)
+
+  -- ---- what is owed
+
+  module _ (e : FrameRole) (r : Served) (t : Taker) (v : ℕ) (job_is : r.run.job ≡ next_job d p) (sequence_is : r.run.sequence ≡ p.sequence) (failed_is : r.failed ≡ failed) (code_is : v ≡ sequence_code x) where
+    abbrev pub leaving : Leaving
+    leaving = record { served = r; taker = t; course = courses.Ends v }
+
+    abbrev Done : Chip → Type 0
+    Done f = SpiRepresents d (start_owed u owner acted ∷ below) f w after
+
+    abbrev Owes : ServePlace → Chip → Type 0
+    Owes q c1 = (n : ℕ) × CommitsTo (spi_owing d) n (Units (serving d e u q)) c1 Done
+
+    job_few : r.run.job < 16
+    job_few = subst (λ j. j < 16) (sym job_is) (next_small d fits below chip w s h p there)
+
+    number : r.run.sequence < 8
+    number = subst (λ q. q < 8) (sym sequence_is) (h.sound.entries p there).number
+
+    abbrev result : ℕ
+    result = job_word r.run.job
+
+    abbrev ending : ℕ
+    ending = sequence_word r.run.sequence
+
+    aside : IsAside result
+    aside = aside_high result (omega arith) (let lt = job_few in omega (arith, lt))
+
+    beside : IsAside ending
+    beside = aside_high ending (omega arith) (let lt = number in omega (arith, lt))
+
+    apart : result ≢ ending
+    apart f = let lt = job_few in omega (arith, f, lt)
+
+    abbrev second : Chip
+    second = both_told w u few c l.outside result aside (failed_word r.failed) ending beside v apart
+
+    was : SequencesAgree d (word_of chip) (view s)
+    was = (h.words.on on).sequences
+
+    -- it is in the order of its unit
+    present : order.is_there r.run.sequence (entries_of d (view s) u) ≡ true
+    present = ap (λ q. order.is_there q (entries_of d (view s) u)) sequence_is ∙ there_by (view s).running (filter (is_for d u) s.pending) p (filter_keeps (is_for d u) s.pending p there for)
+
+    module _ (f : Chip) (differs : DiffersIn (ranked.own_of (record { at = order_word u })) second f) (holds : ranked.Holds (record { at = order_word u }) (word_of f) (order.without r.run.sequence (entries_of d (view s) u))) where
+      other : (j : ℕ) → ranked.own_of (record { at = order_word u }) j ≡ false → j ≢ result → j ≢ ending → word_of f j ≡ word_of c j
+      other j out na nb = told_other w u few c l.outside result aside (failed_word r.failed) ending beside v apart f differs j out na nb
+
+      low_same : (j : ℕ) → STATE < j → j < STATE + 8 → word_of f j ≡ word_of chip j
+      low_same j low lt = other j (not_order u j (λ y. omega (arith, y, lt)) (λ y. omega (arith, y, lt)) (λ y. omega (arith, y, lt))) (λ y. omega (arith, y, lt)) (λ y. omega (arith, y, lt)) ∙ l.first j (omega (arith, low)) (omega (arith, lt)) (λ y. omega (arith, y, lt))
+
+      high_same : (j : ℕ) → STATE + 24 ≤ j → j < STATE + 64 → j ≢ result → j ≢ ending → word_of f j ≡ word_of chip j
+      high_same j le lt na nb = other j (not_order u j (λ y. omega (arith, y, le, few)) (λ y. omega (arith, y, le, few)) (λ y. omega (arith, y, le, few))) na nb ∙ l.first j (omega (arith, le)) lt (λ y. omega (arith, y, le, few))
+
+      told : word_of f (sequence_word p.sequence) ≡ sequence_code x
+      told = ap (λ q. word_of f (sequence_word q)) (sym sequence_is) ∙ told_second w u few c l.outside result aside (failed_word r.failed) ending beside v apart f differs ∙ code_is
+
+      result_told : word_of f (job_word (next_job d p)) ≡ job_code (job_result results (next_job d p))
+      result_told =
+          ap (λ j. word_of f (job_word j)) (sym job_is) ∙ told_first w u few c l.outside result aside (failed_word r.failed) ending beside v apart f differs ∙ ap failed_word failed_is ∙ told_result failed
+          ∙ ap job_code (sym (item-same SpiJobOk s.job_results (next_job d p) (result_by failed)))
+
+      orders : (n : ℕ) → n < 2 → ranked.Holds (record { at = order_word n }) (word_of f) (entries_of d (ended_view d fits (view s) h.sound p there (p.next + 1) (omega arith) results ran unrun runs idle x named done others rest off) n)
+      orders n lt = by (same_or_other n u)
+        where
+          Order : ℕ → Type 0
+          Order k = ranked.Holds (record { at = order_word k }) (word_of f) (entries_of d (ended_view d fits (view s) h.sound p there (p.next + 1) (omega arith) results ran unrun runs idle x named done others rest off) k)
+
+          by : (n ≡ u) ⊎ (n ≢ u) → Order n
+          by (inl y) = subst Order (sym y) (subst (λ xs. ranked.Holds (record { at = order_word u }) (word_of f) xs) (sym (left_order d u p.sequence (view s).running runs others s.pending (was.orders u few).once)) (subst (λ q. ranked.Holds (record { at = order_word u }) (word_of f) (order.without q (entries_of d (view s) u))) sequence_is holds))
+          by (inr ne) = subst (λ xs. ranked.Holds (record { at = order_word n }) (word_of f) xs) (sym (stay d n p.sequence (view s).running runs others s.pending (in_no_other st n ne)))
+              (order_other w u few c l.outside result aside (failed_word r.failed) ending beside v apart f differs n lt ne (entries_of d (view s) n) (order_left st owner acted cs like c l n lt))
+
+      job_same : (j : ℕ) → j < 16 → (is_left d j p && not (later j)) ≡ false → word_of f (job_word j) ≡ word_of chip (job_word j)
+      job_same j lt unless = high_same (job_word j) (omega arith) (omega (arith, lt)) (λ y. let same = job_is in own (omega (arith, y, same))) (λ y. omega (arith, y, lt))
+        where
+          own : j ≡ next_job d p → ⊥
+          own e = let y = sym unless ∙ ap (λ k. is_left d k p && not (later k)) e ∙ ap (λ q. q && not (later (next_job d p))) own_left ∙ ap not own_run in cc
+
+      sequences : SequencesAgree d (word_of f) (view after)
+      sequences = sequences_as d (ended_view d fits (view s) h.sound p there (p.next + 1) (omega arith) results ran unrun runs idle x named done others rest off) s.mode (view after).written (view after).received (view after).sources (word_of f)
+          (ended_words d fits (view s) h.sound p there (p.next + 1) (omega arith) results ran unrun runs idle x named done others rest off (word_of chip) (word_of f) was
+          (λ n lt ne. high_same (sequence_word n) (omega arith) (omega (arith, lt)) (λ y. let lt1 = job_few in omega (arith, y, lt1)) (λ y. let same = sequence_is in ne (omega (arith, y, same)))) told
+          (low_same NEXTS (omega arith) (omega arith)) (low_same MARKS (omega arith) (omega arith)) job_same
+          (λ j lt left none. subst (λ k. word_of f (job_word k) ≡ job_code (job_result results k)) (sym (is_own j left none)) result_told) orders)
+
+      represents : Done f
+      represents = freed_agrees st owner acted cs like c f l (is_told w u few c l.outside result aside (failed_word r.failed) ending beside v apart f differs) after.pending after.sequence_results after.job_results sound nexts sequences owed
+
+    pub result_owes : Owes (serve.Result leaving) c
+    result_owes = one_owed (spi_owing d) Done (Units (serving d e u (serve.Result leaving))) c (Some (Units (serving d e u (serve.End r v)))) (may_store d fits result (failed_word r.failed) (own_first d result (omega arith) (let lt = job_few in omega (arith, lt)))) tt refl
+        (one_owed (spi_owing d) Done (Units (serving d e u (serve.End r v))) first (Some (Units (serving d e u (serve.Drop r (drops.Look (search_of u) r.run.sequence))))) (may_store d fits ending v (own_first d ending (omega arith) (let lt = number in omega (arith, lt)))) tt refl
+        (settles_part dropping (ranked.own_of (record { at = order_word u })) (spi_owing d) (λ z. Units (serving d e u (serve.Drop r z))) (λ xs. None) (drop_part d fits e u few r) (order_there u few)
+        (λ m words. ranked.Holds (record { at = order_word u }) m (order.without r.run.sequence (entries_of d (view s) u)) × (words ≡ [])) Done
+        _ (drops.Look (search_of u) r.run.sequence) second (both_outside w u few c l.outside result aside (failed_word r.failed) ending beside v apart).all.words
+        (drop-ends (record { at = order_word u }) r.run.sequence (word_of second) (entries_of d (view s) u) (order_before w u few c l.outside result aside (failed_word r.failed) ending beside v apart u few (entries_of d (view s) u) (order_left st owner acted cs like c l u few)) present)
+        (λ f xs differs holds. represents f differs holds.0)))
+      where
+        first : Chip
+        first = first_told w u few c l.outside result aside (failed_word r.failed) ending beside v apart

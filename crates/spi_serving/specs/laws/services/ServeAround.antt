@@ -1,0 +1,141 @@
+-- Around the steps of the serving window: its frame may make them, the hardware leaves the places as they are, and what follows
+-- a step at a place that owes moves.
+use Rattle.std.proofs.Common.{◌≡◌, ◌≢◌, ◌+◌, ◌<◌, ◌≤◌, ◌==◌, ◌&&◌, ◌∙◌, ◌⊎◌, if◌then◌else◌}
+use Rattle.spi_serving.specs.Terms
+use Terms.{after_job, ap, arith, Arrived, asked_word, begins_word, Bool, cancelled_bit, channel_next, channel_served}
+use Terms.{Chip, false, faulted_run, Fill, Find, find_move, Footing, get_or-set_other, get_or-set_same, happened}
+use Terms.{Hardware, has_mark, idle, inl, inr, is_done, is_fill, IsArrived, IsDone, IsFinding, IsFurther, IsLast}
+use Terms.{IsServed, IsTaken, item-other, item-same, length, Level, level_leaves, Load, MARKS, memories, Memory, moved}
+use Terms.{nat_le, nat_tests, NEXTS, None, Option, Order, Position, refl, resets_chip, Run, run_at, run_in}
+use Terms.{running_word, same_or_other, Serial, serve_move, serve_owes, serve_place, Served, ServePlace, slice_index_or}
+use Terms.{Some, SpiFault, SpiState, SpiTable, subst, sym, Taker, taker_of, Tick, Transfer, true, unit_at, Word}
+use Terms.{word-left, word_of, World, world_after, ℕ}
+use Rattle.chip_units.specs.Serials as serials
+use Rattle.spi_jobs.specs.declared.finding.Find.TheVariants as finds
+use Rattle.spi_sequences.specs.declared.service.serve.ServePlace.TheVariants as serve
+
+-- ---- the hardware leaves the places
+
+module _ (d : SpiTable) (u : ℕ) (f f1 : Footing) (w w1 : World) (s s1 : SpiState) (words : f1.0 ≡ f.0) (width : f1.2 u ≡ f.2 u) (now : w.now ≤ w1.now) (keeps : (run : Run) → run_at s u ≡ Some run → is_done w.now run.transfer ≡ true → run_at s1 u ≡ Some run) where
+  some_is : (x y : Run) → Some x ≡ Some y → x ≡ y
+  some_is x y e = cc
+
+  done_still : (t : Transfer) → is_done w.now t ≡ true → is_done w1.now t ≡ true
+  done_still t e = later t.began w.now w1.now now e
+    where
+      later : (b n k : ℕ) → n ≤ k → nat_le (b + 8) n ≡ true → nat_le (b + 8) k ≡ true
+      later b n k le e = grind (arith, nat_tests)
+
+  done_kept : (bad : Bool) → IsDone s w.now u bad → IsDone s1 w1.now u bad
+  done_kept bad i = record { run = i.run; is = keeps i.run i.is i.done; done = done_still i.run.transfer i.done; failed = i.failed }
+
+  served_kept : (r : Served) → IsServed f.0 s w.now u r → IsServed f1.0 s1 w1.now u r
+  served_kept r i = subst (λ m. IsServed m s1 w1.now u r) (sym words) (record { done = done_kept r.failed i.done; run = i.run; at = i.at })
+
+  taken_kept : (r : Served) (t : Taker) → IsTaken d f.0 s w.now u r t → IsTaken d f1.0 s1 w1.now u r t
+  taken_kept r t i = record { served = served_kept r i.served; taker = i.taker ∙ ap (λ (m : Memory). taker_of (channel_served d r) r.at.word (m (asked_word (channel_served d r) r.at.word))) (sym words) }
+
+  -- the run is the one that it was
+  run_back : (r : Served) (i : IsServed f.0 s w.now u r) (run : Run) → run_at s1 u ≡ Some run → run_at s u ≡ Some run
+  run_back r i run e = i.done.is ∙ ap (λ z. Some z) (some_is i.done.run run (sym (keeps i.done.run i.done.is i.done.done) ∙ e))
+
+  arrived_kept : (a : Arrived) → IsArrived d f.0 s w.now u a → IsArrived d f1.0 s1 w1.now u a
+  arrived_kept a i = record { taken = taken_kept a.served a.taker i.taken; word = λ run e good. i.word run (run_back a.served i.taken.served run e) good }
+
+  further_kept : (a : Arrived) (p : Position) → IsFurther d f.0 s w.now u a p → IsFurther d f1.0 s1 w1.now u a p
+  further_kept a p i = record { arrived = arrived_kept a i.arrived; good = i.good; next = i.next }
+
+  last_kept : (a : Arrived) → IsLast d f.0 s w.now u a → IsLast d f1.0 s1 w1.now u a
+  last_kept a i = record { arrived = arrived_kept a i.arrived; ends = i.ends }
+
+  pub place_kept : (p : ServePlace) → serve_place d u p f w s → serve_place d u p f1 w1 s1
+  place_kept serve.Shut i = tt
+  place_kept serve.State i = tt
+  place_kept (serve.Running bad) i = done_kept bad i
+  place_kept (serve.Position r bad) i = (done_kept bad i.0, ap (λ (m : Memory). run_in (m (running_word u))) words ∙ i.1)
+  place_kept (serve.Taker r) i = served_kept r i
+  place_kept (serve.Receive r t) i = taken_kept r t i
+  place_kept (serve.Width a p) i = further_kept a p i
+  place_kept (serve.Find a p x) i = (further_kept a p i.0, width ∙ i.1, subst (λ m. IsFinding m (channel_next d a p) p.word x) (sym words) i.2)
+  place_kept (serve.Begin a p v) i = (further_kept a p i.0, width ∙ i.1, λ run e. i.2 run (run_back a.served i.0.arrived.taken.served run e))
+  place_kept (serve.Marks a) i = last_kept a i
+  place_kept (serve.Nexts a c) i = (last_kept a i.0, i.1 ∙ ap (λ (m : Memory). has_mark (m MARKS) (cancelled_bit a.served.run.sequence)) (sym words))
+  place_kept (serve.Acknowledge a c) i = (last_kept a i.0, i.1 ∙ ap (λ (m : Memory). after_job d a.served (has_mark (m MARKS) (cancelled_bit a.served.run.sequence)) (m NEXTS)) (sym words))
+  place_kept _ i = absurd i
+
+words_kept : (chip : Chip) (order : Order) → is_fill order ≡ false → word_of (happened chip order) ≡ word_of chip
+words_kept chip order e = memories (word_of (happened chip order)) (word_of chip) (λ k. by order e k)
+  where
+    by : (order : Order) → is_fill order ≡ false → (k : ℕ) → word_of (happened chip order) k ≡ word_of chip k
+    by (Fill c ws) e k = absurd (cc)
+    by order e k = word-left k chip (Hardware order) tt
+
+module _ (d : SpiTable) (u : ℕ) (few : u < 2) (chip : Chip) (w : World) (s : SpiState) (size : length chip.serials.units ≡ 2) where
+  same_width : (x : Serial) (o : Option Word) (q : Bool) → (if q then record x { word = o } else x).width ≡ x.width
+  same_width x o true = refl
+  same_width x o false = refl
+
+  width_kept : (n : ℕ) → (unit_at (serials.after_fault chip.serials n) u).width ≡ (unit_at chip.serials u).width
+  width_kept n = by (same_or_other u n)
+    where
+      by : (u ≡ n) ⊎ (u ≢ n) → (unit_at (serials.after_fault chip.serials n) u).width ≡ (unit_at chip.serials u).width
+      by (inl e) =
+          subst (λ k. (unit_at (serials.after_fault chip.serials k) u).width ≡ (unit_at chip.serials u).width) e
+          (ap (λ x. x.width) (get_or-set_same chip.serials.units u (serials.faulted chip.serials.time (unit_at chip.serials u)) idle (omega (arith, size, few)))
+          ∙ same_width (unit_at chip.serials u) (serials.failing (unit_at chip.serials u).word) (serials.is_busy (unit_at chip.serials u) chip.serials.time))
+      by (inr ne) = ap (λ x. x.width) (get_or-set_other chip.serials.units n u (serials.faulted chip.serials.time (unit_at chip.serials n)) idle ne)
+
+  -- a word that is done stays as it is
+  run_kept : (n : ℕ) (run : Run) → run_at s u ≡ Some run → is_done w.now run.transfer ≡ true → run_at (moved d w s (SpiFault n)) u ≡ Some run
+  run_kept n run e done = by (same_or_other u n)
+    where
+      by : (u ≡ n) ⊎ (u ≢ n) → run_at (moved d w s (SpiFault n)) u ≡ Some run
+      by (inl f) =
+          subst (λ k. run_at (moved d w s (SpiFault k)) u ≡ Some run) f
+          (item-same None s.units u (faulted_run w.now (run_at s u)) ∙ ap (faulted_run w.now) e ∙ ap (λ q. Some (record run { transfer = if q then run.transfer else record run.transfer { failed = true } })) done)
+      by (inr ne) = item-other None s.units n u (faulted_run w.now (run_at s n)) ne ∙ e
+
+  abbrev Footprint : Chip → Footing
+  Footprint c = (word_of c, (λ n. (unit_at c.serials n).select), (λ n. (unit_at c.serials n).width))
+
+  pub serve_later : (order : Order) (p : ServePlace) → is_fill order ≡ false → serve_place d u p (Footprint chip) w s → serve_place d u p (Footprint (happened chip order)) (world_after w chip.clock.rate order) (moved d w s order)
+  serve_later (Fill c ws) p e i = absurd (cc)
+  serve_later (SpiFault n) p e i = place_kept d u (Footprint chip) (Footprint (happened chip (SpiFault n))) w (world_after w chip.clock.rate (SpiFault n)) s (moved d w s (SpiFault n)) (words_kept chip (SpiFault n) refl) (width_kept n) (omega arith) (run_kept n) p i
+  serve_later (Level k v) p e i = place_kept d u (Footprint chip) (Footprint (happened chip (Level k v))) w (world_after w chip.clock.rate (Level k v)) s s (words_kept chip (Level k v) refl) (ap (λ xs. (slice_index_or xs u idle).width) (level_leaves (λ c. c.serials.units) chip k v refl)) (omega arith) (λ run f g. f) p i
+  serve_later (Tick n) p e i = place_kept d u (Footprint chip) (Footprint (happened chip (Tick n))) w (world_after w chip.clock.rate (Tick n)) s s (words_kept chip (Tick n) refl) refl (omega arith) (λ run f g. f) p i
+  serve_later order p e i = place_kept d u (Footprint chip) (Footprint (happened chip order)) w (world_after w chip.clock.rate order) s s (words_kept chip order e) refl (omega arith) (λ run f g. f) p i
+
+-- ---- a step without an event resets nothing, and begins no word
+
+module _ (d : SpiTable) (u : ℕ) where
+  abbrev pub NotServing : ServePlace → Type 0
+  NotServing (serve.Begin a p v) = ⊥
+  NotServing _ = Unit {0}
+
+  calm_asking : (q : Bool) (k j : ℕ) → (resets_chip (if q then Load k else Load j) ≡ false) × (begins_word (if q then Load k else Load j) ≡ false)
+  calm_asking true k j = (refl, refl)
+  calm_asking false k j = (refl, refl)
+
+  calm_find : (x : Find) → (resets_chip (find_move x) ≡ false) × (begins_word (find_move x) ≡ false)
+  calm_find (finds.Newest x) = (refl, refl)
+  calm_find (finds.SetUp x) = (refl, refl)
+  calm_find (finds.Pinned x i) = (refl, refl)
+  calm_find (finds.Held x i) = (refl, refl)
+  calm_find (finds.Bank x i b) = (refl, refl)
+  calm_find (finds.Source x i) = (refl, refl)
+  calm_find (finds.Default x) = (refl, refl)
+
+  pub serve_calm : (p : ServePlace) → serve_owes p ≡ false → NotServing p → (resets_chip (serve_move d u p) ≡ false) × (begins_word (serve_move d u p) ≡ false)
+  serve_calm serve.Shut e n = (refl, refl)
+  serve_calm serve.State e n = (refl, refl)
+  serve_calm (serve.Running b) e n = (refl, refl)
+  serve_calm (serve.Position r b) e n = (refl, refl)
+  serve_calm (serve.Taker r) e n = calm_asking ((channel_served d r).channel.internal && r.at.word == 0) _ _
+  serve_calm (serve.Receive r t) e n = (refl, refl)
+  serve_calm (serve.Width a p) e n = (refl, refl)
+  serve_calm (serve.Find a p x) e n = calm_find x
+  serve_calm (serve.Begin a p v) e n = absurd n
+  serve_calm (serve.Marks a) e n = (refl, refl)
+  serve_calm (serve.Nexts a c) e n = (refl, refl)
+  serve_calm (serve.Acknowledge a c) e n = (refl, refl)
+  serve_calm _ e n = absurd (cc)

@@ -1,0 +1,188 @@
+-- A job's last word is kept: what its internal channels received becomes readable, one channel after the other.
+-- From words.SidesApart, words.JoinedLists, bookkeeping.JobsApart, words.Positions, services.FurtherRight and 1 more.
+-- Used by words.LastKept, words.CommitWords, services.WellEnded, services.JobOverRight, words.ReleasedPins and 1 more.
+use Rattle.std.proofs.Common.{◌≡◌, ◌≢◌, ◌+◌, ◌-◌, ◌<◌, ◌≤◌, ◌==◌, [], ◌∷◌, ◌++◌, ◌∙◌, ◌⊎◌, if◌then◌else◌}
+use Rattle.spi_serving.specs.Terms
+use Terms.{after_serve, Answer, ap, AreThere, arith, bank_of, Banks, Bool, Channel, channel_at_place, channel_of, Chip}
+use Terms.{commit-ends, commit_at, commit_by, commit_last, commit_with, CommitsTo, committing, committing_of, DiffersIn}
+use Terms.{drop, false, first_internal, FrameRole, held_word, inl, inr, is_number, is_some, IsPart, Leaving, length}
+use Terms.{length-append, length-take-le, List, may_store, Memory, named_own, nat_lt, nat_tests, next_job, None}
+use Terms.{one_owed, Option, own_held, own_low, Part, PartBy, PartTo, placed_of, Put, put_gave, PutIn, Putting, putting}
+use Terms.{Received, refl, same_or_other, serve_commits, serve_owes, ServePlace, settles_part, slice_get, Some, some_is}
+use Terms.{spi_owing, SpiTable, stands-agree, stands_owed, StandsIn, subst, suc, sym, take, take_held, trio_of}
+use Terms.{TripleBuffer, true, unit_owed, Units, unless_done, where_owed, word_of, words_before, words_of, ℕ}
+use Rattle.spi_serving.specs.laws.{bookkeeping.JobsApart.{agrees_at, for_at, one_part}, services.FurtherRight.{serving}}
+use Rattle.spi_serving.specs.laws.{words.JoinedLists.{before-all, before-less, before-next, dropped-count, get_within}}
+use Rattle.spi_serving.specs.laws.{words.Positions.{channel_there, part_known, words_count}}
+use Rattle.spi_serving.specs.laws.{words.SidesApart.{banks_fit, banks_of_one, banks_own, banks_unheld, banks_words}}
+use Rattle.spi_serving.specs.laws.{words.SidesApart.{is_inside}, ToServe.{ToServe}}
+use Rattle.word_shapes.specs.TripleBuffer as trio
+use Rattle.spi_jobs.specs.declared.banks.Commit.TheVariants as commits
+use Rattle.spi_jobs.specs.declared.keeping.Taker.TheVariants as takers
+use Rattle.spi_sequences.specs.declared.service.serve.ServePlace.TheVariants as serve
+
+-- ---- places after a job's last word owe moves
+
+pub commit_owes : (d : SpiTable) (l : Leaving) (n : ℕ) → serve_owes (commit_last d l n) ≡ true
+commit_owes d l n = by (first_internal d l.served n)
+  where
+    by : (o : Option ℕ) → serve_owes (commit_by d l o) ≡ true
+    by None = refl
+    by (Some i) = refl
+
+pub owes_place : (d : SpiTable) (e : FrameRole) (u : ℕ) (q : ServePlace) → serve_owes q ≡ true → unit_owed (serving d e u q) ≡ Some (Units (serving d e u q))
+owes_place d e u q o = ap (λ b. where_owed b (Units (serving d e u q))) o
+
+pub lt_else : (i n : ℕ) → i ≢ n → nat_lt i (suc n) ≡ nat_lt i n
+lt_else i n ne = grind (arith, nat_tests)
+
+-- ---- the words on the way
+
+module _ (st : ToServe) (v : ℕ) where
+  open st use {d, fits, below, chip, w, s, h, on, u, few, g, is}
+
+  -- all that came in of a part
+  abbrev pub whole : (place : ℕ) → Part → List ℕ
+  whole n x = take (length x.values) (drop (words_before g.parts n) (g.received ++ v ∷ []))
+
+  abbrev pub trio_at : Part → TripleBuffer
+  trio_at x = trio_of (placed_of d x.channel) Received
+
+  -- it stands in the bank of a put, which is committed or not
+  pub record ReceivedAt (n : ℕ) (x : Part) (m : Memory) (committed : Bool) : Type 0 where
+    pub banks : Banks
+    pub put : Putting
+    pub puts : banks.put ≡ Some put
+    pub filled : put.filled ≡ whole n x
+    pub takes : banks.take ≡ take_held x.channel below
+    pub held : m (held_word (placed_of d x.channel)) ≡ put.bank
+    pub stands : trio.Stands (trio_at x) m (if committed then committing put banks else banks)
+
+  -- a word that is in no bank of what the job's channels receive
+  abbrev pub IsApart : ℕ → Type 0
+  IsApart j = (n : ℕ) (x : Part) → slice_get g.parts n ≡ Some x → (placed_of d x.channel).channel.internal ≡ true → trio.own_of (trio_at x) j ≡ false
+
+  -- what came in of the internal parts at these places is readable
+  pub record AllKept (b : Chip) (committed : ℕ → Bool) (c : Chip) : Type 0 where
+    pub outside : StandsIn c w
+    pub rest : c ≡ record b { words = c.words }
+    pub apart : (j : ℕ) → IsApart j → word_of c j ≡ word_of b j
+    pub received : (n : ℕ) (x : Part) → slice_get g.parts n ≡ Some x → (placed_of d x.channel).channel.internal ≡ true → ReceivedAt n x (word_of c) (committed n)
+
+  known : (n : ℕ) (x : Part) → slice_get g.parts n ≡ Some x → (k : Channel) × (channel_of d x.channel ≡ Some k)
+  known n x at = part_known d fits u (word_of chip) g (for_at d fits below chip w s h on u g few is) (agrees_at d fits below chip w s h on u g few is) n x at
+
+  -- banks of two places are apart
+  pub places_apart : (n m : ℕ) (x z : Part) → slice_get g.parts n ≡ Some x → slice_get g.parts m ≡ Some z → (placed_of d x.channel).channel.internal ≡ true → (placed_of d z.channel).channel.internal ≡ true → m ≢ n → (j : ℕ) → trio.own_of (trio_at z) j ≡ true → trio.own_of (trio_at x) j ≡ false
+  places_apart n m x z at bt inside within ne j own =
+      let k = known n x at in
+      let q = known m z bt in
+      banks_of_one d fits x.channel k.0 k.1 (is_inside d fits x.channel k.0 k.1 inside) Received z.channel q.0 j (λ e. ne (one_part d fits below chip w s h on u g few is n m x z at bt e)) q.1 (banks_words d fits z.channel q.0 q.1 (is_inside d fits z.channel q.0 q.1 within) Received j own)
+
+  pub unheld : (n m : ℕ) (x z : Part) → slice_get g.parts n ≡ Some x → slice_get g.parts m ≡ Some z → (placed_of d x.channel).channel.internal ≡ true → trio.own_of (trio_at x) (held_word (placed_of d z.channel)) ≡ false
+  unheld n m x z at bt inside = let k = known n x at in let q = known m z bt in banks_unheld d fits x.channel k.0 k.1 (is_inside d fits x.channel k.0 k.1 inside) Received z.channel q.0 q.1
+
+  module _ (b : Chip) (n : ℕ) (x : Part) (at : slice_get g.parts n ≡ Some x) (inside : (placed_of d x.channel).channel.internal ≡ true) where
+    -- the banks of one place change
+    pub kept_on : (f f1 : ℕ → Bool) (c c1 : Chip) → StandsIn c1 w → DiffersIn (trio.own_of (trio_at x)) c c1 → AllKept b f c → ReceivedAt n x (word_of c1) (f1 n) → ((m : ℕ) → m ≢ n → f1 m ≡ f m) → AllKept b f1 c1
+    kept_on f f1 c c1 outside differs a now others = record {
+      outside = outside;
+      rest = differs.rest ∙ ap (λ (z : Chip). record z { words = c1.words }) a.rest;
+      apart = λ j out. differs.others j (out n x at inside) ∙ a.apart j out;
+      received = λ m z bt within. by m z bt within (same_or_other m n);
+    }
+      where
+        by : (m : ℕ) (z : Part) → slice_get g.parts m ≡ Some z → (placed_of d z.channel).channel.internal ≡ true → (m ≡ n) ⊎ (m ≢ n) → ReceivedAt m z (word_of c1) (f1 m)
+        by m z bt within (inl e) = subst (λ k. ReceivedAt k z (word_of c1) (f1 k)) (sym e) (subst (λ y. ReceivedAt n y (word_of c1) (f1 n)) (some_is x z (sym at ∙ ap (slice_get g.parts) (sym e) ∙ bt)) now)
+        by m z bt within (inr ne) =
+            let r = a.received m z bt within in
+            record {
+              banks = r.banks;
+              put = r.put;
+              puts = r.puts;
+              filled = r.filled;
+              takes = r.takes;
+              held = differs.others (held_word (placed_of d z.channel)) (unheld n m x z at bt inside) ∙ r.held;
+              stands = subst (λ q. trio.Stands (trio_at z) (word_of c1) (if q then committing r.put r.banks else r.banks)) (sym (others m ne))
+                  (stands-agree (trio_at z) (word_of c) (word_of c1) (if f m then committing r.put r.banks else r.banks) (λ j own. sym (differs.others j (places_apart n m x z at bt inside within ne j own))) r.stands);
+            }
+
+    -- ---- a channel's words become readable
+
+    inner : (known n x at).0.internal ≡ true
+    inner = is_inside d fits x.channel (known n x at).0 (known n x at).1 inside
+
+    own_there : AreThere (trio.own_of (trio_at x))
+    own_there j own = let low = own_low d fits j (banks_own d fits x.channel (known n x at).0 (known n x at).1 inner Received j own) in omega (arith, low)
+
+    module _ (last : length g.received + 1 ≡ length (words_of d g.parts)) where
+      pub whole_inside : words_before g.parts n + length x.values ≤ length g.received + 1
+      whole_inside =
+          let next = before-next (λ (z : Part). length z.values) g.parts n x at in
+          let lt = get_within g.parts n x at in
+          let le = before-less (λ (z : Part). length z.values) g.parts (suc n) (length g.parts) (omega (arith, lt)) in
+          let all = before-all (λ (z : Part). length z.values) g.parts (length g.parts) (omega arith) in
+          let total = words_count d fits u (word_of chip) g (for_at d fits below chip w s h on u g few is) (agrees_at d fits below chip w s h on u g few is) in
+          omega (arith, next, le, all, total, last)
+
+      pub whole_length : length (whole n x) ≡ (placed_of d x.channel).channel.length
+      whole_length =
+          length-take-le (length x.values) (drop (words_before g.parts n) (g.received ++ v ∷ [])) (let rest = dropped-count (words_before g.parts n) (g.received ++ v ∷ []) in let more = length-append g.received (v ∷ []) in let le = whole_inside in omega (arith, rest, more, le))
+          ∙ (subst (λ q. PartBy q (word_of chip) (placed_of d x.channel) g.at n x) inside ((agrees_at d fits below chip w s h on u g few is).parts n x at).1).count
+
+      module _ (e : FrameRole) (l : Leaving) (Done : Chip → Type 0) where
+        abbrev Owes : ServePlace → Chip → Type 0
+        Owes q c = (i : ℕ) × CommitsTo (spi_owing d) i (Units (serving d e u q)) c Done
+
+        commit_steps : (a : Put) (y : ℕ) (o : Option Answer) → (put_gave a y).ended ≡ o → PartTo putting (spi_owing d) (λ z. Units (serving d e u (serve.Commit l n (commits.Put z)))) (λ xs. Some (Units (serving d e u (commit_last d l (3 - n))))) a y o
+        commit_steps a y None f = ap (λ q. unless_done (after_serve (serving d e u (serve.Commit l n (commits.Put a))) (serve_commits d l n (commits.Put a) y q)).1.done (unit_owed (after_serve (serving d e u (serve.Commit l n (commits.Put a))) (serve_commits d l n (commits.Put a) y q)).0)) (ap is_some f)
+        commit_steps a y (Some z) f = ap (λ q. unless_done (after_serve (serving d e u (serve.Commit l n (commits.Put a))) (serve_commits d l n (commits.Put a) y q)).1.done (unit_owed (after_serve (serving d e u (serve.Commit l n (commits.Put a))) (serve_commits d l n (commits.Put a) y q)).0)) (ap is_some f) ∙ owes_place d e u (commit_last d l (3 - n)) (commit_owes d l (3 - n))
+
+        commit_part : IsPart putting (trio.own_of (trio_at x)) (spi_owing d) (λ z. Units (serving d e u (serve.Commit l n (commits.Put z)))) (λ xs. Some (Units (serving d e u (commit_last d l (3 - n)))))
+        commit_part = record {
+          moves = λ z. refl;
+          steps = λ z y. commit_steps z y (put_gave z y).ended refl;
+          named = named_own d fits (trio.own_of (trio_at x)) (λ j own. banks_own d fits x.channel (known n x at).0 (known n x at).1 inner Received j own);
+          fits = λ z c. tt;
+        }
+
+        module _ (f f1 : ℕ → Bool) (not_yet : f n ≡ false) (by_now : f1 n ≡ true) (others : (m : ℕ) → m ≢ n → f1 m ≡ f m) (c : Chip) (a : AllKept b f c) (onward : (c1 : Chip) → AllKept b f1 c1 → Owes (commit_last d l (3 - n)) c1) where
+          abbrev r : ReceivedAt n x (word_of c) (f n)
+          r = a.received n x at inside
+
+          standing : trio.Stands (trio_at x) (word_of c) r.banks
+          standing = subst (λ q. trio.Stands (trio_at x) (word_of c) (if q then committing r.put r.banks else r.banks)) not_yet r.stands
+
+          commit_put : (bank : ℕ) → bank ≡ r.put.bank → Owes (serve.Commit l n (commits.Put (committing_of (placed_of d x.channel) Received bank))) c
+          commit_put bank same =
+              settles_part putting (trio.own_of (trio_at x)) (spi_owing d) (λ z. Units (serving d e u (serve.Commit l n (commits.Put z)))) (λ xs. Some (Units (serving d e u (commit_last d l (3 - n))))) commit_part own_there
+              (λ m words. (words ≡ []) × trio.Stands (trio_at x) m (committing r.put r.banks)) Done 2 (committing_of (placed_of d x.channel) Received bank) c a.outside.all.words
+              (commit-ends (trio_at x) (word_of c) r.banks r.put bank (banks_fit d fits x.channel (known n x at).0 (known n x at).1 inner Received) r.puts same (ap length r.filled ∙ whole_length) standing)
+              (λ c1 words differs now. onward c1 (kept_on f f1 c c1 (stands_owed (trio.own_of (trio_at x)) c c1 w differs a.outside) differs a (record {
+                banks = r.banks;
+                put = r.put;
+                puts = r.puts;
+                filled = r.filled;
+                takes = r.takes;
+                held = differs.others (held_word (placed_of d x.channel)) (unheld n n x x at at inside) ∙ r.held;
+                stands = subst (λ q. trio.Stands (trio_at x) (word_of c1) (if q then committing r.put r.banks else r.banks)) (sym by_now) now.1;
+              }) others))
+
+          bank_small : r.put.bank < 3
+          bank_small = (subst (λ o. PutIn (trio_at x) (word_of c) r.banks.bank r.banks.take o) r.puts standing.put).below
+
+          commit_held : Owes (serve.Commit l n (commits.Held (placed_of d x.channel))) c
+          commit_held =
+              one_owed (spi_owing d) Done (Units (serving d e u (serve.Commit l n (commits.Held (placed_of d x.channel))))) c (Some (Units (serving d e u (serve.Commit l n (commits.Put (committing_of (placed_of d x.channel) Received (bank_of (word_of c (held_word (placed_of d x.channel))))))))))
+              (may_store d fits (held_word (placed_of d x.channel)) 0 (own_held d fits x.channel (known n x at).0 (known n x at).1)) tt refl
+              (commit_put (bank_of (word_of c (held_word (placed_of d x.channel)))) (let held = r.held in let small = bank_small in omega (arith, held, small)))
+
+          -- it is known of the channel of the last word which bank it is
+          pub commit_one : l.served.run.job ≡ next_job d g.pending → (n ≡ l.served.at.channel → (bank : ℕ) × (l.taker ≡ takers.Bank bank) × (bank ≡ word_of c (held_word (placed_of d x.channel)))) → Owes (serve.Commit l n (commit_at d l n)) c
+          commit_one job_is taken =
+              subst (λ z. Owes (serve.Commit l n (commit_with z (n == l.served.at.channel) l.taker)) c) (sym (ap (λ j. channel_at_place d j n) job_is ∙ channel_there d fits u (word_of chip) g (for_at d fits below chip w s h on u g few is) (agrees_at d fits below chip w s h on u g few is) n x at))
+              (by (n == l.served.at.channel) refl)
+            where
+              by : (q : Bool) → (n == l.served.at.channel) ≡ q → Owes (serve.Commit l n (commit_with (placed_of d x.channel) q l.taker)) c
+              by true k = let z = taken (is_number n l.served.at.channel k) in subst (λ y. Owes (serve.Commit l n (commit_with (placed_of d x.channel) true y)) c) (sym z.1) (commit_put z.0 (z.2 ∙ r.held))
+              by false k = commit_held

@@ -1,0 +1,259 @@
+-- Where words of a job under way stand: which is at a place of its parts, and which place comes after it.
+-- From words.JoinedLists.
+-- Used by words.FacingWords, services.FurtherRight, words.FoundWord, services.WellEnded and 13 more.
+use Rattle.std.proofs.Common.{◌≡◌, ◌+◌, ◌*◌, ◌/◌, ◌%◌, ◌<◌, ◌≤◌, ◌==◌, ◌&&◌, ◌||◌, ◌∙◌, if◌then◌else◌}
+use Rattle.spi_serving.specs.Terms
+use Terms.{after_word, ap, arith, as_words, asked_word, bank_of, Bool, Channel, channel_at_place, channel_number}
+use Terms.{channel_of, channels_by, channels_of, control_word, ExternalAgrees, false, FitsSpi, flag, free_bank, Going}
+use Terms.{GoingAgrees, has_channel, held_word, is_ahead, is_below, is_for, is_past, is_to_begin, Job, job_of}
+use Terms.{job_there, JobWord, length, length-map, length-take-le, length_taken, List, list_by, list_of, masked, Memory}
+use Terms.{nat_lt, nat_tests, next_job, no_word, None, not, Option, packed, Part, part_there, PartBy, Placed, placed_by}
+use Terms.{placed_of, Position, Received, refl, SetUp, slice_get, slice_index_or, Some, SpiTable, subst, suc, sum_by}
+use Terms.{sym, take, taker_of, true, unpacked, width_by, words_before, words_of, ℕ}
+use Rattle.spi_serving.specs.laws.words.JoinedLists.{before-all, before-less, before-next, get_mapped, get_there}
+use Rattle.spi_serving.specs.laws.words.JoinedLists.{get_within, joined-at, joined-count, numbered-count}
+use Rattle.spi_serving.specs.laws.words.JoinedLists.{numbered-first}
+use Rattle.spi_jobs.specs.declared.keeping.Taker.TheVariants as takers
+
+-- ---- set-ups in their words
+
+pub unpacked_back : (x : SetUp) → x.length < 256 → unpacked (packed x) ≡ x
+unpacked_back x few = same (unpacked (packed x)) (first x.source x.destination) (second x.source x.destination) (third (flag x.source) (flag x.destination) (flag_few x.source) (flag_few x.destination))
+  where
+    same : (y : SetUp) → y.source ≡ x.source → y.destination ≡ x.destination → y.length ≡ x.length → y ≡ x
+    same y e f g = ap (λ q. record { source = q; destination = y.destination; length = y.length }) e ∙ ap (λ q. record { source = x.source; destination = q; length = y.length }) f ∙ ap (λ n. record { source = x.source; destination = x.destination; length = n }) g
+
+    flag_few : (q : Bool) → flag q ≤ 1
+    flag_few true = omega arith
+    flag_few false = omega arith
+
+    flagged : (q : Bool) → (flag q == 1) ≡ q
+    flagged true = refl
+    flagged false = refl
+
+    first_digit : (a b : ℕ) → a ≤ 1 → (a + 2 * b + 4 * x.length) % 2 ≡ a
+    first_digit a b le = omega (arith, le)
+
+    second_digit : (a b : ℕ) → a ≤ 1 → b ≤ 1 → (a + 2 * b + 4 * x.length) / 2 % 2 ≡ b
+    second_digit a b le less = omega (arith, le, less)
+
+    third : (a b : ℕ) → a ≤ 1 → b ≤ 1 → (a + 2 * b + 4 * x.length) / 4 % 256 ≡ x.length
+    third a b le less = omega (arith, le, less, few)
+
+    first : (a b : Bool) → ((flag a + 2 * flag b + 4 * x.length) % 2 == 1) ≡ a
+    first a b = ap (λ z. z == 1) (first_digit (flag a) (flag b) (flag_few a)) ∙ flagged a
+
+    second : (a b : Bool) → ((flag a + 2 * flag b + 4 * x.length) / 2 % 2 == 1) ≡ b
+    second a b = ap (λ z. z == 1) (second_digit (flag a) (flag b) (flag_few a) (flag_few b)) ∙ flagged b
+
+-- ---- the parts of a job under way
+
+module _ (d : SpiTable) (fits : FitsSpi d) (u : ℕ) (m : Memory) (g : Going) (for : is_for d u g.pending ≡ true) (h : GoingAgrees d m u g) where
+  abbrev job : ℕ
+  job = next_job d g.pending
+
+  abbrev size : Part → ℕ
+  size x = length x.values
+
+  known : (k : Job) × (job_of d job ≡ Some k)
+  known = job_there d u g.pending for
+
+  pub list_channels : take (list_of d job).count (list_of d job).numbers ≡ channels_of d job
+  list_channels = ap (λ o. take (list_by o).count (list_by o).numbers) known.1 ∙ sym (ap channels_by known.1)
+
+  -- the number at a place of the job is that of the part there
+  pub number_there : (n : ℕ) (x : Part) → slice_get g.parts n ≡ Some x → channel_number (list_of d job) n ≡ Some x.channel
+  number_there n x e = ap (λ xs. slice_get xs n) (list_channels ∙ sym h.channels) ∙ get_mapped (λ y. y.channel) g.parts n x e
+
+  pub channel_there : (n : ℕ) (x : Part) → slice_get g.parts n ≡ Some x → channel_at_place d job n ≡ placed_of d x.channel
+  channel_there n x e = ap (placed_by d) (number_there n x e)
+
+  pub parts_count : length g.parts ≡ (list_of d job).count
+  parts_count = sym (length-map g.parts (λ y. y.channel)) ∙ ap length h.channels ∙ ap (λ o. length (channels_by o)) known.1 ∙ length-take-le known.0.channels.count known.0.channels.numbers (omega (arith, row, few)) ∙ sym (ap (λ o. (list_by o).count) known.1)
+    where
+      row : length known.0.channels.numbers ≡ 4
+      row = (fits.jobs job known.0 known.1).row
+
+      few : known.0.channels.count ≤ 4
+      few = (fits.jobs job known.0 known.1).few
+
+  pub parts_few : length g.parts ≤ 4
+  parts_few = let few = (fits.jobs job known.0 known.1).few in let count = parts_count in let same : (list_of d job).count ≡ known.0.channels.count = ap (λ o. (list_by o).count) known.1 in omega (arith, few, count, same)
+
+  -- its channel is configured
+  pub part_known : (n : ℕ) (x : Part) → slice_get g.parts n ≡ Some x → (k : Channel) × (channel_of d x.channel ≡ Some k)
+  part_known n x e = let p = part_there d fits u g n x for h.channels e in (p.1, p.2)
+
+  pub part_small : (n : ℕ) (x : Part) → slice_get g.parts n ≡ Some x → x.channel < 16
+  part_small n x e = (part_there d fits u g n x for h.channels e).0
+
+  -- it has no more words than the channel has places
+  pub part_few : (n : ℕ) (x : Part) → slice_get g.parts n ≡ Some x → length x.values ≤ (placed_of d x.channel).channel.length
+  part_few n x e = by (placed_of d x.channel).channel.internal (h.parts n x e).1
+    where
+      by : (q : Bool) → PartBy q m (placed_of d x.channel) g.at n x → length x.values ≤ (placed_of d x.channel).channel.length
+      by true a = let count = a.count in omega (arith, count)
+      by false a = let count = a.count in let few = a.few in omega (arith, count, few)
+
+  pub part_most : (n : ℕ) (x : Part) → slice_get g.parts n ≡ Some x → length x.values ≤ 64
+  part_most n x e =
+      let k = part_known n x e in
+      let few = part_few n x e in
+      let same : (placed_of d x.channel).channel.length ≡ k.0.length = ap (λ z. z.length) (has_channel d fits x.channel k.0 k.1) in
+      let most = (fits.channels x.channel k.0 k.1).few in
+      omega (arith, few, same, most)
+
+  -- ---- its words
+
+  abbrev pub word_at : Part → ℕ → JobWord
+  word_at x i = record { channel = x.channel; place = i; width = width_by (channel_of d x.channel); sent = masked (width_by (channel_of d x.channel)) (slice_index_or x.values i 0); goes = x.goes }
+
+  abbrev joined : Part → List JobWord
+  joined x = as_words x.channel (width_by (channel_of d x.channel)) x.goes x.values
+
+  counted : (x : Part) → length (joined x) ≡ length x.values
+  counted x = numbered-count (λ p. record { channel = x.channel; place = p.0; width = width_by (channel_of d x.channel); sent = masked (width_by (channel_of d x.channel)) p.1; goes = x.goes }) 0 x.values
+
+  pub words_at : (n i : ℕ) (x : Part) → slice_get g.parts n ≡ Some x → i < length x.values → slice_index_or (words_of d g.parts) (words_before g.parts n + i) no_word ≡ word_at x i
+  words_at n i x e lt = joined-at joined size counted g.parts n i x no_word e lt ∙ numbered-first (λ p. record { channel = x.channel; place = p.0; width = width_by (channel_of d x.channel); sent = masked (width_by (channel_of d x.channel)) p.1; goes = x.goes }) x.values i 0 no_word lt
+
+  pub words_count : length (words_of d g.parts) ≡ sum_by size g.parts
+  words_count = joined-count joined size counted g.parts
+
+  -- ---- places
+
+  -- the word of this number stands there
+  pub record Stands (p : Position) (k : ℕ) : Type 0 where
+    pub part : Part
+    pub there : slice_get g.parts p.channel ≡ Some part
+    pub inside : p.word < length part.values
+    pub count : k ≡ words_before g.parts p.channel + p.word
+
+  pub here : Stands g.at (length g.received)
+  here = by (get_there g.parts g.at.channel h.place)
+    where
+      by : (x : Part) × (slice_get g.parts g.at.channel ≡ Some x) → Stands g.at (length g.received)
+      by (x, e) = record { part = x; there = e; inside = h.inside x e; count = h.count }
+
+  -- the next one stands after it in its part, or first in the next one
+  pub data Follows (p q : Position) (size : ℕ) : Type 0 where
+    Same : q.channel ≡ p.channel → q.word ≡ p.word + 1 → Follows p q size
+    Next : q.channel ≡ p.channel + 1 → q.word ≡ 0 → p.word + 1 ≡ size → Follows p q size
+
+  begins_same : (a b i j n : ℕ) → b ≡ a → j ≡ i + 1 → j < n → (nat_lt a b || (b == a && nat_lt (i + 1) n)) ≡ true
+  begins_same a b i j n e f lt = grind (arith, nat_tests)
+
+  begins_other : (a b i n : ℕ) → b ≡ a + 1 → (nat_lt a b || (b == a && nat_lt (i + 1) n)) ≡ true
+  begins_other a b i n e = grind (arith, nat_tests)
+
+  ahead_same : (a b i j : ℕ) → b ≡ a → j ≡ i + 1 → (nat_lt a b || (b == a && nat_lt i j)) ≡ true
+  ahead_same a b i j e f = grind (arith, nat_tests)
+
+  ahead_other : (a b i j : ℕ) → b ≡ a + 1 → (nat_lt a b || (b == a && nat_lt i j)) ≡ true
+  ahead_other a b i j e = grind (arith, nat_tests)
+
+  -- it is still to be begun, and what it sends is still as it stood
+  pub begins_next : (p q : Position) (size n : ℕ) → Follows p q size → q.word < n → is_to_begin p q.channel n ≡ true
+  begins_next p q size n (Same e f) lt = begins_same p.channel q.channel p.word q.word n e f lt
+  begins_next p q size n (Next e f g) lt = begins_other p.channel q.channel p.word n e
+
+  pub ahead_next : (p q : Position) (size : ℕ) → Follows p q size → is_ahead p q.channel q.word ≡ true
+  ahead_next p q size (Same e f) = ahead_same p.channel q.channel p.word q.word e f
+  ahead_next p q size (Next e f g) = ahead_other p.channel q.channel p.word q.word e
+
+  some_is : (p q : Position) → Some p ≡ Some q → p ≡ q
+  some_is p q e = cc
+
+  module _ (p : Position) (k : ℕ) (at : Stands p k) where
+    most : length at.part.values ≤ 64
+    most = part_most p.channel at.part at.there
+
+    within : p.channel < length g.parts
+    within = get_within g.parts p.channel at.part at.there
+
+    first : (x : Part) → slice_get g.parts (p.channel + 1) ≡ Some x → 0 < length x.values
+    first x e = (h.parts (p.channel + 1) x e).0
+
+    further : words_before g.parts (p.channel + 1) ≡ words_before g.parts p.channel + length at.part.values
+    further = let next : p.channel + 1 ≡ suc p.channel = omega arith in ap (words_before g.parts) next ∙ before-next size g.parts p.channel at.part at.there
+
+    -- it is one of the job's words
+    pub in_words : k < length (words_of d g.parts)
+    in_words =
+        let count = at.count in
+        let inside = at.inside in
+        let next = further in
+        let less = before-less size g.parts (p.channel + 1) (length g.parts) (omega (arith, lt)) in
+        let all = before-all size g.parts (length g.parts) (omega arith) in
+        let whole = words_count in
+        omega (arith, count, inside, next, less, all, whole)
+      where
+        lt : p.channel < length g.parts
+        lt = within
+
+    abbrev Onward : Option Position → Type 0
+    Onward None = k + 1 ≡ length (words_of d g.parts)
+    Onward (Some q) = Stands q (k + 1) × Follows p q (length at.part.values)
+
+    abbrev By : Bool → Bool → Bool → Bool → Type 0
+    By a b c e = Onward (if a && b then Some (record { channel = p.channel; word = p.word + 1 }) else if c && e then Some (record { channel = p.channel + 1; word = 0 }) else None)
+
+    pub onward : Onward (after_word p (length at.part.values) (list_of d job).count)
+    onward = subst (λ n. Onward (after_word p (length at.part.values) n)) parts_count (by (nat_lt p.word 255) refl (nat_lt (p.word + 1) (length at.part.values)) refl (nat_lt p.channel 3) refl (nat_lt (p.channel + 1) (length g.parts)) refl)
+      where
+        last : nat_lt (p.word + 1) (length at.part.values) ≡ false → p.word + 1 ≡ length at.part.values
+        last f = let past = is_past (p.word + 1) (length at.part.values) f in let lt = at.inside in omega (arith, past, lt)
+
+        ends : p.word + 1 ≡ length at.part.values → length g.parts ≤ p.channel + 1 → k + 1 ≡ length (words_of d g.parts)
+        ends same le =
+            let all : words_before g.parts (p.channel + 1) ≡ sum_by size g.parts = before-all size g.parts (p.channel + 1) le in
+            let count = at.count in
+            let more = further in
+            let whole = words_count in
+            omega (arith, same, all, count, more, whole)
+
+        begins : p.word + 1 ≡ length at.part.values → p.channel + 1 < length g.parts → Onward (Some (record { channel = p.channel + 1; word = 0 }))
+        begins same lt = next (get_there g.parts (p.channel + 1) lt)
+          where
+            next : (x : Part) × (slice_get g.parts (p.channel + 1) ≡ Some x) → Onward (Some (record { channel = p.channel + 1; word = 0 }))
+            next (x, e) = let count = at.count in let more = further in (record { part = x; there = e; inside = first x e; count = omega (arith, same, count, more) }, Next refl refl same)
+
+        by : (a : Bool) → nat_lt p.word 255 ≡ a → (b : Bool) → nat_lt (p.word + 1) (length at.part.values) ≡ b → (c : Bool) → nat_lt p.channel 3 ≡ c → (e : Bool) → nat_lt (p.channel + 1) (length g.parts) ≡ e
+            → Onward (after_word p (length at.part.values) (length g.parts))
+        by a ea b eb c ec e ee = subst (λ z. By z (nat_lt (p.word + 1) (length at.part.values)) (nat_lt p.channel 3) (nat_lt (p.channel + 1) (length g.parts))) (sym ea) (subst (λ z. By a z (nat_lt p.channel 3) (nat_lt (p.channel + 1) (length g.parts))) (sym eb) (subst (λ z. By a b z (nat_lt (p.channel + 1) (length g.parts))) (sym ec) (subst (λ z. By a b c z) (sym ee) (split a ea b eb c ec e ee))))
+          where
+            split : (a : Bool) → nat_lt p.word 255 ≡ a → (b : Bool) → nat_lt (p.word + 1) (length at.part.values) ≡ b → (c : Bool) → nat_lt p.channel 3 ≡ c → (e : Bool) → nat_lt (p.channel + 1) (length g.parts) ≡ e → By a b c e
+            split true ea true eb c ec e ee = let count = at.count in let lt = is_below (p.word + 1) (length at.part.values) eb in (record { part = at.part; there = at.there; inside = lt; count = omega (arith, count) }, Same refl refl)
+            split false ea b eb c ec e ee = absurd (let past = is_past p.word 255 ea in let lt = at.inside in let few = most in omega (arith, past, lt, few))
+            split true ea false eb true ec true ee = begins (last eb) (is_below (p.channel + 1) (length g.parts) ee)
+            split true ea false eb true ec false ee = ends (last eb) (is_past (p.channel + 1) (length g.parts) ee)
+            split true ea false eb false ec e ee = ends (last eb) (let past = is_past p.channel 3 ec in let few = parts_few in omega (arith, past, few))
+
+  -- ---- how many words a channel has for the job
+
+  of_internal : (x : Placed) (i v : ℕ) → x.channel.internal ≡ true → length_taken x (taker_of x i v) ≡ x.channel.length
+  of_internal x i v e = ap (λ q. length_taken x (if not q then takers.SetUp (unpacked v) else if i == 0 then takers.Bank (free_bank v) else takers.Bank (bank_of v))) e ∙ by (i == 0)
+    where
+      by : (q : Bool) → length_taken x (if q then takers.Bank (free_bank v) else takers.Bank (bank_of v)) ≡ x.channel.length
+      by true = refl
+      by false = refl
+
+  of_external : (x : Placed) (i v : ℕ) → x.channel.internal ≡ false → length_taken x (taker_of x i v) ≡ (unpacked v).length
+  of_external x i v e = ap (λ q. length_taken x (if not q then takers.SetUp (unpacked v) else if i == 0 then takers.Bank (free_bank v) else takers.Bank (bank_of v))) e
+
+  asked_external : (x : Placed) (i : ℕ) → x.channel.internal ≡ false → asked_word x i ≡ held_word x
+  asked_external x i e = ap (λ q. if q && i == 0 then control_word x Received else held_word x) e
+
+  -- the set-up that is held of an external part
+  pub held_back : (n : ℕ) (x : Part) → slice_get g.parts n ≡ Some x → (a : ExternalAgrees m (placed_of d x.channel) g.at n x) → unpacked (m (held_word (placed_of d x.channel))) ≡ a.by
+  held_back n x e a = ap unpacked a.held ∙ unpacked_back a.by (let most = part_most n x e in let count = a.count in omega (arith, most, count))
+
+  pub taken_length : (n : ℕ) (x : Part) → slice_get g.parts n ≡ Some x → (i : ℕ) → let y = placed_of d x.channel in length_taken y (taker_of y i (m (asked_word y i))) ≡ length x.values
+  taken_length n x e i = by y.channel.internal refl (h.parts n x e).1
+    where
+      y : Placed
+      y = placed_of d x.channel
+
+      by : (q : Bool) → y.channel.internal ≡ q → PartBy q m y g.at n x → length_taken y (taker_of y i (m (asked_word y i))) ≡ length x.values
+      by true f a = of_internal y i (m (asked_word y i)) f ∙ sym a.count
+      by false f a = of_external y i (m (asked_word y i)) f ∙ ap (λ j. (unpacked (m j)).length) (asked_external y i f) ∙ ap (λ z. z.length) (held_back n x e a) ∙ sym a.count

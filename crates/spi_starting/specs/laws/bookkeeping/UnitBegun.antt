@@ -1,0 +1,73 @@
+-- The unit has the first word of its job in transfer, under its device; the other unit stays.
+-- From bookkeeping.RanState, bookkeeping.UnitsGoOn, ToStart.
+-- Used by services.StartRight, words.UnitWords, services.StartBegun, services.StartWords.
+use Rattle.std.proofs.Common.{◌≡◌, ◌≢◌, ◌%◌, ◌^◌, ◌<◌, ◌≤◌, [], ◌∷◌, ◌∙◌, ◌⊎◌}
+use Rattle.spi_starting.specs.Terms
+use Terms.{ap, arith, Chip, first_word, get_or-set_other, get_or-set_same, Going, idle, inl, inr, InTransfer}
+use Terms.{item-other, item-same, job_of, length, min, next_job, None, Option, Pending, refl, Run, run_at, run_of}
+use Terms.{same_or_other, select_by, select_of, Some, SpiState, SpiTable, subst, sym, unit_at, UnitAgrees, words_are, ℕ}
+use Rattle.spi_starting.specs.laws.bookkeeping.UnitsGoOn.{going_else, going_here, going_now}
+use Rattle.spi_starting.specs.laws.bookkeeping.RanState.{channels, first_chip, first_going, first_run, ran_state}
+use Rattle.spi_starting.specs.laws.ToStart.{ToStart}
+use Rattle.chip_units.specs.Serials as serials
+
+-- the unit has its width and selects its device
+pub record IsTurned (d : SpiTable) (chip : Chip) (s : SpiState) (u : ℕ) (p : Pending) : Type 0 where
+  pub width : (unit_at chip.serials u).width ≡ (first_word d s p).width
+  pub narrow : (first_word d s p).width ≤ 16
+  pub select : (unit_at chip.serials u).select ≡ select_of (select_by (job_of d (next_job d p)))
+
+pub at_most : (n : ℕ) → n ≤ 16 → min n 16 ≡ n
+at_most n le = omega (arith, le)
+
+module _ (st : ToStart) (word received : ℕ) (t : IsTurned st.d st.chip st.s st.u st.p) where
+  open st use {d, fits, below, owner, acted, chip, w, s, u, h, p, there, for, free}
+
+  abbrev now : ℕ → Option Going
+  now = going_now st word received
+
+  abbrev later : Chip
+  later = first_chip d below owner acted chip w s u h p word received
+
+  abbrev after : SpiState
+  after = ran_state d below owner acted chip w s u h p word received
+
+  abbrev run : Run
+  run = first_run d below owner acted chip w s u h p word received
+
+  few : u < length chip.serials.units
+  few = let lt = h.right.0.0 in let size = h.size in omega (arith, lt, size)
+
+  unit_here : unit_at later.serials u ≡ serials.begun received chip.serials.time (unit_at chip.serials u)
+  unit_here = get_or-set_same chip.serials.units u _ idle few
+
+  unit_else : (n : ℕ) → n ≢ u → unit_at later.serials n ≡ unit_at chip.serials n
+  unit_else n ne = get_or-set_other chip.serials.units u n _ idle ne
+
+  time : chip.serials.time ≡ w.now
+  time = h.outside.together.serials ∙ h.outside.now
+
+  width : min (unit_at chip.serials u).width 16 ≡ (first_word d s p).width
+  width = ap (λ n. min n 16) t.width ∙ at_most (first_word d s p).width t.narrow
+
+  word_here : InTransfer (serials.begun received chip.serials.time (unit_at chip.serials u)).word run.transfer
+  word_here = record { start = time; incoming = λ e. ap (λ n. received % 2 ^ n) width; failed = refl }
+
+  run_is : Some run ≡ Some (run_of d (first_going d below owner acted chip w s u h p word received) run.transfer)
+  run_is = ap (λ ws. Some (record { sequence = p.sequence; words = ws; received = []; transfer = run.transfer })) (sym (words_are d s (channels d below owner acted chip w s u h p word received)))
+
+  -- what the units do, on the chip as the word begins
+  pub units_now : (n : ℕ) → n < 2 → UnitAgrees d (unit_at later.serials n) (run_at after n) (now n)
+  units_now n lt = by (same_or_other n u)
+    where
+      own : UnitAgrees d (unit_at later.serials u) (run_at after u) (now u)
+      own =
+          subst (λ g. UnitAgrees d (unit_at later.serials u) (run_at after u) g) (sym (going_here st word received))
+          (subst (λ x. UnitAgrees d x (run_at after u) (Some (first_going d below owner acted chip w s u h p word received))) (sym unit_here)
+          (run.transfer, item-same None s.units u (Some run) ∙ run_is, word_here, t.select))
+
+      by : (n ≡ u) ⊎ (n ≢ u) → UnitAgrees d (unit_at later.serials n) (run_at after n) (now n)
+      by (inl e) = subst (λ k. UnitAgrees d (unit_at later.serials k) (run_at after k) (now k)) (sym e) own
+      by (inr ne) =
+          subst (λ g. UnitAgrees d (unit_at later.serials n) (run_at after n) g) (sym (going_else st word received n ne))
+          (subst (λ x. UnitAgrees d x (run_at after n) (h.going n)) (sym (unit_else n ne)) (subst (λ r. UnitAgrees d (unit_at chip.serials n) r (h.going n)) (sym (item-other None s.units u n (Some run) ne)) (h.units n lt)))

@@ -1,0 +1,76 @@
+-- A free unit selects a device and takes a width, and a frame that owes it a start owes it no more: the agreement
+-- stays.
+-- From bookkeeping.RanState.
+-- Used by services.StartRight.
+use Rattle.std.proofs.Common.{◌≡◌, ◌≢◌, ◌+◌, ◌<◌, ◌||◌, ◌∷◌, ◌∙◌, ◌⊎◌}
+use Rattle.spi_starting.specs.Terms
+use Terms.{Answer, ap, AreOwed, arith, Call, Chip, chip_after, cleared_of, clears, Contains, Destination, FitsSpi}
+use Terms.{get_or-set_other, get_or-set_same, Going, going_run, has_bit, holds_back, holds_changed, holds_debt, idle}
+use Terms.{inl, inr, is_for, is_owed, length, length-set, None, Option, Origin, other_number, Pending, place_of}
+use Terms.{placed_of, refl, Reservations, run_at, same_or_other, Serial, SerialSelect, SerialWidth, set_up_word}
+use Terms.{slice_index, slice_index_or, slice_set, Some, Source, SpiRepresents, SpiState, SpiTable, stands-move}
+use Terms.{StandsIn, subst, sym, true, unit_at, UnitAgrees, view, WordsAgree, World, Write, ℕ}
+use Rattle.spi_starting.specs.laws.bookkeeping.RanState.{debt_of}
+
+module _ (d : SpiTable) (held : Reservations) (chip : Chip) (w : World) (s : SpiState) (h : SpiRepresents d held chip w s) (u : ℕ) (free : h.going u ≡ None) (x : Serial) (word : x.word ≡ (unit_at chip.serials u).word) where
+  turned_unit : (lt : u < 2) (n : ℕ) → n < 2 → UnitAgrees d (slice_index_or (slice_set chip.serials.units u x) n idle) (run_at s n) (h.going n)
+  turned_unit lt n few = by (same_or_other n u)
+    where
+      own : UnitAgrees d (unit_at chip.serials u) (run_at s u) None → UnitAgrees d x (run_at s u) None
+      own a = (word ∙ a.0, a.1)
+
+      by : (n ≡ u) ⊎ (n ≢ u) → UnitAgrees d (slice_index_or (slice_set chip.serials.units u x) n idle) (run_at s n) (h.going n)
+      by (inl e) =
+          subst (λ k. UnitAgrees d (slice_index_or (slice_set chip.serials.units u x) k idle) (run_at s k) (h.going k)) (sym e)
+          (subst (λ y. UnitAgrees d y (run_at s u) (h.going u)) (sym (get_or-set_same chip.serials.units u x idle (let size = h.size in omega (arith, lt, size))))
+          (subst (λ g. UnitAgrees d x (run_at s u) g) (sym free) (own (subst (λ g. UnitAgrees d (unit_at chip.serials u) (run_at s u) g) free (h.units u lt)))))
+      by (inr ne) = subst (λ y. UnitAgrees d y (run_at s n) (h.going n)) (sym (get_or-set_other chip.serials.units u n x idle ne)) (h.units n few)
+
+  -- the chip with this unit, and the same words
+  pub turned_agrees : u < 2 → (c : Chip) → StandsIn c w → c.words ≡ chip.words → c.wiring ≡ chip.wiring → c.control ≡ chip.control → c.serials.units ≡ slice_set chip.serials.units u x → SpiRepresents d held c w s
+  turned_agrees lt c outside words wiring control units = record {
+    right = h.right;
+    outside = outside;
+    wired = λ b few. ap (λ z. slice_index z.sources b) wiring ∙ h.wired b few;
+    size = ap length units ∙ length-set chip.serials.units u x ∙ h.size;
+    sound = h.sound;
+    going = h.going;
+    nexts = h.nexts;
+    units = λ n few. subst (λ xs. UnitAgrees d (slice_index_or xs n idle) (run_at s n) (h.going n)) (sym units) (turned_unit lt n few);
+    words = subst (λ ws. WordsAgree d held h.going (λ k. slice_index ws k) (view s)) (sym words) h.words;
+    set_ups = λ on b k known external. ap (λ ws. slice_index ws (set_up_word (placed_of d b))) words ∙ h.set_ups on b k known external;
+    sizes = h.sizes;
+    arrays = λ b. record { source = λ i few. ap (λ ws. slice_index ws (place_of (Source b) i)) words ∙ (h.arrays b).source i few; destination = λ i few. ap (λ ws. slice_index ws (place_of (Destination b) i)) words ∙ (h.arrays b).destination i few };
+    lines = λ n few. ap (λ z. has_bit z.enabled (26 + n)) control ∙ h.lines n few;
+    owed = h.owed;
+  }
+
+module _ (d : SpiTable) (fits : FitsSpi d) (below : Reservations) (owner : Origin Call) (acted : Option Answer) (chip : Chip) (w : World) (s : SpiState) (u : ℕ) (h : SpiRepresents d (debt_of u owner acted ∷ below) chip w s) where
+  abbrev held : Reservations
+  held = debt_of u owner acted ∷ below
+
+  -- a unit that runs no job does nothing
+  pub goes_none : run_at s u ≡ None → h.going u ≡ None
+  goes_none e = by (h.going u) refl
+    where
+      by : (g : Option Going) → h.going u ≡ g → g ≡ None
+      by None f = refl
+      by (Some g) f = absurd (let run = going_run d fits held chip w s h u g h.right.0.0 f in let no = sym e ∙ run.1 in cc)
+
+  -- the debt is paid, and the unit cleared, where it runs a job or none waits
+  pub paid : ((q : Pending) → h.going u ≡ None → Contains s.pending q → is_for d u q ≡ true → ⊥) → SpiRepresents d (cleared_of u owner acted ∷ below) chip w s
+  paid none = clears d below chip w s u owner acted fits (holds_changed d held below chip w s h (holds_back d below held (holds_debt d (debt_of u owner acted) u below refl)) h.right.1 owed) (λ q free there for. none q (goes_none free) there for)
+    where
+      owed : AreOwed d below h.going s
+      owed n q lt free there for = by (same_or_other n u)
+        where
+          by : (n ≡ u) ⊎ (n ≢ u) → is_owed n below ≡ true
+          by (inl e) = absurd (none q (ap h.going (sym e) ∙ free) there (subst (λ k. is_for d k q ≡ true) e for))
+          by (inr ne) = ap (λ b. b || is_owed n below) (sym (other_number u n (λ e. ne (sym e)))) ∙ h.owed n q lt free there for
+
+  module _ (free : h.going u ≡ None) (v received : ℕ) where
+    pub selects_agrees : SpiRepresents d held (chip_after chip (Write (SerialSelect u) v) received) w s
+    selects_agrees = turned_agrees d held chip w s h u free (record (unit_at chip.serials u) { select = v }) refl h.right.0.0 (chip_after chip (Write (SerialSelect u) v) received) (stands-move chip w (Write (SerialSelect u) v) received h.outside) refl refl refl refl
+
+    pub widens_agrees : SpiRepresents d held (chip_after chip (Write (SerialWidth u) v) received) w s
+    widens_agrees = turned_agrees d held chip w s h u free (record (unit_at chip.serials u) { width = v }) refl h.right.0.0 (chip_after chip (Write (SerialWidth u) v) received) (stands-move chip w (Write (SerialWidth u) v) received h.outside) refl refl refl refl

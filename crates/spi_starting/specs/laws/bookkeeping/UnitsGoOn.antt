@@ -1,0 +1,125 @@
+-- What the units do once a free one has begun its next job: the state, and how each stands in it.
+-- From bookkeeping.RanState, bookkeeping.StartSound, ToStart.
+-- Used by words.UnitWords, bookkeeping.UnitBegun, words.PinnedBanks, services.StartWords.
+use Rattle.std.proofs.Common.{◌≡◌, ◌≢◌, ◌<◌, ◌≤◌, ◌==◌, ◌∷◌, ◌∙◌, ◌⊎◌, if◌then◌else◌}
+use Rattle.spi_starting.specs.Terms
+use Terms.{any_changed, any_in, ap, arith, at_contained, Bool, changed, Contains, Contains-get_or, contains_map, false}
+use Terms.{Going, going_free, going_next, going_runs, has_job, inl, inr, is_for, is_of, is_running, is_some}
+use Terms.{IsSoundState, item, item-other, item-same, jobs_of, Keeps, length, next_job, next_there, None, not, not_true}
+use Terms.{one_by_job, one_pending, one_unit, Option, other_number, Pending, refl, Reservations, Run, run_at, runs_on}
+use Terms.{runs_sequence, RunsNext, RunsOn, same_number, same_or_other, shares_job, slice_index_or, Some, some_at}
+use Terms.{sound_changed, SpiState, starts, subst, sym, true, View, view, ℕ}
+use Rattle.spi_starting.specs.laws.{bookkeeping.RanState.{debt_of, first_going, first_run, ran_state}}
+use Rattle.spi_starting.specs.laws.{bookkeeping.StartSound.{run_sound, run_view}, ToStart.{ToStart}}
+
+pub starts_keep : (q : ℕ) → Keeps q starts
+starts_keep q = record { sequence = λ p. refl; request = λ p. refl; next = λ p. refl; had = λ p. refl }
+
+module _ (st : ToStart) where
+  open st use {d, fits, below, owner, acted, chip, w, s, u, h, p, there, for, free}
+
+  abbrev held : Reservations
+  held = debt_of u owner acted ∷ below
+
+  few : u < 2
+  few = h.right.0.0
+
+  pub unit_free : run_at s u ≡ None
+  unit_free = going_free d fits held chip w s h u few free
+
+  -- the sequence runs no job
+  pub rests : is_running s p.sequence ≡ false
+  rests = not_true (is_running s p.sequence) (λ e. by (runs_on d fits held chip w s h p.sequence e))
+    where
+      by : RunsOn d fits held chip w s h p.sequence → ⊥
+      by r =
+          let next = going_next d fits held chip w s h r.unit r.job r.few r.is in
+          let same : r.job.pending ≡ p = one_pending d fits held chip w s h r.job.pending p next.0 there r.of in
+          let unit : r.unit ≡ u = one_unit d r.unit u (next_job d p) (subst (λ x. is_for d r.unit x ≡ true) same next.2) for in
+          let none : None ≡ Some r.job = sym free ∙ ap h.going (sym unit) ∙ r.is in
+          cc
+
+  -- ---- the state
+
+  module _ (word received : ℕ) where
+    abbrev after : SpiState
+    after = ran_state d below owner acted chip w s u h p word received
+
+    abbrev run : Run
+    run = first_run d below owner acted chip w s u h p word received
+
+    pub run_here : run_at after u ≡ Some run
+    run_here = item-same None s.units u (Some run)
+
+    pub runs_now : is_running after p.sequence ≡ true
+    runs_now = some_at (runs_sequence p.sequence) after.units u refl (ap (runs_sequence p.sequence) run_here ∙ same_number p.sequence)
+
+    pub runs_else : (n : ℕ) → n ≢ p.sequence → is_running after n ≡ is_running s n
+    runs_else n ne = any_changed (runs_sequence n) None s.units u (Some run) refl (other_number p.sequence n (λ e. ne (sym e)) ∙ sym (ap (runs_sequence n) unit_free))
+
+    pub one_entry : (x : Pending) → Contains s.pending x → x.sequence ≡ p.sequence → x ≡ p
+    one_entry x also e = one_pending d fits held chip w s h x p also there e
+
+    -- no other pending sequence has the job
+    pub job_apart : (x : Pending) (i : ℕ) → Contains s.pending x → x.sequence ≢ p.sequence → i < length (jobs_of d x.sequence) → slice_index_or (jobs_of d x.sequence) i 0 ≢ next_job d p
+    job_apart x i also ne lt e = ne (ap (λ z. z.sequence) (one_by_job d fits held chip w s h x p also there (pair x.sequence p.sequence has own) (pair p.sequence x.sequence own has)))
+      where
+        has : Contains (jobs_of d x.sequence) (next_job d p)
+        has = subst (λ n. Contains (jobs_of d x.sequence) n) e (Contains-get_or (jobs_of d x.sequence) i 0 lt)
+
+        own : Contains (jobs_of d p.sequence) (next_job d p)
+        own = next_there d fits held chip w s h p there
+
+        pair : (a b : ℕ) → Contains (jobs_of d a) (next_job d p) → Contains (jobs_of d b) (next_job d p) → shares_job d a b ≡ true
+        pair a b at bt = any_in (has_job d a) (jobs_of d b) (next_job d p) bt (any_in (λ k. k == next_job d p) (jobs_of d a) (next_job d p) at (same_number (next_job d p)))
+
+    idle_else : (n : ℕ) → 2 ≤ n → (view after).idle n ≡ true
+    idle_else n le = ap (λ r. not (is_some r)) (item-other None s.units u n (Some run) (λ e. let lt = few in omega (arith, le, e, lt))) ∙ h.sound.few n le
+
+    -- the state with the job running, but for the mark of its sequence
+    abbrev pub half_view : View
+    half_view = run_view d fits (view s) h.sound p there one_entry job_apart (is_running after) (view after).idle rests runs_now runs_else
+
+    half_sound : IsSoundState d half_view
+    half_sound = run_sound d fits (view s) h.sound p there one_entry job_apart (is_running after) (view after).idle rests runs_now runs_else h.right.0.1 idle_else
+
+    pub ran_sound : IsSoundState d (view after)
+    ran_sound = sound_changed p.sequence starts d (starts_keep p.sequence) half_view (λ x also c. (half_sound.entries x also).cancelled (kept x (is_of p.sequence x) c)) half_sound
+      where
+        kept : (x : Pending) (b : Bool) → (if b then starts x else x).cancelled ≡ true → x.cancelled ≡ true
+        kept x true c = c
+        kept x false c = c
+
+    -- ---- what the units do
+
+    abbrev going : Going
+    going = first_going d below owner acted chip w s u h p word received
+
+    abbrev pub going_now : ℕ → Option Going
+    going_now n = if n == u then Some going else h.going n
+
+    pub going_here : going_now u ≡ Some going
+    going_here = ap (λ b. if b then Some going else h.going u) (same_number u)
+
+    pub going_else : (n : ℕ) → n ≢ u → going_now n ≡ h.going n
+    going_else n ne = ap (λ b. if b then Some going else h.going n) (other_number n u ne)
+
+    still_there : (x : Pending) → Contains s.pending x → x.sequence ≢ p.sequence → Contains (changed p.sequence starts s.pending) x
+    still_there x (n, lt, e) ne = subst (λ z. Contains (changed p.sequence starts s.pending) z) (ap (λ b. if b then starts x else x) (other_number x.sequence p.sequence ne)) (contains_map (item p.sequence starts) s.pending n x (at_contained s.pending n x lt e))
+
+    started_there : Contains (changed p.sequence starts s.pending) (starts p)
+    started_there = by there
+      where
+        by : Contains s.pending p → Contains (changed p.sequence starts s.pending) (starts p)
+        by (n, lt, e) = subst (λ z. Contains (changed p.sequence starts s.pending) z) (ap (λ b. if b then starts p else p) (same_number p.sequence)) (contains_map (item p.sequence starts) s.pending n p (at_contained s.pending n p lt e))
+
+    next_else : (n : ℕ) → n < 2 → (g : Option Going) → h.going n ≡ g → RunsNext d (view s) n g → RunsNext d (view after) n g
+    next_else n lt None e r = tt
+    next_else n lt (Some g) e r = (still_there g.pending r.0 (λ f. let run = sym rests ∙ ap (is_running s) (sym f) ∙ going_runs d fits held chip w s h n g lt e in cc), r.1, r.2)
+
+    pub nexts_now : (n : ℕ) → n < 2 → RunsNext d (view after) n (going_now n)
+    nexts_now n lt = by (same_or_other n u)
+      where
+        by : (n ≡ u) ⊎ (n ≢ u) → RunsNext d (view after) n (going_now n)
+        by (inl e) = subst (λ k. RunsNext d (view after) k (going_now k)) (sym e) (subst (λ g. RunsNext d (view after) u g) (sym going_here) (started_there, refl, for))
+        by (inr ne) = subst (λ g. RunsNext d (view after) n g) (sym (going_else n ne)) (next_else n lt (h.going n) refl (h.nexts n lt))

@@ -1,0 +1,4 @@
+pub mod StartAround
+pub mod StartBegun
+pub mod StartRight
+pub mod StartWords

@@ -1,0 +1,337 @@
+-- Around the steps of the start window: its frame may make them, they leave fewer, the hardware leaves the places as
+-- they are, and what follows a step at a place that owes moves.
+-- From services.StartWords.
+-- Used by spi_driver: services.StartPart.
+use Rattle.std.proofs.Common.{◌≡◌, ◌≢◌, ◌+◌, ◌*◌, ◌<◌, ◌≤◌, ◌==◌, ◌||◌, [], ◌∷◌, ◌∙◌, ◌⊎◌, if◌then◌else◌}
+use Rattle.spi_starting.specs.Terms
+use Terms.{and_parts, Answer, ap, arith, bank_word, banked, begins_word, block_of, Bool, Channel, channel_at_place}
+use Terms.{channel_of, channel_words, channels_of, Chip, choosing_front, Chosen, control_word, Ends, false, faulted_run}
+use Terms.{Fill, Find, find_gave, find_more, find_move, first_word, FitsSpi, flat_map, Front, front-lowers, front_gave}
+use Terms.{front_left, front_move, front_room, gave, get_or-set_other, get_or-set_same, happened, Hardware, has_channel}
+use Terms.{has_ended, held_word, idle, inl, inr, internal_words, is_fill, is_shared, is_simple, is_some, IsChosen}
+use Terms.{IsFree, item-other, item-same, job_at_place, length, length_by, Level, level_leaves, List, Load, LooksAt}
+use Terms.{LowersTo, MARKS, may, may_first, may_store, may_users, memories, Memory, Move, moved, named_own, nat_lt}
+use Terms.{nat_tests, next_gave, next_in, next_job, next_on, NEXTS, no_word, None, number_of, of_sixteen, Option}
+use Terms.{or_none, Order, order_word, own-control, own_banks, own_held, own_of_channel, own_order, own_set_up, Pending}
+use Terms.{Placed, placed_of, prepare_ends, refl, resets_chip, run_at, running_word, same_or_other, Search, search_move}
+use Terms.{Seen, Sent, Serial, set_up_word, slice_index_or, Some, source_own, source_word, spi_bare, SpiFault, SpiState}
+use Terms.{SpiTable, start_chooses, start_finds, start_found, start_left, start_looks, start_more, start_move}
+use Terms.{start_owes, start_place, start_prepares, start_releases, start_takes, Started, StartPlace, starts_at, STATE}
+use Terms.{subst, suc, sym, take_gave, trio_of, true, unit_at, unpacked, untouched, will_give, Word, word-left, word_of}
+use Terms.{World, zero, ℕ}
+use Rattle.spi_starting.specs.laws.services.StartWords.{next_owes, prepare_owes}
+use Rattle.chip_units.specs.Serials as serials
+use Rattle.word_shapes.specs.PriorityQueue as ranked
+use Rattle.word_shapes.specs.declared.search.Search.TheVariants as search
+use Rattle.spi_jobs.specs.Placing as placing
+use Rattle.spi_jobs.specs.declared.finding.Find.TheVariants as finds
+use Rattle.spi_sequences.specs.declared.service.start.StartPlace.TheVariants as start
+use Rattle.spi_sequences.specs.declared.service.start.Started.TheVariants as started
+
+-- ---- what its frame may do
+
+below_two : (u : ℕ) → u < 2 → nat_lt u 2 ≡ true
+below_two u lt = grind (arith, nat_tests)
+
+module _ (d : SpiTable) (fits : FitsSpi d) (u : ℕ) (few : u < 2) where
+  -- a word of a bank of what a channel sends, by its first place
+  may_bank : (b : ℕ) (k : Channel) → channel_of d b ≡ Some k → k.internal ≡ true → (e : ℕ) → e < 4 → may d (Load (bank_word (placed_of d b) Sent e 0)) ≡ true
+  may_bank b k known internal e lt = may_store d fits (bank_word (placed_of d b) Sent e 0) 0 (own_of_channel d b k (bank_word (placed_of d b) Sent e 0) (fits.channels b k known) (record { from = from e; below = below e lt }))
+    where
+      at : placing.first_word (placed_of d b) ≡ STATE + block_of d b
+      at = starts_at d fits b k known
+
+      len : (placed_of d b).channel.length ≡ k.length
+      len = ap (λ x. x.length) (has_channel d fits b k known)
+
+      some : 0 < k.length
+      some = (fits.channels b k known).some
+
+      size : banked k ≡ 6 * k.length
+      size = internal_words d fits b k known internal
+
+      from : (e : ℕ) → STATE + block_of d b ≤ bank_word (placed_of d b) Sent e 0
+      from e = omega (arith, at)
+
+      below : (e : ℕ) → e < 4 → bank_word (placed_of d b) Sent e 0 < STATE + block_of d b + 4 + banked k
+      below zero lt = omega (arith, at, len, some, size)
+      below (suc zero) lt = omega (arith, at, len, some, size)
+      below (suc (suc zero)) lt = omega (arith, at, len, some, size)
+      below (suc (suc (suc zero))) lt = omega (arith, at, len, some, size)
+      below (suc (suc (suc (suc e)))) lt = absurd (omega (arith, lt))
+
+  may_find : (b : ℕ) (k : Channel) → channel_of d b ≡ Some k → (p : Find) → LooksAt d b k p → may d (find_move p) ≡ true
+  may_find b k known (finds.Newest x) (is, internal) = subst (λ z. may d (Load (control_word z Sent)) ≡ true) (sym is) (may_store d fits (control_word (placed_of d b) Sent) 0 (own_banks d fits b k known internal Sent (control_word (placed_of d b) Sent) (own-control (trio_of (placed_of d b) Sent))))
+  may_find b k known (finds.SetUp x) is = subst (λ z. may d (Load (set_up_word z)) ≡ true) (sym is) (may_store d fits (set_up_word (placed_of d b)) 0 (own_set_up d fits b k known))
+  may_find b k known (finds.Bank x i e) (is, internal, at, lt) = subst (λ z. may d (Load (bank_word z Sent e i)) ≡ true) (sym is) (subst (λ n. may d (Load (bank_word (placed_of d b) Sent e n)) ≡ true) (sym at) (may_bank b k known internal e lt))
+  may_find b k known (finds.Source x i) (is, at) =
+      subst (λ z. may d (Load (source_word z i)) ≡ true) (sym is) (subst (λ n. may d (Load (source_word (placed_of d b) n)) ≡ true) (sym at)
+      (may_users d fits (source_word (placed_of d b) 0) (source_own d fits b 0 (subst (λ o. 0 < length_by o) (sym known) (fits.channels b k known).some)) (let lt = of_sixteen d b k fits known in omega (arith, lt))))
+  may_find b k known (finds.Default x) is = subst (λ z. may d (Load (held_word z)) ≡ true) (sym is) (may_store d fits (held_word (placed_of d b)) 0 (own_held d fits b k known))
+  may_find b k known (finds.Pinned x i) is = absurd is
+  may_find b k known (finds.Held x i) is = absurd is
+
+  or_may : (made : Move) → may d made ≡ true → is_shared made || may d made ≡ true
+  or_may made e = by (is_shared made)
+    where
+      by : (q : Bool) → q || may d made ≡ true
+      by true = refl
+      by false = e
+
+  may_front : (p : Front) (n : ℕ) (m : Memory) (D : Memory → List ℕ → Type 0) → Ends choosing_front (ranked.own_of (record { at = order_word u })) n p m D → may d (front_move p) ≡ true
+  may_front p zero m D ends = absurd ends
+  may_front p (suc n) m D ends = (and_parts (is_simple (front_move p)) (may d (front_move p)) (named_own d fits (ranked.own_of (record { at = order_word u })) (λ j own. own_order d u j few own) (front_move p) ends.0)).1
+
+  pub start_may : (p : StartPlace) (f : Seen) (s : SpiState) → start_place d u p f s → is_shared (start_move d u p) || may d (start_move d u p) ≡ true
+  start_may start.Shut f s at = refl
+  start_may start.Running f s at = may_first d fits (running_word u) (omega arith) (omega (arith, few))
+  start_may start.Nexts f s at = may_first d fits NEXTS (omega arith) (omega arith)
+  start_may (start.Marks v) f s at = may_first d fits MARKS (omega arith) (omega arith)
+  start_may (start.Front v x p) f s (free, is, also, n, ends) = or_may (front_move p) (may_front p n f.0 _ ends)
+  start_may (start.Find c p) f s (q, is, b, k, first, looks, will) = or_may (find_move p) (may_find b k first.known p looks)
+  start_may (start.Select c x) f s at = below_two u few
+  start_may (start.Width c x) f s at = below_two u few
+  start_may (start.Begin c x) f s at = below_two u few
+  start_may (start.Choose c p) f s at = absurd at
+  start_may (start.Mark c) f s at = absurd at
+  start_may (start.Prepare r i p) f s at = absurd at
+  start_may (start.Release r p) f s at = absurd at
+  start_may (start.Run r) f s at = absurd at
+  start_may start.Stand f s at = absurd at
+
+-- a place where something stands owes no moves
+pub none_owed : (d : SpiTable) (u : ℕ) (p : StartPlace) (f : Seen) (s : SpiState) → start_place d u p f s → start_owes p ≡ false
+none_owed d u start.Shut f s at = refl
+none_owed d u start.Running f s at = refl
+none_owed d u start.Nexts f s at = refl
+none_owed d u (start.Marks v) f s at = refl
+none_owed d u (start.Front v x p) f s at = refl
+none_owed d u (start.Find c p) f s at = refl
+none_owed d u (start.Select c x) f s at = refl
+none_owed d u (start.Width c x) f s at = refl
+none_owed d u (start.Begin c x) f s at = refl
+none_owed d u (start.Choose c p) f s at = absurd at
+none_owed d u (start.Mark c) f s at = absurd at
+none_owed d u (start.Prepare r i p) f s at = absurd at
+none_owed d u (start.Release r p) f s at = absurd at
+none_owed d u (start.Run r) f s at = absurd at
+none_owed d u start.Stand f s at = absurd at
+
+-- ---- what is left
+
+-- a place that owes moves has these left
+pub owed_left_is : (p : StartPlace) → (if start_owes p then 1 + start_more p else start_left p) ≡ start_left p
+owed_left_is start.Shut = refl
+owed_left_is start.Running = refl
+owed_left_is start.Nexts = refl
+owed_left_is (start.Marks v) = refl
+owed_left_is (start.Front v x p) = refl
+owed_left_is (start.Find c p) = refl
+owed_left_is (start.Select c x) = refl
+owed_left_is (start.Width c x) = refl
+owed_left_is (start.Begin c x) = refl
+owed_left_is (start.Choose c p) = refl
+owed_left_is (start.Mark c) = refl
+owed_left_is (start.Prepare r i p) = refl
+owed_left_is (start.Release r p) = refl
+owed_left_is (start.Run r) = refl
+owed_left_is start.Stand = refl
+
+-- a step leaves fewer moves, or was the last one
+abbrev pub Fewer : ℕ → StartPlace × Started → Type 0
+Fewer n (x, started.Goes e) = start_left x < n
+Fewer n (x, started.Over) = 1 ≤ n
+
+module _ (d : SpiTable) (u : ℕ) where
+  few_finds : (i : Bool) (x : Placed) → find_more (if i then finds.Newest x else finds.SetUp x) ≤ 1
+  few_finds true x = omega arith
+  few_finds false x = omega arith
+
+  looks_fewer : (v m : ℕ) (p : Front) (x : ℕ) → Fewer (22 + front_room p) (start_looks d v m p x (front_gave p x) (has_ended (front_gave p x)))
+  looks_fewer v m p x = by (front_gave p x).ended refl (front-lowers p x)
+    where
+      found : (g : ℕ) (q : Bool) → 1 ≤ front_room p → Fewer (22 + front_room p) (start_found d v m p x g q)
+      found g true lt = let few = few_finds (channel_at_place d (job_at_place d g (next_in v g)) 0).channel.internal (channel_at_place d (job_at_place d g (next_in v g)) 0) in omega (arith, lt, few)
+      found g false lt = omega arith
+
+      by : (o : Option Answer) → (front_gave p x).ended ≡ o → LowersTo (front_room p) (front_room (front_left p x)) o → Fewer (22 + front_room p) (start_looks d v m p x (front_gave p x) (is_some (front_gave p x).ended))
+      by None e lt = subst (λ q. Fewer (22 + front_room p) (start_looks d v m p x (front_gave p x) (is_some q))) (sym e) (omega (arith, lt))
+      by (Some a) e lt = subst (λ q. Fewer (22 + front_room p) (start_looks d v m p x (front_gave p x) (is_some q))) (sym e) (found (gave (front_gave p x)) (nat_lt (gave (front_gave p x)) 8) lt)
+
+  found_in_few : (c : Chosen) (i : Bool) (x : Placed) → 21 + find_more (if i then finds.Source x 0 else finds.Default x) < 22
+  found_in_few c true x = omega arith
+  found_in_few c false x = omega arith
+
+  finds_fewer : (c : Chosen) (p : Find) (x : ℕ) → Fewer (21 + find_more p) (start_finds c p x (find_gave p x))
+  finds_fewer c (finds.Newest x) v = omega arith
+  finds_fewer c (finds.SetUp x) v = found_in_few c (or_none v x.channel).source x
+  finds_fewer c (finds.Pinned x i) v = omega arith
+  finds_fewer c (finds.Held x i) v = by (unpacked v).source
+    where
+      by : (q : Bool) → 21 + find_more (if q then finds.Source x i else finds.Default x) < 22
+      by true = omega arith
+      by false = omega arith
+  finds_fewer c (finds.Bank x i b) v = omega arith
+  finds_fewer c (finds.Source x i) v = omega arith
+  finds_fewer c (finds.Default x) v = omega arith
+
+  pub start_shorter : (p : StartPlace) (v : ℕ) → start_owes p ≡ false → Fewer (start_left p) (start_takes d u p v)
+  start_shorter start.Shut v e = omega arith
+  start_shorter start.Running v e = by (v == 0)
+    where
+      by : (q : Bool) → Fewer 28 (if q then (start.Nexts, started.Goes None) else (start.Running, started.Over))
+      by true = omega arith
+      by false = omega arith
+  start_shorter start.Nexts v e = omega arith
+  start_shorter (start.Marks x) v e = omega arith
+  start_shorter (start.Front x m p) v e = looks_fewer x m p v
+  start_shorter (start.Find c p) v e = finds_fewer c p v
+  start_shorter (start.Select c x) v e = omega arith
+  start_shorter (start.Width c x) v e = omega arith
+  start_shorter (start.Begin c x) v e = omega arith
+  start_shorter (start.Choose c p) v e = absurd (cc)
+  start_shorter (start.Mark c) v e = absurd (cc)
+  start_shorter (start.Prepare r i p) v e = absurd (cc)
+  start_shorter (start.Release r p) v e = absurd (cc)
+  start_shorter (start.Run r) v e = absurd (cc)
+  start_shorter start.Stand v e = absurd (cc)
+
+  -- ---- what is no start resets nothing and begins no word
+
+  calm_front : (z : Search) → (resets_chip (search_move z) ≡ false) × (begins_word (search_move z) ≡ false)
+  calm_front (search.Tally at) = (refl, refl)
+  calm_front (search.Low at tally) = (refl, refl)
+  calm_front (search.High at tally low) = (refl, refl)
+
+  calm_find : (p : Find) → (resets_chip (find_move p) ≡ false) × (begins_word (find_move p) ≡ false)
+  calm_find (finds.Newest x) = (refl, refl)
+  calm_find (finds.SetUp x) = (refl, refl)
+  calm_find (finds.Pinned x i) = (refl, refl)
+  calm_find (finds.Held x i) = (refl, refl)
+  calm_find (finds.Bank x i b) = (refl, refl)
+  calm_find (finds.Source x i) = (refl, refl)
+  calm_find (finds.Default x) = (refl, refl)
+
+  -- the place isn't that of the start
+  abbrev pub NotStart : StartPlace → Type 0
+  NotStart (start.Begin c x) = ⊥
+  NotStart p = Unit {0}
+
+  pub start_calm : (p : StartPlace) → start_owes p ≡ false → NotStart p → (resets_chip (start_move d u p) ≡ false) × (begins_word (start_move d u p) ≡ false)
+  start_calm start.Shut e n = (refl, refl)
+  start_calm start.Running e n = (refl, refl)
+  start_calm start.Nexts e n = (refl, refl)
+  start_calm (start.Marks x) e n = (refl, refl)
+  start_calm (start.Front x m p) e n = calm_front p.search
+  start_calm (start.Find c p) e n = calm_find p
+  start_calm (start.Select c x) e n = (refl, refl)
+  start_calm (start.Width c x) e n = (refl, refl)
+  start_calm (start.Begin c x) e n = absurd n
+  start_calm (start.Choose c p) e n = absurd (cc)
+  start_calm (start.Mark c) e n = absurd (cc)
+  start_calm (start.Prepare r i p) e n = absurd (cc)
+  start_calm (start.Release r p) e n = absurd (cc)
+  start_calm (start.Run r) e n = absurd (cc)
+  start_calm start.Stand e n = absurd (cc)
+
+  -- ---- places that owe moves
+
+  -- one goes on at another one with no event, or was the last one
+  abbrev pub GoesOwing : StartPlace × Started → Type 0
+  GoesOwing (x, started.Goes None) = start_owes x ≡ true
+  GoesOwing (x, started.Goes (Some e)) = ⊥
+  GoesOwing (x, started.Over) = Unit {0}
+
+  pub owed_goes : (p : StartPlace) (v : ℕ) → start_owes p ≡ true → GoesOwing (start_takes d u p v)
+  owed_goes (start.Choose c p) v e = by (has_ended (next_gave p v))
+    where
+      by : (q : Bool) → GoesOwing (start_chooses c p v q)
+      by true = refl
+      by false = refl
+  owed_goes (start.Mark c) v e = prepare_owes d c.run 0
+  owed_goes (start.Prepare r i p) v e = by (prepare_ends p v)
+    where
+      by : (q : Bool) → GoesOwing (start_prepares d r i p v q)
+      by true = next_owes d r i
+      by false = refl
+  owed_goes (start.Release r p) v e = by (has_ended (take_gave p v))
+    where
+      by : (q : Bool) → GoesOwing (start_releases r p v q)
+      by true = refl
+      by false = refl
+  owed_goes (start.Run r) v e = refl
+  owed_goes start.Stand v e = tt
+  owed_goes start.Shut v e = absurd (cc)
+  owed_goes start.Running v e = absurd (cc)
+  owed_goes start.Nexts v e = absurd (cc)
+  owed_goes (start.Marks x) v e = absurd (cc)
+  owed_goes (start.Front x m p) v e = absurd (cc)
+  owed_goes (start.Find c p) v e = absurd (cc)
+  owed_goes (start.Select c x) v e = absurd (cc)
+  owed_goes (start.Width c x) v e = absurd (cc)
+  owed_goes (start.Begin c x) v e = absurd (cc)
+
+-- ---- the hardware leaves the places
+
+module _ (d : SpiTable) (u : ℕ) (f f1 : Seen) (s s1 : SpiState) (words : f1.0 ≡ f.0) (select : f1.1 u ≡ f.1 u) (width : f1.2 u ≡ f.2 u) (pending : s1.pending ≡ s.pending) (channels : s1.channels ≡ s.channels) (free : IsFree s u → IsFree s1 u) where
+  chosen_kept : (c : Chosen) (q : Pending) → IsChosen d u f.0 s c q → IsChosen d u f1.0 s1 c q
+  chosen_kept c q is = record { free = free is.free; next = ap (next_on d u) pending ∙ is.next; is = is.is ∙ ap (λ (m : Memory). record { run = record { job = next_job d q; sequence = q.sequence }; nexts = m NEXTS; marks = m MARKS }) (sym words) }
+
+  first_kept : (q : Pending) → first_word d s1 q ≡ first_word d s q
+  first_kept q = ap (λ xs. slice_index_or (flat_map (λ c. channel_words c (channel_of d c) (slice_index_or xs c untouched)) (channels_of d (next_job d q))) 0 no_word) channels
+
+  pub place_kept : (p : StartPlace) → start_place d u p f s → start_place d u p f1 s1
+  place_kept start.Shut at = tt
+  place_kept start.Running at = tt
+  place_kept start.Nexts at = free at
+  place_kept (start.Marks v) (is, at) = (free is, at ∙ ap (λ m. m NEXTS) (sym words))
+  place_kept (start.Front v x p) (is, at, also, n, ends) =
+      (free is, at ∙ ap (λ m. m NEXTS) (sym words), also ∙ ap (λ m. m MARKS) (sym words), n, subst (λ ps. Ends choosing_front (ranked.own_of (record { at = order_word u })) n p f1.0 (λ m ws. ws ≡ number_of (next_on d u ps) ∷ [])) (sym pending) (subst (λ m. Ends choosing_front (ranked.own_of (record { at = order_word u })) n p m (λ m ws. ws ≡ number_of (next_on d u s.pending) ∷ [])) (sym words) ends))
+  place_kept (start.Find c p) (q, is, b, k, first, looks, will) = (q, chosen_kept c q is, b, k, first, looks, ap (λ m. will_give m p) words ∙ will ∙ ap (λ z. z.sent) (sym (first_kept q)))
+  place_kept (start.Select c x) (q, is, sent) = (q, chosen_kept c q is, sent ∙ ap (λ z. z.sent) (sym (first_kept q)))
+  place_kept (start.Width c x) (q, is, sent, at) = (q, chosen_kept c q is, sent ∙ ap (λ z. z.sent) (sym (first_kept q)), select ∙ at)
+  place_kept (start.Begin c x) (q, is, sent, at, wide) = (q, chosen_kept c q is, sent ∙ ap (λ z. z.sent) (sym (first_kept q)), select ∙ at, width ∙ wide ∙ ap (λ z. z.width) (sym (first_kept q)))
+  place_kept (start.Choose c p) at = absurd at
+  place_kept (start.Mark c) at = absurd at
+  place_kept (start.Prepare r i p) at = absurd at
+  place_kept (start.Release r p) at = absurd at
+  place_kept (start.Run r) at = absurd at
+  place_kept start.Stand at = absurd at
+
+module _ (d : SpiTable) (u : ℕ) where
+  words_kept : (chip : Chip) (order : Order) → is_fill order ≡ false → word_of (happened chip order) ≡ word_of chip
+  words_kept chip order e = memories (word_of (happened chip order)) (word_of chip) (λ k. by order e k)
+    where
+      by : (order : Order) → is_fill order ≡ false → (k : ℕ) → word_of (happened chip order) k ≡ word_of chip k
+      by (Fill c ws) e k = absurd (cc)
+      by order e k = word-left k chip (Hardware order) tt
+
+  same_turn : (x : Serial) (o : Option Word) (q : Bool) → ((if q then record x { word = o } else x).select ≡ x.select) × ((if q then record x { word = o } else x).width ≡ x.width)
+  same_turn x o true = (refl, refl)
+  same_turn x o false = (refl, refl)
+
+  -- a fault on the wire leaves what a unit selects, and its width
+  abbrev SameTurn : Serial → Serial → Type 0
+  SameTurn x z = (z.select ≡ x.select) × (z.width ≡ x.width)
+
+  turns_kept : (chip : Chip) (n : ℕ) → length chip.serials.units ≡ 2 → u < 2 → SameTurn (unit_at chip.serials u) (unit_at (serials.after_fault chip.serials n) u)
+  turns_kept chip n size few = by n (same_or_other u n)
+    where
+      by : (n : ℕ) → (u ≡ n) ⊎ (u ≢ n) → SameTurn (unit_at chip.serials u) (unit_at (serials.after_fault chip.serials n) u)
+      by n (inl e) =
+          subst (λ k. SameTurn (unit_at chip.serials u) (unit_at (serials.after_fault chip.serials k) u)) e
+          (subst (λ z. SameTurn (unit_at chip.serials u) z) (sym (get_or-set_same chip.serials.units u (serials.faulted chip.serials.time (unit_at chip.serials u)) idle (omega (arith, size, few))))
+          (same_turn (unit_at chip.serials u) (serials.failing (unit_at chip.serials u).word) (serials.is_busy (unit_at chip.serials u) chip.serials.time)))
+      by n (inr ne) = subst (λ z. SameTurn (unit_at chip.serials u) z) (sym (get_or-set_other chip.serials.units n u (serials.faulted chip.serials.time (unit_at chip.serials n)) idle ne)) (refl, refl)
+
+  pub start_later : (chip : Chip) (w : World) (s : SpiState) (order : Order) (p : StartPlace) → length chip.serials.units ≡ 2 → u < 2 → is_fill order ≡ false → start_place d u p ((spi_bare d).foot chip) s → start_place d u p ((spi_bare d).foot (happened chip order)) (moved d w s order)
+  start_later chip w s (Fill c ws) p size few e at = absurd (cc)
+  start_later chip w s (SpiFault n) p size few e at = place_kept d u ((spi_bare d).foot chip) ((spi_bare d).foot (happened chip (SpiFault n))) s (moved d w s (SpiFault n)) (words_kept chip (SpiFault n) refl) (turns_kept chip n size few).0 (turns_kept chip n size few).1 refl refl (freed n (same_or_other u n)) p at
+    where
+      freed : (n : ℕ) → (u ≡ n) ⊎ (u ≢ n) → IsFree s u → IsFree (moved d w s (SpiFault n)) u
+      freed n (inl f) free = subst (λ k. IsFree (moved d w s (SpiFault k)) u) f (item-same None s.units u (faulted_run w.now (run_at s u)) ∙ ap (faulted_run w.now) free)
+      freed n (inr ne) free = item-other None s.units n u (faulted_run w.now (run_at s n)) ne ∙ free
+  start_later chip w s (Level i v) p size few e at =
+      let same = level_leaves (λ c. c.serials.units) chip i v refl in
+      place_kept d u ((spi_bare d).foot chip) ((spi_bare d).foot (happened chip (Level i v))) s s (words_kept chip (Level i v) refl) (ap (λ xs. (slice_index_or xs u idle).select) same) (ap (λ xs. (slice_index_or xs u idle).width) same) refl refl (λ free. free) p at
+  start_later chip w s order p size few e at = place_kept d u ((spi_bare d).foot chip) ((spi_bare d).foot (happened chip order)) s s (words_kept chip order e) refl refl refl refl (λ free. free) p at

@@ -1,0 +1,306 @@
+-- The start window is right at each of its places up to the start, and as it starts.
+-- From bookkeeping.ChosenNext, bookkeeping.UnitTurned, words.FirstWord, services.StartBegun and 3 more.
+-- Used by spi_driver: services.StartPart.
+use Rattle.std.proofs.Common.{◌≡◌, ◌%◌, ◌^◌, ◌<◌, ◌≤◌, ◌==◌, [], ◌∷◌, ◌∙◌, if◌then◌else◌}
+use Rattle.spi_starting.specs.Terms
+use Terms.{Answer, ap, apart_agrees, arith, as_begun, Begun, Bool, by_two, Call, Channel, channel_at_place, channel_of}
+use Terms.{Chip, chip_after, choice, choice_next, choosing_front, Chosen, chosen_by, cleared_of, CommitsAfter, Contains}
+use Terms.{control_word, Ends, ends-then, entries_of, Entry, Event, false, Find, find_gave, find_move, finding_first}
+use Terms.{first_word, FitsSpi, FrameRole, Front, front-ends, front_gave, front_left, front_move, gave, get_or-set_same}
+use Terms.{Going, going_free, happens, has_channel, has_ended, idle, is_for, is_off, is_some, IsChosen, IsFirst, IsFree}
+use Terms.{job_at_place, job_of, job_place, length, List, Load, LooksAt, MARKS, Mask, masked, masked_by, Memory, min}
+use Terms.{Move, nat_lt, nat_tests, next_at, next_by, next_job, next_on, NEXTS, None, number_in, number_of, Option}
+use Terms.{or_none, order_word, Origin, other_number, outcome_with, outgoing, part_at, Pending, placed_of, ranks_in}
+use Terms.{refl, Reservations, run_at, RunAgrees, running_word, Search, search_move, search_of, Seen, select_by}
+use Terms.{select_of, selects, SendsRight, Sent, SerialData, SerialSelect, SerialWidth, set_up_word, slice_index_or}
+use Terms.{Some, source_word, spi_bare, spi_owing, SpiRepresents, SpiState, SpiTable, StandsAt, Start, start_by}
+use Terms.{start_finds, start_found, start_looks, start_move, start_owes, start_place, start_takes, Started, StartPlace}
+use Terms.{Starts, subst, suc, sym, Taken, tells_nothing, true, unit_at, unit_named, unit_number, Units, value_of, view}
+use Terms.{will_give, word_of, World, Write, zero, ℕ}
+use Rattle.spi_starting.specs.laws.{services.StartBegun.{begun_owes, choosing}, services.StartWords.{starting}}
+use Rattle.spi_starting.specs.laws.{bookkeeping.ChosenNext.{first_placed, first_there, next_there, none_for}}
+use Rattle.spi_starting.specs.laws.{words.FirstWord.{first_is, found, mod_again}, bookkeeping.RanState.{debt_of}}
+use Rattle.spi_starting.specs.laws.{bookkeeping.RanState.{ran_state}, bookkeeping.UnitTurned.{goes_none, paid}}
+use Rattle.spi_starting.specs.laws.{bookkeeping.UnitTurned.{selects_agrees, widens_agrees}}
+use Rattle.spi_starting.specs.laws.{bookkeeping.UnitBegun.{IsTurned, at_most}}
+use Rattle.word_shapes.specs.Playing as playing
+use Rattle.word_shapes.specs.PriorityQueue as ranked
+use Rattle.word_shapes.specs.declared.choosing.Next.TheVariants as nexts
+use Rattle.word_shapes.specs.declared.search.Search.TheVariants as search
+use Rattle.spi_jobs.specs.declared.finding.Find.TheVariants as finds
+use Rattle.spi_sequences.specs.declared.service.start.StartPlace.TheVariants as start
+use Rattle.spi_sequences.specs.declared.service.start.Started.TheVariants as started
+
+-- ---- what a step leaves
+
+-- the start: what the machine gives, the word that begins, and what the window owes after it
+pub record StartBegins (d : SpiTable) (errand : FrameRole) (held : Reservations) (u : ℕ) (chip later : Chip) (w : World) (s : SpiState) (made : Move) (received : ℕ) (x : StartPlace) (e : Event) : Type 0 where
+  pub is_start : e ≡ Start (unit_named u)
+  pub stands : (value : ℕ) → StandsAt e made value
+  pub state : SpiState
+  pub begins : Begun
+  pub is : (by : Option Call) → happens d w s (Starts (unit_named u) by received) ≡ Some (outcome_with state tells_nothing (Some begins))
+  pub sends : SendsRight chip (Some begins) made
+  pub owing : start_owes x ≡ true
+  pub owes : CommitsAfter (spi_owing d) (Some (Units (starting d errand u x))) later (λ c. SpiRepresents d held c w state)
+
+-- a step goes on, is the start, or was the last one, which clears the unit
+abbrev pub StartLeaves : SpiTable → FrameRole → Reservations → Origin Call → Option Answer → (number : ℕ) → (chip later : Chip) → World → SpiState → Move → (received : ℕ) → StartPlace × Started → Type 0
+StartLeaves d e below owner acted u chip c w s made y (x, started.Goes None) = SpiRepresents d (debt_of u owner acted ∷ below) c w s × start_place d u x ((spi_bare d).foot c) s
+StartLeaves d e below owner acted u chip c w s made y (x, started.Goes (Some a)) = StartBegins d e (cleared_of u owner acted ∷ below) u chip c w s made y x a
+StartLeaves d e below owner acted u chip c w s made y (x, started.Over) = SpiRepresents d (cleared_of u owner acted ∷ below) c w s
+
+module _ (d : SpiTable) (fits : FitsSpi d) (errand : FrameRole) (below : Reservations) (owner : Origin Call) (acted : Option Answer) (chip : Chip) (w : World) (s : SpiState) (u : ℕ) (h : SpiRepresents d (debt_of u owner acted ∷ below) chip w s) (y : ℕ) where
+  abbrev held : Reservations
+  held = debt_of u owner acted ∷ below
+
+  few : u < 2
+  few = h.right.0.0
+
+  on : is_off s.mode ≡ false
+  on = h.right.0.1
+
+  abbrev foot : Chip → Seen
+  foot c = (spi_bare d).foot c
+
+  -- after this move
+  abbrev Leaves : Move → StartPlace × Started → Type 0
+  Leaves made z = StartLeaves d errand below owner acted u chip (chip_after chip made y) w s made y z
+
+  -- ---- what the unit runs, and what waits
+
+  running_right : Leaves (Load (running_word u)) (if word_of chip (running_word u) == 0 then (start.Nexts, started.Goes None) else (start.Running, started.Over))
+  running_right = by (h.going u) refl ((h.words.on on).runs u few)
+    where
+      by : (g : Option Going) → h.going u ≡ g → RunAgrees d (word_of chip) u g → Leaves (Load (running_word u)) (if word_of chip (running_word u) == 0 then (start.Nexts, started.Goes None) else (start.Running, started.Over))
+      by None e r = subst (λ n. Leaves (Load (running_word u)) (if n == 0 then (start.Nexts, started.Goes None) else (start.Running, started.Over))) (sym r) (h, going_free d fits held chip w s h u few e)
+      by (Some g) e r =
+          subst (λ q. Leaves (Load (running_word u)) (if q then (start.Nexts, started.Goes None) else (start.Running, started.Over))) (sym (other_number (word_of chip (running_word u)) 0 (λ f. let z = sym f ∙ r.running in omega (arith, z))))
+          (paid d fits below owner acted chip w s u h (λ q none there for. let no = sym none ∙ e in cc))
+
+  -- a look at the order gives the machine's next sequence
+  looks_right : (free : IsFree s u) → (n : ℕ) × Ends choosing_front (ranked.own_of (record { at = order_word u })) n (record { search = search_of u; ranks = ranks_in d (word_of chip NEXTS) (word_of chip MARKS) }) (word_of chip) (λ m words. words ≡ number_of (next_on d u s.pending) ∷ [])
+  looks_right free = (
+    _,
+    ends-then choosing_front (ranked.own_of (record { at = order_word u })) _ (record { search = search_of u; ranks = ranks }) (word_of chip) (λ m words. ranked.Holds (record { at = order_word u }) m entries × (words ≡ choice ranks entries ∷ [])) (λ m words. words ≡ number_of (next_on d u s.pending) ∷ [])
+        (λ m words z. z.1 ∙ ap (λ i. i ∷ []) (choice_next d fits held chip w s h on u few (goes_none d fits below owner acted chip w s u h free)))
+        (front-ends (record { at = order_word u }) ranks (word_of chip) entries ((h.words.on on).sequences.orders u few)),
+  )
+    where
+      ranks : List ℕ
+      ranks = ranks_in d (word_of chip NEXTS) (word_of chip MARKS)
+
+      entries : List Entry
+      entries = entries_of d (view s) u
+
+  -- ---- the choice
+
+  -- a sequence is found
+  found_right : (made : Move) → chip_after chip made y ≡ chip → (p : Front) → (x : ℕ) → (free : IsFree s u) → (o : Option Pending) → next_on d u s.pending ≡ o
+      → Leaves made (start_found d (word_of chip NEXTS) (word_of chip MARKS) p x (number_of o) (nat_lt (number_of o) 8))
+  found_right made same p x free None e =
+      subst (λ c. SpiRepresents d (cleared_of u owner acted ∷ below) c w s) (sym same) (paid d fits below owner acted chip w s u h (λ q none there for. none_for d u s.pending q e there for))
+  found_right made same p x free (Some q) e =
+      subst (λ b. Leaves made (start_found d (word_of chip NEXTS) (word_of chip MARKS) p x q.sequence b)) (sym (small q.sequence number))
+      (subst (λ c. SpiRepresents d held c w s × start_place d u (start.Find found_so (finding_first (channel_at_place d found_so.run.job 0))) (foot c) s) (sym same)
+      (h, (q, record { free = free; next = e; is = ap (λ j. record { run = record { job = j; sequence = q.sequence }; nexts = word_of chip NEXTS; marks = word_of chip MARKS }) job }, first.0, first.1, first.2, subst (λ z. LooksAt d first.0 first.1 (finding_first z)) (sym place) (looks_first first.0 first.1 first.2.known), will)))
+    where
+      there : Contains s.pending q × (is_for d u q ≡ true)
+      there = next_there d u s.pending q e
+
+      number : q.sequence < 8
+      number = (h.sound.entries q there.0).number
+
+      small : (n : ℕ) → n < 8 → nat_lt n 8 ≡ true
+      small n lt = grind (arith, nat_tests)
+
+      found_so : Chosen
+      found_so = chosen_by d (word_of chip NEXTS) (word_of chip MARKS) q.sequence
+
+      job : found_so.run.job ≡ next_job d q
+      job = ap (job_at_place d q.sequence) ((h.words.on on).sequences.pending q there.0).next ∙ job_place d fits q.sequence q.next (h.sound.entries q there.0).next
+
+      first : (b : ℕ) × (k : Channel) × IsFirst d q b k
+      first = first_there d fits u q there.1
+
+      place : channel_at_place d found_so.run.job 0 ≡ placed_of d first.0
+      place = ap (λ j. channel_at_place d j 0) job ∙ first_placed d u q there.1 first.0 first.2.at
+
+      looks_first : (b : ℕ) (k : Channel) → channel_of d b ≡ Some k → LooksAt d b k (finding_first (placed_of d b))
+      looks_first b k known = split (placed_of d b).channel.internal refl
+        where
+          split : (i : Bool) → (placed_of d b).channel.internal ≡ i → LooksAt d b k (if i then finds.Newest (placed_of d b) else finds.SetUp (placed_of d b))
+          split true e = (refl, sym (ap (λ z. z.internal) (has_channel d fits b k known)) ∙ e)
+          split false e = refl
+
+      will : will_give (word_of chip) (finding_first (channel_at_place d found_so.run.job 0)) ≡ (first_word d s q).sent
+      will = ap (λ z. will_give (word_of chip) (finding_first z)) place ∙ found d fits held chip w s h on first.0 first.1 first.2.known ∙ sym (ap (λ z. z.sent) (first_is d fits held chip w s h on first.0 first.1 first.2.known q first.2.at))
+
+  -- the look goes on, or has found what the machine starts next
+  front_right : (p : Front) (n : ℕ) (free : IsFree s u) → Ends choosing_front (ranked.own_of (record { at = order_word u })) n p (word_of chip) (λ m words. words ≡ number_of (next_on d u s.pending) ∷ [])
+      → (made : Move) → front_move p ≡ made → chip_after chip made y ≡ chip → value_of chip made ≡ playing.given (word_of chip) made → playing.after (word_of chip) made ≡ word_of chip
+      → Leaves made (start_looks d (word_of chip NEXTS) (word_of chip MARKS) p (value_of chip made) (front_gave p (value_of chip made)) (has_ended (front_gave p (value_of chip made))))
+  front_right p zero free ends made is same value after = absurd ends
+  front_right p (suc n) free ends made is same value after = by (front_gave p (value_of chip made)) refl rest
+    where
+      D : Memory → List ℕ → Type 0
+      D m words = words ≡ number_of (next_on d u s.pending) ∷ []
+
+      own : ℕ → Bool
+      own = ranked.own_of (record { at = order_word u })
+
+      rest : playing.Either (front_gave p (value_of chip made)).ended (Ends choosing_front own n (front_left p (value_of chip made)) (word_of chip) D) (D (word_of chip))
+      rest =
+          subst (λ m. playing.Either (front_gave p (value_of chip made)).ended (Ends choosing_front own n (front_left p (value_of chip made)) m D) (D m)) after
+          (subst (λ v. playing.Either (front_gave p v).ended (Ends choosing_front own n (front_left p v) (playing.after (word_of chip) made) D) (D (playing.after (word_of chip) made))) (sym value)
+          (subst (λ z. playing.Either (front_gave p (playing.given (word_of chip) z)).ended (Ends choosing_front own n (front_left p (playing.given (word_of chip) z)) (playing.after (word_of chip) z) D) (D (playing.after (word_of chip) z))) is ends.2))
+
+      ended : (t : Taken) (a : Answer) → t.ended ≡ Some a → a.words ≡ number_of (next_on d u s.pending) ∷ [] → Leaves made (start_found d (word_of chip NEXTS) (word_of chip MARKS) p (value_of chip made) (gave t) (nat_lt (gave t) 8))
+      ended t a e words =
+          subst (λ z. Leaves made (start_found d (word_of chip NEXTS) (word_of chip MARKS) p (value_of chip made) z (nat_lt z 8))) (sym (ap number_in e ∙ ap (λ xs. slice_index_or xs 0 0) words))
+          (found_right made same p (value_of chip made) free (next_on d u s.pending) refl)
+
+      by : (t : Taken) → front_gave p (value_of chip made) ≡ t → playing.Either t.ended (Ends choosing_front own n (front_left p (value_of chip made)) (word_of chip) D) (D (word_of chip))
+          → Leaves made (start_looks d (word_of chip NEXTS) (word_of chip MARKS) p (value_of chip made) t (has_ended t))
+      by t e rest = split t.ended refl rest
+        where
+          split : (o : Option Answer) → t.ended ≡ o → playing.Either o (Ends choosing_front own n (front_left p (value_of chip made)) (word_of chip) D) (D (word_of chip))
+              → Leaves made (start_looks d (word_of chip NEXTS) (word_of chip MARKS) p (value_of chip made) t (is_some t.ended))
+          split None f more = subst (λ q. Leaves made (start_looks d (word_of chip NEXTS) (word_of chip MARKS) p (value_of chip made) t (is_some q))) (sym f) (subst (λ c. SpiRepresents d held c w s × start_place d u (start.Front (word_of chip NEXTS) (word_of chip MARKS) (front_left p (value_of chip made))) (foot c) s) (sym same) (h, (free, refl, refl, n, more)))
+          split (Some a) f done = subst (λ q. Leaves made (start_looks d (word_of chip NEXTS) (word_of chip MARKS) p (value_of chip made) t (is_some q))) (sym f) (ended t a f done.1)
+
+  front_all : (p : Front) (n : ℕ) (free : IsFree s u) → Ends choosing_front (ranked.own_of (record { at = order_word u })) n p (word_of chip) (λ m words. words ≡ number_of (next_on d u s.pending) ∷ [])
+      → Leaves (front_move p) (start_looks d (word_of chip NEXTS) (word_of chip MARKS) p (value_of chip (front_move p)) (front_gave p (value_of chip (front_move p))) (has_ended (front_gave p (value_of chip (front_move p)))))
+  front_all p n free ends = by p.search refl
+    where
+      moved : (k : ℕ) → front_move p ≡ Load k → Leaves (front_move p) (start_looks d (word_of chip NEXTS) (word_of chip MARKS) p (value_of chip (front_move p)) (front_gave p (value_of chip (front_move p))) (has_ended (front_gave p (value_of chip (front_move p)))))
+      moved k f = subst (λ made. Leaves made (start_looks d (word_of chip NEXTS) (word_of chip MARKS) p (value_of chip made) (front_gave p (value_of chip made)) (has_ended (front_gave p (value_of chip made))))) (sym f) (front_right p n free ends (Load k) f refl refl refl)
+
+      by : (z : Search) → p.search ≡ z → Leaves (front_move p) (start_looks d (word_of chip NEXTS) (word_of chip MARKS) p (value_of chip (front_move p)) (front_gave p (value_of chip (front_move p))) (has_ended (front_gave p (value_of chip (front_move p)))))
+      by (search.Tally at) f = moved at.tally (ap search_move f)
+      by (search.Low at tally) f = moved at.low (ap search_move f)
+      by (search.High at tally low) f = moved at.high (ap search_move f)
+
+  -- ---- the first word is found
+
+  under_four : (v : ℕ) → v % 4 < 4
+  under_four v = omega arith
+
+  find_right : (c : Chosen) (p : Find) → start_place d u (start.Find c p) (foot chip) s → Leaves (find_move p) (start_finds c p (value_of chip (find_move p)) (find_gave p (value_of chip (find_move p))))
+  find_right c (finds.Newest x) (q, is, b, k, first, looks, will) = (h, (q, is, b, k, first, (looks.0, looks.1, refl, under_four (word_of chip (control_word x Sent))), will))
+  find_right c (finds.SetUp x) (q, is, b, k, first, looks, will) = let r = found_so (or_none (word_of chip (set_up_word x)) x.channel).source will in (h, (q, is, b, k, first, r.0, r.1))
+    where
+      found_so : (i : Bool) → (if i then masked_by x.channel (word_of chip (source_word x 0)) else masked_by x.channel x.channel.default_data) ≡ (first_word d s q).sent
+          → LooksAt d b k (if i then finds.Source x 0 else finds.Default x) × (will_give (word_of chip) (if i then finds.Source x 0 else finds.Default x) ≡ (first_word d s q).sent)
+      found_so true e = ((looks, refl), e)
+      found_so false e = (looks, e)
+  find_right c (finds.Bank x i e) (q, is, b, k, first, looks, will) = (h, (q, is, will))
+  find_right c (finds.Source x i) (q, is, b, k, first, looks, will) = (h, (q, is, will))
+  find_right c (finds.Default x) (q, is, b, k, first, looks, will) = (h, (q, is, will))
+  find_right c (finds.Pinned x i) (q, is, b, k, first, looks, will) = absurd looks
+  find_right c (finds.Held x i) (q, is, b, k, first, looks, will) = absurd looks
+
+  -- ---- the unit is made ready
+
+  unit_there : u < length chip.serials.units
+  unit_there = let lt = few in let size = h.size in omega (arith, lt, size)
+
+  select_right : (c : Chosen) (x : ℕ) → start_place d u (start.Select c x) (foot chip) s → Leaves (Write (SerialSelect u) (selects d c.run.job)) (start.Width c x, started.Goes None)
+  select_right c x (q, is, sent) = (
+    selects_agrees d fits below owner acted chip w s u h (goes_none d fits below owner acted chip w s u h is.free) (selects d c.run.job) y,
+    (q, record { free = is.free; next = is.next; is = is.is }, sent, ap (λ z. z.select) (get_or-set_same chip.serials.units u (record (unit_at chip.serials u) { select = selects d c.run.job }) idle unit_there) ∙ ap (λ z. selects d z.run.job) is.is),
+  )
+
+  -- the width of the first channel is that of the first word
+  width_is : (c : Chosen) (q : Pending) → IsChosen d u (word_of chip) s c q → (channel_at_place d c.run.job 0).channel.width ≡ (first_word d s q).width
+  width_is c q is =
+      let for = (next_there d u s.pending q is.next).1 in
+      let first = first_there d fits u q for in
+      ap (λ z. (channel_at_place d z.run.job 0).channel.width) is.is
+      ∙ ap (λ z. z.channel.width) (first_placed d u q for first.0 first.2.at)
+      ∙ ap (λ z. z.width) (has_channel d fits first.0 first.1 first.2.known)
+      ∙ sym (ap (λ z. z.width) (first_is d fits held chip w s h on first.0 first.1 first.2.known q first.2.at))
+
+  width_right : (c : Chosen) (x : ℕ) → start_place d u (start.Width c x) (foot chip) s → Leaves (Write (SerialWidth u) (channel_at_place d c.run.job 0).channel.width) (start.Begin c x, started.Goes None)
+  width_right c x (q, is, sent, select) = (
+    widens_agrees d fits below owner acted chip w s u h (goes_none d fits below owner acted chip w s u h is.free) (channel_at_place d c.run.job 0).channel.width y,
+    (q, record { free = is.free; next = is.next; is = is.is }, sent, ap (λ z. z.select) same ∙ select, ap (λ z. z.width) same ∙ width_is c q is),
+  )
+    where
+      same : unit_at (chip_after chip (Write (SerialWidth u) (channel_at_place d c.run.job 0).channel.width) y).serials u ≡ record (unit_at chip.serials u) { width = (channel_at_place d c.run.job 0).channel.width }
+      same = get_or-set_same chip.serials.units u (record (unit_at chip.serials u) { width = (channel_at_place d c.run.job 0).channel.width }) idle unit_there
+
+  -- ---- the start
+
+  by_unit : (P : ℕ → Type 0) → P 0 → P 1 → P u
+  by_unit P a b = by_two P a b u few
+
+  module _ (q : Pending) (x : ℕ) (free : IsFree s u) (next : next_on d u s.pending ≡ Some q) (sent : x ≡ (first_word d s q).sent) (select : (unit_at chip.serials u).select ≡ select_of (select_by (job_of d (next_job d q)))) (width : (unit_at chip.serials u).width ≡ (first_word d s q).width) where
+    there : Contains s.pending q × (is_for d u q ≡ true)
+    there = next_there d u s.pending q next
+
+    first : (b : ℕ) × (k : Channel) × IsFirst d q b k
+    first = first_there d fits u q there.1
+
+    is_first : first_word d s q ≡ record { channel = first.0; place = 0; width = first.1.width; sent = masked first.1.width (slice_index_or (part_at d s first.0).values 0 0); goes = (part_at d s first.0).goes }
+    is_first = first_is d fits held chip w s h on first.0 first.1 first.2.known q first.2.at
+
+    narrow : (first_word d s q).width ≤ 16
+    narrow = subst (λ n. n ≤ 16) (sym (ap (λ z. z.width) is_first)) (fits.channels first.0 first.1 first.2.known).narrow
+
+    turned : IsTurned d chip s u q
+    turned = record { width = width; narrow = narrow; select = select }
+
+    abbrev begun_state : SpiState
+    begun_state = ran_state d below owner acted chip w s u h q x y
+
+    -- the machine starts it
+    startable : next_at d s (Some u) ≡ Some q
+    startable = ap (λ b. if b then None else next_by d s u (run_at s u)) on ∙ ap (next_by d s u) free ∙ next
+
+    start_is : (by : Option Call) → happens d w s (Starts (unit_named u) by y) ≡ Some (outcome_with begun_state tells_nothing (Some (as_begun d u (Some q) (first_word d s q))))
+    start_is by = ap (λ o. start_by d w s o y (next_at d s o)) (by_unit (λ n. unit_number (unit_named n) ≡ Some n) refl refl) ∙ ap (start_by d w s (Some u) y) startable
+
+    -- what is sent is of the width already
+    sent_masked : outgoing (unit_at chip.serials u) x ≡ (first_word d s q).sent
+    sent_masked =
+        ap (λ n. x % 2 ^ n) (ap (λ n. min n 16) width ∙ at_most (first_word d s q).width narrow ∙ ap (λ z. z.width) is_first)
+        ∙ ap (λ v. v % 2 ^ first.1.width) (sent ∙ ap (λ z. z.sent) is_first) ∙ mod_again (slice_index_or (part_at d s first.0).values 0 0) first.1.width ∙ sym (ap (λ z. z.sent) is_first)
+
+    begin_leaves : StartBegins d errand (cleared_of u owner acted ∷ below) u chip (chip_after chip (Write (SerialData u) x) y) w s (Write (SerialData u) x) y (start.Choose (choosing d chip q) (nexts.Look (search_of u) (ranks_in d (word_of chip NEXTS) (word_of chip MARKS)))) (Start (unit_named u))
+    begin_leaves = record {
+      is_start = refl;
+      stands = λ v. by_unit (λ n. StandsAt (Start (unit_named n)) (Write (SerialData n) x) v) (refl, refl) (refl, refl);
+      state = begun_state;
+      begins = as_begun d u (Some q) (first_word d s q);
+      is = start_is;
+      sends = record { on = refl; word = sent_masked; width = ap (λ n. min n 16) width ∙ at_most (first_word d s q).width narrow; select = select };
+      owing = refl;
+      owes = begun_owes (record { d = d; fits = fits; below = below; owner = owner; acted = acted; chip = chip; w = w; s = s; u = u; h = h; p = q; there = there.0; for = there.1; free = goes_none d fits below owner acted chip w s u h free }) next x y turned errand;
+    }
+
+  begin_right : (c : Chosen) (x : ℕ) → start_place d u (start.Begin c x) (foot chip) s → Leaves (Write (SerialData u) x) (start_takes d u (start.Begin c x) 0)
+  begin_right c x (q, is, sent, select, width) = subst (λ z. Leaves (Write (SerialData u) x) (start_takes d u (start.Begin z x) 0)) (sym is.is) (begin_leaves q x is.free is.next sent select width)
+
+  -- ---- each place
+
+  pub start_right : (p : StartPlace) → start_owes p ≡ false → start_place d u p (foot chip) s → Leaves (start_move d u p) (start_takes d u p (value_of chip (start_move d u p)))
+  start_right start.Shut e at = (apart_agrees d fits held chip w s Mask y refl h, tt)
+  start_right start.Running e at = running_right
+  start_right start.Nexts e at = (h, (at, refl))
+  start_right (start.Marks v) e (free, is) =
+      subst (λ n. Leaves (Load MARKS) (start.Front n (word_of chip MARKS) (record { search = search_of u; ranks = ranks_in d n (word_of chip MARKS) }), started.Goes None)) (sym is) (let l = looks_right free in (h, (free, refl, refl, l.0, l.1)))
+  start_right (start.Front v m p) e (free, is, also, n, ends) =
+      subst (λ i. Leaves (front_move p) (start_looks d i m p (value_of chip (front_move p)) (front_gave p (value_of chip (front_move p))) (has_ended (front_gave p (value_of chip (front_move p)))))) (sym is)
+      (subst (λ i. Leaves (front_move p) (start_looks d (word_of chip NEXTS) i p (value_of chip (front_move p)) (front_gave p (value_of chip (front_move p))) (has_ended (front_gave p (value_of chip (front_move p)))))) (sym also)
+      (front_all p n free ends))
+  start_right (start.Find c p) e at = find_right c p at
+  start_right (start.Select c x) e at = select_right c x at
+  start_right (start.Width c x) e at = width_right c x at
+  start_right (start.Begin c x) e at = begin_right c x at
+  start_right (start.Choose c p) e at = absurd (cc)
+  start_right (start.Mark c) e at = absurd (cc)
+  start_right (start.Prepare r i p) e at = absurd (cc)
+  start_right (start.Release r p) e at = absurd (cc)
+  start_right (start.Run r) e at = absurd (cc)
+  start_right start.Stand e at = absurd (cc)

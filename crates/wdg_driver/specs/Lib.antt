@@ -1,0 +1,9 @@
+pub mod Words
+pub mod Table
+pub mod Checks
+pub mod Machine
+pub mod Bounds
+pub mod Ground
+pub mod Requests
+pub mod Fits
+pub mod laws

@@ -1,0 +1,5 @@
+pub mod Ground
+pub mod Body
+pub mod Look
+pub mod Keeps
+pub mod Lawful

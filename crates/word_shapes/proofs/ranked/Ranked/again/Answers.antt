@@ -1,6 +1,0 @@
--- The law is proved over the definitions.
-use Rattle.word_shapes.proofs.RankedLaws.{again-ends}
-use Rattle.word_shapes.proofs.ranked.Ranked.again.Goals as goal
-
-pub returns-clause-waits : goal.returns-clause-waits
-returns-clause-waits c = λ m xs h. rw c.places.ensures (again-ends c.args.self.now c.args.entry m xs c.requires.entry h)

@@ -1,6 +1,0 @@
--- The law is proved over the definitions.
-use Rattle.word_shapes.proofs.RankedLaws.{next-ends}
-use Rattle.word_shapes.proofs.ranked.Ranked.next.Goals as goal
-
-pub returns-clause-chooses : goal.returns-clause-chooses
-returns-clause-chooses c = λ m xs h. rw c.places.ensures (next-ends c.args.self.now c.args.ranks m xs h)
