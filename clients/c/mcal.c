@@ -5,6 +5,7 @@
 #include <string.h>
 
 #include "Adc.h"
+#include "Dio.h"
 #include "Gpt.h"
 #include "Icu.h"
 #include "Mcal.h"
@@ -231,6 +232,8 @@ static const struct { const char *name; uint8 value; } errors[] = {
   VALUE(ICU_E_ALREADY_INITIALIZED), VALUE(ICU_E_UNINIT), VALUE(ICU_E_PARAM_CHANNEL), VALUE(ICU_E_PARAM_ACTIVATION), VALUE(ICU_E_PARAM_BUFFER_SIZE), VALUE(ICU_E_PARAM_NOTIFY_INTERVAL), VALUE(ICU_E_NOT_STARTED),
   VALUE(ADC_E_ALREADY_INITIALIZED), VALUE(ADC_E_UNINIT), VALUE(ADC_E_BUSY), VALUE(ADC_E_IDLE), VALUE(ADC_E_PARAM_GROUP), VALUE(ADC_E_PARAM_POINTER), VALUE(ADC_E_WRONG_TRIGG_SRC), VALUE(ADC_E_BUFFER_UNINIT), VALUE(ADC_E_NOTIF_CAPABILITY),
   VALUE(SPI_E_ALREADY_INITIALIZED), VALUE(SPI_E_UNINIT), VALUE(SPI_E_PARAM_CHANNEL), VALUE(SPI_E_PARAM_LENGTH), VALUE(SPI_E_PARAM_SEQ), VALUE(SPI_E_SEQ_PENDING), VALUE(SPI_E_PARAM_JOB), VALUE(SPI_E_PARAM_UNIT),
+  VALUE(DIO_E_PARAM_INVALID_CHANNEL_ID), VALUE(DIO_E_PARAM_INVALID_PORT_ID), VALUE(DIO_E_PARAM_INVALID_GROUP),
+  VALUE(WDG_E_DRIVER_STATE), VALUE(WDG_E_PARAM_MODE), VALUE(WDG_E_PARAM_TIMEOUT),
 };
 
 static void tell_error(const Told *told) {
@@ -621,6 +624,17 @@ Spi_SeqResultType Spi_GetSequenceResult(Spi_SequenceType sequence) { Told t = ca
 Spi_StatusType Spi_GetHWUnitStatus(Spi_HWUnitType unit) { Told t = call("Spi_GetHWUnitStatus", "%u", (unsigned)unit); return (Spi_StatusType)named(&t, SPI_UNINIT, STATUS); }
 Std_ReturnType Spi_SetAsyncMode(Spi_AsyncModeType mode) { Told t = call("Spi_SetAsyncMode", "%s", mode == SPI_POLLING_MODE ? "SPI_POLLING_MODE" : "SPI_INTERRUPT_MODE"); return ok(&t); }
 NONE(Spi_MainFunction_Handling)
+
+static const char *level_name(Dio_LevelType level) { return level == STD_LOW ? "STD_LOW" : "STD_HIGH"; }
+static Dio_LevelType level(const Told *told) { return (Dio_LevelType)named(told, STD_LOW, NAMES("STD_LOW", "STD_HIGH")); }
+static unsigned group_id(const Dio_ChannelGroupType *group) { return group ? group->id : 0xFFu; }
+Dio_LevelType Dio_ReadChannel(Dio_ChannelType channel) { Told t = call("Dio_ReadChannel", "%u", (unsigned)channel); return level(&t); }
+void Dio_WriteChannel(Dio_ChannelType channel, Dio_LevelType to) { call("Dio_WriteChannel", "%u %s", (unsigned)channel, level_name(to)); }
+Dio_LevelType Dio_FlipChannel(Dio_ChannelType channel) { Told t = call("Dio_FlipChannel", "%u", (unsigned)channel); return level(&t); }
+Dio_PortLevelType Dio_ReadPort(Dio_PortType port) { Told t = call("Dio_ReadPort", "%u", (unsigned)port); return (Dio_PortLevelType)number(&t); }
+void Dio_WritePort(Dio_PortType port, Dio_PortLevelType to) { call("Dio_WritePort", "%u %u", (unsigned)port, (unsigned)to); }
+Dio_PortLevelType Dio_ReadChannelGroup(const Dio_ChannelGroupType *group) { Told t = call("Dio_ReadChannelGroup", "%u", group_id(group)); return (Dio_PortLevelType)number(&t); }
+void Dio_WriteChannelGroup(const Dio_ChannelGroupType *group, Dio_PortLevelType to) { call("Dio_WriteChannelGroup", "%u %u", group_id(group), (unsigned)to); }
 
 INIT(Wdg)
 Std_ReturnType Wdg_SetMode(WdgIf_ModeType mode) {

@@ -6,6 +6,7 @@
 #include <string.h>
 
 #include "Adc.h"
+#include "Dio.h"
 #include "Gpt.h"
 #include "Icu.h"
 #include "Mcal.h"
@@ -102,6 +103,7 @@ static void take_source(const char *row) {
 #define ENUM(call, name, ...) { unsigned v = (unsigned)(call); if (!was_held) printf("%u return %s %s\n", line_number, name, NAMES(__VA_ARGS__)[v]), told = TRUE; }
 #define STD(call, name) ENUM(call, name, "E_OK", "E_NOT_OK")
 #define STATUS(call, name) ENUM(call, name, "SPI_UNINIT", "SPI_IDLE", "SPI_BUSY")
+#define LEVEL(call, name) ENUM(call, name, "STD_LOW", "STD_HIGH")
 
 static void setup_buffer(void) {
   unsigned group = HALF(3) & 15u, buffer = strcmp(words[4], "null") ? (unsigned)number(4, 1) : 0;
@@ -208,6 +210,16 @@ static void call_serial(void) {
   SERVICE(Spi_GetHWUnitStatus, STATUS(Spi_GetHWUnitStatus(BYTE(3)), "Spi_GetHWUnitStatus"))
   SERVICE(Spi_SetAsyncMode, STD(Spi_SetAsyncMode((Spi_AsyncModeType)named(3, NAMES("SPI_POLLING_MODE", "SPI_INTERRUPT_MODE"))), "Spi_SetAsyncMode")) exit(9);
 }
+static void call_ports(void) {
+  Dio_ChannelGroupType group = { BYTE(3) };
+  SERVICE(Dio_ReadChannel, LEVEL(Dio_ReadChannel(BYTE(3)), "Dio_ReadChannel"))
+  SERVICE(Dio_FlipChannel, LEVEL(Dio_FlipChannel(BYTE(3)), "Dio_FlipChannel"))
+  SERVICE(Dio_WriteChannel, DONE(Dio_WriteChannel(BYTE(3), (Dio_LevelType)named(4, NAMES("STD_LOW", "STD_HIGH"))), "Dio_WriteChannel"))
+  SERVICE(Dio_ReadPort, VALUE(Dio_ReadPort(BYTE(3)), "Dio_ReadPort"))
+  SERVICE(Dio_WritePort, DONE(Dio_WritePort(BYTE(3), BYTE(4)), "Dio_WritePort"))
+  SERVICE(Dio_ReadChannelGroup, VALUE(Dio_ReadChannelGroup(&group), "Dio_ReadChannelGroup"))
+  SERVICE(Dio_WriteChannelGroup, DONE(Dio_WriteChannelGroup(&group, BYTE(4)), "Dio_WriteChannelGroup")) exit(9);
+}
 static void call_watchdog(void) {
   INIT(Wdg_Init) PLAIN(Wdg_SetTriggerCondition, HALF(3))
   SERVICE(Wdg_SetMode, STD(Wdg_SetMode((WdgIf_ModeType)named(3, NAMES("WDGIF_OFF_MODE", "WDGIF_SLOW_MODE", "WDGIF_FAST_MODE"))), "Wdg_SetMode")) exit(9);
@@ -220,6 +232,7 @@ static void call(void) {
     case 'I': call_captures(); break;
     case 'A': call_converters(); break;
     case 'S': call_serial(); break;
+    case 'D': call_ports(); break;
     case 'W': call_watchdog(); break;
     default: if (words[2][1] == 'w') call_pulses(); else call_clock_and_pins();
   }

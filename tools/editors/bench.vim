@@ -8,7 +8,7 @@ unlet! b:current_syntax
 syntax match benchSeparator "^---$"
 syntax match benchComment "#.*$"
 syntax keyword benchDirective call do enter serve run upto finish tick level analog trigger miso spifault detach fill reset show
-syntax match benchService "\<\(Mcu\|Port\|Gpt\|Pwm\|Icu\|Adc\|Spi\|Wdg\)_\w\+"
+syntax match benchService "\<\(Mcu\|Port\|Gpt\|Pwm\|Icu\|Adc\|Spi\|Dio\|Wdg\)_\w\+"
 syntax keyword benchWord act mask unmask note power watchdog pins wire buffers ram src dst null INVALID
 syntax match benchNumber "\<\(0x\x\+\|\d\+\)\>"
 highlight default link benchSeparator PreProc

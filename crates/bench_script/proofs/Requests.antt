@@ -3,7 +3,7 @@ use Rattle.std.proofs.Common.{◌≡◌, ℕ, List, [], ◌∷◌, length, Optio
 use Rattle.std.specs.Prelude.{Ok, Err, bytes_eq, nat_le, ◌==◌}
 use Rattle.std.proofs.lemmas.Bool.{leb-true}
 use Rattle.std.proofs.lemmas.Slice.Eq.{bytes_eq-Decides}
-use Rattle.mcal_base.specs.Names.{service_text, module_of, argument_text}
+use Rattle.mcal_base.specs.Names.{service_text, argument_text}
 use Rattle.mcal_base.specs.declared.argument_name.ArgumentName.{ArgumentName}
 use Rattle.mcal_base.specs.declared.argument_name.ArgumentName.TheVariants as names
 use Rattle.mcal_base.specs.declared.directive.Argument.{Argument}
@@ -12,7 +12,7 @@ use Rattle.mcal_base.specs.declared.directive.Request.{Request}
 use Rattle.mcal_base.specs.declared.service.Service.{Service}
 use Rattle.bench_script.specs.Arguments.{argument, arguments, known, name, buffer_of, buffer}
 use Rattle.bench_script.specs.Numbers.{numeral, number_up_to}
-use Rattle.bench_script.specs.Orders.{choice, has_driver, offered, request, request_to, request_by_name}
+use Rattle.bench_script.specs.Orders.{choice, request, request_to, request_by_name}
 use Rattle.bench_script.specs.Productions.{IsOneOf, IsArgument, AreArguments, IsRequest}
 use Rattle.bench_script.specs.Steps.{◌>>=◌}
 use Rattle.bench_script.specs.Tables.{names_of, arguments_of}
@@ -97,28 +97,21 @@ arguments_count (k ∷ ks) (x ∷ xs) [] h = absurd h
 arguments_count (k ∷ ks) (x ∷ xs) (word ∷ words) h = let c = arguments_count ks xs words h.1 in omega arith
 
 -- requests
-offered_is : (s service : Service) (b : Bool) → has_driver (module_of s) ≡ b → cond b (Ok s) (Err faults.Word) ≡ Ok service → (s ≡ service) × (has_driver (module_of service) ≡ true)
-offered_is s service true e h = let same : s ≡ service = cc in (same, subst (λ (x : Service). has_driver (module_of x) ≡ true) same e)
-offered_is s service false e h = cc
-
-request_to_is : (service : Service) (p : ℕ × Request) (level : List ℕ) (words : List (List ℕ)) (b : Bool) → has_driver (module_of service) ≡ true → (length words == length (arguments_of service)) ≡ b
+request_to_is : (service : Service) (p : ℕ × Request) (level : List ℕ) (words : List (List ℕ)) (b : Bool) → (length words == length (arguments_of service)) ≡ b
     → cond b (number_up_to 7 level >>= (λ (l : ℕ). arguments (arguments_of service) words >>= (λ (given : List Argument). Ok (l, record { service = service; arguments = given })))) (Err faults.Count) ≡ Ok p
     → IsRequest p.0 p.1 (level ∷ service_text service ∷ words)
-request_to_is service p level words false has e h = cc
-request_to_is service p level words true has e h =
+request_to_is service p level words false e h = cc
+request_to_is service p level words true e h =
     let a = bind_ok (number_up_to 7 level) (λ (l : ℕ). arguments (arguments_of service) words >>= (λ (given : List Argument). Ok (l, record { service = service; arguments = given }))) p h in
     let b = bind_ok (arguments (arguments_of service) words) (λ (given : List Argument). Ok (a.0, record { service = service; arguments = given })) p a.2 in
     let e' : (a.0, record { service = service; arguments = b.0 }) ≡ p = cc in
     subst (λ (q : ℕ × Request). IsRequest q.0 q.1 (level ∷ service_text service ∷ words)) e'
-    (record { first = level; others = words; spelled = refl; level_is = number_is 7 a.0 level a.1; has = has; arguments_are = arguments_is (arguments_of service) b.0 words (eqb-true _ _ e) b.1 })
+    (record { first = level; others = words; spelled = refl; level_is = number_is 7 a.0 level a.1; arguments_are = arguments_is (arguments_of service) b.0 words (eqb-true _ _ e) b.1 })
 
 request_by_name_is : (p : ℕ × Request) (level called : List ℕ) (words : List (List ℕ)) → request_by_name level called words ≡ Ok p → IsRequest p.0 p.1 (level ∷ called ∷ words)
 request_by_name_is p level called words h =
-    let a = bind_ok (choice service_text all_services called) (λ (s : Service). offered s >>= (λ (service : Service). request_to service level words)) p h in
-    let b = bind_ok (offered a.0) (λ (service : Service). request_to service level words) p a.2 in
-    let o = offered_is a.0 b.0 _ refl b.1 in
-    let spelled : service_text b.0 ≡ called = ap service_text (sym o.0) ∙ choice_is service_text all_services called a.0 a.1 in
-    subst (λ (t : List ℕ). IsRequest p.0 p.1 (level ∷ t ∷ words)) spelled (request_to_is b.0 p level words _ o.1 refl b.2)
+    let a = bind_ok (choice service_text all_services called) (λ (s : Service). request_to s level words) p h in
+    subst (λ (t : List ℕ). IsRequest p.0 p.1 (level ∷ t ∷ words)) (choice_is service_text all_services called a.0 a.1) (request_to_is a.0 p level words _ refl a.2)
 
 pub request_is : (p : ℕ × Request) (words : List (List ℕ)) → request words ≡ Ok p → IsRequest p.0 p.1 words
 request_is p [] h = cc
@@ -128,4 +121,4 @@ request_is p (level ∷ called ∷ words) h = request_by_name_is p level called 
 pub request_again : (level : ℕ) (r : Request) (words : List (List ℕ)) → IsRequest level r words → request words ≡ Ok (level, r)
 request_again level r words h =
     let count = eq-eqb _ _ (arguments_count (arguments_of r.service) r.arguments h.others h.arguments_are) in
-    ap request h.spelled ∙ rw (service_again r.service, h.has) (rw (count, number_again 7 level h.first h.level_is, arguments_again (arguments_of r.service) r.arguments h.others h.arguments_are) refl)
+    ap request h.spelled ∙ rw (service_again r.service) (rw (count, number_again 7 level h.first h.level_is, arguments_again (arguments_of r.service) r.arguments h.others h.arguments_are) refl)

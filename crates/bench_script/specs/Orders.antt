@@ -1,8 +1,6 @@
 -- What the words of a line are read as, and why they are refused.
-use Rattle.std.specs.Prelude.{ℕ, Bool, true, false, ◌==◌, ◌&&◌, nat_le, List, [], ◌∷◌, length, Option, Some, None, Result, Ok, Err, if◌then◌else◌}
-use Rattle.mcal_base.specs.Names.{service_text, module_of}
-use Rattle.mcal_base.specs.declared.module_name.ModuleName.{ModuleName}
-use Rattle.mcal_base.specs.declared.module_name.ModuleName.TheVariants.{Dio}
+use Rattle.std.specs.Prelude.{ℕ, ◌==◌, ◌&&◌, nat_le, List, [], ◌∷◌, length, Option, Some, None, Result, Ok, Err, if◌then◌else◌}
+use Rattle.mcal_base.specs.Names.{service_text}
 use Rattle.mcal_base.specs.declared.service.Service.{Service}
 use Rattle.mcal_base.specs.declared.directive.Request.{Request}
 use Rattle.mcal_base.specs.declared.directive.Order.{Order}
@@ -75,19 +73,10 @@ request_to service level words =
       Ok (l, record { service = service; arguments = given }))
     else Err Count
 
--- the modules that have a driver, whose services a script may ask for: all but Dio
-abbrev pub has_driver : ModuleName → Bool
-has_driver Dio = false
-has_driver _ = true
-
-abbrev pub offered : Service → Result Service LineFault
-offered service = if has_driver (module_of service) then Ok service else Err Word
-
 -- the service's name comes before the number of words
 abbrev pub request_by_name : List ℕ → List ℕ → List (List ℕ) → Result (ℕ × Request) LineFault
 request_by_name level name words = do
-  named ← choice service_text all_services name
-  service ← offered named
+  service ← choice service_text all_services name
   request_to service level words
 
 abbrev pub request : List (List ℕ) → Result (ℕ × Request) LineFault

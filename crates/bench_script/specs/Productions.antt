@@ -1,7 +1,7 @@
 -- The grammar: one production for each order and each kind of argument, and the lines of a script.
 use Rattle.std.specs.Prelude.{◌≡◌, ◌⊎◌, ℕ, ◌+◌, ◌≤◌, List, [], ◌∷◌, length, Bool, true, false, Some, codes}
 use Rattle.std.specs.Str.Lines.{lines}
-use Rattle.mcal_base.specs.Names.{service_text, module_of, argument_text}
+use Rattle.mcal_base.specs.Names.{service_text, argument_text}
 use Rattle.mcal_base.specs.declared.argument_name.ArgumentName.{ArgumentName}
 use Rattle.mcal_base.specs.declared.argument_name.ArgumentName.TheVariants as names
 use Rattle.mcal_base.specs.declared.directive.Argument.{Argument}
@@ -13,7 +13,6 @@ use Rattle.mcal_base.specs.declared.directive.Request.{Request}
 use Rattle.mcal_base.specs.declared.directive.Reason.TheVariants as reasons
 use Rattle.bench_script.specs.Lines.{before_comment, is_text, words_of}
 use Rattle.bench_script.specs.Numbers.{numeral}
-use Rattle.bench_script.specs.Orders.{has_driver}
 use Rattle.bench_script.specs.Tables.{arguments_of, names_of}
 use Rattle.bench_script.specs.Words.{stop_text, shown_text}
 use Rattle.bench_script.specs.declared.tables.Kind.{Kind}
@@ -49,13 +48,12 @@ AreArguments [] [] [] = Unit {0}
 AreArguments (kind ∷ kinds) (x ∷ xs) (word ∷ words) = IsArgument kind x word × AreArguments kinds xs words
 AreArguments _ _ _ = ⊥
 
--- words are a level, 0 to 7, and a service of a module that has a driver, with its arguments
+-- words are a level, 0 to 7, and a service with its arguments
 pub record IsRequest (level : ℕ) (request : Request) (words : List (List ℕ)) : Type 0 where
   pub first : List ℕ
   pub others : List (List ℕ)
   pub spelled : words ≡ first ∷ service_text request.service ∷ others
   pub level_is : IsNumber 7 level first
-  pub has : has_driver (module_of request.service) ≡ true
   pub arguments_are : AreArguments (arguments_of request.service) request.arguments others
 
 -- words are one number

@@ -12,7 +12,7 @@ use crate::services::service_named;
 use crate::spelled::{Spelled, named};
 use crate::tables::arguments_of;
 use crate::words::{Keyword, reasons, sights, stops};
-use mcal_base::{ModuleName, Order, Reason, Request, Service, Short, Shown, Stop, Words};
+use mcal_base::{Order, Reason, Request, Service, Short, Shown, Stop, Words};
 
 /// What a word must be one of.
 fn choice<T: Spelled>(choices: &[T], word: &[u8]) -> Result<T, LineFault>
@@ -142,27 +142,6 @@ fn service(name: &[u8]) -> Result<Service, LineFault>
     }
 }
 
-/// Whether a module has a driver, so that a script may ask for its services.
-fn has_driver(name: ModuleName) -> bool
-    ensures { result ≡ spec.has_driver name }
-{
-    match name {
-        ModuleName::Dio => false,
-        _ => true,
-    }
-}
-
-/// The service, where its module has a driver.
-fn offered(service: Service) -> Result<Service, LineFault>
-    ensures { result ≡ spec.offered service }
-{
-    if has_driver(service.module()) {
-        Ok(service)
-    } else {
-        Err(LineFault::Word)
-    }
-}
-
 /// A level, and a service by its name with its arguments, written to a place.
 fn request_by_name(
     word: &[u8],
@@ -174,7 +153,7 @@ fn request_by_name(
     ensures { put result (level.new, request.new) ≡
         spec.request_by_name word.now name.now (map (λ w. w.now) words.now) }
 {
-    let service = offered(service(name)?)?;
+    let service = service(name)?;
     request_to(service, word, words, level, request)
 }
 

@@ -5,12 +5,10 @@ use Rattle.std.specs.Str.Lines.{lines}
 use Rattle.mcal_base.specs.declared.directive.Directive.{Directive}
 use Rattle.mcal_base.specs.declared.directive.Order.{Order}
 use Rattle.mcal_base.specs.declared.directive.Order.TheVariants.{Call, Do, Tick, Miso, Reset}
-use Rattle.mcal_base.specs.Names.{module_of}
 use Rattle.mcal_base.specs.declared.service.Service.{Service}
-use Rattle.mcal_base.specs.declared.service.Service.TheVariants.{McuInit, DioReadChannel, DioFlipChannel, DioWriteChannel, DioReadPort, DioWritePort, DioReadChannelGroup, DioWriteChannelGroup}
+use Rattle.mcal_base.specs.declared.service.Service.TheVariants.{McuInit}
 use Rattle.mcal_base.specs.declared.directive.Reason.TheVariants as reasons
 use Rattle.mcal_system.specs.Setting.{has_service}
-use Rattle.bench_script.specs.Orders.{has_driver}
 use Rattle.bench_script.specs.Productions.{HoldsOrder, HoldDirectives}
 use Rattle.bench_script.proofs.Whole.{script_is}
 use Rattle.script_runner.specs.Scripts.{LinesRise, AllBuilt, IsScript, AllOffered, is_offered}
@@ -45,28 +43,16 @@ may_run ds read =
     record { lines = rises 0 1 (lines read.text) ds (omega arith) s.hold; built = all_obeyed 1 (lines read.text) ds s.hold; few = omega (arith, s.few) }
 
 -- each service that a script may ask for is one that a driver has
-pub served : (s : Service) → has_driver (module_of s) ≡ true → has_service s ≡ true
+served : (s : Service) → has_service s ≡ true
 unfolding has_service
-served McuInit e = refl
-served DioReadChannel e = cc
-served DioFlipChannel e = cc
-served DioWriteChannel e = cc
-served DioReadPort e = cc
-served DioWritePort e = cc
-served DioReadChannelGroup e = cc
-served DioWriteChannelGroup e = cc
-served _ e = refl
+served McuInit = refl
+served _ = refl
 
-offered : (line : List ℕ) (order : Order) → HoldsOrder line order → is_offered has_service order ≡ true
-offered line (Call level r) h = served r.service h.is.given.has
-offered line (Do level r) h = served r.service h.is.given.has
-offered line _ h = refl
+offered : (order : Order) → is_offered has_service order ≡ true
+offered (Call level r) = served r.service
+offered (Do level r) = served r.service
+offered _ = refl
 
-all_offered : (n : ℕ) (ls : List (List ℕ)) (ds : List Directive) → HoldDirectives n ls ds → AllOffered has_service ds
-all_offered n [] [] h = tt
-all_offered n [] (d ∷ ds) h = absurd h
-all_offered n (line ∷ ls) ds (inl h) = all_offered (n + 1) ls ds h.1
-all_offered n (line ∷ ls) ds (inr h) = subst (λ (xs : List Directive). AllOffered has_service xs) (sym h.2) (offered line h.0 h.3, all_offered (n + 1) ls h.1 h.4)
-
-pub may_ask : (ds : List Directive) → IsRead ds → AllOffered has_service ds
-may_ask ds read = all_offered 1 (lines read.text) ds (script_is read.text ds read.is).hold
+pub may_ask : (ds : List Directive) → AllOffered has_service ds
+may_ask [] = tt
+may_ask (d ∷ ds) = (offered d.order, may_ask ds)

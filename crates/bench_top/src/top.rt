@@ -293,8 +293,9 @@ pub fn bench<S: Source, K: Sink>(
     ensures complete { (Rose (S.faults input.old) (S.faults input.new) → ⊥) → (Rose (K.faults out.old) (K.faults out.new) → ⊥) → IfSome (S.left input.old) (λ bytes.
         (printing : Printing) (config : records.Config) (script : List Directive) → judged (form_of (map string_bytes words.now)) bytes ≡ Runs printing config script → bound_of config script ≤ 1000000 →
         length (report_of (vec_len rack.old) (is_traced printing) config script result.journal.entries) ≤ most_bytes → result.status ≢ 4 → result.status ≡ 0) }
-    // What is promised of a whole run: whole rounds, the standard's order, one end of each request, what each frame has told, and a
-    // watchdog's reset exactly where its time is over.
+    // What is promised of a whole run: whole rounds, each for a request of its own, the standard's order, one end of each request with
+    // the result that the events say, what each frame has told, a watchdog's reset exactly where its time is over, and reads of
+    // channels, ports and groups of one moment.
     ensures promises { IfSome (S.left input.old) (λ bytes. Keeps (vec_len rack.old) (judged (form_of (map string_bytes words.now)) bytes) result.journal.entries) }
     // And a file that is not refused is checked.
     ensures checks { (Rose (S.faults input.old) (S.faults input.new) → ⊥) → (Rose (K.faults out.old) (K.faults out.new) → ⊥) → IfSome (S.left input.old) (λ bytes.

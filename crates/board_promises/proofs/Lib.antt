@@ -1,4 +1,5 @@
 pub mod Expiries
 pub mod Kept
 pub mod Parts
+pub mod PortReads
 pub mod Watchdog

@@ -1,5 +1,20 @@
 -- The machines of converter and serial units are parts of that of all modules.
+use Rattle.std.proofs.Common.{◌≡◌, Option, Some, None, refl, sym, ◌∙◌, ap}
+use Rattle.plain_facts.specs.Options.{some_same}
+use Rattle.chip_model.specs.Wiring.{wiring_of}
 use Rattle.mcal_base.specs.declared.config.whole.Config.{Config}
+use Rattle.run_model.specs.Machine.{Happening, Acts, Serves, Starts, Aborts, Moves, Restarts, Outcome, Machine, outcome_with}
+use Rattle.run_model.specs.World.{World}
+use Rattle.step_runner.specs.Union.{first_call}
+use Rattle.step_runner.specs.declared.either.Either.{Either}
+use Rattle.step_runner.specs.declared.either.Either.TheVariants.{Left, Right}
+use Rattle.guest_runner.specs.Guest.{Guest, guest_happens, guest_machine}
+use Rattle.dio_driver.specs.Machine.{does_by}
+use Rattle.dio_driver.specs.Table as port_table
+use Rattle.dio_driver.specs.declared.access.PortPins.{PortPins}
+use Rattle.dio_driver.specs.declared.call.Call as port_calls
+use Rattle.dio_driver.specs.declared.call.Call.TheVariants as port_call
+use Rattle.pwm_driver.specs.Table as pulse_table
 use Rattle.adc_machine.specs.Machine.{adc_machine}
 use Rattle.adc_machine.specs.Table as converter_table
 use Rattle.spi_machine.specs.Machine.{spi_machine}
@@ -12,13 +27,47 @@ use Rattle.wdg_driver.specs.Machine as watchdogs
 use Rattle.port_driver.specs.Machine as pins
 use Rattle.gpt_driver.specs.Machine as timers
 use Rattle.pwm_driver.specs.Machine as pulses
-use Rattle.whole_runs.specs.Members.{IsPart, IsMute, first_place, second_place}
+use Rattle.whole_runs.specs.Members.{IsPart, IsMute, Place, first_place, own_through, second_place}
 use Rattle.whole_runs.proofs.MemberRuns.{first_part, second_part, part_within, union_mute}
 use Rattle.whole_runs.proofs.Promises.{mute_by, converter_mute, serial_mute}
-use Rattle.mcal_system.specs.Setting.{joined, clock_setting, watchdog_setting, pin_setting, timer_setting, pulse_setting, capture_setting, converter_setting, serial_setting, system_setting}
-use Rattle.board_promises.specs.Places.{watched_modules, first_modules, edge_modules, unit_modules, last_modules, units_place, converter_place, serial_place}
+use Rattle.mcal_system.specs.Setting.{joined, clock_setting, watchdog_setting, pin_setting, timer_setting, pulse_setting, capture_setting, converter_setting, serial_setting, host_pins, host_setting, port_guest, system_setting, SystemState}
+use Rattle.board_promises.specs.Places.{watched_modules, first_modules, edge_modules, unit_modules, last_modules, host_own, host_place, host_units_place, units_place, converter_place, serial_place}
+
+-- a part of a driver that its guest leaves alone is a part of both
+module _ {S C U E D G : Type 0} (small : Machine S C) (m : Machine U E) (g : Guest U D G) (p : Place S C U E) (is : IsPart small m p) (still : (w : World) (u : U) (c : D) → p.part (g.does w u c).state ≡ p.part u) where
+  guest_leaves : (w : World) (u : U) (h : Happening (Either E D)) (out : Outcome U) → guest_happens m g w u h ≡ Some out → own_through p w u (host_own h) ≡ None → p.part out.state ≡ p.part u
+  guest_leaves w u (Acts (Left c) times) out at none = is.leaves w u (Acts c times) out at none
+  guest_leaves w u (Acts (Right c) times) out at none = ap (λ (o : Outcome U). p.part o.state) (sym (some_same at)) ∙ still w u c
+  guest_leaves w u (Serves l r) out at none = is.leaves w u (Serves l r) out at none
+  guest_leaves w u (Starts k made_by r) out at none = is.leaves w u (Starts k (first_call made_by) r) out at none
+  guest_leaves w u (Aborts k) out at none = is.leaves w u (Aborts k) out at none
+  guest_leaves w u (Moves order) out at none = is.leaves w u (Moves order) out at none
+  guest_leaves w u (Restarts reason) out at none = is.leaves w u (Restarts reason) out at none
+
+  guest_does : (w : World) (u : U) (h : Happening (Either E D)) (x : Happening C) (out : Outcome U) → guest_happens m g w u h ≡ Some out → own_through p w u (host_own h) ≡ Some x → small.happens w (p.part u) x ≡ Some (outcome_with (p.part out.state) out.told out.begins)
+  guest_does w u (Acts (Left c) times) x out at own = is.does w u (Acts c times) x out at own
+  guest_does w u (Acts (Right c) times) x out at own = absurd (cc own)
+  guest_does w u (Serves l r) x out at own = is.does w u (Serves l r) x out at own
+  guest_does w u (Starts k made_by r) x out at own = is.does w u (Starts k (first_call made_by) r) x out at own
+  guest_does w u (Aborts k) x out at own = is.does w u (Aborts k) x out at own
+  guest_does w u (Moves order) x out at own = is.does w u (Moves order) x out at own
+  guest_does w u (Restarts reason) x out at own = is.does w u (Restarts reason) x out at own
+
+  host_part : IsPart small (guest_machine m g) (host_place p)
+  host_part = record { leaves = guest_leaves; does = guest_does }
 
 module _ (c : Config) where
+  -- channels and ports leave the units' states
+  ports_still : (w : World) (s : SystemState) (call : port_calls.Call) (pins : Option PortPins) → (does_by (host_pins (pulse_table.driver_of c.pwm) (wiring_of c).outputs) w s call pins).state.1.1 ≡ s.1.1
+  ports_still w s call None = refl
+  ports_still w s (port_call.ReadChannel n) (Some pins) = refl
+  ports_still w s (port_call.WriteChannel n high) (Some pins) = refl
+  ports_still w s (port_call.FlipChannel n) (Some pins) = refl
+  ports_still w s (port_call.ReadPort n) (Some pins) = refl
+  ports_still w s (port_call.WritePort n value) (Some pins) = refl
+  ports_still w s (port_call.ReadChannelGroup n) (Some pins) = refl
+  ports_still w s (port_call.WriteChannelGroup n value) (Some pins) = refl
+
   -- hardware and resets tell the users of no module anything
   clock_mute : IsMute (clock_setting c).machine
   clock_mute = record { moves = λ w s order out e. mute_by s out e; restarts = λ w s reason out e. mute_by (clocks.after_reset reason) out e }
@@ -62,9 +111,13 @@ module _ (c : Config) where
   -- the units' machine is part of all
   units_part : IsPart (unit_modules c).machine (system_setting c).machine (units_place c)
   unfolding system_setting
-  units_part = part_within (unit_modules c).machine (last_modules c).machine (system_setting c).machine (second_place (edge_modules c).used (edge_modules c).machine) (second_place (first_modules c).used (first_modules c).machine)
+  units_part =
+      let d = port_table.driver_of c.port c.dio in
+      host_part (unit_modules c).machine (host_setting c).machine (port_guest c) (host_units_place c)
+      (part_within (unit_modules c).machine (last_modules c).machine (host_setting c).machine (second_place (edge_modules c).used (edge_modules c).machine) (second_place (first_modules c).used (first_modules c).machine)
       (second_part (edge_modules c).used (edge_modules c).machine (unit_modules c).machine edge_mute unit_mute)
-      (second_part (first_modules c).used (first_modules c).machine (last_modules c).machine first_mute last_mute)
+      (second_part (first_modules c).used (first_modules c).machine (last_modules c).machine first_mute last_mute))
+      (λ w s call. ports_still w s call (port_table.pins_of d call))
 
   pub converter_part : IsPart (adc_machine (converter_table.table_of c.adc)) (system_setting c).machine (converter_place c)
   converter_part = part_within (converter_setting c).machine (unit_modules c).machine (system_setting c).machine (first_place (converter_setting c).used (converter_setting c).machine) (units_place c)

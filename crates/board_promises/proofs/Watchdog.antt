@@ -4,7 +4,7 @@ use Rattle.std.specs.Prelude.{option_map}
 use Rattle.mcal_base.specs.declared.config.whole.Config.{Config}
 use Rattle.run_model.specs.Machine.{Outcome, outcome, tells_nothing}
 use Rattle.wdg_driver.specs.Machine.{WdgState}
-use Rattle.mcal_system.specs.Setting.{joined, clock_setting, watchdog_setting, pin_setting, timer_setting, pulse_setting, capture_setting, converter_setting, serial_setting, system_setting}
+use Rattle.mcal_system.specs.Setting.{joined, clock_setting, watchdog_setting, pin_setting, timer_setting, pulse_setting, capture_setting, converter_setting, serial_setting, host_setting, system_setting}
 use Rattle.board_promises.specs.Places.{watched_modules, first_modules, edge_modules, unit_modules, last_modules}
 use Rattle.board_promises.proofs.Expiries.{RunsDown, union_down}
 
@@ -46,12 +46,15 @@ module _ (c : Config) where
   serial_down : RunsDown (serial_setting c).machine
   serial_down = record { moves = λ w later s order out e. refl; ticks = λ w s rate n. refl }
 
-  pub system_down : RunsDown (system_setting c).machine
-  unfolding system_setting
-  system_down = union_down (first_modules c).used (first_modules c).machine (last_modules c).machine
+  host_down : RunsDown (host_setting c).machine
+  host_down = union_down (first_modules c).used (first_modules c).machine (last_modules c).machine
       (union_down (watched_modules c).used (watched_modules c).machine (joined (pin_setting c) (timer_setting c)).machine
       (union_down (clock_setting c).used (clock_setting c).machine (watchdog_setting c).machine clock_down watchdog_down)
       (union_down (pin_setting c).used (pin_setting c).machine (timer_setting c).machine pin_down timer_down))
       (union_down (edge_modules c).used (edge_modules c).machine (unit_modules c).machine
       (union_down (pulse_setting c).used (pulse_setting c).machine (capture_setting c).machine pulse_down capture_down)
       (union_down (converter_setting c).used (converter_setting c).machine (serial_setting c).machine converter_down serial_down))
+
+  pub system_down : RunsDown (system_setting c).machine
+  unfolding system_setting
+  system_down = record { moves = λ w later s order out e. host_down.moves w later s order out e; ticks = host_down.ticks }

@@ -1,3 +1,4 @@
 pub mod Expiries
 pub mod Places
+pub mod PortReads
 pub mod Promised

@@ -14,6 +14,9 @@ pub(crate) enum Object {
     SerialChannel,
     SerialJob,
     SerialSequence,
+    Channel,
+    Port,
+    ChannelGroup,
 }
 
 /// The object that an argument of this name is the number of.
@@ -30,6 +33,9 @@ pub(crate) fn object_of(service: Service, name: &str) -> Option<Object> {
         (ModuleName::Spi, "channel") => Some(Object::SerialChannel),
         (ModuleName::Spi, "job") => Some(Object::SerialJob),
         (ModuleName::Spi, "sequence") => Some(Object::SerialSequence),
+        (ModuleName::Dio, "channel") => Some(Object::Channel),
+        (ModuleName::Dio, "port") => Some(Object::Port),
+        (ModuleName::Dio, "group") => Some(Object::ChannelGroup),
         _ => None,
     }
 }
@@ -49,6 +55,9 @@ impl Object {
             Object::SerialChannel => "serial channel",
             Object::SerialJob => "serial job",
             Object::SerialSequence => "serial sequence",
+            Object::Channel => "channel",
+            Object::Port => "port",
+            Object::ChannelGroup => "channel group",
         }
     }
 
@@ -66,6 +75,9 @@ impl Object {
             Object::SerialChannel => "SPI_E_PARAM_CHANNEL",
             Object::SerialJob => "SPI_E_PARAM_JOB",
             Object::SerialSequence => "SPI_E_PARAM_SEQ",
+            Object::Channel => "DIO_E_PARAM_INVALID_CHANNEL_ID",
+            Object::Port => "DIO_E_PARAM_INVALID_PORT_ID",
+            Object::ChannelGroup => "DIO_E_PARAM_INVALID_GROUP",
         }
     }
 
@@ -75,12 +87,9 @@ impl Object {
             Object::ClockSetting | Object::ClockMode | Object::RamSection => {
                 self.is_in_clock(config, number)
             }
-            Object::Pin => config
-                .port
-                .pins
-                .as_slice()
-                .iter()
-                .any(|pin| pin.id == number),
+            Object::Pin | Object::Channel | Object::Port | Object::ChannelGroup => {
+                self.is_in_pins(config, number)
+            }
             Object::Timer => {
                 let channels = config.gpt.channels.as_slice();
                 channels.iter().any(|channel| channel.id == number)
@@ -114,6 +123,19 @@ impl Object {
                 modes.iter().any(|mode| mode.mode == number)
             }
             _ => (number as usize) < clock.ram_sections.len(),
+        }
+    }
+
+    /// Whether the pins have the one with this number. A port is there where one of its eight pins is.
+    fn is_in_pins(self, config: &Config, number: u32) -> bool {
+        let pins = config.port.pins.as_slice();
+        match self {
+            Object::Port => pins.iter().any(|pin| pin.id / 8 == number),
+            Object::ChannelGroup => {
+                let groups = config.dio.groups.as_slice();
+                groups.iter().any(|group| group.id == number)
+            }
+            _ => pins.iter().any(|pin| pin.id == number),
         }
     }
 

@@ -6,7 +6,7 @@ use std::alloc::AllocError;
 struct Words(u32, u32, &'static str);
 
 /// The words that stand in the same place whatever is configured.
-static FIXED: [Words; 34] = [
+static FIXED: [Words; 35] = [
     Words(0, 1, "Mcu: whether it is initialised"),
     Words(1, 1, "Mcu: mode that was set last"),
     Words(8_192, 1, "Port: whether it is initialised"),
@@ -91,6 +91,7 @@ static FIXED: [Words; 34] = [
     ),
     Words(49_170, 3, "serial unit 1: order of its pending sequences"),
     Words(49_176, 24, "jobs 0 to 15, then sequences 0 to 7: result"),
+    Words(57_344, 1, "Dio: nothing; a call with an error reads it"),
     Words(65_536, 1, "Wdg: uninitialised 0, off 1, slow 2, fast 3"),
     Words(65_537, 1, "Wdg: timeout in units of the mode"),
 ];

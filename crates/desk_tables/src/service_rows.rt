@@ -41,6 +41,9 @@ const DESTINATIONS: [&str; 2] = ["dst", "null"];
 /// Modes of asynchronous transmission.
 const ASYNC_MODES: [&str; 2] = ["SPI_POLLING_MODE", "SPI_INTERRUPT_MODE"];
 
+/// Levels of a channel.
+const LEVELS: [&str; 2] = ["STD_HIGH", "STD_LOW"];
+
 /// Modes of the watchdog, and a word for none.
 const WATCHDOG_MODES: [&str; 4] = [
     "WDGIF_OFF_MODE",
@@ -61,7 +64,7 @@ const MODE: [Place; 1] = [Place::Number("mode", MOST)];
 /// A channel.
 const CHANNEL: [Place; 1] = [Place::Number("channel", MOST)];
 
-/// A group of a converter.
+/// A group of a converter or of channels.
 const GROUP: [Place; 1] = [Place::Number("group", MOST)];
 
 /// A sequence.
@@ -73,8 +76,23 @@ const JOB: [Place; 1] = [Place::Number("job", MOST)];
 /// A serial unit.
 const UNIT: [Place; 1] = [Place::Number("unit", MOST)];
 
+/// A port.
+const PORT: [Place; 1] = [Place::Number("port", MOST)];
+
+/// A channel, and a level.
+const CHANNEL_AND_LEVEL: [Place; 2] = [
+    Place::Number("channel", MOST),
+    Place::Name("level", &LEVELS),
+];
+
+/// A port, and a value.
+const PORT_AND_VALUE: [Place; 2] = [Place::Number("port", MOST), Place::Number("value", 255)];
+
+/// A group, and a value.
+const GROUP_AND_VALUE: [Place; 2] = [Place::Number("group", MOST), Place::Number("value", 255)];
+
 /// The services, module by module.
-static SERVICES: [ServiceRow; 79] = [
+static SERVICES: [ServiceRow; 86] = [
     ServiceRow(Service::McuInit, &[]),
     ServiceRow(Service::McuInitRamSection, &SECTION),
     ServiceRow(Service::McuInitClock, &SETTING),
@@ -215,6 +233,13 @@ static SERVICES: [ServiceRow; 79] = [
         &[Place::Name("mode", &ASYNC_MODES)],
     ),
     ServiceRow(Service::SpiMainFunctionHandling, &[]),
+    ServiceRow(Service::DioReadChannel, &CHANNEL),
+    ServiceRow(Service::DioFlipChannel, &CHANNEL),
+    ServiceRow(Service::DioWriteChannel, &CHANNEL_AND_LEVEL),
+    ServiceRow(Service::DioReadPort, &PORT),
+    ServiceRow(Service::DioWritePort, &PORT_AND_VALUE),
+    ServiceRow(Service::DioReadChannelGroup, &GROUP),
+    ServiceRow(Service::DioWriteChannelGroup, &GROUP_AND_VALUE),
     ServiceRow(Service::WdgInit, &[]),
     ServiceRow(Service::WdgSetMode, &[Place::Name("mode", &WATCHDOG_MODES)]),
     ServiceRow(

@@ -85,5 +85,6 @@ visitor word = record {
   window = 1;
   fuel = visitor_fuel;
   stands = VisitorStands word;
+  wired = λ wiring. Unit {0};
   sees = λ chip w s. word_of chip word ≡ s.1;
 }

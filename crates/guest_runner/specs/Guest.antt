@@ -2,6 +2,7 @@
 use Rattle.std.specs.Prelude.{◌≡◌, ℕ, ◌<◌, ◌≤◌, ◌==◌, Bool, true, false, ◌&&◌, ◌||◌, List, [], ◌∷◌, Option, Some, None, option_map}
 use Rattle.std.specs.List.{list_any}
 use Rattle.chip_model.specs.Chip.{Chip, value_of, chip_after, is_masked}
+use Rattle.chip_model.specs.declared.wiring.Wiring.{Wiring}
 use Rattle.det_errors.specs.Reports.{Reporting}
 use Rattle.mcal_base.specs.Names.{module_number}
 use Rattle.mcal_base.specs.Reach.{CanApply}
@@ -50,8 +51,14 @@ pub record Guest (State Call Frame : Type 0) : Type 1 where
   pub fuel : Frame → ℕ
   -- how a frame stands, whatever runs above it
   pub stands : Frame → Open Call → Type 0
+  -- how the chip is wired, as far as a frame's step rests on it, which stays
+  pub wired : Wiring → Type 0
   -- the chip is the machine's, as far as a frame's step rests on it
   pub sees : Chip → World → State → Type 0
+
+-- the chip stands in its world, wired as the guest asks
+abbrev pub IsPlaced : {State Call Frame : Type 0} → Guest State Call Frame → Chip → World → Type 0
+IsPlaced g chip w = StandsIn chip w × g.wired chip.wiring
 
 -- the class of a guest's calls in the block of this module
 abbrev pub guarded : ModuleName → Class
@@ -164,7 +171,7 @@ pub record LetsIn {State Call Frame : Type 0} (d : Driver State Call Frame) (blo
 -- the chip is what the guest rests on.
 pub record Hosts {State Call Frame GuestCall GuestFrame : Type 0} (d : Driver State Call Frame) (g : Guest State GuestCall GuestFrame) : Type 0 where
   pub lets : LetsIn d g.block g.may g.moves_of
-  pub shows : (chip : Chip) (w : World) (s : State) (origins : List (Origin Call)) → list_any (keeps_off d.setting g.block) origins ≡ false → StandsIn chip w → d.setting.unmasked chip w s origins → g.sees chip w s
+  pub shows : (chip : Chip) (w : World) (s : State) (origins : List (Origin Call)) → list_any (keeps_off d.setting g.block) origins ≡ false → IsPlaced g chip w → d.setting.unmasked chip w s origins → g.sees chip w s
 
 -- ---- both as one
 
@@ -250,7 +257,7 @@ pub record GuestRelates {State Call Frame GuestCall GuestFrame : Type 0} (d : Dr
   pub marked : AreMarked d.setting g.block hosts
   pub stand : AllStand g guests
   pub apart : NoneOff g.block hosts guests
-  pub outside : StandsIn chip w
+  pub placed : IsPlaced g chip w
 
 -- the host with its guest
 abbrev pub guest_of : {State Call Frame GuestCall GuestFrame : Type 0} → Driver State Call Frame → Guest State GuestCall GuestFrame → Driver State (Either Call GuestCall) (Either Frame GuestFrame)
@@ -260,7 +267,7 @@ guest_of d g = record {
   setting = guest_setting d.setting g;
   frame_of = λ c. either (λ x. Left (d.frame_of x)) (λ y. Right (g.frame_of y)) c;
   handler_of = λ l. option_map Left (d.handler_of l);
-  wired = d.wired;
+  wired = λ chip. d.wired chip × g.wired chip.wiring;
   relates = GuestRelates d g;
   fuel = either d.fuel g.fuel;
   room = either d.room (λ f. 0);

@@ -5,7 +5,8 @@ use Rattle.std.specs.List.{list_any, list_all}
 use Rattle.plain_facts.specs.Truths.{and_first}
 use Rattle.plain_facts.specs.Options.{some_same}
 use Rattle.chip_model.specs.Chip.{Chip, value_of, chip_after, happened, reset_chip, is_masked, is_pending}
-use Rattle.chip_model.specs.Histories.{Hardware, FillsThere}
+use Rattle.chip_model.specs.Histories.{Hardware, FillsThere, Made}
+use Rattle.chip_model.proofs.HistoryLaws.{wiring-left}
 use Rattle.mcal_base.specs.Bits.{has_bit}
 use Rattle.mcal_base.specs.Reach.{CanApply}
 use Rattle.mcal_base.specs.declared.answer.Answer.{Answer}
@@ -22,7 +23,6 @@ use Rattle.run_model.specs.Causes.{blocks, may_reenter, none_above, all_below}
 use Rattle.run_model.specs.Frame.{Origin, Called, Entered, Open, opened, is_shared, outcome_at, state_by, state_after, top_after}
 use Rattle.run_model.specs.Machine.{Happening, Acts, Serves, Starts, Aborts, Moves, Restarts, Outcome, ErrorLeaves}
 use Rattle.run_model.specs.Moment.{Setting, reads_from, call_tag, line_tag}
-use Rattle.run_model.specs.Outside.{StandsIn}
 use Rattle.run_model.specs.World.{World, world_after}
 use Rattle.run_model.specs.declared.item.Stepped.{Stepped}
 use Rattle.run_model.proofs.OutsideLaws.{stands-move, stands-event, stands-reset}
@@ -33,7 +33,7 @@ use Rattle.step_runner.specs.UnionLaws.{outside-split}
 use Rattle.step_runner.specs.declared.either.Either.{Either}
 use Rattle.step_runner.specs.declared.either.Either.TheVariants.{Left, Right}
 use Rattle.guest_runner.specs.Frames.{marked-call, marked-line, none-off, call-lets, tags-first, tags-second, origins-hosts, no-hosts, off-on, off-less, off-last}
-use Rattle.guest_runner.specs.Guest.{Guest, guarded, lone_setting, lone_driver, StandsOn, IsGuest, keeps_off, Hosts, every, guest_setting, AreMarked, AllStand, NoneOff, GuestRelates, guest_of}
+use Rattle.guest_runner.specs.Guest.{Guest, IsPlaced, guarded, lone_setting, lone_driver, StandsOn, IsGuest, keeps_off, Hosts, every, guest_setting, AreMarked, AllStand, NoneOff, GuestRelates, guest_of}
 
 -- ---- outcomes
 
@@ -79,6 +79,17 @@ module _ {S C D F G : Type 0} (d : Driver S C F) (g : Guest S D G) (move_a : F �
 
   abbrev GRelates : Chip → World → List (Either F G × Open (Either C D)) → S → Type 0
   GRelates = GuestRelates d g
+
+  -- ---- where the chip stands, and how it is wired
+
+  placed-move : (chip : Chip) (w : World) (made : Move) (received : ℕ) → IsPlaced g chip w → IsPlaced g (chip_after chip made received) w
+  placed-move chip w made received h = (stands-move chip w made received h.0, subst g.wired (sym (wiring-left chip (Made made received))) h.1)
+
+  placed-event : (chip : Chip) (w : World) (order : Order) → FillsThere (Hardware order) → IsPlaced g chip w → IsPlaced g (happened chip order) (world_after w chip.clock.rate order)
+  placed-event chip w order there h = (stands-event chip w order there h.0, subst g.wired (sym (wiring-left chip (Hardware order))) h.1)
+
+  placed-reset : (chip : Chip) (w : World) (reason : Reason) → IsPlaced g chip w → IsPlaced g (reset_chip chip reason) w
+  placed-reset chip w reason h = (stands-reset chip w reason h.0, h.1)
 
   -- ---- how each lies in both
 
@@ -148,8 +159,8 @@ module _ {S C D F G : Type 0} (d : Driver S C F) (g : Guest S D G) (move_a : F �
 
   -- ---- a step
 
-  grow-host : (chip : Chip) (w : World) (f f1 : F) (o o1 : Open C) (missed : ℕ → Bool) (ended : Option Answer) (qs : List (Either F G × Open (Either C D))) (fs : List (F × Open C)) (gs : List (G × Open D)) (s : S) → o1.origin ≡ o.origin → o1.tag ≡ o.tag → IsMine every o1.origin → list_all every o1.polled ≡ true → SameOn every missed o1.missed → Splits every qs fs gs → AreMarked d.setting g.block ((f, o) ∷ fs) → AllStand g gs → NoneOff g.block ((f, o) ∷ fs) gs → StandsIn chip w → d.relates chip w (top_after (f1, o1) ended fs) s → GRelates chip w (top_after (Left f1, lift_open Left missed o1) ended qs) s
-  grow-host chip w f f1 o o1 missed None qs fs gs s is tag m all same sp marked stand apart outside a =
+  grow-host : (chip : Chip) (w : World) (f f1 : F) (o o1 : Open C) (missed : ℕ → Bool) (ended : Option Answer) (qs : List (Either F G × Open (Either C D))) (fs : List (F × Open C)) (gs : List (G × Open D)) (s : S) → o1.origin ≡ o.origin → o1.tag ≡ o.tag → IsMine every o1.origin → list_all every o1.polled ≡ true → SameOn every missed o1.missed → Splits every qs fs gs → AreMarked d.setting g.block ((f, o) ∷ fs) → AllStand g gs → NoneOff g.block ((f, o) ∷ fs) gs → IsPlaced g chip w → d.relates chip w (top_after (f1, o1) ended fs) s → GRelates chip w (top_after (Left f1, lift_open Left missed o1) ended qs) s
+  grow-host chip w f f1 o o1 missed None qs fs gs s is tag m all same sp marked stand apart placed a =
       let mark = ap (λ t. blocks (guarded g.block) t) tag in
       record {
         hosts = (f1, o1) ∷ fs;
@@ -159,13 +170,13 @@ module _ {S C D F G : Type 0} (d : Driver S C F) (g : Guest S D G) (move_a : F �
         marked = (mark ∙ (marked.0 ∙ ap (keeps_off d.setting g.block) (sym is)), marked.1);
         stand = stand;
         apart = retag fs gs (f, o) (f1, o1) tag apart;
-        outside = outside;
+        placed = placed;
       }
     where
       retag : (hs : List (F × Open C)) (ks : List (G × Open D)) (p q : F × Open C) → q.1.tag ≡ p.1.tag → NoneOff g.block (p ∷ hs) ks → NoneOff g.block (q ∷ hs) ks
       retag hs [] p q e h = tt
       retag hs (k ∷ ks) p q e h = subst (λ t. not (blocks (guarded g.block) t) && may_reenter (guarded g.block) (tags_in hs) ≡ true) (sym e) h
-  grow-host chip w f f1 o o1 missed (Some x) qs fs gs s is tag m all same sp marked stand apart outside a = record {
+  grow-host chip w f f1 o o1 missed (Some x) qs fs gs s is tag m all same sp marked stand apart placed a = record {
     hosts = fs;
     guests = gs;
     splits = sp;
@@ -173,11 +184,11 @@ module _ {S C D F G : Type 0} (d : Driver S C F) (g : Guest S D G) (move_a : F �
     marked = marked.1;
     stand = stand;
     apart = off-less g.block (f, o) fs gs apart;
-    outside = outside;
+    placed = placed;
   }
 
-  grow-guest : (chip : Chip) (w : World) (f f1 : G) (o o1 : Open D) (missed : ℕ → Bool) (ended : Option Answer) (qs : List (Either F G × Open (Either C D))) (fs : List (F × Open C)) (gs : List (G × Open D)) (s : S) → o1.tag ≡ o.tag → IsMine (others every) o1.origin → list_all (others every) o1.polled ≡ true → SameOn (others every) missed o1.missed → Splits every qs fs gs → AreMarked d.setting g.block fs → AllStand g ((f, o) ∷ gs) → NoneOff g.block fs ((f, o) ∷ gs) → StandsIn chip w → d.relates chip w fs s → StandsOn g f1 o1 ended → GRelates chip w (top_after (Right f1, lift_open Right missed o1) ended qs) s
-  grow-guest chip w f f1 o o1 missed None qs fs gs s tag m all same sp marked stand apart outside a b = record {
+  grow-guest : (chip : Chip) (w : World) (f f1 : G) (o o1 : Open D) (missed : ℕ → Bool) (ended : Option Answer) (qs : List (Either F G × Open (Either C D))) (fs : List (F × Open C)) (gs : List (G × Open D)) (s : S) → o1.tag ≡ o.tag → IsMine (others every) o1.origin → list_all (others every) o1.polled ≡ true → SameOn (others every) missed o1.missed → Splits every qs fs gs → AreMarked d.setting g.block fs → AllStand g ((f, o) ∷ gs) → NoneOff g.block fs ((f, o) ∷ gs) → IsPlaced g chip w → d.relates chip w fs s → StandsOn g f1 o1 ended → GRelates chip w (top_after (Right f1, lift_open Right missed o1) ended qs) s
+  grow-guest chip w f f1 o o1 missed None qs fs gs s tag m all same sp marked stand apart placed a b = record {
     hosts = fs;
     guests = (f1, o1) ∷ gs;
     splits = Right_open f1 o1 missed qs fs gs m all same sp;
@@ -185,9 +196,9 @@ module _ {S C D F G : Type 0} (d : Driver S C F) (g : Guest S D G) (move_a : F �
     marked = marked;
     stand = (b, record { owner = ap (λ t. t.owner) tag ∙ stand.1.owner; class = ap (λ t. t.class) tag ∙ stand.1.class }, stand.2);
     apart = apart;
-    outside = outside;
+    placed = placed;
   }
-  grow-guest chip w f f1 o o1 missed (Some x) qs fs gs s tag m all same sp marked stand apart outside a b = record {
+  grow-guest chip w f f1 o o1 missed (Some x) qs fs gs s tag m all same sp marked stand apart placed a b = record {
     hosts = fs;
     guests = gs;
     splits = sp;
@@ -195,7 +206,7 @@ module _ {S C D F G : Type 0} (d : Driver S C F) (g : Guest S D G) (move_a : F �
     marked = marked;
     stand = stand.2;
     apart = off-last g.block fs (f, o) gs apart;
-    outside = outside;
+    placed = placed;
   }
 
   -- the host after a move of the guest's
@@ -217,12 +228,12 @@ module _ {S C D F G : Type 0} (d : Driver S C F) (g : Guest S D G) (move_a : F �
   GKeeps chip w received u o ps s = let made = either move_a move_b u in let value = value_of chip made in let taken = either_gave gave_a gave_b u value in KeepsStep (guest_of d g) (record { chip = chip; world = w; state = s; opens = []; steps = 0 }) u o (either_left left_a left_b u value) (stepped made value received taken) (λ s1 o1. GRelates (chip_after chip made received) w (top_after (either_left left_a left_b u value, o1) taken.ended ps) s1)
 
   -- the guest's step by its own law
-  guest-step : (chip : Chip) (w : World) (f : G) (o : Open D) (fs : List (F × Open C)) (gs : List (G × Open D)) (s : S) (received : ℕ) → ComesRight chip w (move_b f) received → is_masked chip ≡ false → AllOutside fs → d.relates chip w fs s → AreMarked d.setting g.block fs → g.stands f o → may_reenter (guarded g.block) (tags_in fs) ≡ true → StandsIn chip w → let made = move_b f in let value = value_of chip made in let taken = gave_b f value in KeepsStep (lone_driver g s) (record { chip = chip; world = w; state = s; opens = []; steps = 0 }) f o (left_b f value) (stepped made value received taken) (λ s1 o1. (s1 ≡ g.moves_of made s) × StandsOn g (left_b f value) o1 taken.ended)
-  guest-step chip w f o fs gs s received come masked out h marked stands lets outside =
-      lb.steps chip w f o s received come stands (has.shows chip w s (origins_in fs) (none-off d.setting g.block fs marked lets) outside (la.unmasked chip w fs s masked out h))
+  guest-step : (chip : Chip) (w : World) (f : G) (o : Open D) (fs : List (F × Open C)) (gs : List (G × Open D)) (s : S) (received : ℕ) → ComesRight chip w (move_b f) received → is_masked chip ≡ false → AllOutside fs → d.relates chip w fs s → AreMarked d.setting g.block fs → g.stands f o → may_reenter (guarded g.block) (tags_in fs) ≡ true → IsPlaced g chip w → let made = move_b f in let value = value_of chip made in let taken = gave_b f value in KeepsStep (lone_driver g s) (record { chip = chip; world = w; state = s; opens = []; steps = 0 }) f o (left_b f value) (stepped made value received taken) (λ s1 o1. (s1 ≡ g.moves_of made s) × StandsOn g (left_b f value) o1 taken.ended)
+  guest-step chip w f o fs gs s received come masked out h marked stands lets placed =
+      lb.steps chip w f o s received come stands (has.shows chip w s (origins_in fs) (none-off d.setting g.block fs marked lets) placed (la.unmasked chip w fs s masked out h))
 
-  step-by : (chip : Chip) (w : World) (u : Either F G) (o : Open (Either C D)) (ps : List (Either F G × Open (Either C D))) (s : S) (fs : List (F × Open C)) (gs : List (G × Open D)) → Splits every ((u, o) ∷ ps) fs gs → is_masked chip ≡ o.inside → AllOutside ps → d.relates chip w fs s → AreMarked d.setting g.block fs → AllStand g gs → NoneOff g.block fs gs → StandsIn chip w → (received : ℕ) → ComesRight chip w (either move_a move_b u) received → d.count s < most_steps → GKeeps chip w received u o ps s
-  step-by chip w u o ps s fs gs (Left_open f o1 missed qs fs1 gs1 m all same sp) masked out x marked stand apart outside received come few =
+  step-by : (chip : Chip) (w : World) (u : Either F G) (o : Open (Either C D)) (ps : List (Either F G × Open (Either C D))) (s : S) (fs : List (F × Open C)) (gs : List (G × Open D)) → Splits every ((u, o) ∷ ps) fs gs → is_masked chip ≡ o.inside → AllOutside ps → d.relates chip w fs s → AreMarked d.setting g.block fs → AllStand g gs → NoneOff g.block fs gs → IsPlaced g chip w → (received : ℕ) → ComesRight chip w (either move_a move_b u) received → d.count s < most_steps → GKeeps chip w received u o ps s
+  step-by chip w u o ps s fs gs (Left_open f o1 missed qs fs1 gs1 m all same sp) masked out x marked stand apart placed received come few =
       let made = move_a f in
       let value = value_of chip made in
       let taken = gave_a f value in
@@ -231,21 +242,21 @@ module _ {S C D F G : Type 0} (d : Driver S C F) (g : Guest S D G) (move_a : F �
       (λ s1 o2. d.relates (chip_after chip made received) w (top_after (left_a f value, o2) taken.ended fs1) s1 × (o2.tag ≡ o1.tag))
       (λ s1 o2. GRelates (chip_after chip made received) w (top_after (Left (left_a f value), o2) taken.ended qs) s1)
       (lies-host w s) (λ z. refl) (λ z. refl) m all same (λ s1 l i. refl)
-      (λ s1 o2 missed1 is all1 same1 kept. grow-host (chip_after chip made received) w f (left_a f value) o1 o2 missed1 taken.ended qs fs1 gs1 s1 is kept.1 (mine-same every o1.origin o2.origin is m) all1 same1 sp marked stand apart (stands-move chip w made received outside) kept.0)
+      (λ s1 o2 missed1 is all1 same1 kept. grow-host (chip_after chip made received) w f (left_a f value) o1 o2 missed1 taken.ended qs fs1 gs1 s1 is kept.1 (mine-same every o1.origin o2.origin is m) all1 same1 sp marked stand apart (placed-move chip w made received placed) kept.0)
       (with-tag d chip w s f (left_a f value) o1 (stepped made value received taken) (λ s1 o2. d.relates (chip_after chip made received) w (top_after (left_a f value, o2) taken.ended fs1) s1) k)
-  step-by chip w u o ps s fs gs (Right_open f o1 missed qs fs1 gs1 m all same sp) masked out x marked stand apart outside received come few =
+  step-by chip w u o ps s fs gs (Right_open f o1 missed qs fs1 gs1 m all same sp) masked out x marked stand apart placed received come few =
       let made = move_b f in
       let value = value_of chip made in
       let taken = gave_b f value in
       let outs = (outside-split every qs fs1 gs1 sp out).0 in
       let shut = masked ∙ lb.unmasked f o1 stand.0 in
-      let k = guest-step chip w f o1 fs1 gs1 s received come shut outs x marked stand.0 apart outside in
+      let k = guest-step chip w f o1 fs1 gs1 s received come shut outs x marked stand.0 apart placed in
       let host = host-after chip w fs1 s made received (is_shared made) (g.may made) refl refl (lb.own f o1 stand.0) shut outs apart x in
       lift-keeps (lone_driver g s) (guest_of d g) (λ a. a) Right (λ z. Right z) (others every) chip w s f (left_b f value) o1 missed (stepped made value received taken)
       (λ s1 o2. ((s1 ≡ g.moves_of made s) × StandsOn g (left_b f value) o2 taken.ended) × (o2.tag ≡ o1.tag))
       (λ s1 o2. GRelates (chip_after chip made received) w (top_after (Right (left_b f value), o2) taken.ended qs) s1)
       (lies-guest w s) (λ z. refl) (λ z. refl) m all same (λ s1 l i. absurd (cc))
-      (λ s1 o2 missed1 is all1 same1 kept. grow-guest (chip_after chip made received) w f (left_b f value) o1 o2 missed1 taken.ended qs fs1 gs1 s1 kept.1 (mine-same (others every) o1.origin o2.origin is m) all1 same1 sp marked stand apart (stands-move chip w made received outside) (subst (λ z. d.relates (chip_after chip made received) w fs1 z) (sym kept.0.0) host) kept.0.1)
+      (λ s1 o2 missed1 is all1 same1 kept. grow-guest (chip_after chip made received) w f (left_b f value) o1 o2 missed1 taken.ended qs fs1 gs1 s1 kept.1 (mine-same (others every) o1.origin o2.origin is m) all1 same1 sp marked stand apart (placed-move chip w made received placed) (subst (λ z. d.relates (chip_after chip made received) w fs1 z) (sym kept.0.0) host) kept.0.1)
       (with-tag (lone_driver g s) chip w s f (left_b f value) o1 (stepped made value received taken) (λ s1 o2. (s1 ≡ g.moves_of made s) × StandsOn g (left_b f value) o2 taken.ended) k)
 
   there-by : (chip : Chip) (w : World) (u : Either F G) (o : Open (Either C D)) (ps : List (Either F G × Open (Either C D))) (s : S) (fs : List (F × Open C)) (gs : List (G × Open D)) → Splits every ((u, o) ∷ ps) fs gs → d.relates chip w fs s → AllStand g gs → CanApply (either move_a move_b u)
@@ -280,8 +291,8 @@ module _ {S C D F G : Type 0} (d : Driver S C F) (g : Guest S D G) (move_a : F �
       shared-rate c (Store k v) r e = cc
   steady-by chip made received false is h = lb.steady chip made received h
 
-  rate-by : (chip : Chip) (w : World) (u : Either F G) (o : Open (Either C D)) (ps : List (Either F G × Open (Either C D))) (s : S) (fs : List (F × Open C)) (gs : List (G × Open D)) → Splits every ((u, o) ∷ ps) fs gs → is_masked chip ≡ o.inside → AllOutside ps → d.relates chip w fs s → AreMarked d.setting g.block fs → AllStand g gs → NoneOff g.block fs gs → StandsIn chip w → (received : ℕ) → ComesRight chip w (either move_a move_b u) received → d.count s < most_steps → chip.clock.rate ≡ d.setting.machine.rate s → (chip_after chip (either move_a move_b u) received).clock.rate ≡ d.setting.machine.rate (state_after both.machine w s o (either move_a move_b u) received (either_gave gave_a gave_b u (value_of chip (either move_a move_b u))).event)
-  rate-by chip w u o ps s fs gs (Left_open f o1 missed qs fs1 gs1 m all same sp) masked out x marked stand apart outside received come few is =
+  rate-by : (chip : Chip) (w : World) (u : Either F G) (o : Open (Either C D)) (ps : List (Either F G × Open (Either C D))) (s : S) (fs : List (F × Open C)) (gs : List (G × Open D)) → Splits every ((u, o) ∷ ps) fs gs → is_masked chip ≡ o.inside → AllOutside ps → d.relates chip w fs s → AreMarked d.setting g.block fs → AllStand g gs → NoneOff g.block fs gs → IsPlaced g chip w → (received : ℕ) → ComesRight chip w (either move_a move_b u) received → d.count s < most_steps → chip.clock.rate ≡ d.setting.machine.rate s → (chip_after chip (either move_a move_b u) received).clock.rate ≡ d.setting.machine.rate (state_after both.machine w s o (either move_a move_b u) received (either_gave gave_a gave_b u (value_of chip (either move_a move_b u))).event)
+  rate-by chip w u o ps s fs gs (Left_open f o1 missed qs fs1 gs1 m all same sp) masked out x marked stand apart placed received come few is =
       let made = move_a f in
       let value = value_of chip made in
       let taken = gave_a f value in
@@ -289,12 +300,12 @@ module _ {S C D F G : Type 0} (d : Driver S C F) (g : Guest S D G) (move_a : F �
       let k = la.steps chip w f o1 fs1 s received come few masked outs x in
       let same_out = out-at d.setting both (λ a. a) Left every w s (lies-host w s) o1 chip (stepped made value received taken) taken.event m k.event in
       la.rate chip w f o1 fs1 s received come few masked outs x is ∙ sym (ap (λ q. d.setting.machine.rate (state_by s q)) same_out ∙ ap d.setting.machine.rate (same-state (λ a. a) s (outcome_at d.setting.machine w s o1 made received taken.event)))
-  rate-by chip w u o ps s fs gs (Right_open f o1 missed qs fs1 gs1 m all same sp) masked out x marked stand apart outside received come few is =
+  rate-by chip w u o ps s fs gs (Right_open f o1 missed qs fs1 gs1 m all same sp) masked out x marked stand apart placed received come few is =
       let made = move_b f in
       let value = value_of chip made in
       let taken = gave_b f value in
       let outs = (outside-split every qs fs1 gs1 sp out).0 in
-      let k = guest-step chip w f o1 fs1 gs1 s received come (masked ∙ lb.unmasked f o1 stand.0) outs x marked stand.0 apart outside in
+      let k = guest-step chip w f o1 fs1 gs1 s received come (masked ∙ lb.unmasked f o1 stand.0) outs x marked stand.0 apart placed in
       let lone = lone_setting g s in
       let same_out = out-at lone both (λ a. a) Right (others every) w s (lies-guest w s) o1 chip (stepped made value received taken) taken.event m k.event in
       let state_is = ap (state_by s) same_out ∙ (same-state (λ a. a) s (outcome_at lone.machine w s o1 made received taken.event) ∙ k.kept.0) in
@@ -319,7 +330,7 @@ module _ {S C D F G : Type 0} (d : Driver S C F) (g : Guest S D G) (move_a : F �
         marked = (marked-call d.setting g.block c level, h.marked);
         stand = h.stand;
         apart = call-on h.hosts h.guests c level h.stand (tags-second every (λ t. not (blocks (d.setting.class_of c) t)) ps h.hosts h.guests h.splits enters) h.apart;
-        outside = h.outside;
+        placed = h.placed;
       }
   g-begins chip w ps s (Right c) level can masked out enters above h = record {
     hosts = h.hosts;
@@ -329,7 +340,7 @@ module _ {S C D F G : Type 0} (d : Driver S C F) (g : Guest S D G) (move_a : F �
     marked = h.marked;
     stand = (lb.begins s c level can, record { owner = refl; class = refl }, h.stand);
     apart = tags-first every (λ t. not (blocks (guarded g.block) t)) ps h.hosts h.guests h.splits enters;
-    outside = h.outside;
+    placed = h.placed;
   }
 
   g-enters : (chip : Chip) (w : World) (ps : List (Either F G × Open (Either C D))) (s : S) (line : ℕ) (u : Either F G) (x : Option F) → d.handler_of line ≡ x → option_map Left x ≡ Some u → is_masked chip ≡ false → is_pending chip line ≡ true → AllOutside ps → all_below (tags_in ps) (d.setting.level_of line) ≡ true → GRelates chip w ps s → GRelates chip w ((u, opened (Entered line) (line_tag both line)) ∷ ps) s
@@ -344,7 +355,7 @@ module _ {S C D F G : Type 0} (d : Driver S C F) (g : Guest S D G) (move_a : F �
         marked = (marked-line d.setting g.block line, h.marked);
         stand = h.stand;
         apart = off-on g.block first h.hosts h.guests (λ q qs e. marked-line d.setting g.block line) h.apart;
-        outside = h.outside;
+        placed = h.placed;
       })
 
   -- ---- hardware and resets
@@ -382,17 +393,17 @@ module _ {S C D F G : Type 0} (d : Driver S C F) (g : Guest S D G) (move_a : F �
           marked = h.marked;
           stand = h.stand;
           apart = h.apart;
-          outside = stands-event chip w order (fills-there d.setting (is_masked chip) w s (origins_in h.hosts) order frees) h.outside;
+          placed = placed-event chip w order (fills-there d.setting (is_masked chip) w s (origins_in h.hosts) order frees) h.placed;
         },
       )
 
   g-resets : (chip : Chip) (w : World) (ps : List (Either F G × Open (Either C D))) (s : S) (reason : Reason) → GRelates chip w ps s → (out : Outcome S) × (both.machine.happens w s (Restarts reason) ≡ Some out) × GRelates (reset_chip chip reason) w [] out.state
   g-resets chip w ps s reason h =
       let x = la.resets chip w h.hosts s reason h.host in
-      (x.0, x.1, alone (reset_chip chip reason) w x.0.state x.2 (stands-reset chip w reason h.outside))
+      (x.0, x.1, alone (reset_chip chip reason) w x.0.state x.2 (placed-reset chip w reason h.placed))
     where
-      alone : (chip1 : Chip) (w1 : World) (s1 : S) → d.relates chip1 w1 [] s1 → StandsIn chip1 w1 → GRelates chip1 w1 [] s1
-      alone chip1 w1 s1 a outside = record { hosts = []; guests = []; splits = Nothing_open; host = a; marked = tt; stand = tt; apart = tt; outside = outside }
+      alone : (chip1 : Chip) (w1 : World) (s1 : S) → d.relates chip1 w1 [] s1 → IsPlaced g chip1 w1 → GRelates chip1 w1 [] s1
+      alone chip1 w1 s1 a placed = record { hosts = []; guests = []; splits = Nothing_open; host = a; marked = tt; stand = tt; apart = tt; placed = placed }
 
   -- ---- moves of others, and what frames may do
 
@@ -409,7 +420,7 @@ module _ {S C D F G : Type 0} (d : Driver S C F) (g : Guest S D G) (move_a : F �
     marked = h.marked;
     stand = h.stand;
     apart = h.apart;
-    outside = stands-move chip w made received h.outside;
+    placed = placed-move chip w made received h.placed;
   }
 
   g-may : (origin : Origin (Either C D)) (made : Move) → both.may origin made ≡ true → (guest_of d g).owns origin made ≡ true
@@ -471,10 +482,10 @@ module _ {S C D F G : Type 0} (d : Driver S C F) (g : Guest S D G) (move_a : F �
   -- a host and its guest that each keep their laws are a lawful driver
   pub guest-lawful : IsLawful (guest_of d g) (either move_a move_b) (either_left left_a left_b) (either_gave gave_a gave_b)
   guest-lawful = record {
-    starts = λ chip w wired outside. record { hosts = []; guests = []; splits = Nothing_open; host = la.starts chip w wired outside; marked = tt; stand = tt; apart = tt; outside = stands-reset chip w PowerOn outside };
+    starts = λ chip w wired placed. record { hosts = []; guests = []; splits = Nothing_open; host = la.starts chip w wired.0 placed; marked = tt; stand = tt; apart = tt; placed = placed-reset chip w PowerOn (placed, wired.1) };
     begins = g-begins;
     enters = λ chip w ps s line f is masked pending out under h. g-enters chip w ps s line f (d.handler_of line) refl is masked pending out under h;
-    steps = λ chip w f o ps s received come few masked out h. step-by chip w f o ps s h.hosts h.guests h.splits masked out h.host h.marked h.stand h.apart h.outside received come few;
+    steps = λ chip w f o ps s received come few masked out h. step-by chip w f o ps s h.hosts h.guests h.splits masked out h.host h.marked h.stand h.apart h.placed received come few;
     there = λ chip w f o ps s h. there-by chip w f o ps s h.hosts h.guests h.splits h.host h.stand;
     own = λ chip w f o ps s h. own-by chip w f o ps s h.hosts h.guests h.splits h.host h.stand;
     lasts = lasts-both;
@@ -500,7 +511,7 @@ module _ {S C D F G : Type 0} (d : Driver S C F) (g : Guest S D G) (move_a : F �
     count_moves = λ w s order out is. la.count_moves w s order out is;
     count_resets = λ w s reason out is. la.count_resets w s reason out is;
     rate_starts = la.rate_starts;
-    rate = λ chip w f o ps s received come few masked out h is. rate-by chip w f o ps s h.hosts h.guests h.splits masked out h.host h.marked h.stand h.apart h.outside received come few is;
+    rate = λ chip w f o ps s received come few masked out h is. rate-by chip w f o ps s h.hosts h.guests h.splits masked out h.host h.marked h.stand h.apart h.placed received come few is;
     rate_moves = λ w s order out is. la.rate_moves w s order out is;
     rate_resets = λ chip w s reason out is. la.rate_resets chip w s reason out is;
     loads = g-loads;

@@ -1,5 +1,5 @@
 -- Two drivers as one let a guest in where one of them does, and the other owns nothing of what the guest does.
-use Rattle.std.proofs.Common.{◌≡◌, ℕ, Bool, true, false, cond, not, List, [], ◌∷◌, refl, arith}
+use Rattle.std.proofs.Common.{◌≡◌, ℕ, ◌≤◌, Bool, true, false, cond, not, List, [], ◌∷◌, refl, sym, subst, arith}
 use Rattle.std.specs.List.{list_any}
 use Rattle.std.proofs.lemmas.Bool.{or_from, or_parts}
 use Rattle.chip_model.specs.Chip.{Chip, chip_after, is_masked}
@@ -65,6 +65,25 @@ module _ {S T C D F G : Type 0} (d : Driver S C F) (e : Driver T D G) where
 -- two drivers of which neither owns any own none as one
 pub owns-none : {S T C D F G : Type 0} (d : Driver S C F) (e : Driver T D G) (may : Move → Bool) → OwnsNone d may → OwnsNone e may → OwnsNone (union_of d e) may
 owns-none d e may first second = λ made mine origin. owns-neither (has_handler d) d.owns e.owns origin made (first made mine) (second made mine)
+
+-- ---- other words for it
+
+module _ {State Call Frame : Type 0} (d : Driver State Call Frame) (block : ModuleName) (may : Move → Bool) (moves_of : Move → State → State) (lets : LetsIn d block may moves_of) where
+  -- of these moves fewer
+  pub lets-fewer : (fewer : Move → Bool) → ((made : Move) → fewer made ≡ true → may made ≡ true) → LetsIn d block fewer moves_of
+  lets-fewer fewer sub = record {
+    keeps = λ chip w ps s made received mine masked out apart h. lets.keeps chip w ps s made received (sub made mine) masked out apart h;
+    count = lets.count;
+    rate = lets.rate;
+  }
+
+  -- what each makes of the state, said otherwise
+  pub lets-same : (other : Move → State → State) → ((made : Move) (s : State) → other made s ≡ moves_of made s) → LetsIn d block may other
+  lets-same other same = record {
+    keeps = λ chip w ps s made received mine masked out apart h. subst (λ x. d.relates (chip_after chip made received) w ps x) (sym (same made s)) (lets.keeps chip w ps s made received mine masked out apart h);
+    count = λ made s. subst (λ x. d.count x ≤ d.count s) (sym (same made s)) (lets.count made s);
+    rate = λ made s. subst (λ x. d.setting.machine.rate x ≡ d.setting.machine.rate s) (sym (same made s)) (lets.rate made s);
+  }
 
 -- ---- frames that keep a guest off
 

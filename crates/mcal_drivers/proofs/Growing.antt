@@ -11,6 +11,7 @@ use Rattle.run_model.specs.Machine.{Happening, Acts, Serves, Starts, Aborts, Mov
 use Rattle.run_model.specs.World.{World}
 use Rattle.step_runner.specs.Union.{first_call, second_call, lift_out, in_both, in_first, union_machine}
 use Rattle.step_runner.specs.declared.either.Either.TheVariants.{Left, Right}
+use Rattle.guest_runner.specs.Guest.{Guest, guest_machine}
 use Rattle.spi_machine.specs.Promised.{shown_on}
 
 -- ---- machines that begin no word
@@ -107,6 +108,17 @@ module _ {S T C D : Type 0} (ours : ℕ → Bool) (f : Machine S C) (g : Machine
   wired_second none wired w s (Aborts k) out e = of_either (Stays Wire s) s (f.happens w s.0 (Aborts k)) (g.happens w s.1 (Aborts k)) out (λ x is. (none w s.0 (Aborts k) x is, refl)) (λ y is. wired w s.1 (Aborts k) y is) e
   wired_second none wired w s (Moves order) out e = of_both (Stays Wire s) (f.happens w s.0 (Moves order)) (g.happens w s.1 (Moves order)) out (λ x y is. (refl, (wired w s.1 (Moves order) y is).1)) e
   wired_second none wired w s (Restarts reason) out e = of_both (λ z. Wire z.state ≡ []) (f.happens w s.0 (Restarts reason)) (g.happens w s.1 (Restarts reason)) out (λ x y is. wired w s.1 (Restarts reason) y is) e
+
+-- with a guest whose calls begin no word and leave the wire, the wire is the host's
+module _ {S C D G : Type 0} (f : Machine S C) (g : Guest S D G) (wire : S → List (ℕ × ℕ)) (u : ℕ) where
+  pub wired_guest : ((w : World) (s : S) (c : D) → Stays wire s (g.does w s c)) → IsWired wire u f → IsWired wire u (guest_machine f g)
+  wired_guest still wired w s (Acts (Left c) times) out e = wired w s (Acts c times) out e
+  wired_guest still wired w s (Acts (Right c) times) out e = subst (Stays wire s) (some_is (g.does w s c) out e) (still w s c)
+  wired_guest still wired w s (Serves l r) out e = wired w s (Serves l r) out e
+  wired_guest still wired w s (Starts k made_by r) out e = wired w s (Starts k (first_call made_by) r) out e
+  wired_guest still wired w s (Aborts k) out e = wired w s (Aborts k) out e
+  wired_guest still wired w s (Moves order) out e = wired w s (Moves order) out e
+  wired_guest still wired w s (Restarts reason) out e = wired w s (Restarts reason) out e
 
 -- ---- a step of a frame
 

@@ -36,7 +36,7 @@ use Rattle.adc_machine.specs.Table as converter_table
 use Rattle.spi_driver.specs.laws.words.ConfigurationFits as serial_fits
 use Rattle.spi_driver.specs.laws.bookkeeping.KeepsToModule.{keeps_serial}
 use Rattle.spi_machine.specs.Table as serial_table
-use Rattle.mcal_drivers.specs.Drivers.{clock, watchdog, pins, timers, pulses, captures, converters, serial, as_one, system}
+use Rattle.mcal_drivers.specs.Drivers.{clock, watchdog, pins, timers, pulses, captures, converters, serial, host, drivers_of}
 use Rattle.mcal_drivers.proofs.Sound.{sound_clock, sound_pins, sound_timers, sound_captures, wired_captures}
 use Rattle.mcal_drivers.proofs.SoundConverters.{sound_converters}
 use Rattle.mcal_drivers.proofs.SoundSerial.{sound_serial, wired_serial}
@@ -75,7 +75,7 @@ module _ (c : Config) (v : IsValid c) (devices : ℕ) where
   pins_ready : Ready (only Port) (pins c)
   pins_ready = record { fits = pin_fits.fits_of c.port (sound_pins c.port v.port); wired = λ room. tt; keeps = keeps_pins (pin_table.driver_of c.port) }
 
-  timers_ready : Ready (only Gpt) (timers c)
+  pub timers_ready : Ready (only Gpt) (timers c)
   timers_ready = record { fits = timer_fits.fits_of c.gpt (sound_timers c.gpt v.gpt); wired = λ room. tt; keeps = keeps_timers (timer_table.driver_of c.gpt) }
 
   pulses_ready : Ready (only Pwm) (pulses c)
@@ -98,7 +98,7 @@ module _ (c : Config) (v : IsValid c) (devices : ℕ) where
   timed_ready : Ready (all_of (only Port) (only Gpt)) (union_of (pins c) (timers c))
   timed_ready = join (only Port) (only Gpt) power (pins c) (timers c) refl refl (λ w s call. refl) pins_ready timers_ready
 
-  watched_ready : Ready (all_of (only Mcu) (only Wdg)) (union_of (clock c) (watchdog c))
+  pub watched_ready : Ready (all_of (only Mcu) (only Wdg)) (union_of (clock c) (watchdog c))
   watched_ready = join (only Mcu) (only Wdg) power (clock c) (watchdog c) refl refl (λ w s call. refl) clock_ready watchdog_ready
 
   mute_watched : IsMute (union_of (clock c) (watchdog c))
@@ -118,7 +118,7 @@ module _ (c : Config) (v : IsValid c) (devices : ℕ) where
   lasts_ready : Ready (all_of (only Adc) (only Spi)) (union_of (converters c) (serial c))
   lasts_ready = join (only Adc) (only Spi) power (converters c) (serial c) refl refl (λ w s call. refl) converters_ready serial_ready
 
-  seconds_ready : Ready (all_of (all_of (only Pwm) (only Icu)) (all_of (only Adc) (only Spi))) (union_of (union_of (pulses c) (captures c)) (union_of (converters c) (serial c)))
+  pub seconds_ready : Ready (all_of (all_of (only Pwm) (only Icu)) (all_of (only Adc) (only Spi))) (union_of (union_of (pulses c) (captures c)) (union_of (converters c) (serial c)))
   seconds_ready = join (all_of (only Pwm) (only Icu)) (all_of (only Adc) (only Spi)) power (union_of (pulses c) (captures c)) (union_of (converters c) (serial c)) refl refl mute_captured captured_ready lasts_ready
 
   mute_firsts : IsMute (union_of (union_of (clock c) (watchdog c)) (union_of (pins c) (timers c)))
@@ -127,6 +127,5 @@ module _ (c : Config) (v : IsValid c) (devices : ℕ) where
   mute_firsts w s (Right (Left call)) = refl
   mute_firsts w s (Right (Right call)) = refl
 
-  pub all_ready : Ready (all_of (all_of (all_of (only Mcu) (only Wdg)) (all_of (only Port) (only Gpt))) (all_of (all_of (only Pwm) (only Icu)) (all_of (only Adc) (only Spi)))) (system c)
-  unfolding as_one
-  all_ready = join (all_of (all_of (only Mcu) (only Wdg)) (all_of (only Port) (only Gpt))) (all_of (all_of (only Pwm) (only Icu)) (all_of (only Adc) (only Spi))) power (union_of (union_of (clock c) (watchdog c)) (union_of (pins c) (timers c))) (union_of (union_of (pulses c) (captures c)) (union_of (converters c) (serial c))) refl refl mute_firsts firsts_ready seconds_ready
+  pub host_ready : Ready (all_of (all_of (all_of (only Mcu) (only Wdg)) (all_of (only Port) (only Gpt))) (all_of (all_of (only Pwm) (only Icu)) (all_of (only Adc) (only Spi)))) (host (drivers_of c))
+  host_ready = join (all_of (all_of (only Mcu) (only Wdg)) (all_of (only Port) (only Gpt))) (all_of (all_of (only Pwm) (only Icu)) (all_of (only Adc) (only Spi))) power (union_of (union_of (clock c) (watchdog c)) (union_of (pins c) (timers c))) (union_of (union_of (pulses c) (captures c)) (union_of (converters c) (serial c))) refl refl mute_firsts firsts_ready seconds_ready

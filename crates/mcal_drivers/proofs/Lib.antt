@@ -1,4 +1,5 @@
 pub mod Growing
+mod Hosting
 mod Joining
 pub mod Levels
 pub mod Limits
@@ -9,4 +10,5 @@ pub mod SoundConverters
 pub mod SoundSerial
 mod Sources
 pub mod Stamps
+mod Whole
 pub mod Wordless

@@ -13,6 +13,8 @@ use Rattle.step_runner.specs.Driver.{Driver}
 use Rattle.step_runner.specs.Stands.{paired, AreFramesOf, IsGuarded, Stands}
 use Rattle.step_runner.specs.declared.stack.Under.{Under}
 use Rattle.step_runner.specs.Union.{Splits, Nothing_open, UnionRelates, has_handler, union_of}
+use Rattle.guest_runner.specs.Guest.{Guest, guest_of}
+use Rattle.guest_runner.specs.Frames.{no-hosts}
 use Rattle.run_model.proofs.LegalLaws.{served-last}
 
 -- ---- the wiring, which stays
@@ -100,6 +102,10 @@ first_of d e chip w s h = first_alone (has_handler d) d.relates e.relates chip w
 
 pub second_of : {S T C D F G : Type 0} (d : Driver S C F) (e : Driver T D G) (chip : Chip) (w : World) (s : S × T) → (union_of d e).relates chip w [] s → e.relates chip w [] s.1
 second_of d e chip w s h = second_alone (has_handler d) d.relates e.relates chip w s h
+
+-- of a driver with its guest, the driver
+pub host_of : {S C D F G : Type 0} (d : Driver S C F) (g : Guest S D G) (chip : Chip) (w : World) (s : S) → (guest_of d g).relates chip w [] s → d.relates chip w [] s
+host_of d g chip w s h = subst (λ ps. d.relates chip w ps s) (no-hosts h.hosts h.guests h.splits) h.host
 
 -- of three, of which the last two are one, the last
 pub last_of : {S T U C D E F G H : Type 0} (d : Driver S C F) (e : Driver T D G) (f : Driver U E H) (chip : Chip) (w : World) (s : S × (T × U)) → (union_of d (union_of e f)).relates chip w [] s → f.relates chip w [] s.1.1

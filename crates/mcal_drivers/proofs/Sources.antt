@@ -10,6 +10,7 @@ use Rattle.service_outline.specs.ShortServices as short
 use Rattle.step_runner.specs.Driver.{AllOutside}
 use Rattle.step_runner.specs.Union.{has_handler, union_of}
 use Rattle.step_runner.specs.UnionLaws.{outside-split}
+use Rattle.guest_runner.specs.Guest.{every}
 use Rattle.mcu_driver.specs.laws.Lawful.{mcu}
 use Rattle.wdg_driver.specs.laws.Lawful.{wdg}
 use Rattle.port_driver.specs.laws.Lawful.{port}
@@ -45,12 +46,13 @@ unfolding as_one
 uses_arrays u chip c result there says w ps s fits out h =
     let firsts = union_of (union_of (services_driver (mcu u.clock)) (short.driver_of (wdg u.watchdog))) (union_of (services_driver (port u.pins)) (short.driver_of (gpt u.timers))) in
     let captured = union_of (services_driver (pwm u.pulses)) (short.driver_of (icu u.captures)) in
-    let outs = outside-split (has_handler firsts) ps h.firsts h.seconds h.splits out in
-    let outside = outside-split (has_handler captured) h.seconds h.second.firsts h.second.seconds h.second.splits outs.1 in
+    let hosts = outside-split every ps h.hosts h.guests h.splits out in
+    let outs = outside-split (has_handler firsts) h.hosts h.host.firsts h.host.seconds h.host.splits hosts.0 in
+    let outside = outside-split (has_handler captured) h.host.seconds h.host.second.firsts h.host.second.seconds h.host.second.splits outs.1 in
     let converters = services_driver (converters_of u.converters.table) in
-    let lasts = outside-split (has_handler converters) h.second.seconds h.second.second.firsts h.second.second.seconds h.second.second.splits outside.1 in
+    let lasts = outside-split (has_handler converters) h.host.second.seconds h.host.second.second.firsts h.host.second.second.seconds h.host.second.second.splits outside.1 in
     let using = is_in_use u.serial.table c s.1.1.1.pending in
     let there_is = fills u.serial.table c in
-    let own = if_there result there_is using there (says w h.second.second.seconds s.1.1.1 fits.1.1.1 lasts.1 h.second.second.second) in
+    let own = if_there result there_is using there (says w h.host.second.second.seconds s.1.1.1 fits.0.1.1.1 lasts.1 h.host.second.second.second) in
     let last = if_there result there_is (there_is && using) there own in
     if_there result there_is (there_is && (there_is && using)) there last

@@ -3,6 +3,7 @@ use Rattle.std.proofs.Common.{◌≡◌, ℕ, ◌-◌, Bool, true, false, List, 
 use Rattle.std.specs.Prelude.{if◌then◌else◌}
 use Rattle.std.proofs.lemmas.List.{append-nil}
 use Rattle.plain_facts.specs.Options.{some_is}
+use Rattle.chip_model.specs.Wiring.{wiring_of}
 use Rattle.mcal_base.specs.declared.config.whole.Config.{Config}
 use Rattle.mcal_base.specs.declared.error_name.ErrorName.{ErrorName}
 use Rattle.run_model.specs.Machine.{Acts, Serves, Starts, Aborts, Moves, Restarts, Begun, Outcome, outcome, tells_nothing}
@@ -23,6 +24,11 @@ use Rattle.port_driver.specs.Machine as pins
 use Rattle.port_driver.specs.Table as pin_table
 use Rattle.port_driver.specs.declared.call.Call as pin_calls
 use Rattle.port_driver.specs.declared.driver.PortDriver.{PortDriver}
+use Rattle.dio_driver.specs.Machine.{does_by}
+use Rattle.dio_driver.specs.Table as port_table
+use Rattle.dio_driver.specs.declared.access.PortPins.{PortPins}
+use Rattle.dio_driver.specs.declared.call.Call as port_calls
+use Rattle.dio_driver.specs.declared.call.Call.TheVariants as port_call
 use Rattle.gpt_driver.specs.Machine as timers
 use Rattle.gpt_driver.specs.declared.call.Call as timer_calls
 use Rattle.gpt_driver.specs.declared.call.Call.TheVariants as timer_call
@@ -62,9 +68,9 @@ use Rattle.spi_machine.specs.Promised.{shown_on}
 use Rattle.spi_machine.specs.Table as serial_table
 use Rattle.spi_machine.specs.State.{SpiState, first_state, wire_at}
 use Rattle.spi_machine.specs.declared.table.SpiTable.{SpiTable}
-use Rattle.mcal_drivers.specs.Setting.{clock_setting, watchdog_setting, pin_setting, timer_setting, pulse_setting, capture_setting, converter_setting, serial_setting, joined, system_setting}
+use Rattle.mcal_drivers.specs.Setting.{clock_setting, watchdog_setting, pin_setting, timer_setting, pulse_setting, capture_setting, converter_setting, serial_setting, joined, host_pins, host_setting, port_guest, system_setting, SystemState}
 use Rattle.mcal_drivers.specs.Shows as shows
-use Rattle.mcal_drivers.proofs.Growing.{IsWordless, wordless_both, IsWired, wired_second}
+use Rattle.mcal_drivers.proofs.Growing.{IsWordless, wordless_both, IsWired, Stays, wired_guest, wired_second}
 
 none_of : {S : Type 0} (x out : Outcome S) → x.begins ≡ None → Some x ≡ Some out → out.begins ≡ None
 none_of x out none e = ap (λ y. y.begins) (sym (some_is x out e)) ∙ none
@@ -302,6 +308,19 @@ serial_wired d u w s (Aborts k) out e = absurd (cc e)
 serial_wired d u w s (Moves order) out e = still s out.state u 0 out.begins (none_by out.begins (happens-begins d w s (Moves order) out e)) (happens-wire d w s (Moves order) out u e refl)
 serial_wired d u w s (Restarts reason) out e = ap (λ (y : Outcome SpiState). wire_at y.state u) (sym (some_is (outcome first_state tells_nothing) out e))
 
+-- ---- channels and ports
+
+-- what their calls do begins no word, and leaves the words that are on the wires
+port_by : (p : PwmDriver) (outputs : List (Option ℕ)) (u : ℕ) (w : World) (s : SystemState) (call : port_calls.Call) (pins : Option PortPins) → Stays (λ (x : SystemState). shows.wire_at x u) s (does_by (host_pins p outputs) w s call pins)
+port_by p outputs u w s call None = (refl, refl)
+port_by p outputs u w s (port_call.ReadChannel n) (Some pins) = (refl, refl)
+port_by p outputs u w s (port_call.WriteChannel n high) (Some pins) = (refl, refl)
+port_by p outputs u w s (port_call.FlipChannel n) (Some pins) = (refl, refl)
+port_by p outputs u w s (port_call.ReadPort n) (Some pins) = (refl, refl)
+port_by p outputs u w s (port_call.WritePort n value) (Some pins) = (refl, refl)
+port_by p outputs u w s (port_call.ReadChannelGroup n) (Some pins) = (refl, refl)
+port_by p outputs u w s (port_call.WriteChannelGroup n value) (Some pins) = (refl, refl)
+
 -- ---- all modules
 
 pub system_wired : (c : Config) (u : ℕ) → IsWired (λ s. shows.wire_at s u) u (system_setting c).machine
@@ -319,4 +338,6 @@ system_wired c u =
     let captured_wordless = wordless_both (pulse_setting c).used (pulse_setting c).machine (capture_setting c).machine (pulses_wordless (pulse_table.driver_of c.pwm)) (captures_wordless (capture_table.driver_of c.icu)) in
     let lasts_wired = wired_second (converter_setting c).used (converter_setting c).machine (serial_setting c).machine (λ s. wire_at s u) u (converters_wordless (converter_table.table_of c.adc)) (serial_wired (serial_table.table_of c.spi) u) in
     let seconds_wired = wired_second captured.used captured.machine lasts.machine (λ s. wire_at s.1 u) u captured_wordless lasts_wired in
-    wired_second firsts.used firsts.machine seconds.machine (λ s. wire_at s.1.1 u) u firsts_wordless seconds_wired
+    let hosts_wired = wired_second firsts.used firsts.machine seconds.machine (λ s. wire_at s.1.1 u) u firsts_wordless seconds_wired in
+    let d = port_table.driver_of c.port c.dio in
+    wired_guest (host_setting c).machine (port_guest c) (λ (s : SystemState). shows.wire_at s u) u (λ w s call. port_by (pulse_table.driver_of c.pwm) (wiring_of c).outputs u w s call (port_table.pins_of d call)) hosts_wired

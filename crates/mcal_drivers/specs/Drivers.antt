@@ -1,9 +1,11 @@
 -- The drivers of all modules as one, as the runner sees them.
+use Rattle.chip_model.specs.Wiring.{wiring_of}
 use Rattle.mcal_base.specs.declared.config.whole.Config.{Config}
 use Rattle.service_outline.specs.Services.{services_driver}
 use Rattle.service_outline.specs.ShortServices as short
 use Rattle.step_runner.specs.Driver.{Driver}
 use Rattle.step_runner.specs.Union.{union_of}
+use Rattle.guest_runner.specs.Guest.{guest_of}
 use Rattle.mcu_driver.specs.Machine.{McuState}
 use Rattle.mcu_driver.specs.Table as clock_table
 use Rattle.mcu_driver.specs.declared.call.Call as clock_calls
@@ -16,6 +18,7 @@ use Rattle.port_driver.specs.Machine.{PortState}
 use Rattle.port_driver.specs.Table as pin_table
 use Rattle.port_driver.specs.declared.call.Call as pin_calls
 use Rattle.port_driver.specs.laws.Lawful.{port}
+use Rattle.dio_driver.specs.Table as port_table
 use Rattle.gpt_driver.specs.Machine.{GptState}
 use Rattle.gpt_driver.specs.Table as timer_table
 use Rattle.gpt_driver.specs.declared.call.Call as timer_calls
@@ -36,13 +39,13 @@ use Rattle.spi_driver.specs.laws.bookkeeping.Joined.{joined}
 use Rattle.spi_machine.specs.State.{SpiState}
 use Rattle.spi_machine.specs.Table as serial_table
 use Rattle.spi_machine.specs.declared.call.Call as serial_calls
-use Rattle.mcal_drivers.specs.Frames.{ClockFrame, WatchdogFrame, PinFrame, TimerFrame, PulseFrame, CaptureFrame, ConverterFrame, SerialFrame, SystemFrame}
-use Rattle.mcal_drivers.specs.Setting.{SystemState, SystemCall}
+use Rattle.mcal_drivers.specs.Frames.{ClockFrame, WatchdogFrame, PinFrame, TimerFrame, PulseFrame, CaptureFrame, ConverterFrame, SerialFrame, HostFrame, SystemFrame}
+use Rattle.mcal_drivers.specs.Setting.{SystemState, HostCall, SystemCall, ports_of}
 use Rattle.mcal_drivers.specs.declared.drivers.Drivers.{Drivers}
 
 -- what the code keeps of a configuration
 abbrev pub drivers_of : Config → Drivers
-drivers_of c = record { clock = clock_table.driver_of c.mcu; watchdog = watchdog_table.driver_of c.wdg; pins = pin_table.driver_of c.port; timers = timer_table.driver_of c.gpt; pulses = pulse_table.driver_of c.pwm; captures = capture_table.driver_of c.icu; converters = record { table = converter_table.table_of c.adc }; serial = record { table = serial_table.table_of c.spi } }
+drivers_of c = record { clock = clock_table.driver_of c.mcu; watchdog = watchdog_table.driver_of c.wdg; pins = pin_table.driver_of c.port; timers = timer_table.driver_of c.gpt; pulses = pulse_table.driver_of c.pwm; captures = capture_table.driver_of c.icu; converters = record { table = converter_table.table_of c.adc }; serial = record { table = serial_table.table_of c.spi }; ports = port_table.driver_of c.port c.dio; outputs = (wiring_of c).outputs }
 
 -- each module's driver
 abbrev pub clock : Config → Driver McuState clock_calls.Call ClockFrame
@@ -69,9 +72,13 @@ converters c = services_driver (converters_of (converter_table.table_of c.adc))
 abbrev pub serial : Config → Driver SpiState serial_calls.Call SerialFrame
 serial c = services_driver (joined (serial_table.table_of c.spi))
 
--- all as one, in the order of the configuration, with the watchdog beside the clock; what is in it stays closed where no proof asks for it
+-- those that have a state as one, in the order of the configuration, with the watchdog beside the clock
+abbrev pub host : Drivers → Driver SystemState HostCall HostFrame
+host u = union_of (union_of (union_of (services_driver (mcu u.clock)) (short.driver_of (wdg u.watchdog))) (union_of (services_driver (port u.pins)) (short.driver_of (gpt u.timers)))) (union_of (union_of (services_driver (pwm u.pulses)) (short.driver_of (icu u.captures))) (union_of (services_driver (converters_of u.converters.table)) (services_driver (joined u.serial.table))))
+
+-- all as one, with the driver of channels and ports as their guest; what is in it stays closed where no proof asks for it
 unfoldable pub as_one : Drivers → Driver SystemState SystemCall SystemFrame
-as_one u = union_of (union_of (union_of (services_driver (mcu u.clock)) (short.driver_of (wdg u.watchdog))) (union_of (services_driver (port u.pins)) (short.driver_of (gpt u.timers)))) (union_of (union_of (services_driver (pwm u.pulses)) (short.driver_of (icu u.captures))) (union_of (services_driver (converters_of u.converters.table)) (services_driver (joined u.serial.table))))
+as_one u = guest_of (host u) (ports_of u.ports u.pulses u.outputs)
 
 abbrev pub system : Config → Driver SystemState SystemCall SystemFrame
 system c = as_one (drivers_of c)

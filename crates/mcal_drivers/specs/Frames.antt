@@ -18,8 +18,9 @@ use Rattle.adc_groups.specs.declared.asked.Asked as converter_asked
 use Rattle.adc_groups.specs.laws.services.LookSteps.{AnyBody}
 use Rattle.spi_sequences.specs.declared.asked.Asked as serial_asked
 use Rattle.spi_sequences.specs.laws.services.Bodies.{SpiBody}
+use Rattle.dio_driver.specs.declared.frame.DioFrame.{DioFrame}
 use Rattle.mcal_drivers.specs.declared.frame.ModuleFrame.{ModuleFrame}
-use Rattle.mcal_drivers.specs.declared.frame.ModuleFrame.TheVariants.{Clock, Watchdog, Pins, Timers, Pulses, Captures, Converters, Serial}
+use Rattle.mcal_drivers.specs.declared.frame.ModuleFrame.TheVariants.{Clock, Watchdog, Pins, Timers, Pulses, Captures, Converters, Serial, Ports}
 
 -- those of each
 abbrev pub ClockFrame : Type 0
@@ -46,17 +47,21 @@ ConverterFrame = Short converter_asked.Asked AnyBody
 abbrev pub SerialFrame : Type 0
 SerialFrame = Short serial_asked.Asked SpiBody
 
--- the frames of all
+-- those of all modules that have a state, and those of all
+abbrev pub HostFrame : Type 0
+HostFrame = Either (Either (Either ClockFrame WatchdogFrame) (Either PinFrame TimerFrame)) (Either (Either PulseFrame CaptureFrame) (Either ConverterFrame SerialFrame))
+
 abbrev pub SystemFrame : Type 0
-SystemFrame = Either (Either (Either ClockFrame WatchdogFrame) (Either PinFrame TimerFrame)) (Either (Either PulseFrame CaptureFrame) (Either ConverterFrame SerialFrame))
+SystemFrame = Either HostFrame DioFrame
 
 -- a module's frame among those of all
 abbrev pub in_union : ModuleFrame → SystemFrame
-in_union (Clock f) = Left (Left (Left f))
-in_union (Watchdog f) = Left (Left (Right f))
-in_union (Pins f) = Left (Right (Left f))
-in_union (Timers f) = Left (Right (Right f))
-in_union (Pulses f) = Right (Left (Left f))
-in_union (Captures f) = Right (Left (Right f))
-in_union (Converters f) = Right (Right (Left f))
-in_union (Serial f) = Right (Right (Right f))
+in_union (Clock f) = Left (Left (Left (Left f)))
+in_union (Watchdog f) = Left (Left (Left (Right f)))
+in_union (Pins f) = Left (Left (Right (Left f)))
+in_union (Timers f) = Left (Left (Right (Right f)))
+in_union (Pulses f) = Left (Right (Left (Left f)))
+in_union (Captures f) = Left (Right (Left (Right f)))
+in_union (Converters f) = Left (Right (Right (Left f)))
+in_union (Serial f) = Left (Right (Right (Right f)))
+in_union (Ports f) = Right f

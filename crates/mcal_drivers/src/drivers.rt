@@ -4,8 +4,10 @@ ghost use Rattle.config_facts.specs.Valid.{IsValid};
 ghost use Rattle.mcal_drivers.specs.Drivers.{as_one, drivers_of, system};
 
 use crate::frame::{Frame, ModuleFrame};
+use crate::outputs::outputs_of;
 use adc_driver::AdcDriver;
 use chip_model::Bus;
+use dio_driver::DioDriver;
 use gpt_driver::GptDriver;
 use icu_driver::IcuDriver;
 use mcal_base::{Config, ModuleName, Request, Service};
@@ -18,7 +20,8 @@ use spi_driver::SpiDriver;
 use step_runner::{Either, Module};
 use wdg_driver::WdgDriver;
 
-/// The drivers of all modules as one. The clock's comes first, since the first alone may set the rate.
+/// The drivers of all modules as one. The clock's comes first, since the first alone may set the rate. The driver of
+/// channels and ports is a guest of the others, in the pins' block.
 #[derive(Drop)]
 pub struct Drivers {
     clock: McuDriver,
@@ -29,6 +32,9 @@ pub struct Drivers {
     captures: IcuDriver,
     converters: AdcDriver,
     serial: SpiDriver,
+    ports: DioDriver,
+    // The pin at which each pulse channel's output is seen. Contracts alone read it, for levels of pins depend on it.
+    outputs: [Option<u32>; 8],
 }
 
 impl Drivers {
@@ -48,6 +54,8 @@ impl Drivers {
             captures: IcuDriver::new(config),
             converters: AdcDriver::new(config),
             serial: SpiDriver::new(config),
+            ports: DioDriver::new(config),
+            outputs: outputs_of(config),
         }
     }
 
@@ -79,8 +87,8 @@ type CallOf<M> = <M as Module>::Call;
 /// The states of a module's machine.
 type StateOf<M> = <M as Module>::State;
 
-/// A call of one of the modules, in their order.
-type Call = Either<
+/// A call of one of the modules that have a state, in their order.
+type HostCall = Either<
     Either<
         Either<CallOf<McuDriver>, CallOf<WdgDriver>>,
         Either<CallOf<PortDriver>, CallOf<GptDriver>>,
@@ -90,6 +98,9 @@ type Call = Either<
         Either<CallOf<AdcDriver>, CallOf<SpiDriver>>,
     >,
 >;
+
+/// A call of one of them, or of their guest.
+type Call = Either<HostCall, dio_driver::Call>;
 
 /// The states of their machines.
 type States = (
@@ -128,30 +139,31 @@ impl Module for Drivers {
     #[tactic(auto, unfolding(crate::specs::Drivers::as_one))]
     fn frame(&self, call: &Call) -> Frame {
         let frame = match call {
-            Either::Left(Either::Left(Either::Left(call))) => {
+            Either::Left(Either::Left(Either::Left(Either::Left(call)))) => {
                 ModuleFrame::Clock(self.clock.frame(call))
             }
-            Either::Left(Either::Left(Either::Right(call))) => {
+            Either::Left(Either::Left(Either::Left(Either::Right(call)))) => {
                 ModuleFrame::Watchdog(self.watchdog.frame(call))
             }
-            Either::Left(Either::Right(Either::Left(call))) => {
+            Either::Left(Either::Left(Either::Right(Either::Left(call)))) => {
                 ModuleFrame::Pins(self.pins.frame(call))
             }
-            Either::Left(Either::Right(Either::Right(call))) => {
+            Either::Left(Either::Left(Either::Right(Either::Right(call)))) => {
                 ModuleFrame::Timers(self.timers.frame(call))
             }
-            Either::Right(Either::Left(Either::Left(call))) => {
+            Either::Left(Either::Right(Either::Left(Either::Left(call)))) => {
                 ModuleFrame::Pulses(self.pulses.frame(call))
             }
-            Either::Right(Either::Left(Either::Right(call))) => {
+            Either::Left(Either::Right(Either::Left(Either::Right(call)))) => {
                 ModuleFrame::Captures(self.captures.frame(call))
             }
-            Either::Right(Either::Right(Either::Left(call))) => {
+            Either::Left(Either::Right(Either::Right(Either::Left(call)))) => {
                 ModuleFrame::Converters(self.converters.frame(call))
             }
-            Either::Right(Either::Right(Either::Right(call))) => {
+            Either::Left(Either::Right(Either::Right(Either::Right(call)))) => {
                 ModuleFrame::Serial(self.serial.frame(call))
             }
+            Either::Right(call) => ModuleFrame::Ports(self.ports.frame(call)),
         };
         Frame { frame }
     }
@@ -160,29 +172,38 @@ impl Module for Drivers {
     #[tactic(auto, unfolding(crate::specs::Drivers::as_one))]
     fn frame_into(&self, call: &Call, place: &mut Frame) {
         match (call, &mut place.frame) {
-            (Either::Left(Either::Left(Either::Left(call))), ModuleFrame::Clock(frame)) => {
-                self.clock.frame_into(call, frame)
-            }
-            (Either::Left(Either::Left(Either::Right(call))), ModuleFrame::Watchdog(frame)) => {
-                self.watchdog.frame_into(call, frame)
-            }
-            (Either::Left(Either::Right(Either::Left(call))), ModuleFrame::Pins(frame)) => {
-                self.pins.frame_into(call, frame)
-            }
-            (Either::Left(Either::Right(Either::Right(call))), ModuleFrame::Timers(frame)) => {
-                self.timers.frame_into(call, frame)
-            }
-            (Either::Right(Either::Left(Either::Left(call))), ModuleFrame::Pulses(frame)) => {
-                self.pulses.frame_into(call, frame)
-            }
-            (Either::Right(Either::Left(Either::Right(call))), ModuleFrame::Captures(frame)) => {
-                self.captures.frame_into(call, frame)
-            }
-            (Either::Right(Either::Right(Either::Left(call))), ModuleFrame::Converters(frame)) =>
-                self.converters.frame_into(call, frame),
-            (Either::Right(Either::Right(Either::Right(call))), ModuleFrame::Serial(frame)) => {
-                self.serial.frame_into(call, frame)
-            }
+            (
+                Either::Left(Either::Left(Either::Left(Either::Left(call)))),
+                ModuleFrame::Clock(frame),
+            ) => { self.clock.frame_into(call, frame) }
+            (
+                Either::Left(Either::Left(Either::Left(Either::Right(call)))),
+                ModuleFrame::Watchdog(frame),
+            ) => { self.watchdog.frame_into(call, frame) }
+            (
+                Either::Left(Either::Left(Either::Right(Either::Left(call)))),
+                ModuleFrame::Pins(frame),
+            ) => { self.pins.frame_into(call, frame) }
+            (
+                Either::Left(Either::Left(Either::Right(Either::Right(call)))),
+                ModuleFrame::Timers(frame),
+            ) => { self.timers.frame_into(call, frame) }
+            (
+                Either::Left(Either::Right(Either::Left(Either::Left(call)))),
+                ModuleFrame::Pulses(frame),
+            ) => { self.pulses.frame_into(call, frame) }
+            (
+                Either::Left(Either::Right(Either::Left(Either::Right(call)))),
+                ModuleFrame::Captures(frame),
+            ) => { self.captures.frame_into(call, frame) }
+            (
+                Either::Left(Either::Right(Either::Right(Either::Left(call)))),
+                ModuleFrame::Converters(frame),
+            ) => self.converters.frame_into(call, frame),
+            (
+                Either::Left(Either::Right(Either::Right(Either::Right(call)))),
+                ModuleFrame::Serial(frame),
+            ) => { self.serial.frame_into(call, frame) }
             (call, _) => self.frame_over(call, place),
         }
     }
@@ -212,14 +233,27 @@ impl Module for Drivers {
     #[tactic(auto, unfolding(crate::specs::Drivers::as_one))]
     fn class(&self, call: &Call) -> Class {
         match call {
-            Either::Left(Either::Left(Either::Left(call))) => self.clock.class(call),
-            Either::Left(Either::Left(Either::Right(call))) => self.watchdog.class(call),
-            Either::Left(Either::Right(Either::Left(call))) => self.pins.class(call),
-            Either::Left(Either::Right(Either::Right(call))) => self.timers.class(call),
-            Either::Right(Either::Left(Either::Left(call))) => self.pulses.class(call),
-            Either::Right(Either::Left(Either::Right(call))) => self.captures.class(call),
-            Either::Right(Either::Right(Either::Left(call))) => self.converters.class(call),
-            Either::Right(Either::Right(Either::Right(call))) => self.serial.class(call),
+            Either::Left(Either::Left(Either::Left(Either::Left(call)))) => self.clock.class(call),
+            Either::Left(Either::Left(Either::Left(Either::Right(call)))) => self
+                .watchdog
+                .class(call),
+            Either::Left(Either::Left(Either::Right(Either::Left(call)))) => self.pins.class(call),
+            Either::Left(Either::Left(Either::Right(Either::Right(call)))) => self
+                .timers
+                .class(call),
+            Either::Left(Either::Right(Either::Left(Either::Left(call)))) => self
+                .pulses
+                .class(call),
+            Either::Left(Either::Right(Either::Left(Either::Right(call)))) => self
+                .captures
+                .class(call),
+            Either::Left(Either::Right(Either::Right(Either::Left(call)))) => self
+                .converters
+                .class(call),
+            Either::Left(Either::Right(Either::Right(Either::Right(call)))) => self
+                .serial
+                .class(call),
+            Either::Right(_) => self.ports.class(),
         }
     }
 
@@ -285,6 +319,7 @@ impl Caller for Drivers {
                 | ModuleName::Icu
                 | ModuleName::Adc
                 | ModuleName::Spi
+                | ModuleName::Dio
                 | ModuleName::Wdg
         )
     }
@@ -292,38 +327,66 @@ impl Caller for Drivers {
     #[tactic(auto, unfolding(crate::specs::Drivers::as_one, crate::specs::Setting::has_service, crate::specs::Setting::call_of))]
     fn call(&self, request: &Request) -> Call {
         match request.service.module() {
-            ModuleName::Mcu => Either::Left(Either::Left(Either::Left(self.clock.call(request)))),
+            ModuleName::Mcu => Either::Left(Either::Left(Either::Left(Either::Left(
+                self.clock.call(request),
+            )))),
             ModuleName::Wdg => {
-                Either::Left(Either::Left(Either::Right(self.watchdog.call(request))))
+                Either::Left(Either::Left(Either::Left(Either::Right(self.watchdog.call(request)))))
             }
-            ModuleName::Port => Either::Left(Either::Right(Either::Left(self.pins.call(request)))),
+            ModuleName::Port => Either::Left(Either::Left(Either::Right(Either::Left(
+                self.pins.call(request),
+            )))),
             ModuleName::Gpt => {
-                Either::Left(Either::Right(Either::Right(self.timers.call(request))))
+                Either::Left(Either::Left(Either::Right(Either::Right(self.timers.call(request)))))
             }
             ModuleName::Pwm => {
-                Either::Right(Either::Left(Either::Left(self.pulses.call(request))))
+                Either::Left(Either::Right(Either::Left(Either::Left(self.pulses.call(request)))))
             }
             ModuleName::Icu => {
-                Either::Right(Either::Left(Either::Right(self.captures.call(request))))
+                Either::Left(Either::Right(Either::Left(Either::Right(
+                    self.captures.call(request),
+                ))))
             }
             ModuleName::Adc => {
-                Either::Right(Either::Right(Either::Left(self.converters.call(request))))
+                Either::Left(Either::Right(Either::Right(Either::Left(
+                    self.converters.call(request),
+                ))))
             }
-            _ => Either::Right(Either::Right(Either::Right(self.serial.call(request)))),
+            ModuleName::Dio => Either::Right(dio_driver::call_of(request)),
+            _ => Either::Left(Either::Right(Either::Right(Either::Right(
+                self.serial.call(request),
+            )))),
         }
     }
 
     #[tactic(auto, unfolding(crate::specs::Drivers::as_one))]
     fn call_steps(&self, call: &Call) -> u32 {
         match call {
-            Either::Left(Either::Left(Either::Left(call))) => self.clock.call_steps(call),
-            Either::Left(Either::Left(Either::Right(call))) => self.watchdog.call_steps(call),
-            Either::Left(Either::Right(Either::Left(call))) => self.pins.call_steps(call),
-            Either::Left(Either::Right(Either::Right(call))) => self.timers.call_steps(call),
-            Either::Right(Either::Left(Either::Left(call))) => self.pulses.call_steps(call),
-            Either::Right(Either::Left(Either::Right(call))) => self.captures.call_steps(call),
-            Either::Right(Either::Right(Either::Left(call))) => self.converters.call_steps(call),
-            Either::Right(Either::Right(Either::Right(call))) => self.serial.call_steps(call),
+            Either::Left(Either::Left(Either::Left(Either::Left(call)))) => self
+                .clock
+                .call_steps(call),
+            Either::Left(Either::Left(Either::Left(Either::Right(call)))) => self
+                .watchdog
+                .call_steps(call),
+            Either::Left(Either::Left(Either::Right(Either::Left(call)))) => self
+                .pins
+                .call_steps(call),
+            Either::Left(Either::Left(Either::Right(Either::Right(call)))) => self
+                .timers
+                .call_steps(call),
+            Either::Left(Either::Right(Either::Left(Either::Left(call)))) => self
+                .pulses
+                .call_steps(call),
+            Either::Left(Either::Right(Either::Left(Either::Right(call)))) => self
+                .captures
+                .call_steps(call),
+            Either::Left(Either::Right(Either::Right(Either::Left(call)))) => self
+                .converters
+                .call_steps(call),
+            Either::Left(Either::Right(Either::Right(Either::Right(call)))) => self
+                .serial
+                .call_steps(call),
+            Either::Right(_) => dio_driver::MOST_STEPS,
         }
     }
 

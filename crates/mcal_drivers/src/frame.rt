@@ -1,4 +1,5 @@
 use adc_driver::AdcFrame;
+use dio_driver::DioFrame;
 use gpt_driver::GptFrame;
 use icu_driver::IcuFrame;
 use mcal_base::{Answer, Event, Move, Routine, Taken};
@@ -34,6 +35,8 @@ pub(crate) enum ModuleFrame {
     Converters(AdcFrame),
     /// Of the serial driver.
     Serial(SpiFrame),
+    /// Of the driver of channels and ports.
+    Ports(DioFrame),
 }
 
 impl Model for Frame {
@@ -47,11 +50,11 @@ impl Model for Frame {
 impl Routine for Frame {
     ghost use Rattle.step_runner.specs.Union.{either, either_left, either_gave};
 
-    ghost move_of = { either (either (either ⟦<McuFrame as Routine>⟧.move_of ⟦<WdgFrame as Routine>⟧.move_of) (either ⟦<PortFrame as Routine>⟧.move_of ⟦<GptFrame as Routine>⟧.move_of)) (either (either ⟦<PwmFrame as Routine>⟧.move_of ⟦<IcuFrame as Routine>⟧.move_of) (either ⟦<AdcFrame as Routine>⟧.move_of ⟦<SpiFrame as Routine>⟧.move_of)) };
+    ghost move_of = { either (either (either (either ⟦<McuFrame as Routine>⟧.move_of ⟦<WdgFrame as Routine>⟧.move_of) (either ⟦<PortFrame as Routine>⟧.move_of ⟦<GptFrame as Routine>⟧.move_of)) (either (either ⟦<PwmFrame as Routine>⟧.move_of ⟦<IcuFrame as Routine>⟧.move_of) (either ⟦<AdcFrame as Routine>⟧.move_of ⟦<SpiFrame as Routine>⟧.move_of))) ⟦<DioFrame as Routine>⟧.move_of };
 
-    ghost left = { either_left (either_left (either_left ⟦<McuFrame as Routine>⟧.left ⟦<WdgFrame as Routine>⟧.left) (either_left ⟦<PortFrame as Routine>⟧.left ⟦<GptFrame as Routine>⟧.left)) (either_left (either_left ⟦<PwmFrame as Routine>⟧.left ⟦<IcuFrame as Routine>⟧.left) (either_left ⟦<AdcFrame as Routine>⟧.left ⟦<SpiFrame as Routine>⟧.left)) };
+    ghost left = { either_left (either_left (either_left (either_left ⟦<McuFrame as Routine>⟧.left ⟦<WdgFrame as Routine>⟧.left) (either_left ⟦<PortFrame as Routine>⟧.left ⟦<GptFrame as Routine>⟧.left)) (either_left (either_left ⟦<PwmFrame as Routine>⟧.left ⟦<IcuFrame as Routine>⟧.left) (either_left ⟦<AdcFrame as Routine>⟧.left ⟦<SpiFrame as Routine>⟧.left))) ⟦<DioFrame as Routine>⟧.left };
 
-    ghost gave = { either_gave (either_gave (either_gave ⟦<McuFrame as Routine>⟧.gave ⟦<WdgFrame as Routine>⟧.gave) (either_gave ⟦<PortFrame as Routine>⟧.gave ⟦<GptFrame as Routine>⟧.gave)) (either_gave (either_gave ⟦<PwmFrame as Routine>⟧.gave ⟦<IcuFrame as Routine>⟧.gave) (either_gave ⟦<AdcFrame as Routine>⟧.gave ⟦<SpiFrame as Routine>⟧.gave)) };
+    ghost gave = { either_gave (either_gave (either_gave (either_gave ⟦<McuFrame as Routine>⟧.gave ⟦<WdgFrame as Routine>⟧.gave) (either_gave ⟦<PortFrame as Routine>⟧.gave ⟦<GptFrame as Routine>⟧.gave)) (either_gave (either_gave ⟦<PwmFrame as Routine>⟧.gave ⟦<IcuFrame as Routine>⟧.gave) (either_gave ⟦<AdcFrame as Routine>⟧.gave ⟦<SpiFrame as Routine>⟧.gave))) ⟦<DioFrame as Routine>⟧.gave };
 
     fn next(&self) -> Move {
         match &self.frame {
@@ -63,6 +66,7 @@ impl Routine for Frame {
             ModuleFrame::Captures(frame) => frame.next(),
             ModuleFrame::Converters(frame) => frame.next(),
             ModuleFrame::Serial(frame) => frame.next(),
+            ModuleFrame::Ports(frame) => frame.next(),
         }
     }
 
@@ -76,6 +80,7 @@ impl Routine for Frame {
             ModuleFrame::Captures(frame) => frame.took(value),
             ModuleFrame::Converters(frame) => frame.took(value),
             ModuleFrame::Serial(frame) => frame.took(value),
+            ModuleFrame::Ports(frame) => frame.took(value),
         }
     }
 
@@ -89,6 +94,7 @@ impl Routine for Frame {
             ModuleFrame::Captures(frame) => frame.took_into(value, ended),
             ModuleFrame::Converters(frame) => frame.took_into(value, ended),
             ModuleFrame::Serial(frame) => frame.took_into(value, ended),
+            ModuleFrame::Ports(frame) => frame.took_into(value, ended),
         }
     }
 }

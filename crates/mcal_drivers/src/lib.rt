@@ -3,6 +3,7 @@
 
 mod drivers;
 mod frame;
+mod outputs;
 
 pub use drivers::Drivers;
 pub use frame::Frame;

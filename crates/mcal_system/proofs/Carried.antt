@@ -21,6 +21,7 @@ use Rattle.serial_devices.specs.Lines.{Line}
 use Rattle.service_outline.specs.Services.{entering}
 use Rattle.step_runner.specs.Driver.{Driver}
 use Rattle.step_runner.specs.Union.{either_handler, has_handler, union_setting, union_of}
+use Rattle.guest_runner.specs.Guest.{guest_setting}
 use Rattle.gpt_driver.specs.Table as timer_table
 use Rattle.gpt_driver.specs.declared.asked.Asked as timer_asked
 use Rattle.gpt_driver.specs.declared.driver.Channel as timer_channels
@@ -42,7 +43,7 @@ use Rattle.mcal_drivers.specs.Drivers.{clock, watchdog, pins, timers, pulses, ca
 use Rattle.mcal_drivers.specs.Frames.{SystemFrame}
 use Rattle.mcal_system.specs.laws.Resting.{IsResting}
 use Rattle.mcal_system.specs.Runs.{SystemRun, most_steps, bound_of, run_start, moment_of, AddsItems, CallsDevices}
-use Rattle.mcal_drivers.specs.Setting.{SystemState, SystemCall, clock_setting, watchdog_setting, pin_setting, timer_setting, pulse_setting, capture_setting, converter_setting, serial_setting, joined, system_setting, call_of}
+use Rattle.mcal_drivers.specs.Setting.{SystemState, SystemCall, clock_setting, watchdog_setting, pin_setting, timer_setting, pulse_setting, capture_setting, converter_setting, serial_setting, joined, port_guest, system_setting, call_of}
 use Rattle.mcal_drivers.specs.declared.drivers.Drivers.{Drivers}
 use Rattle.mcal_drivers.proofs.Resting.{Rests, rests, related, opens-some}
 
@@ -115,7 +116,8 @@ same_setting c =
     let lasts = joined (converter_setting c) (serial_setting c) in
     let lasts_on = joined_of (converters c) (serial c) (converter_setting c) (serial_setting c) (converter_lines c) refl refl in
     let seconds_on = joined_of (union_of (pulses c) (captures c)) (union_of (converters c) (serial c)) captured lasts captured_lines captured_on lasts_on in
-    joined_of (union_of (union_of (clock c) (watchdog c)) (union_of (pins c) (timers c))) (union_of (union_of (pulses c) (captures c)) (union_of (converters c) (serial c))) firsts (joined captured lasts) first_lines firsts_on seconds_on
+    let host_on = joined_of (union_of (union_of (clock c) (watchdog c)) (union_of (pins c) (timers c))) (union_of (union_of (pulses c) (captures c)) (union_of (converters c) (serial c))) firsts (joined captured lasts) first_lines firsts_on seconds_on in
+    ap (λ x. guest_setting x (port_guest c)) host_on
 
 pub carry : (P : Setting SystemState SystemCall → Type 0) (c : Config) (u : Drivers) → u ≡ drivers_of c → P (as_one u).setting → P (system_setting c)
 carry P c u e h = subst P (same_setting c) (subst (λ x. P (as_one x).setting) e h)

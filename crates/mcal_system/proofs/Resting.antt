@@ -42,12 +42,12 @@ use Rattle.spi_machine.specs.Fits.{FitsSpi}
 use Rattle.spi_machine.specs.State.{SpiState, internal_word}
 use Rattle.spi_machine.specs.Table.{channel_of, is_internal_channel, length_by}
 use Rattle.spi_sequences.specs.Refinement.{SpiRepresents}
-use Rattle.mcal_drivers.specs.Drivers.{as_one, drivers_of}
-use Rattle.mcal_drivers.specs.Setting.{SystemState, SystemCall}
+use Rattle.mcal_drivers.specs.Drivers.{as_one, drivers_of, host}
+use Rattle.mcal_drivers.specs.Setting.{SystemState, SystemCall, ports_of}
 use Rattle.mcal_drivers.specs.Shows.{internal_at, level_at, ram_at, results_at, serial_channel, size_at, user_at, wire_at}
 use Rattle.mcal_drivers.specs.declared.drivers.Drivers.{Drivers}
 use Rattle.mcal_drivers.proofs.Levels.{pin_level, ram_word, user_word}
-use Rattle.mcal_drivers.proofs.Resting.{first_of, last_of, middle_of, second_of}
+use Rattle.mcal_drivers.proofs.Resting.{first_of, host_of, last_of, middle_of, second_of}
 use Rattle.mcal_drivers.proofs.SoundConverters.{results_few, sound_converters}
 use Rattle.mcal_drivers.proofs.SoundSerial.{array_length, channel_words, sound_serial}
 use Rattle.mcal_drivers.proofs.Stamps.{size_few}
@@ -57,15 +57,18 @@ use Rattle.mcal_system.specs.Wires.{pairs, told_by}
 use Rattle.mcal_system.specs.laws.Resting.{IsResting}
 use Rattle.mcal_system.proofs.WireTold.{words_told}
 
--- where no frame is under way the capture driver agrees with its machine
-captures_related : (u : Drivers) (chip : Chip) (w : World) (s : SystemState) → (as_one u).relates chip w [] s → IcuRepresents u.captures settled chip w s.1.0.1
+-- where no frame is under way the drivers that have a state agree with their machines
+host_related : (u : Drivers) (chip : Chip) (w : World) (s : SystemState) → (as_one u).relates chip w [] s → (host u).relates chip w [] s
 unfolding as_one
-captures_related u chip w s h = middle_of (union_of (union_of (services_driver (mcu u.clock)) (short.driver_of (wdg u.watchdog))) (union_of (services_driver (port u.pins)) (short.driver_of (gpt u.timers)))) (services_driver (pwm u.pulses)) (short.driver_of (icu u.captures)) (union_of (services_driver (converters_of u.converters.table)) (services_driver (serial_of u.serial.table))) chip w s h
+host_related u chip w s h = host_of (host u) (ports_of u.ports u.pulses u.outputs) chip w s h
+
+-- so the capture driver does
+captures_related : (u : Drivers) (chip : Chip) (w : World) (s : SystemState) → (as_one u).relates chip w [] s → IcuRepresents u.captures settled chip w s.1.0.1
+captures_related u chip w s h = middle_of (union_of (union_of (services_driver (mcu u.clock)) (short.driver_of (wdg u.watchdog))) (union_of (services_driver (port u.pins)) (short.driver_of (gpt u.timers)))) (services_driver (pwm u.pulses)) (short.driver_of (icu u.captures)) (union_of (services_driver (converters_of u.converters.table)) (services_driver (serial_of u.serial.table))) chip w s (host_related u chip w s h)
 
 -- and so do the converter driver and the serial driver
 lasts_related : (u : Drivers) (chip : Chip) (w : World) (s : SystemState) → (as_one u).relates chip w [] s → (union_of (services_driver (converters_of u.converters.table)) (services_driver (serial_of u.serial.table))).relates chip w [] s.1.1
-unfolding as_one
-lasts_related u chip w s h = last_of (union_of (union_of (services_driver (mcu u.clock)) (short.driver_of (wdg u.watchdog))) (union_of (services_driver (port u.pins)) (short.driver_of (gpt u.timers)))) (union_of (services_driver (pwm u.pulses)) (short.driver_of (icu u.captures))) (union_of (services_driver (converters_of u.converters.table)) (services_driver (serial_of u.serial.table))) chip w s h
+lasts_related u chip w s h = last_of (union_of (union_of (services_driver (mcu u.clock)) (short.driver_of (wdg u.watchdog))) (union_of (services_driver (port u.pins)) (short.driver_of (gpt u.timers)))) (union_of (services_driver (pwm u.pulses)) (short.driver_of (icu u.captures))) (union_of (services_driver (converters_of u.converters.table)) (services_driver (serial_of u.serial.table))) chip w s (host_related u chip w s h)
 
 converters_related : (u : Drivers) (chip : Chip) (w : World) (s : SystemState) → (as_one u).relates chip w [] s → AdcRepresents u.converters.table [] None chip w s.1.1.0
 converters_related u chip w s h = first_of (services_driver (converters_of u.converters.table)) (services_driver (serial_of u.serial.table)) chip w s.1.1 (lasts_related u chip w s h)

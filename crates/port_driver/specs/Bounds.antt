@@ -1,5 +1,5 @@
 -- Which calls may begin over which, the bounds of their frames, what frames may name, what stands in the pins, and what a run of the driver is over.
-use Rattle.std.specs.Prelude.{◌≡◌, ℕ, zero, suc, ◌+◌, ◌*◌, ◌/◌, ◌%◌, ◌<◌, ◌==◌, nat_lt, Bool, true, false, not, ◌&&◌, ◌||◌, sum_by, List, [], ◌∷◌, ◌++◌, map, Option, Some, None, is_some}
+use Rattle.std.specs.Prelude.{◌≡◌, ℕ, zero, suc, ◌+◌, ◌*◌, ◌/◌, ◌%◌, ◌<◌, ◌==◌, nat_lt, Bool, true, false, not, ◌&&◌, ◌||◌, sum_by, List, [], ◌∷◌, ◌++◌, length, map, Option, Some, None, is_some}
 use Rattle.std.specs.List.{filter, list_any, range_with_len}
 use Rattle.chip_units.specs.Pins as pins
 use Rattle.mcal_base.specs.Bits.{bit_of, has_bit}
@@ -61,7 +61,7 @@ steps_of d (Entered line) = 64
 abbrev pub window_of : Origin Call → ℕ
 window_of origin = 32
 
--- a register of the pins
+-- a register of the pins, also those that a guest names
 abbrev pub is_register : Reg → Bool
 is_register (PinDirectionSet half) = true
 is_register (PinDirectionClear half) = true
@@ -84,16 +84,20 @@ owns (Load k) = is_own_word k
 owns (Store k v) = is_own_word k
 owns _ = false
 
--- the move names what is the module's and is there
-abbrev pub may : Move → Bool
-may made = owns made && names_there made
+-- the move is a guest's: it puts a word to a port, or inverts a latch
+abbrev pub is_guests : Move → Bool
+is_guests (Write (PortPut q) v) = true
+is_guests (Read (PinFlip p)) = true
+is_guests _ = false
 
--- the move changes latches
+-- the move names what is the module's and is there, and isn't a guest's
+abbrev pub may : Move → Bool
+may made = owns made && (not (is_guests made) && names_there made)
+
+-- the move sets latches or clears them
 abbrev pub writes_latches : Move → Bool
 writes_latches (Write (PinOutSet half) v) = true
 writes_latches (Write (PinOutClear half) v) = true
-writes_latches (Write (PortPut q) v) = true
-writes_latches (Read (PinFlip p)) = true
 writes_latches _ = false
 
 -- the frame is of `Port_Init`
@@ -145,9 +149,9 @@ abbrev pub is_alone : Origin Call → Bool
 is_alone (Called call) = is_exclusive (class_of call).kind
 is_alone (Entered line) = false
 
--- the pins are the machine's while no such frame is under way
+-- the pins are the machine's while no such frame is under way, and the block has the latches of both halves
 abbrev pub PinsStand : pins.Pins → PortState → List (Origin Call) → Type 0
-PinsStand b s origins = list_any is_alone origins ≡ false → PinsAgree b s
+PinsStand b s origins = list_any is_alone origins ≡ false → PinsAgree b s × (length b.latches ≡ 2)
 
 -- the levels that are shown: of the configured pins by number, with the outputs of the pulse channels that name them
 abbrev pub shown_levels : PortDriver → World → PortState → (pulses : ℕ → Option Bool) → List (ℕ × Bool)

@@ -1,5 +1,6 @@
 -- Pins as the standard has them: what each call does, and the level of a pin.
-use Rattle.std.specs.Prelude.{ℕ, Bool, true, false, not, if◌then◌else◌, List, [], ◌∷◌, Option, Some, None, unwrap_or}
+use Rattle.std.specs.Prelude.{ℕ, ◌+◌, ◌/◌, ◌%◌, ◌==◌, Bool, true, false, ◌&&◌, not, if◌then◌else◌, List, [], ◌∷◌, Option, Some, None, unwrap_or}
+use Rattle.mcal_base.specs.Bits.{has_bit}
 use Rattle.mcal_base.specs.declared.config.port.PortPinDirection.{PortPinDirection}
 use Rattle.mcal_base.specs.declared.config.port.PortPinDirection.TheVariants.{In, Out}
 use Rattle.mcal_base.specs.declared.config.port.PortPinMode.{PortPinMode}
@@ -25,11 +26,13 @@ pub record PinState : Type 0 where
   pub latch : Bool
 
 -- What was done to pins: one of them became so, or each one that is configured became as it is configured, or took its
--- configured direction again.
+-- configured direction again; a word of 256 * mask + levels was put to a port, or a pin's latch was inverted.
 pub data Change : Type 0 where
   Set : (p : ℕ) → PinState → Change
   Configured : List (Option Pin) → Change
   Refreshed : List (Option Pin) → Change
+  Put : (port word : ℕ) → Change
+  Inverted : (p : ℕ) → Change
 
 -- The module: uninitialised or not, and what was done to its pins since the reset, the last first.
 pub record PortState : Type 0 where
@@ -70,6 +73,20 @@ abbrev pub changed : PinCall → PinState → PinState
 changed (SetPinDirection direction) x = record x { direction = direction }
 changed (SetPinMode m) x = with_mode m x
 
+abbrev pub is_out : PortPinDirection → Bool
+is_out In = false
+is_out Out = true
+
+-- with this latch, where it is out
+abbrev pub with_latch : Bool → PinState → PinState
+with_latch high x = if is_out x.direction then record x { latch = high } else x
+
+-- ---- ports: port q has the pins 8q to 8q + 7, the first one in bit 0
+
+-- a word that is put to a port names the pin: it is one of the port's, and its bit of the mask is one
+abbrev pub names_pin : (port word p : ℕ) → Bool
+names_pin q word p = q == p / 8 && has_bit word (8 + p % 8)
+
 -- ---- all pins
 
 -- a pin that was so, after a change
@@ -77,6 +94,8 @@ abbrev pub after_change : Change → (ℕ → PinState) → ℕ → PinState
 after_change (Set q x) f p = with_at f q x p
 after_change (Configured ks) f p = initial (numbered ks p) (f p)
 after_change (Refreshed ks) f p = refreshed (numbered ks p) (f p)
+after_change (Put q word) f p = if names_pin q word p then with_latch (has_bit word (p % 8)) (f p) else f p
+after_change (Inverted q) f p = if q == p then with_latch (not (f p).latch) (f p) else f p
 
 abbrev pub after_changes : List Change → ℕ → PinState
 after_changes [] p = untouched
@@ -91,10 +110,6 @@ abbrev pub with_change : PortState → Change → PortState
 with_change s c = record s { changes = c ∷ s.changes }
 
 -- ---- a pin's level
-
-abbrev pub is_out : PortPinDirection → Bool
-is_out In = false
-is_out Out = true
 
 -- the mode is that of the pulse outputs
 abbrev pub is_pulse : PortPinMode → Bool

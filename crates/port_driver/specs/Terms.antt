@@ -61,7 +61,7 @@ pub use Rattle.service_outline.specs.laws.{Duties.{none_on, none_unless}, Lawful
 pub use Rattle.service_outline.specs.laws.{Reports.{error_told}, Seen.{free_windows}, StepKinds.{or_true}}
 pub use Rattle.service_outline.specs.laws.{Sweep.{each_but, next_by}, Sweeping.{sweep_right}, There.{move_there}}
 pub use Rattle.service_outline.specs.laws.{Words.{fills_there, stored_same, stores_in, word_apart, word_later}}
-pub use Rattle.port_driver.specs.{Bounds.{call_steps, class_of, is_alone, is_of_init, is_own_word, is_register}}
+pub use Rattle.port_driver.specs.{Bounds.{call_steps, class_of, is_alone, is_guests, is_of_init, is_own_word, is_register}}
 pub use Rattle.port_driver.specs.{Bounds.{latch_duty, may, must_by, owns, pin_count, PinsAgree, port_may, port_setting}}
 pub use Rattle.port_driver.specs.{Bounds.{puts_latch, writes_latches}, Checks.{error_by, facts_by, has_mode, reporting}}
 pub use Rattle.port_driver.specs.{Checks.{service_of}, Machine.{acts_by, changed, first_state, happens, initial}}

@@ -1,5 +1,6 @@
 pub mod Bodies
 pub mod RefinementRight
+pub mod Guests
 pub mod Halves
 pub mod Init
 pub mod Keeps

@@ -1,7 +1,8 @@
 //! What holds of the machine of the pins, whatever the configuration and the state.
 
-ghost use Rattle.std.specs.Prelude.{◌≡◌, ◌≢◌, ◌↔◌, ℕ, true, false, Bool, List, [], Option, Some, None, IsSome};
+ghost use Rattle.std.specs.Prelude.{◌≡◌, ◌≢◌, ◌↔◌, ◌%◌, ℕ, true, false, not, Bool, List, [], Option, Some, None, IsSome};
 ghost use Rattle.std.specs.List.{Contains};
+ghost use Rattle.mcal_base.specs.Bits.{has_bit};
 ghost use Rattle.mcal_base.specs.declared.config.port.PortPin.{PortPin};
 ghost use Rattle.mcal_base.specs.declared.config.port.PortPinDirection.{PortPinDirection};
 ghost use Rattle.mcal_base.specs.declared.config.port.PortPinDirection.TheVariants.{In, Out};
@@ -12,7 +13,7 @@ ghost use Rattle.mcal_base.specs.declared.error_name.ErrorName.TheVariants.{Port
 ghost use Rattle.run_model.specs.World.{World};
 ghost use Rattle.run_model.specs.Machine.{Happening, Acts, Restarts, Outcome, ErrorLeaves, outcome, tells_nothing, no_answer};
 ghost use Rattle.port_driver.specs.Checks.{has_mode};
-ghost use Rattle.port_driver.specs.Machine.{PinState, PortState, first_state, pin_at, level_at, port_machine};
+ghost use Rattle.port_driver.specs.Machine.{PinState, PortState, Put, Inverted, first_state, names_pin, pin_at, with_change, level_at, port_machine};
 ghost use Rattle.port_driver.specs.Runs.{Occurrence, state_after, after_all, leaves_latches, is_init};
 ghost use Rattle.port_driver.specs.Table.{pin_of, taken, is_among, FitsPort};
 ghost use Rattle.port_driver.specs.declared.call.Call.{Call};
@@ -109,6 +110,23 @@ pub fn modes_of_a_pin()
 pub fn latches_change_at_init()
     ensures { (d : PortDriver) (w : World) (s : PortState) (h : Happening Call) (p : ℕ)
         → leaves_latches h ≡ true → (pin_at (state_after d w s h) p).latch ≡ (pin_at s p).latch }
+{}
+
+/// A word that is put to a port makes the latch of each of its pins that is out and whose bit of the mask is one its bit
+/// of the levels, and changes nothing else of any pin. A latch that is inverted becomes the other level where its pin is
+/// out, and nothing else of any pin changes.
+pub fn latches_that_a_guest_changes()
+    ensures put { (s : PortState) (q word p : ℕ) → names_pin q word p ≡ true → (pin_at s p).direction ≡ Out
+        → pin_at (with_change s (Put q word)) p ≡ record (pin_at s p) { latch = has_bit word (p % 8) } }
+    ensures put_inward { (s : PortState) (q word p : ℕ) → (pin_at s p).direction ≡ In
+        → pin_at (with_change s (Put q word)) p ≡ pin_at s p }
+    ensures put_elsewhere { (s : PortState) (q word p : ℕ) → names_pin q word p ≡ false
+        → pin_at (with_change s (Put q word)) p ≡ pin_at s p }
+    ensures inverted { (s : PortState) (p : ℕ) → (pin_at s p).direction ≡ Out
+        → pin_at (with_change s (Inverted p)) p ≡ record (pin_at s p) { latch = not (pin_at s p).latch } }
+    ensures inverted_inward { (s : PortState) (q p : ℕ) → (pin_at s p).direction ≡ In
+        → pin_at (with_change s (Inverted q)) p ≡ pin_at s p }
+    ensures inverted_elsewhere { (s : PortState) (q p : ℕ) → q ≢ p → pin_at (with_change s (Inverted q)) p ≡ pin_at s p }
 {}
 
 /// A pin that is in has the outside level. One that is out has the output of the pulse channel that names it, where its

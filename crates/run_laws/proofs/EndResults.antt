@@ -38,7 +38,7 @@ use Rattle.whole_runs.specs.SequenceRuns.{Seen, seen_of, sequence_of_run, is_pen
 use Rattle.whole_runs.proofs.EndsOnce.{run_agrees}
 use Rattle.whole_runs.proofs.JobOrder.{Ordered, ordered_after}
 use Rattle.whole_runs.proofs.SequenceSteps.{seen, happens_goes}
-use Rattle.run_laws.specs.Results.{EndsAs, AtCancel, AfterCancel, ByFailure, AfterAll, state_of, seen_at, cancels, is_cancel, was_cancelled, serves}
+use Rattle.run_laws.specs.Results.{EndsAs, AreEndedAs, AtCancel, AfterCancel, ByFailure, AfterAll, state_of, seen_at, cancels, is_cancel, was_cancelled, serves}
 use Rattle.run_laws.proofs.Cancels.{all_marked, seen_is}
 use Rattle.run_laws.proofs.WordStories.{story, has_failed, failed_if}
 
@@ -213,7 +213,7 @@ module _ (d : SpiTable) (e : Event Call) (past : List (Event Call)) (q : ℕ) (o
   pub ends_as : drops e.what ≡ false → EndsAs d q e past (sequence_result out.state.sequence_results q)
   ends_as drop = by_sequel e.what (find (is_of q) out.state.pending) (sequence_result out.state.sequence_results q) refl (happens_comes d here q p there e.world e.what out made drop) gone
 
-pub ends : (d : SpiTable) (e : Event Call) (past : List (Event Call)) (q : ℕ) → AreAllowed (spi_machine d) first_state (e ∷ past) → is_end q (seen_at d e past) ≡ true → EndsAs d q e past ((seen_at d e past).has q)
+ends : (d : SpiTable) (e : Event Call) (past : List (Event Call)) (q : ℕ) → AreAllowed (spi_machine d) first_state (e ∷ past) → is_end q (seen_at d e past) ≡ true → EndsAs d q e past ((seen_at d e past).has q)
 ends d e past q allowed end =
     let out = some_out ((spi_machine d).happens e.world (state_of d past) e.what) allowed.0 in
     let after : state_of d (e ∷ past) ≡ out.0.state = ap (λ o. state_by (state_of d past) o) out.1 in
@@ -224,3 +224,7 @@ ends d e past q allowed end =
     ap (λ (s : SpiState). find (is_of q) s.pending) (sym after) ∙ no_entry q (state_of d (e ∷ past)).pending (sym (run_agrees d (e ∷ past) allowed q) ∙ not-true (is_pending ((seen_at d e past).has q)) turns.1) in
     let kept = no_drop d e.world (state_of d past) e.what out.0 q p.0 out.1 (idle d past) (not-true (is_restart e.what) parts.0) p.1 gone in
     subst (λ (s : SpiState). EndsAs d q e past (sequence_result s.sequence_results q)) (sym after) (ends_as d e past q out.0 p.0 allowed.1 out.1 p.1 gone kept)
+
+pub all_ended_as : (d : SpiTable) (past : List (Event Call)) → AreAllowed (spi_machine d) first_state past → AreEndedAs d past
+all_ended_as d [] allowed = tt
+all_ended_as d (e ∷ past) allowed = (λ q end. ends d e past q allowed end, all_ended_as d past allowed.1)

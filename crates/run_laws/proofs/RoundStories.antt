@@ -28,7 +28,7 @@ use Rattle.whole_runs.proofs.GroupSteps.{seen, WaitGoes, UnitGoes, Goes}
 use Rattle.whole_runs.proofs.OneTurn.{first_single}
 use Rattle.whole_runs.proofs.RoundStates.{Tells, IsRunning, tells_after}
 use Rattle.whole_runs.proofs.TurnSteps.{Single}
-use Rattle.run_laws.specs.Rounds.{state_of, seen_at, HasNewRequest, WasFinished}
+use Rattle.run_laws.specs.Rounds.{state_of, seen_at, HasNewRequest, WasFinished, ServesRight, AreServedRight}
 
 serve_by : {A : Type 0} (b : Bool) (x out : A) → cond b (Some x) None ≡ Some out → (b ≡ true) × (x ≡ out)
 serve_by true x out e = (refl, some_is x out e)
@@ -256,7 +256,7 @@ module _ (d : AdcTable) (e : Event Call) (past : List (Event Call)) (u g : ℕ) 
   round_there : Served here u g e.what
   round_there = served_of d e.world here e.what made.0 u g (ap (λ (v : Seen). serves_on u g v) (sym (seen_is d e past made.0 made.1)) ∙ serve)
 
-  pub one_request : g < 16 → is_continuous (group_of d g) ≡ false → HasNewRequest g (seen_of d past)
+  one_request : g < 16 → is_continuous (group_of d g) ≡ false → HasNewRequest g (seen_of d past)
   one_request lt once = (said d past allowed.1).1.runs g lt once u round_there.round round_there.there round_there.own
 
   unit_done : (b c : Bool) (line : ℕ) → (b && cond (is_unit_line line) (is_done d e.world (round_at here (line - 24))) c) ≡ true → is_unit_line line ≡ true → is_done d e.world (round_at here (line - 24)) ≡ true
@@ -272,10 +272,14 @@ module _ (d : AdcTable) (e : Event Call) (past : List (Event Call)) (u g : ℕ) 
   at_most : (a b : ℕ) → nat_le a b ≡ true → a ≤ b
   at_most a b f = grind (arith, nat_tests)
 
-  pub finished : WasFinished d g (seen_at d e past) (seen_of d past)
+  finished : WasFinished d g (seen_at d e past) (seen_of d past)
   finished =
       let x = round_there in
       let run : IsRunning d u x.round (seen_of d past) = (said d past allowed.1).0.running u x.round x.there in
       let over : finish_of (group_of d x.round.group) x.round ≤ e.world.now = at_most (finish_of (group_of d x.round.group) x.round) e.world.now done in
       subst (λ i. serves_on u i (seen_at d e past) ≡ true → WasFinished d i (seen_at d e past) (seen_of d past)) x.own
       (λ serve_so. record { unit = u; earlier = run.earlier; start = run.start; kept = x.round.request.kept; served = serve_so; stretch = run.stretch; keeps = run.stood; finished = omega (arith, over, run.at) }) serve
+
+pub all_served_right : (d : AdcTable) (past : List (Event Call)) → AreAllowed (adc_machine d) first_state past → AreServedRight d past
+all_served_right d [] allowed = tt
+all_served_right d (e ∷ past) allowed = (record { one = λ u g lt once serve. one_request d e past u g allowed serve lt once; finished = λ u g serve. finished d e past u g allowed serve }, all_served_right d past allowed.1)

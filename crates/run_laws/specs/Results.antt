@@ -17,7 +17,7 @@ use Rattle.spi_machine.specs.declared.call.SequenceCall.TheVariants.{Cancel}
 use Rattle.spi_machine.specs.declared.table.SpiTable.{SpiTable}
 use Rattle.serial_laws.specs.Faults.{begins_on, is_unit}
 use Rattle.whole_runs.specs.Runs.{Event, state_after, told_by, NoneOf}
-use Rattle.whole_runs.specs.SequenceRuns.{Seen, seen_between, seen_of, begins_by, accepts, ends_job, jobs_ended}
+use Rattle.whole_runs.specs.SequenceRuns.{Seen, seen_between, seen_of, begins_by, accepts, is_end, ends_job, jobs_ended}
 
 -- the state after these events, and what the next one is seen to be there
 abbrev pub state_of : SpiTable → List (Event Call) → SpiState
@@ -101,3 +101,8 @@ pub data EndsAs (d : SpiTable) (q : ℕ) (e : Event Call) (past : List (Event Ca
   -- its last job ends by a good word
   AfterAll : was_cancelled q (seen_of d past) ≡ false → ends_job q (seen_at d e past) ≡ true → length (jobs_of d q) ≤ suc (jobs_ended q (seen_of d past))
       → (u : ℕ) → serves u e.what ≡ true → (x : WordSince d u past) → (HasFailed x → ⊥) → EndsAs d q e past SpiSeqOk
+
+-- each end of a sequence gives the result that the events before it say
+abbrev pub AreEndedAs : SpiTable → List (Event Call) → Type 0
+AreEndedAs d [] = Unit {0}
+AreEndedAs d (e ∷ past) = ((q : ℕ) → is_end q (seen_at d e past) ≡ true → EndsAs d q e past ((seen_at d e past).has q)) × AreEndedAs d past

@@ -1,10 +1,12 @@
 -- Rounds that are served, by the events of a run. Every list of events has the newest first.
-use Rattle.std.specs.Prelude.{◌≡◌, ℕ, ◌+◌, ◌*◌, ◌≤◌, true, List, ◌∷◌, ◌++◌, length}
+use Rattle.std.specs.Prelude.{◌≡◌, ℕ, ◌+◌, ◌*◌, ◌<◌, ◌≤◌, true, false, List, [], ◌∷◌, ◌++◌, length}
+use Rattle.adc_machine.specs.Groups.{is_continuous}
 use Rattle.adc_machine.specs.Machine.{adc_machine}
+use Rattle.adc_machine.specs.Table.{group_of}
 use Rattle.adc_machine.specs.Turns.{AdcState, first_state}
 use Rattle.adc_machine.specs.declared.call.Call.{Call}
 use Rattle.adc_machine.specs.declared.table.AdcTable.{AdcTable}
-use Rattle.whole_runs.specs.GroupRuns.{Seen, seen_between, stops, requests, serves, serves_on}
+use Rattle.whole_runs.specs.GroupRuns.{Seen, seen_between, seen_of, stops, requests, serves, serves_on}
 use Rattle.whole_runs.specs.Rounds.{Stretch, Keeps, inputs_after}
 use Rattle.whole_runs.specs.Runs.{Event, state_after, told_by, NoneOf}
 
@@ -35,3 +37,12 @@ pub record WasFinished (d : AdcTable) (g : ℕ) (serving : Seen) (past : List Se
   pub stretch : Stretch unit g past earlier start
   pub keeps : Keeps d g earlier kept
   pub finished : start.world.now + 4 * length (inputs_after d g (length kept)) ≤ serving.world.now
+
+-- What an event serves: of a group that isn't continuous one round for its request, and of each group a round that was finished.
+pub record ServesRight (d : AdcTable) (e : Event Call) (past : List (Event Call)) : Type 0 where
+  pub one : (u g : ℕ) → g < 16 → is_continuous (group_of d g) ≡ false → serves_on u g (seen_at d e past) ≡ true → HasNewRequest g (seen_of d past)
+  pub finished : (u g : ℕ) → serves_on u g (seen_at d e past) ≡ true → WasFinished d g (seen_at d e past) (seen_of d past)
+
+abbrev pub AreServedRight : AdcTable → List (Event Call) → Type 0
+AreServedRight d [] = Unit {0}
+AreServedRight d (e ∷ past) = ServesRight d e past × AreServedRight d past

@@ -1,6 +1,6 @@
 //! Which result an end gives.
 
-ghost use Rattle.std.specs.Prelude.{◌≡◌, ◌≢◌, ◌∷◌, ℕ, true, List};
+ghost use Rattle.std.specs.Prelude.{◌≢◌, ℕ, List};
 ghost use Rattle.mcal_base.specs.declared.answer_name.AnswerName.TheVariants.{SpiJobFailed};
 ghost use Rattle.spi_machine.specs.Machine.{spi_machine};
 ghost use Rattle.spi_machine.specs.Pending.{job_result};
@@ -8,17 +8,14 @@ ghost use Rattle.spi_machine.specs.State.{first_state};
 ghost use Rattle.spi_machine.specs.declared.call.Call.{Call};
 ghost use Rattle.spi_machine.specs.declared.table.SpiTable.{SpiTable};
 ghost use Rattle.whole_runs.specs.Runs.{Event, AreAllowed, NoneOf};
-ghost use Rattle.whole_runs.specs.SequenceRuns.{is_end};
-ghost use Rattle.run_laws.specs.Results.{EndsAs, seen_at, state_of, can_fail};
+ghost use Rattle.run_laws.specs.Results.{AreEndedAs, state_of, can_fail};
 
-/// In every run an end gives the result that the events say. It is cancelled where a cancel came since the request, at
+/// In every run each end gives the result that the events say. It is cancelled where a cancel came since the request, at
 /// that cancel or as its running job ends. Else it ends as its own job ends: failed where that job's word had failed, by
 /// a refused exchange as it began or a fault of its unit's wire before it was done; and OK where the word hadn't, and no
 /// further job of it is there.
 pub fn ends_by_their_events()
-    ensures { (d : SpiTable) (e : Event Call) (past : List (Event Call)) (q : ℕ)
-        → AreAllowed (spi_machine d) first_state (e ∷ past) → is_end q (seen_at d e past) ≡ true
-        → EndsAs d q e past ((seen_at d e past).has q) }
+    ensures { (d : SpiTable) (past : List (Event Call)) → AreAllowed (spi_machine d) first_state past → AreEndedAs d past }
 {}
 
 /// In every run in which no exchange was refused and no fault met a wire no job has failed.

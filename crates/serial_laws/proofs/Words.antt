@@ -121,7 +121,7 @@ cancelled_units : (d : SpiTable) (s : SpiState) (o : Option Pending) → (cancel
 cancelled_units d s None = refl
 cancelled_units d s (Some p) = cancelled_by_units d s p (is_running s p.sequence)
 
-acts_units : (d : SpiTable) (s : SpiState) (call : Call) (e : Option ErrorName) → not (is_init call) ≡ true → (acts_by d s call e).state.units ≡ s.units
+pub acts_units : (d : SpiTable) (s : SpiState) (call : Call) (e : Option ErrorName) → not (is_init call) ≡ true → (acts_by d s call e).state.units ≡ s.units
 acts_units d s call (Some e) left = refl
 acts_units d s Init None left = absurd (cc left)
 acts_units d s DeInit None left = unless_units (is_busy s) s (record s { mode = Off }) refl
@@ -160,11 +160,11 @@ served_other d w s None received o u left = refl
 served_other d w s (Some v) received None u left = refl
 served_other d w s (Some v) received (Some r) u left = served_by_other d w s v received r (goes_on r) u (not_that v u left)
 
-serves_other : (d : SpiTable) (w : World) (s : SpiState) (line received u : ℕ) (b : Bool) → not (is_unit u (unit_of line)) ≡ true → run_at (state_by s (if b then Some (served d w s (unit_of line) received (run_of s (unit_of line))) else None)) u ≡ run_at s u
+pub serves_other : (d : SpiTable) (w : World) (s : SpiState) (line received u : ℕ) (b : Bool) → not (is_unit u (unit_of line)) ≡ true → run_at (state_by s (if b then Some (served d w s (unit_of line) received (run_of s (unit_of line))) else None)) u ≡ run_at s u
 serves_other d w s line received u true left = served_other d w s (unit_of line) received (run_of s (unit_of line)) u left
 serves_other d w s line received u false left = refl
 
-starts_other : (d : SpiTable) (w : World) (s : SpiState) (k : Option ℕ) (received : ℕ) (o : Option Pending) (u : ℕ) → not (is_unit u k) ≡ true → run_at (state_by s (start_by d w s k received o)) u ≡ run_at s u
+pub starts_other : (d : SpiTable) (w : World) (s : SpiState) (k : Option ℕ) (received : ℕ) (o : Option Pending) (u : ℕ) → not (is_unit u k) ≡ true → run_at (state_by s (start_by d w s k received o)) u ≡ run_at s u
 starts_other d w s None received o u left = refl
 starts_other d w s (Some v) received None u left = refl
 starts_other d w s (Some v) received (Some p) u left = item-other None s.units v u _ (not_that v u left)

@@ -1,3 +1,4 @@
+pub mod Alone
 pub mod Buffers
 pub mod Ends
 pub mod Faults

@@ -4,8 +4,7 @@ ghost use Rattle.bench_report.specs.Rows.{Row};
 ghost use Rattle.bench_report.specs.Shown.{kept, texts_of};
 ghost use Rattle.config_facts.specs.Valid.{IsValid};
 ghost use Rattle.mcal_config.specs.Whole.{record_of};
-ghost use Rattle.mcal_system.specs.Setting.{has_service};
-ghost use Rattle.script_runner.specs.Scripts.{AllOffered, IsScript};
+ghost use Rattle.script_runner.specs.Scripts.{IsScript};
 ghost use Rattle.sweep_top.specs.Reported.{IsReported, IsReportedOn};
 
 use crate::may_run::may_run;
@@ -48,10 +47,10 @@ fn told(alloc: Global, script: &[Directive], ran: &Ran) -> Result<String, Stop>
 }
 
 /// Runs a script from power on over a configuration.
+#[tactic(auto, using(bench_top::proofs::Scripts::may_ask))]
 fn run_on(alloc: Global, config: Config, script: &[Directive], named: bool) -> Result<Seen, Stop>
     requires valid { IsValid config }
     requires script { IsScript script.now }
-    requires offered { AllOffered has_service script.now }
     ensures { IfOk result (λ seen. IsReportedOn config script.now seen) }
 {
     let mut rack: Vec<Box<dyn SerialDevice>> = Vec::new(alloc);

@@ -18,6 +18,7 @@ use Rattle.run_model.specs.declared.item.Stepped.{Stepped}
 use Rattle.step_runner.specs.Union.{first_call, second_call, union_setting, lift_out, in_both, in_first}
 use Rattle.step_runner.specs.declared.either.Either.{Either}
 use Rattle.step_runner.specs.declared.either.Either.TheVariants.{Left, Right}
+use Rattle.guest_runner.specs.Guest.{Guest, guest_happens, guest_setting}
 use Rattle.bench_report.specs.Numbers.{IsNumber, Each}
 use Rattle.bench_report.specs.Rows.{Row}
 use Rattle.bench_report.specs.Showing.{Showing, item_rows, shows_from}
@@ -68,6 +69,21 @@ module _ {S T : Type 0} (P : S → Type 0) (Q : T → Type 0) where
 
     pub keeps_both : Keeps (union_setting ours g h) Both
     keeps_both = record { first = (a.first, b.first); stays = both_stay }
+
+-- ---- with a guest, whose calls keep it too
+
+module _ {S C D G : Type 0} (P : S → Type 0) (h : Setting S C) (g : Guest S D G) (keeps : Keeps h P) (calls : (w : World) (s : S) (c : D) → P s → P (g.does w s c).state) where
+  guest_stays : (w : World) (s : S) (x : Happening (Either C D)) → WorldFits w → HappeningFits x → P s → P (state_by s (guest_happens h.machine g w s x))
+  guest_stays w s (Acts (Left c) times) v f k = keeps.stays w s (Acts c times) v f k
+  guest_stays w s (Acts (Right c) times) v f k = calls w s c k
+  guest_stays w s (Serves l r) v f k = keeps.stays w s (Serves l r) v f k
+  guest_stays w s (Starts u made_by r) v f k = keeps.stays w s (Starts u (first_call made_by) r) v f k
+  guest_stays w s (Aborts u) v f k = keeps.stays w s (Aborts u) v f k
+  guest_stays w s (Moves order) v f k = keeps.stays w s (Moves order) v f k
+  guest_stays w s (Restarts reason) v f k = keeps.stays w s (Restarts reason) v f k
+
+  pub keeps_guest : Keeps (guest_setting h g) P
+  keeps_guest = record { first = keeps.first; stays = guest_stays }
 
 -- ---- what a run brings
 

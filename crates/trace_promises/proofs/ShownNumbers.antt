@@ -12,6 +12,7 @@ use Rattle.run_model.specs.Moment.{Setting, start_moment}
 use Rattle.run_model.specs.World.{World}
 use Rattle.script_runner.specs.Scripts.{chip_for}
 use Rattle.mcu_driver.specs.Table as clock_table
+use Rattle.pwm_driver.specs.Table as pulse_table
 use Rattle.icu_driver.specs.Table as capture_table
 use Rattle.adc_machine.specs.Machine.{chosen_buffer}
 use Rattle.adc_machine.specs.Table as converter_table
@@ -22,12 +23,18 @@ use Rattle.spi_jobs.specs.declared.channel.Channel.{Channel}
 use Rattle.spi_machine.specs.Numbered.{word_at}
 use Rattle.spi_machine.specs.State.{channel_at, internal_word, wire_at}
 use Rattle.spi_machine.specs.Table as serial_table
+use Rattle.chip_model.specs.Wiring.{wiring_of}
+use Rattle.dio_driver.specs.Machine.{does_by}
+use Rattle.dio_driver.specs.Table as port_table
+use Rattle.dio_driver.specs.declared.access.PortPins.{PortPins}
+use Rattle.dio_driver.specs.declared.call.Call as port_calls
+use Rattle.dio_driver.specs.declared.call.Call.TheVariants as port_call
 use Rattle.bench_report.specs.Numbers.{IsNumber, Each}
 use Rattle.bench_report.specs.Rows.{Row}
 use Rattle.bench_report.specs.declared.rows.RowName.{RowName}
 use Rattle.bench_report.specs.declared.rows.RowName.TheVariants as names
 use Rattle.bench_report.specs.declared.rows.Value.TheVariants as values
-use Rattle.mcal_system.specs.Setting.{SystemState, clock_setting, watchdog_setting, pin_setting, timer_setting, pulse_setting, capture_setting, converter_setting, serial_setting, joined, system_setting, call_of}
+use Rattle.mcal_system.specs.Setting.{SystemState, clock_setting, watchdog_setting, pin_setting, timer_setting, pulse_setting, capture_setting, converter_setting, serial_setting, joined, host_pins, host_setting, port_guest, system_setting, call_of}
 use Rattle.mcal_system.specs.Shows.{level_at, ram_at, size_at, stamp_at, buffer_of, result_at, results_at, serial_channel}
 use Rattle.bench_top.specs.Runs.{shows_of}
 use Rattle.bench_top.specs.Shows.{level_value, has_pin, level_row, pin_row, section_rows, stamps_row, stamps_rows, results_row, result_rows, channel_rows, serial_rows, wire_row, show_rows}
@@ -40,7 +47,7 @@ use Rattle.trace_promises.proofs.CaptureNumbers.{captures_keep, stamp_fits}
 use Rattle.trace_promises.proofs.ClockNumbers.{small_sections, clock_keeps, ram_fits}
 use Rattle.trace_promises.proofs.ConverterNumbers.{converter_keeps, value_fits}
 use Rattle.trace_promises.proofs.Lists.{chosen}
-use Rattle.trace_promises.proofs.Kept.{keeps_nothing, keeps_both, shows_right}
+use Rattle.trace_promises.proofs.Kept.{keeps_nothing, keeps_both, keeps_guest, shows_right}
 use Rattle.trace_promises.proofs.SerialNumbers.{small_channels, serial_keeps, source_fits, destination_fits, internal_fits, wire_fits}
 
 -- ---- lists
@@ -119,6 +126,17 @@ rows_fit c v w s Wire h = (wire_row_fits s 0 (omega arith) h.3, (wire_row_fits s
 keeps_two : {S T C D : Type 0} {P : S → Type 0} {Q : T → Type 0} (g : Setting S C) (h : Setting T D) → Keeps g P → Keeps h Q → Keeps (joined g h) (λ s. P s.0 × Q s.1)
 keeps_two {P = P} {Q = Q} g h a b = keeps_both P Q g.used g h a b
 
+-- what channels and ports make of a state has its numbers still
+port_fits : (c : Config) (w : World) (s : SystemState) (call : port_calls.Call) (pins : Option PortPins) → StateFits s → StateFits (does_by (host_pins (pulse_table.driver_of c.pwm) (wiring_of c).outputs) w s call pins).state
+port_fits c w s call None k = k
+port_fits c w s (port_call.ReadChannel n) (Some pins) k = k
+port_fits c w s (port_call.WriteChannel n high) (Some pins) k = k
+port_fits c w s (port_call.FlipChannel n) (Some pins) k = k
+port_fits c w s (port_call.ReadPort n) (Some pins) k = k
+port_fits c w s (port_call.WritePort n value) (Some pins) k = k
+port_fits c w s (port_call.ReadChannelGroup n) (Some pins) k = k
+port_fits c w s (port_call.WriteChannelGroup n value) (Some pins) k = k
+
 state_keeps : (c : Config) → ConfigFits c → Keeps (system_setting c) StateFits
 unfolding system_setting
 state_keeps c v =
@@ -133,10 +151,11 @@ state_keeps c v =
     let firsts = keeps_two watched timed (keeps_two (clock_setting c) (watchdog_setting c) clock (keeps_nothing (watchdog_setting c))) (keeps_nothing timed) in
     let seconds = keeps_two pulsed carried (keeps_two (pulse_setting c) (capture_setting c) (keeps_nothing (pulse_setting c)) captures) (keeps_two (converter_setting c) (serial_setting c) converter serial) in
     let kept = keeps_two (joined watched timed) (joined pulsed carried) firsts seconds in
-    record {
+    let host : Keeps (host_setting c) StateFits = record {
       first = (kept.first.0.0.0, kept.first.1.0.1, kept.first.1.1.0, kept.first.1.1.1);
       stays = λ w s h v f k. let x = kept.stays w s h v f (((k.0, tt), tt), ((tt, k.1), (k.2, k.3))) in (x.0.0.0, x.1.0.1, x.1.1.0, x.1.1.1);
-    }
+    } in
+    keeps_guest StateFits (host_setting c) (port_guest c) host (λ w s call k. port_fits c w s call (port_table.pins_of (port_table.driver_of c.port c.dio) call) k)
 
 -- what is shown of a run has numbers of 32 bits
 pub shows_fit : (devices : ℕ) (c : Config) (script : List Directive) (es : List Entry) → ConfigFits c → Each BringsNumbers es → Each RowsFit (shows_of devices c script es)

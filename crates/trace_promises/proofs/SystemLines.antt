@@ -6,7 +6,11 @@ use Rattle.plain_facts.specs.Numbers.{lt_is}
 use Rattle.mcal_base.specs.declared.config.whole.Config.{Config}
 use Rattle.run_model.specs.Legal.{has_line}
 use Rattle.run_model.specs.Moment.{Setting}
-use Rattle.mcal_system.specs.Setting.{clock_setting, watchdog_setting, pin_setting, timer_setting, pulse_setting, capture_setting, converter_setting, serial_setting, joined, system_setting}
+use Rattle.run_model.specs.World.{World}
+use Rattle.step_runner.specs.declared.either.Either.{Either}
+use Rattle.step_runner.specs.declared.either.Either.TheVariants.{Left, Right}
+use Rattle.guest_runner.specs.Guest.{Guest, guest_setting}
+use Rattle.mcal_system.specs.Setting.{clock_setting, watchdog_setting, pin_setting, timer_setting, pulse_setting, capture_setting, converter_setting, serial_setting, joined, host_setting, port_guest, system_setting}
 use Rattle.gpt_driver.specs.Table as timer_table
 use Rattle.pwm_driver.specs.Table as pulse_table
 use Rattle.icu_driver.specs.Table as capture_table
@@ -117,6 +121,15 @@ serial_lines c = record {
 both : {S T C D : Type 0} (g : Setting S C) (h : Setting T D) → HasLines g → HasLines h → HasLines (joined g h)
 both g h a b = union_lines g.used g h a b
 
+-- with a guest, which has none
+module _ {S C D G : Type 0} (h : Setting S C) (g : Guest S D G) (lines : HasLines h) where
+  polled_too : (w : World) (s : S) (call : Either C D) (line : ℕ) → has_line ((guest_setting h g).machine.polls w s call) line ≡ true → line < 32
+  polled_too w s (Left x) line e = lines.polled w s x line e
+  polled_too w s (Right y) line e = absurd (cc)
+
+  with_guest : HasLines (guest_setting h g)
+  with_guest = record { used = lines.used; polled = polled_too }
+
 pub system_lines : (c : Config) → HasLines (system_setting c)
 unfolding system_setting
 system_lines c =
@@ -126,4 +139,4 @@ system_lines c =
     let watched = joined (clock_setting c) (watchdog_setting c) in
     let firsts = both watched timed (both (clock_setting c) (watchdog_setting c) (clock_lines c) (watchdog_lines c)) (both (pin_setting c) (timer_setting c) (pin_lines c) (timer_lines c)) in
     let seconds = both pulsed carried (both (pulse_setting c) (capture_setting c) (pulse_lines c) (capture_lines c)) (both (converter_setting c) (serial_setting c) (converter_lines c) (serial_lines c)) in
-    both (joined watched timed) (joined pulsed carried) firsts seconds
+    with_guest (host_setting c) (port_guest c) (both (joined watched timed) (joined pulsed carried) firsts seconds)

@@ -3,7 +3,7 @@ pub mod Table
 pub mod Checks
 pub mod Machine
 pub mod Bounds
-pub mod Ground
+pub mod Refinement
 pub mod Requests
 pub mod Fits
 pub mod laws

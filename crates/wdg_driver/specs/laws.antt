@@ -1,4 +1,4 @@
-pub mod Ground
+pub mod RefinementRight
 pub mod Body
 pub mod Look
 pub mod Keeps

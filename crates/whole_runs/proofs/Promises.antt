@@ -44,7 +44,7 @@ pub journal_says : {State Call : Type 0} (g : Setting State Call) (chip : Chip) 
 journal_says g chip ds legal = frames_say g (start_moment g chip) ds refl legal
 
 -- the part of a journal is a run of the part
-part_allowed : {S C U E : Type 0} (small : Machine S C) (first : S) (g : Setting U E) (p : Place S C U E) → IsPart small g.machine p → p.part g.first ≡ first → (chip : Chip) (ds : List (Transition E))
+pub part_allowed : {S C U E : Type 0} (small : Machine S C) (first : S) (g : Setting U E) (p : Place S C U E) → IsPart small g.machine p → p.part g.first ≡ first → (chip : Chip) (ds : List (Transition E))
     → IsLegal g (start_moment g chip) ds → AreAllowed small first (part_events g p chip ds)
 part_allowed small first g p is same chip ds legal =
     subst (λ s. AreAllowed small s (part_events g p chip ds)) same (part_runs small g.machine g.first p is (journal_events g chip ds) (journal_allowed g chip ds legal)).1

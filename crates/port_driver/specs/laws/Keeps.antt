@@ -3,7 +3,7 @@
 -- Used by mcal_drivers: proofs/Joining.
 use Rattle.std.proofs.Common.{◌≡◌, ◌&&◌, ◌||◌, if◌then◌else◌}
 use Rattle.port_driver.specs.Terms
-use Terms.{and_first, arith, EnableClear, EnableSet, false, is_of, is_of_init, is_own_word, is_register, KeepsTo, Load}
+use Terms.{and_first, arith, EnableClear, EnableSet, false, is_guests, is_of, is_of_init, is_own_word, is_register, KeepsTo, Load}
 use Terms.{may, module_of_register, module_of_word, Move, names_there, NamesOthers, NamesWithin, nat_lt, nat_tests, not}
 use Terms.{not-unless, only, owns, PinDirectionClear, PinDirectionSet, PinFlip, PinMode, PinOutClear, PinOutSet, Port}
 use Terms.{PortDriver, PortPut, Read, refl, Reg, services_driver, Store, true, Write, writes_latches, WritesOthers}
@@ -53,7 +53,7 @@ others _ h = refl
 -- it is the pins' alone
 pub keeps_pins : (d : PortDriver) → KeepsTo (only Port) (services_driver (port d))
 keeps_pins d = record {
-  may = λ o made h. within made (and_first (owns made) (names_there made) (and_first (may made) (is_of_init o || not (writes_latches made)) h));
+  may = λ o made h. within made (and_first (owns made) (not (is_guests made) && names_there made) (and_first (may made) (is_of_init o || not (writes_latches made)) h));
   owns = λ o made h. others made h;
   handlers = λ l h. cc;
   polls = λ w s c. refl;

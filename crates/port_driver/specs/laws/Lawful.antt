@@ -1,12 +1,12 @@
 -- The driver of the pins, as the outline and the runner see it, and that it is lawful.
 -- From Look, Init, Latches, Refresh, Bodies and 3 more.
 -- Used by frames/rt, mcal_drivers: Laws, caller/rt, Keeps, mcal_system: proofs/Resting and 2 more.
-use Rattle.std.proofs.Common.{◌≡◌, ◌+◌, ◌≤◌, ◌==◌, ◌||◌, [], ◌∷◌, ◌∙◌}
+use Rattle.std.proofs.Common.{◌≡◌, ◌+◌, ◌≤◌, ◌==◌, ◌&&◌, ◌||◌, [], ◌∷◌, ◌∙◌}
 use Rattle.port_driver.specs.Terms
 use Terms.{Act, acts_by, AllLet, AllMade, Alone, and_first, ap, AreLong, AreServices, arith, Asked, asks_reset}
 use Terms.{AssertedAt, At, Beside, blocks, both, both_right, Call, call_steps, Called, CaptureCountHigh}
 use Terms.{CaptureTimeHigh, Chip, class_of, Closes, configured, Decides, Done, error_by, error_told, ErrorName, false}
-use Terms.{First, FitsPort, Follows, FrameHistory, free_windows, Goes, HeldRight, Init, InitDone, Is_alone, is_of_init}
+use Terms.{First, FitsPort, Follows, FrameHistory, free_windows, Goes, HeldRight, Init, InitDone, Is_alone, is_guests, is_of_init}
 use Terms.{Is_this_frame, is_windowed, IsLawful, List, Load, LongBodies, MadeUnless, MakesWrites, mark_of, may, Move}
 use Terms.{must_by, names_there, nat_lt, no_answer, no_units, None, none_on, none_unless, not, Open, Opens, Option}
 use Terms.{Origin, outcome, owns, Place, Plain, port_basis, port_machine, port_setting, PortDriver, PortRepresents}
@@ -149,7 +149,7 @@ module _ (d : PortDriver) where
   port_right = record {
     basis = basis_right d;
     bodies = bodies_right;
-    windows = free_windows (port d) bodies_right (λ k. refl) (λ o made h. no_windows made (and_first (owns made) (names_there made) (and_first (may made) (is_of_init o || not (writes_latches made)) h)));
+    windows = free_windows (port d) bodies_right (λ k. refl) (λ o made h. no_windows made (and_first (owns made) (not (is_guests made) && names_there made) (and_first (may made) (is_of_init o || not (writes_latches made)) h)));
     unseen = λ below chip w s k c h. tt;
     writes = port_writes;
     starts = no_units (port d) (λ w s line. refl);

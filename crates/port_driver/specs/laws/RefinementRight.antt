@@ -6,8 +6,8 @@ use Rattle.port_driver.specs.Terms
 use Terms.{Acts, acts_by, Adc, after_read, all-step, and_parts, ap, arith, begins_word, bit_of, Bool, Call, Called}
 use Terms.{CaptureCountLow, CaptureTimeLow, Chip, chip_after, ConverterAbort, Dio, Directions, DirectionsAgree}
 use Terms.{error_by, ErrorLeaves, ErrorName, false, fills_there, first_state, Fixed, FrameHistory, get_or-replicate}
-use Terms.{happened, happens, Hardware, has_bit, has_bit-zero, HasAll, HeldRight, Icu, Init, is_alone, is_masked}
-use Terms.{is_of_init, is_out, is_own_word, is_register, is_shared, IsBasis, IsWhole, LatchesAgree, length-replicate}
+use Terms.{happened, happens, Hardware, has_bit, has_bit-zero, HasAll, HeldRight, Icu, Init, is_alone, is_guests, is_masked}
+use Terms.{is_of_init, is_out, is_own_word, is_register, is_shared, IsBasis, IsWhole, LatchesAgree, length, length-replicate}
 use Terms.{Level, level_leaves, Levels, list_any, Load, lt_zero, Made, may, mode_number, ModesAgree, Move, move_there}
 use Terms.{names_there, nat_lt, nat_tests, None, not, Option, Order, Origin, Outcome, outcome, owners, owns, past_wrote}
 use Terms.{Pin, pin_at, pin_of, PinDirectionClear, PinDirectionSet, PinFlip, PinMode, PinOutClear, PinOutSet, PinsAgree}
@@ -156,8 +156,8 @@ pins_agree d chip w s h p lt = record {
 }
 
 -- what holds something is alone
-pins_stand : (d : PortDriver) (held : Reservations) (chip : Chip) (w : World) (s : PortState) → PortRepresents d held 0 chip w s → list_any is_alone (owners held) ≡ false → PinsAgree chip.pins s
-pins_stand d [] chip w s h none = pins_agree d chip w s h
+pins_stand : (d : PortDriver) (held : Reservations) (chip : Chip) (w : World) (s : PortState) → PortRepresents d held 0 chip w s → list_any is_alone (owners held) ≡ false → PinsAgree chip.pins s × (length chip.pins.latches ≡ 2)
+pins_stand d [] chip w s h none = (pins_agree d chip w s h, h.whole.latches)
 pins_stand d (x ∷ xs) chip w s h none = absurd (let f : is_alone x.by || list_any is_alone (owners xs) ≡ true = ap (λ (o : Origin Call). is_alone o || list_any is_alone (owners xs)) h.right.0 in cc)
 
 -- a move that the frame may make is one of the module's
@@ -171,9 +171,9 @@ basis_right d = record {
   resets = λ held n chip w s reason h. (outcome first_state tells_nothing, refl, reset_agrees d chip w reason h.all);
   agrees_later = λ held n chip w s order come shut h. later_agrees d held n chip w s order (all-step chip (Hardware order) (fills_there (port_setting d) (is_masked chip) w s come.frames order come.free) h.all) h;
   agrees_apart = λ held chip w s made received e h. apart_agrees d held 0 chip w s made received (e (Called Init)) h;
-  may_owns = λ o made e. (and_parts (owns made) (names_there made) (may_of o made e)).0;
+  may_owns = λ o made e. (and_parts (owns made) (not (is_guests made) && names_there made) (may_of o made e)).0;
   owns_plain = λ o made e. plain made e;
-  may_there = λ o made e. move_there made (and_parts (owns made) (names_there made) (may_of o made e)).1;
+  may_there = λ o made e. move_there made (and_parts (not (is_guests made)) (names_there made) (and_parts (owns made) (not (is_guests made) && names_there made) (may_of o made e)).1).1;
   enables = λ o bits line e other. absurd (cc);
   loads = λ origin value h. h;
   watched = λ held gap chip w s has osc h. cc;
@@ -192,7 +192,7 @@ basis_right d = record {
   count_happens = λ w s h out e. omega arith;
   count_moves = λ w s order out e. omega arith;
   count_resets = λ w s reason out e. omega arith;
-  rated = Steady (λ chip o made received e. rate-left chip made received (steady made (and_parts (owns made) (names_there made) (may_of o made e)).0)) (λ w s h out e. refl);
+  rated = Steady (λ chip o made received e. rate-left chip made received (steady made (and_parts (owns made) (not (is_guests made) && names_there made) (may_of o made e)).0)) (λ w s h out e. refl);
   rate_starts = refl;
   rate_moves = λ w s order out e. refl;
   rate_resets = λ chip w s reason out e. refl;

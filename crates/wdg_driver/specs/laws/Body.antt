@@ -24,7 +24,7 @@ use Rattle.service_outline.specs.laws.Acts.{never_clean}
 use Rattle.service_outline.specs.laws.Words.{stored_same, stored_other}
 use Rattle.wdg_driver.specs.Bounds.{may}
 use Rattle.wdg_driver.specs.Checks.{error_by}
-use Rattle.wdg_driver.specs.Ground.{Lag, settled, both_behind, timeout_behind, WatchAgrees, WdgAgrees, wdg_ground}
+use Rattle.wdg_driver.specs.Refinement.{Lag, settled, both_behind, timeout_behind, WatchRepresents, WdgRepresents, wdg_ground}
 use Rattle.wdg_driver.specs.Machine.{WdgState, started, set_mode, acts_by, acts}
 use Rattle.wdg_driver.specs.Table.{allows}
 use Rattle.wdg_driver.specs.Words.{mode_word, state_word, narrow, load_of}
@@ -37,7 +37,7 @@ use Rattle.wdg_driver.specs.declared.service.WdgBody.{WdgBody}
 use Rattle.wdg_driver.specs.declared.service.WdgBody.TheVariants.{Look, Start, KeepMode, KeepTimeout}
 use Rattle.wdg_driver.specs.declared.timing.Timing.{Timing}
 use Rattle.wdg_driver.specs.declared.words.TheConstants.{STATE, TIMEOUT}
-use Rattle.wdg_driver.specs.laws.Ground.{loaded_agrees}
+use Rattle.wdg_driver.specs.laws.RefinementRight.{loaded_agrees}
 
 -- what a call answers that has started the watchdog
 abbrev pub answer_of : Says → Answer
@@ -105,16 +105,16 @@ narrow_is n lt = ap (λ q. if q then n else 0) (lt-ltb n 65536 lt)
 -- ---- what the moves leave
 
 -- the watchdog starts: the words are behind
-loaded_now : (chip : Chip) (w : World) (s : WdgState) (x : Timing) → x.timeout < 65536 → WdgAgrees settled chip w s → WdgAgrees both_behind (chip_after chip (Write WatchdogLoad (load_of x)) 0) w (started w x.mode x.timeout)
+loaded_now : (chip : Chip) (w : World) (s : WdgState) (x : Timing) → x.timeout < 65536 → WdgRepresents settled chip w s → WdgRepresents both_behind (chip_after chip (Write WatchdogLoad (load_of x)) 0) w (started w x.mode x.timeout)
 loaded_now chip w s x few h = record {
   outside = stands-move chip w (Write WatchdogLoad (load_of x)) 0 h.outside;
-  watch = subst (λ osc. WatchAgrees w.osc (loaded osc (load_of x)) (started w x.mode x.timeout).deadline) (sym h.outside.osc) (loaded_agrees w.osc x.timeout x.mode);
+  watch = subst (λ osc. WatchRepresents w.osc (loaded osc (load_of x)) (started w x.mode x.timeout).deadline) (sym h.outside.osc) (loaded_agrees w.osc x.timeout x.mode);
   mode = λ e. absurd (cc);
   timeout = λ e. absurd (cc);
   few = few;
 }
 
-mode_kept : (chip : Chip) (w : World) (s : WdgState) (m : WdgMode) → s.mode ≡ Some m → WdgAgrees both_behind chip w s → WdgAgrees timeout_behind (chip_after chip (Store STATE (mode_word m)) 0) w s
+mode_kept : (chip : Chip) (w : World) (s : WdgState) (m : WdgMode) → s.mode ≡ Some m → WdgRepresents both_behind chip w s → WdgRepresents timeout_behind (chip_after chip (Store STATE (mode_word m)) 0) w s
 mode_kept chip w s m is h = record {
   outside = stands-move chip w (Store STATE (mode_word m)) 0 h.outside;
   watch = h.watch;
@@ -123,7 +123,7 @@ mode_kept chip w s m is h = record {
   few = h.few;
 }
 
-timeout_kept : (chip : Chip) (w : World) (s : WdgState) (n : ℕ) → s.timeout ≡ n → WdgAgrees timeout_behind chip w s → WdgAgrees settled (chip_after chip (Store TIMEOUT n) 0) w s
+timeout_kept : (chip : Chip) (w : World) (s : WdgState) (n : ℕ) → s.timeout ≡ n → WdgRepresents timeout_behind chip w s → WdgRepresents settled (chip_after chip (Store TIMEOUT n) 0) w s
 timeout_kept chip w s n is h = record {
   outside = stands-move chip w (Store TIMEOUT n) 0 h.outside;
   watch = h.watch;
@@ -134,7 +134,7 @@ timeout_kept chip w s n is h = record {
 
 module _ (d : WdgDriver) where
   -- the timeout that stands in its word
-  set_is : (chip : Chip) (w : World) (s : WdgState) (m : WdgMode) → IsSetting d s m → WdgAgrees settled chip w s → IsStart d s (record { mode = m; timeout = narrow (word_of chip TIMEOUT) }) Accepted (SetMode (Some m))
+  set_is : (chip : Chip) (w : World) (s : WdgState) (m : WdgMode) → IsSetting d s m → WdgRepresents settled chip w s → IsStart d s (record { mode = m; timeout = narrow (word_of chip TIMEOUT) }) Accepted (SetMode (Some m))
   set_is chip w s m i h =
       let same : narrow (word_of chip TIMEOUT) ≡ s.timeout = ap narrow (h.timeout refl) ∙ narrow_is s.timeout h.few in
       record {

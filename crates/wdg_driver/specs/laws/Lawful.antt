@@ -19,7 +19,7 @@ use Rattle.service_outline.specs.declared.short.Short.{Short}
 use Rattle.service_outline.specs.laws.Reports.{error_told}
 use Rattle.service_outline.specs.laws.Seen.{plain_sees}
 use Rattle.wdg_driver.specs.Checks.{error_by, answer_refused}
-use Rattle.wdg_driver.specs.Ground.{settled, WdgAgrees, wdg_ground}
+use Rattle.wdg_driver.specs.Refinement.{settled, WdgRepresents, wdg_ground}
 use Rattle.wdg_driver.specs.Machine.{WdgState, set_mode, set_timeout, acts_by, wdg_machine}
 use Rattle.wdg_driver.specs.Table.{allows, FitsWdg}
 use Rattle.wdg_driver.specs.Words.{mode_word, state_word, mode_in, narrow}
@@ -31,7 +31,7 @@ use Rattle.wdg_driver.specs.declared.service.WdgBody.{WdgBody}
 use Rattle.wdg_driver.specs.declared.service.WdgBody.TheVariants.{Look, Start, KeepMode, KeepTimeout}
 use Rattle.wdg_driver.specs.declared.words.TheConstants.{STATE}
 use Rattle.wdg_driver.specs.laws.Body.{wdg_work, wdg_takes, wdg_bodies, narrow_is, bodies_right}
-use Rattle.wdg_driver.specs.laws.Ground.{ground_right}
+use Rattle.wdg_driver.specs.laws.RefinementRight.{ground_right}
 use Rattle.wdg_driver.specs.laws.Look.{sets, begun_by, looked_by, wdg_looked}
 
 -- the driver; any call may be made, and its body has at most four steps
@@ -78,7 +78,7 @@ few_ticks d n true q e h = absurd (cc)
 few_ticks d n false true e h = absurd (let f = ap (λ b. b) e in cc)
 few_ticks d n false false e h = (refl, refl)
 
-module _ (d : WdgDriver) (fits : FitsWdg d) (chip : Chip) (w : World) (s : WdgState) (h : WdgAgrees settled chip w s) where
+module _ (d : WdgDriver) (fits : FitsWdg d) (chip : Chip) (w : World) (s : WdgState) (h : WdgRepresents settled chip w s) where
   abbrev Looks : Call → Looked WdgBody → Type 0
   Looks call l = LooksRight (wdg d) chip w s call l
 

@@ -7,7 +7,7 @@ pub run_and_report-requires-clause-script : goal.run_and_report-requires-clause-
 run_and_report-requires-clause-script g c = rw c.deref-in-Run.ensures.value (may_run c.args.read.script.items c.requires.script)
 
 pub run_and_report-requires-clause-offered : goal.run_and_report-requires-clause-offered
-run_and_report-requires-clause-offered g c = rw c.deref-in-Run.ensures.value (may_ask c.args.read.script.items c.requires.script)
+run_and_report-requires-clause-offered g c = may_ask c.deref-in-Run.result.now
 
 pub returns-in-Check-clause-told : goal.returns-in-Check-clause-told
 returns-in-Check-clause-told g c = told_nothing (vec_len c.args.rack.now) _ _ _ (none_ran (vec_len c.args.rack.now) _ _ _ _ _ _ _ (c.check.ensures (vec_len c.args.rack.now))) (hung_so _ c.args.rack.now.items (vec_len c.args.rack.now) (omega arith)) refl

@@ -1,8 +1,12 @@
 use Rattle.std.proofs.Common.{◌∙◌}
 use Rattle.std.proofs.lemmas.Bool.{OnFalse_at}
 use Rattle.bench_top.specs.Runs.{shows_of}
+use Rattle.bench_top.proofs.Scripts.{may_ask}
 use Rattle.sweep_top.proofs.Watched.{steps_seen, waiting_seen}
 use Rattle.sweep_top.proofs.board.run_on.Goals as goal
+
+pub run-requires-clause-offered : goal.run-requires-clause-offered
+run-requires-clause-offered c = may_ask c.args.script.now
 
 pub returns : goal.returns
 returns c =

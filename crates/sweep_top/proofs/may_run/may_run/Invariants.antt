@@ -1,13 +1,11 @@
 use Rattle.std.proofs.Common.{length}
-use Rattle.mcal_system.specs.Setting.{has_service}
-use Rattle.script_runner.specs.Scripts.{AllBuilt, AllOffered, LinesRise}
+use Rattle.script_runner.specs.Scripts.{AllBuilt, LinesRise}
 use Rattle.sweep_top.proofs.may_run.may_run.Given as goal
 
 abbrev pub invariant-loop-rest : goal.invariant-loop-rest
 invariant-loop-rest l = record {
   lines : LinesRise l.low l.rest → LinesRise 0 l.script;
   built : AllBuilt l.rest → AllBuilt l.script;
-  offered : AllOffered has_service l.rest → AllOffered has_service l.script;
 }
 
 abbrev pub decreases-loop-rest : goal.decreases-loop-rest

@@ -30,7 +30,7 @@ use Rattle.service_outline.specs.laws.There.{move_there}
 use Rattle.service_outline.specs.laws.Words.{stores_in, word_apart, word_later, fills_there}
 use Rattle.wdg_driver.specs.Bounds.{owns, may, is_own_word, wdg_setting}
 use Rattle.wdg_driver.specs.Checks.{service_of, error_by}
-use Rattle.wdg_driver.specs.Ground.{Lag, settled, WatchAgrees, WdgAgrees, wdg_ground}
+use Rattle.wdg_driver.specs.Refinement.{Lag, settled, WatchRepresents, WdgRepresents, wdg_ground}
 use Rattle.wdg_driver.specs.Machine.{WdgState, first_state, unit_of, deadline_by, set_mode, set_timeout, work, acts_by, happens, expires}
 use Rattle.wdg_driver.specs.Table.{allows}
 use Rattle.wdg_driver.specs.Words.{load_by}
@@ -45,19 +45,19 @@ use Rattle.wdg_driver.specs.declared.words.TheConstants.{STATE, TIMEOUT}
 some_ticks : (n : ℕ) → (max 1 n == 0) ≡ false
 some_ticks n = grind (arith, nat_tests)
 
-loaded_for : (osc n : ℕ) → WatchAgrees osc (loaded osc (max 1 n)) (Some (osc + max 1 n))
+loaded_for : (osc n : ℕ) → WatchRepresents osc (loaded osc (max 1 n)) (Some (osc + max 1 n))
 loaded_for osc n = rw (some_ticks n) (omega arith, refl)
 
 once : (n : ℕ) → n * 1 ≡ n
 once n = omega arith
 
-pub loaded_agrees : (osc timeout : ℕ) (m : WdgMode) → WatchAgrees osc (loaded osc (load_by m timeout)) (deadline_by osc timeout (unit_of m))
+pub loaded_agrees : (osc timeout : ℕ) (m : WdgMode) → WatchRepresents osc (loaded osc (load_by m timeout)) (deadline_by osc timeout (unit_of m))
 loaded_agrees osc timeout Off = tt
 loaded_agrees osc timeout Slow = loaded_for osc (timeout * 16)
-loaded_agrees osc timeout Fast = subst (λ n. WatchAgrees osc (loaded osc (max 1 timeout)) (Some (osc + max 1 n))) (sym (once timeout)) (loaded_for osc timeout)
+loaded_agrees osc timeout Fast = subst (λ n. WatchRepresents osc (loaded osc (max 1 timeout)) (Some (osc + max 1 n))) (sym (once timeout)) (loaded_for osc timeout)
 
 -- it goes on while time passes
-watch_later : (osc osc1 : ℕ) (x : Option Watch) (n : Option ℕ) → osc ≤ osc1 → WatchAgrees osc x n → WatchAgrees osc1 x n
+watch_later : (osc osc1 : ℕ) (x : Option Watch) (n : Option ℕ) → osc ≤ osc1 → WatchRepresents osc x n → WatchRepresents osc1 x n
 watch_later osc osc1 None None le h = tt
 watch_later osc osc1 None (Some n) le h = absurd h
 watch_later osc osc1 (Some x) None le h = absurd h
@@ -67,18 +67,18 @@ watch_later osc osc1 (Some x) (Some n) le h = (omega (arith, le, h.0), h.1)
 left_is : (osc : ℕ) (x : Watch) (n : ℕ) → x.started ≤ osc → x.started + x.ticks ≡ n → n - osc ≡ left_of osc x
 left_is osc x n le e = omega (arith, le, e)
 
-watch_left : (osc : ℕ) (x : Option Watch) (n : Option ℕ) → WatchAgrees osc x n → option_map (λ deadline. deadline - osc) n ≡ option_map (left_of osc) x
+watch_left : (osc : ℕ) (x : Option Watch) (n : Option ℕ) → WatchRepresents osc x n → option_map (λ deadline. deadline - osc) n ≡ option_map (left_of osc) x
 watch_left osc None None h = refl
 watch_left osc None (Some n) h = absurd h
 watch_left osc (Some x) None h = absurd h
 watch_left osc (Some x) (Some n) h = ap (λ k. Some k) (left_is osc x n h.0 h.1)
 
-expiry_is : (gap : Lag) (chip : Chip) (w : World) (s : WdgState) → WdgAgrees gap chip w s → expires w s ≡ expiry_of chip
+expiry_is : (gap : Lag) (chip : Chip) (w : World) (s : WdgState) → WdgRepresents gap chip w s → expires w s ≡ expiry_of chip
 expiry_is gap chip w s h = watch_left w.osc chip.watchdog.watch s.deadline h.watch ∙ ap (λ osc. option_map (left_of osc) chip.watchdog.watch) (sym h.outside.osc)
 
 -- ---- after a reset, and in time
 
-reset_agrees : (chip : Chip) (w : World) (reason : Reason) → StandsIn chip w → WdgAgrees settled (reset_chip chip reason) w first_state
+reset_agrees : (chip : Chip) (w : World) (reason : Reason) → StandsIn chip w → WdgRepresents settled (reset_chip chip reason) w first_state
 reset_agrees chip w reason h = record {
   outside = stands-reset chip w reason h;
   watch = tt;
@@ -88,10 +88,10 @@ reset_agrees chip w reason h = record {
 }
 
 -- a chip with the watchdog and the words of another one agrees with what that one does
-pub same_agrees : (gap : Lag) (chip chip1 : Chip) (w w1 : World) (s : WdgState) → StandsIn chip1 w1 → w.osc ≤ w1.osc → chip1.watchdog.watch ≡ chip.watchdog.watch → word_of chip1 STATE ≡ word_of chip STATE → word_of chip1 TIMEOUT ≡ word_of chip TIMEOUT → WdgAgrees gap chip w s → WdgAgrees gap chip1 w1 s
+pub same_agrees : (gap : Lag) (chip chip1 : Chip) (w w1 : World) (s : WdgState) → StandsIn chip1 w1 → w.osc ≤ w1.osc → chip1.watchdog.watch ≡ chip.watchdog.watch → word_of chip1 STATE ≡ word_of chip STATE → word_of chip1 TIMEOUT ≡ word_of chip TIMEOUT → WdgRepresents gap chip w s → WdgRepresents gap chip1 w1 s
 same_agrees gap chip chip1 w w1 s outside le watch state timeout h = record {
   outside = outside;
-  watch = subst (λ x. WatchAgrees w1.osc x s.deadline) (sym watch) (watch_later w.osc w1.osc chip.watchdog.watch s.deadline le h.watch);
+  watch = subst (λ x. WatchRepresents w1.osc x s.deadline) (sym watch) (watch_later w.osc w1.osc chip.watchdog.watch s.deadline le h.watch);
   mode = λ e. state ∙ h.mode e;
   timeout = λ e. timeout ∙ h.timeout e;
   few = h.few;
@@ -105,7 +105,7 @@ watch_event : (chip : Chip) (order : Order) → (happened chip order).watchdog.w
 watch_event chip (Level p v) = level_leaves (λ c. c.watchdog.watch) chip p v refl
 watch_event chip _ = refl
 
-later_agrees : (d : WdgDriver) (gap : Lag) (chip : Chip) (w : World) (s : WdgState) (order : Order) → Comes (wdg_setting d) chip w s order → WdgAgrees gap chip w s → WdgAgrees gap (happened chip order) (world_after w chip.clock.rate order) s
+later_agrees : (d : WdgDriver) (gap : Lag) (chip : Chip) (w : World) (s : WdgState) (order : Order) → Comes (wdg_setting d) chip w s order → WdgRepresents gap chip w s → WdgRepresents gap (happened chip order) (world_after w chip.clock.rate order) s
 later_agrees d gap chip w s order free h = same_agrees gap chip (happened chip order) w (world_after w chip.clock.rate order) s
     (stands-event chip w order (fills_there (wdg_setting d) (is_masked chip) w s free.frames order free.free) h.outside)
     (osc_later w chip.clock.rate order) (watch_event chip order)
@@ -127,7 +127,7 @@ stores_none : (made : Move) → owns made ≡ false → stores_in is_own_word ma
 stores_none (Store k v) e = e
 stores_none _ e = refl
 
-apart_agrees : (gap : Lag) (chip : Chip) (w : World) (s : WdgState) (made : Move) (received : ℕ) → owns made ≡ false → WdgAgrees gap chip w s → WdgAgrees gap (chip_after chip made received) w s
+apart_agrees : (gap : Lag) (chip : Chip) (w : World) (s : WdgState) (made : Move) (received : ℕ) → owns made ≡ false → WdgRepresents gap chip w s → WdgRepresents gap (chip_after chip made received) w s
 apart_agrees gap chip w s made received e h = same_agrees gap chip (chip_after chip made received) w w s (stands-move chip w made received h.outside) (omega arith) (watch_apart chip made received e)
     (word_apart is_own_word chip made received STATE (stores_none made e) refl) (word_apart is_own_word chip made received TIMEOUT (stores_none made e) refl) h
 

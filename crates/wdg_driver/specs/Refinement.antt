@@ -27,15 +27,15 @@ abbrev pub timeout_behind : Lag
 timeout_behind = record { mode = false; timeout = true }
 
 -- the chip's watchdog runs where a time does, and ends at the deadline
-abbrev pub WatchAgrees : (osc : ℕ) → Option Watch → (deadline : Option ℕ) → Type 0
-WatchAgrees osc None None = Unit {0}
-WatchAgrees osc (Some x) (Some n) = (x.started ≤ osc) × (x.started + x.ticks ≡ n)
-WatchAgrees osc _ _ = ⊥
+abbrev pub WatchRepresents : (osc : ℕ) → Option Watch → (deadline : Option ℕ) → Type 0
+WatchRepresents osc None None = Unit {0}
+WatchRepresents osc (Some x) (Some n) = (x.started ≤ osc) × (x.started + x.ticks ≡ n)
+WatchRepresents osc _ _ = ⊥
 
 -- the words and the register agree with the state, but for what is under work
-pub record WdgAgrees (gap : Lag) (chip : Chip) (w : World) (s : WdgState) : Type 0 where
+pub record WdgRepresents (gap : Lag) (chip : Chip) (w : World) (s : WdgState) : Type 0 where
   pub outside : StandsIn chip w
-  pub watch : WatchAgrees w.osc chip.watchdog.watch s.deadline
+  pub watch : WatchRepresents w.osc chip.watchdog.watch s.deadline
   pub mode : gap.mode ≡ false → word_of chip STATE ≡ state_word s.mode
   pub timeout : gap.timeout ≡ false → word_of chip TIMEOUT ≡ s.timeout
   pub few : s.timeout < 65536
@@ -52,7 +52,7 @@ wdg_ground d = record {
   later = λ w s order. s;
   Lag = Lag;
   settled = settled;
-  represents = WdgAgrees;
+  represents = WdgRepresents;
   Footprint = Unit {0};
   foot = λ chip. tt;
 }

@@ -1,0 +1,4 @@
+pub mod Fills
+pub mod Places
+pub mod PortLevels
+pub mod PortPlaces

@@ -1,0 +1,10 @@
+use Rattle.std.proofs.Common.{ap, ◌∙◌}
+use Rattle.service_outline.specs.Done.{answers}
+use Rattle.dio_driver.specs.Accesses.{level_answer}
+use Rattle.audit_clock.proofs.PortLevels.{level_same}
+use Rattle.audit_clock.proofs.ports.tells_level.Goals as goal
+
+pub returns : goal.returns
+returns c w s outputs around stands =
+    c.with_answer.ensures
+    ∙ ap answers (c.level_answer.ensures ∙ ap level_answer (c.level.ensures ∙ level_same c.args.pins.now c.args.around.now w s outputs around stands c.args.pin c.requires))

@@ -1,0 +1,4 @@
+pub mod ClockStands
+pub mod PinStands
+pub mod PortPins
+pub mod WatchdogKept

@@ -1,0 +1,9 @@
+pub mod Accesses
+pub mod Checks
+pub mod Fits
+pub mod Frames
+pub mod Guest
+pub mod Laws
+pub mod Machine
+pub mod Requests
+pub mod Table
