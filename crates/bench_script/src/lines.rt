@@ -4,6 +4,7 @@ ghost use Rattle.std.specs.Str.Lines.{strip_carriage_return};
 ghost use Rattle.bench_script.specs.Lines as spec;
 ghost use Rattle.bench_script.specs.Scanned as scanned;
 
+use memchr::memchr;
 use std::alloc::{AllocError, Global};
 
 /// The line that ends the configuration.
@@ -14,7 +15,7 @@ fn place_of(byte: u8, text: &[u8]) -> Option<usize>
     ensures place { result ≡ position (λ b. b == byte) text.now }
     ensures within { IfSome result (λ n. n < length text.now) }
 {
-    text.iter().position(|b| *b == byte)
+    memchr(byte, text)
 }
 
 /// A line without the carriage return at its end.

@@ -1,5 +1,6 @@
 ghost use Rattle.std.specs.Prelude.{◌≡◌, ◌≤◌, [], length, map};
 ghost use Rattle.mcal_base.specs.Names.{service_text};
+ghost use Rattle.mcal_base.specs.declared.service.Service.{Service};
 ghost use Rattle.bench_script.specs.Orders as spec;
 ghost use Rattle.bench_script.specs.Steps.{put};
 ghost use Rattle.bench_script.specs.Words.{all_services};
@@ -177,8 +178,10 @@ fn nothing(words: &[&[u8]]) -> Result<(), LineFault>
     }
 }
 
-/// A request of which nothing is read yet.
-fn no_request() -> Request {
+/// A request of which nothing is read yet: the first service, without an argument.
+fn no_request() -> Request
+    ensures { result ≡ record { service = Service.McuInit; arguments = [] } }
+{
     Request {
         service: Service::McuInit,
         arguments: Short::new(),

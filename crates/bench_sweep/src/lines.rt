@@ -3,12 +3,14 @@ ghost use Rattle.std.specs.List.{position};
 ghost use Rattle.std.specs.Str.Lines.{strip_carriage_return};
 ghost use Rattle.bench_sweep.specs.Lines as spec;
 
+use memchr::memchr;
+
 /// The place of the first such byte.
 fn place_of(byte: u8, text: &[u8]) -> Option<usize>
     ensures place { result ≡ position (λ b. b == byte) text.now }
     ensures within { IfSome result (λ n. n < length text.now) }
 {
-    text.iter().position(|b| *b == byte)
+    memchr(byte, text)
 }
 
 /// The length of the part of a text before the first such byte, or of all of it where none is there.

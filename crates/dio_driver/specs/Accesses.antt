@@ -29,8 +29,8 @@ abbrev pub moved_down : PortPins → (port : ℕ) → ℕ
 moved_down pins port = bit_and port pins.mask / weight pins
 
 -- a bit of a port's value is set
-abbrev pub is_high : (port place : ℕ) → Bool
-is_high port place = has_bit port place
+abbrev pub stands_high : (port place : ℕ) → Bool
+stands_high port place = has_bit port place
 
 -- the answer that is a level
 abbrev pub level_answer : Bool → Answer
@@ -58,7 +58,7 @@ move_of (Levels pins) = Read (PortLevels pins.port)
 move_of (Put pins levels) = Write (PortPut pins.port) (word_of pins levels)
 
 abbrev pub answer_by : Access → (value : ℕ) → Answer
-answer_by (Level p) value = level_answer (is_high value (p % 8))
+answer_by (Level p) value = level_answer (stands_high value (p % 8))
 answer_by (Flip p) value = level_answer (value == 1)
 answer_by (Levels pins) value = number (moved_down pins value)
 answer_by (Put pins levels) value = no_answer

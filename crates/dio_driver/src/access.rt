@@ -65,7 +65,7 @@ impl Access {
         ensures { result ≡ spec.answer_by self value }
     {
         match self {
-            Access::Level(pin) => level(is_high(value, pin % 8)),
+            Access::Level(pin) => level(stands_high(value, pin % 8)),
             Access::Flip(_) => level(value == 1),
             Access::Levels(pins) => number(moved_down(pins, value)),
             Access::Put(..) => nothing(),
@@ -98,9 +98,9 @@ fn moved_down(pins: PortPins, port: u32) -> u32
 }
 
 /// Whether a bit of a port's value is set.
-fn is_high(port: u32, place: u32) -> bool
+fn stands_high(port: u32, place: u32) -> bool
     requires { place < 8 }
-    ensures { result ≡ spec.is_high port place }
+    ensures { result ≡ spec.stands_high port place }
 {
     (port >> place) % 2 == 1
 }

@@ -1,19 +1,41 @@
 use bench_report::Purpose;
 use irq_control::Held;
-use mcal_base::{DevError, Notice, Reason};
+use mcal_base::{DevError, Notice, Reason, Shown, Stop};
 use trace_reader::Step;
 
-/// What a directive asks for, as far as it is drawn.
+/// What a directive asks for.
 #[derive(Clone, Copy)]
 pub enum Asked {
-    /// A frame, with the level of its call; 0 for the handler of a line.
-    Frame(Purpose, u32),
+    /// A frame, with the level of its call, 0 for the handler of a line; and whether it is run to its end.
+    Frame(Purpose, u32, bool),
+    /// At most so many steps.
+    Run(u32),
+    /// Steps until there is one that stops.
+    Upto(Stop),
+    /// Steps until the frame ends.
+    Finish,
+    /// So many ticks.
+    Tick(u32),
     /// The outside level of a pin.
     Pin(u32, bool),
     /// The value of an analog input.
     Analog(u32, u32),
-    /// Anything else.
-    Other,
+    /// A pulse on a trigger input.
+    Trigger(u32),
+    /// Words that come in on a serial unit.
+    Miso(u32),
+    /// The word in transfer on a serial unit fails.
+    SpiFault(u32),
+    /// A device goes away.
+    Detach,
+    /// Words in the source of a channel.
+    Fill(u32),
+    /// The chip is reset.
+    Reset(Reason),
+    /// Something is shown.
+    Show(Shown),
+    /// Nothing: it isn't the first line of a directive.
+    Nothing,
 }
 
 /// A frame: what it was begun for, at which level and by which script line, how many frames there were with it, and how

@@ -2,8 +2,8 @@
 use Rattle.std.specs.Prelude.{ℕ, List, ◌++◌, Result, Ok, Err, codes, decimal}
 use Rattle.mcal_base.specs.declared.directive.Directive.{Directive}
 use Rattle.trace_reader.specs.Reading.{read_trace}
-use Rattle.trace_forms.specs.Pages.{page}
 use Rattle.trace_forms.specs.Rows.{rows}
+use Rattle.trace_lanes.specs.Page.{page}
 use Rattle.sign_kinds.specs.Sums.{sum_up}
 use Rattle.trace_signs.specs.Drawing.{Drawing, drawing_of}
 use Rattle.trace_signs.specs.Moments.{moments_of}
@@ -16,7 +16,7 @@ use Rattle.trace_drawing.specs.declared.program.Form.TheVariants as forms
 abbrev pub printed : Form → Drawing → List ℕ
 printed forms.Changes d = waves clocks.Steps d.steps d.signs
 printed forms.Times d = waves clocks.Ticks d.steps d.signs
-printed forms.Page d = page d.steps d.deepest d.signs
+printed forms.Page d = page d.steps d.signs
 printed forms.Rows d = rows d.signs
 
 infixl 10 ◌>>=◌

@@ -12,7 +12,8 @@ use crate::input::{Given, InputEnd, parts_of};
 use crate::transfer::{ReadEnd, read_all, write_all};
 use mcal_base::{Directive, Sink, Source};
 use std::alloc::{AllocError, Global};
-use trace_forms::{page_of, rows_of};
+use trace_forms::rows_of;
+use trace_lanes::page_of;
 use trace_reader::{TraceFault, read_trace};
 use trace_signs::{Drawing, drawing_of, moments_of};
 use trace_waves::{Clock, waves_of};
@@ -74,7 +75,7 @@ fn printed(alloc: Global, form: Form, drawing: &Drawing) -> Result<String, Alloc
     match form {
         Form::Changes => waves_of(alloc, Clock::Steps, drawing.steps(), drawing.signs()),
         Form::Times => waves_of(alloc, Clock::Ticks, drawing.steps(), drawing.signs()),
-        Form::Page => { page_of(alloc, drawing.steps(), drawing.deepest(), drawing.signs()) }
+        Form::Page => page_of(alloc, drawing.steps(), drawing.signs()),
         Form::Rows => rows_of(alloc, drawing.signs()),
     }
 }

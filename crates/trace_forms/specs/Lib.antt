@@ -1,4 +1,3 @@
 pub mod Escapes
-pub mod Pages
 pub mod Rows
 pub mod Sentences

@@ -1,6 +1,12 @@
 -- What a sign says in words: of a line of the trace, what that line says.
-use Rattle.std.specs.Prelude.{ℕ, List, ◌++◌, Bool, Option, Some, None, codes, decimal, if◌then◌else◌}
+use Rattle.std.specs.Prelude.{ℕ, List, ◌++◌, Bool, true, false, Option, Some, None, codes, decimal, if◌then◌else◌}
 use Rattle.mcal_base.specs.Names.{service_text}
+use Rattle.mcal_base.specs.declared.directive.Reason.{Reason}
+use Rattle.mcal_base.specs.declared.directive.Reason.TheVariants as reasons
+use Rattle.mcal_base.specs.declared.directive.Shown.{Shown}
+use Rattle.mcal_base.specs.declared.directive.Shown.TheVariants as sights
+use Rattle.mcal_base.specs.declared.directive.Stop.{Stop}
+use Rattle.mcal_base.specs.declared.directive.Stop.TheVariants as stops
 use Rattle.mcal_base.specs.declared.moves.Event.{Event}
 use Rattle.mcal_base.specs.declared.moves.Event.TheVariants as events
 use Rattle.mcal_base.specs.declared.moves.Unit.TheVariants as units
@@ -40,13 +46,48 @@ ending_text endings.Open = codes " is under way at the end"
 abbrev pub digit : Bool → List ℕ
 digit level = if level then codes "1" else codes "0"
 
--- what a directive asks for
+-- the word of a directive that begins a frame, and runs it to its end or not
+abbrev pub begin_word : Purpose → Bool → List ℕ
+begin_word (purposes.Call service) true = codes "do"
+begin_word (purposes.Call service) false = codes "call"
+begin_word (purposes.Handler line) true = codes "serve"
+begin_word (purposes.Handler line) false = codes "enter"
+
+abbrev pub stop_word : Stop → List ℕ
+stop_word stops.Act = codes "act"
+stop_word stops.Mask = codes "mask"
+stop_word stops.Unmask = codes "unmask"
+stop_word stops.Note = codes "note"
+
+abbrev pub reset_word : Reason → List ℕ
+reset_word reasons.PowerOn = codes "power"
+reset_word reasons.Watchdog = codes "watchdog"
+reset_word reasons.Software = codes "software"
+
+abbrev pub shown_word : Shown → List ℕ
+shown_word sights.Pins = codes "pins"
+shown_word sights.Wire = codes "wire"
+shown_word sights.Buffers = codes "buffers"
+shown_word sights.Ram = codes "ram"
+
+-- what a directive asks for, as its line of a script says it, but for the arguments of a service and lists of words
 abbrev pub asked_text : Asked → List ℕ
-asked_text (asks.Frame (purposes.Call service) level) = codes "asks for " ++ (service_text service ++ (codes " at level " ++ decimal level))
-asked_text (asks.Frame (purposes.Handler line) level) = codes "asks for the handler of line " ++ decimal line
-asked_text (asks.Pin p level) = codes "sets pin " ++ (decimal p ++ (codes " to " ++ digit level))
-asked_text (asks.Analog input value) = codes "sets analog input " ++ (decimal input ++ (codes " to " ++ decimal value))
-asked_text asks.Other = codes "the directive is obeyed"
+asked_text (asks.Frame (purposes.Call service) level whole) = begin_word (purposes.Call service) whole ++ (codes " " ++ (decimal level ++ (codes " " ++ service_text service)))
+asked_text (asks.Frame (purposes.Handler line) level whole) = begin_word (purposes.Handler line) whole ++ (codes " " ++ decimal line)
+asked_text (asks.Run steps) = codes "run " ++ decimal steps
+asked_text (asks.Upto stop) = codes "upto " ++ stop_word stop
+asked_text asks.Finish = codes "finish"
+asked_text (asks.Tick ticks) = codes "tick " ++ decimal ticks
+asked_text (asks.Pin p level) = codes "level " ++ (decimal p ++ (codes " " ++ digit level))
+asked_text (asks.Analog input value) = codes "analog " ++ (decimal input ++ (codes " " ++ decimal value))
+asked_text (asks.Trigger input) = codes "trigger " ++ decimal input
+asked_text (asks.Miso unit) = codes "miso " ++ decimal unit
+asked_text (asks.SpiFault unit) = codes "spifault " ++ decimal unit
+asked_text asks.Detach = codes "detach"
+asked_text (asks.Fill channel) = codes "fill " ++ decimal channel
+asked_text (asks.Reset reason) = codes "reset " ++ reset_word reason
+asked_text (asks.Show shown) = codes "show " ++ shown_word shown
+asked_text asks.Nothing = codes "nothing"
 
 abbrev pub sentence : What → List ℕ
 sentence (whats.Turn asked) = asked_text asked

@@ -35,7 +35,7 @@ impl fmt::Display for Escape {
 
 /// A text as a page has it.
 #[derive(Clone, Copy)]
-pub(crate) struct Escaped<'a>(pub(crate) &'a str);
+pub struct Escaped<'a>(pub &'a str);
 
 impl fmt::Display for Escaped<'_> {
     ghost output = { λ e. Some (spec.escaped e.0.now) };

@@ -1,13 +1,10 @@
-//! The forms in which the signs of a trace are printed for a reader: a page, and rows of characters.
+//! The signs of a trace as rows of characters, and what a sign says in words.
 #![tactic(auto)]
 
 mod escapes;
-mod look;
-mod page;
 mod rows;
 mod sentences;
-mod shapes;
-mod sheet;
 
-pub use page::page_of;
+pub use escapes::Escaped;
 pub use rows::rows_of;
+pub use sentences::{Named, Request, Sentence};

@@ -2,14 +2,14 @@ ghost use Rattle.std.specs.Prelude.{◌≡◌, Some};
 ghost use Rattle.trace_forms.specs.Sentences as spec;
 
 use bench_report::{Line, Purpose};
-use mcal_base::{Event, Unit};
+use mcal_base::{Event, Reason, Shown, Stop, Unit};
 use sign_kinds::{Asked, Ending, What};
 use std::fmt;
 use trace_reader::Mark;
 
 /// A frame by its service or its line.
 #[derive(Clone, Copy)]
-pub(crate) struct Named(pub(crate) Purpose);
+pub struct Named(pub Purpose);
 
 impl fmt::Display for Named {
     ghost output = { λ n. Some (spec.purpose_text n.0) };
@@ -65,35 +65,104 @@ fn digit(level: bool) -> &'static str
     if level { "1" } else { "0" }
 }
 
-/// What a directive asks for, in words.
+/// The word of a directive that begins a frame.
+fn begin_word(purpose: Purpose, whole: bool) -> &'static str
+    ensures { result.now ≡ spec.begin_word purpose whole }
+{
+    match (purpose, whole) {
+        (Purpose::Call(_), true) => "do",
+        (Purpose::Call(_), false) => "call",
+        (Purpose::Handler(_), true) => "serve",
+        (Purpose::Handler(_), false) => "enter",
+    }
+}
+
+/// Where steps stop, as a word.
+fn stop_word(stop: Stop) -> &'static str
+    ensures { result.now ≡ spec.stop_word stop }
+{
+    match stop {
+        Stop::Act => "act",
+        Stop::Mask => "mask",
+        Stop::Unmask => "unmask",
+        Stop::Note => "note",
+    }
+}
+
+/// Why a script resets the chip, as a word.
+fn reset_word(reason: Reason) -> &'static str
+    ensures { result.now ≡ spec.reset_word reason }
+{
+    match reason {
+        Reason::PowerOn => "power",
+        Reason::Watchdog => "watchdog",
+        Reason::Software => "software",
+    }
+}
+
+/// What is shown, as a word.
+fn shown_word(shown: Shown) -> &'static str
+    ensures { result.now ≡ spec.shown_word shown }
+{
+    match shown {
+        Shown::Pins => "pins",
+        Shown::Wire => "wire",
+        Shown::Buffers => "buffers",
+        Shown::Ram => "ram",
+    }
+}
+
+/// What a directive asks for, as its line of a script says it, but for the arguments of a service and lists of words.
 #[derive(Clone, Copy)]
-struct Request(Asked);
+pub struct Request(pub Asked);
 
 impl fmt::Display for Request {
     ghost output = { λ r. Some (spec.asked_text r.0) };
 
     fn fmt<W: fmt::Write>(&self, f: &mut fmt::Formatter<W>) -> fmt::Result {
         match self.0 {
-            Asked::Frame(Purpose::Call(service), level) => {
+            Asked::Frame(Purpose::Call(service), level, whole) => {
+                let word = begin_word(Purpose::Call(service), whole);
                 let name = service.text();
-                write!(f, "asks for {name} at level {level}")
+                write!(f, "{word} {level} {name}")
             }
-            Asked::Frame(Purpose::Handler(line), _) => {
-                write!(f, "asks for the handler of line {line}")
+            Asked::Frame(Purpose::Handler(line), _, whole) => {
+                let word = begin_word(Purpose::Handler(line), whole);
+                write!(f, "{word} {line}")
             }
+            Asked::Run(steps) => write!(f, "run {steps}"),
+            Asked::Upto(stop) => {
+                let word = stop_word(stop);
+                write!(f, "upto {word}")
+            }
+            Asked::Finish => f.write_str("finish"),
+            Asked::Tick(ticks) => write!(f, "tick {ticks}"),
             Asked::Pin(pin, level) => {
                 let level = digit(level);
-                write!(f, "sets pin {pin} to {level}")
+                write!(f, "level {pin} {level}")
             }
-            Asked::Analog(input, value) => write!(f, "sets analog input {input} to {value}"),
-            Asked::Other => f.write_str("the directive is obeyed"),
+            Asked::Analog(input, value) => write!(f, "analog {input} {value}"),
+            Asked::Trigger(input) => write!(f, "trigger {input}"),
+            Asked::Miso(unit) => write!(f, "miso {unit}"),
+            Asked::SpiFault(unit) => write!(f, "spifault {unit}"),
+            Asked::Detach => f.write_str("detach"),
+            Asked::Fill(channel) => write!(f, "fill {channel}"),
+            Asked::Reset(reason) => {
+                let word = reset_word(reason);
+                write!(f, "reset {word}")
+            }
+            Asked::Show(shown) => {
+                let word = shown_word(shown);
+                write!(f, "show {word}")
+            }
+            Asked::Nothing => f.write_str("nothing"),
         }
     }
 }
 
 /// What a sign says in words.
 #[derive(Clone, Copy)]
-pub(crate) struct Sentence(pub(crate) What);
+pub struct Sentence(pub What);
 
 impl fmt::Display for Sentence {
     ghost output = { λ s. Some (spec.sentence s.0) };

@@ -54,13 +54,6 @@ pub enum Told {
     Done,
 }
 
-impl Told {
-    /// Whether the line stands behind that of a step to say what its move was.
-    pub fn is_of_a_step(self) -> bool {
-        matches!(self, Told::Noted(_) | Told::Erred(_))
-    }
-}
-
 /// A line of a report.
 #[derive(Clone, Copy)]
 pub struct TraceLine {

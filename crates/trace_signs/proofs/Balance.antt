@@ -1,6 +1,6 @@
 -- As many frames are gone as begin, and each sign is drawn on a page, counted as left out, or begins a frame.
 use Rattle.std.proofs.Common.{◌≡◌, ℕ, suc, ◌+◌, List, [], ◌∷◌, ◌++◌, length, Bool, true, false, Option, Some, None, refl, ◌∙◌, ap, sym, subst, arith, length-append, cond}
-use Rattle.std.specs.Prelude.{max, Result, Ok, Err, ◌&&◌, not, nat_le, count_by, option_to_list, if◌then◌else◌}
+use Rattle.std.specs.Prelude.{Result, Ok, Err, ◌&&◌, not, nat_le, count_by, option_to_list, if◌then◌else◌}
 use Rattle.std.specs.List.{cons_option}
 use Rattle.std.proofs.lemmas.List.Sums.{sum_by-cons}
 use Rattle.mcal_base.specs.declared.directive.Directive.{Directive}
@@ -11,7 +11,7 @@ use Rattle.trace_reader.specs.declared.told.Told.TheVariants as tells
 use Rattle.trace_reader.specs.declared.told.TraceLine.{TraceLine}
 use Rattle.mcal_base.specs.declared.moves.Move.{Move}
 use Rattle.mcal_base.specs.declared.moves.Move.TheVariants as moves
-use Rattle.trace_forms.specs.Pages.{is_shape, first_step, most_steps, is_drawn, is_left_out}
+use Rattle.trace_lanes.specs.Drawn.{is_shape, first_step, most_steps, is_drawn, is_left_out}
 use Rattle.sign_kinds.specs.declared.signs.Asked.{Asked}
 use Rattle.sign_kinds.specs.declared.signs.Ending.{Ending}
 use Rattle.sign_kinds.specs.declared.signs.Ending.TheVariants as endings
@@ -71,7 +71,7 @@ begun_balanced : (d : Drawing) (number level : ℕ) (purpose : Option Purpose) �
 begun_balanced d number level None h = h
 begun_balanced d number level (Some purpose) h =
     let frame : Frame = record { purpose = purpose; level = level; number = number; depth = length d.frames + 1; from = d.steps } in
-    record { opened = record { balance = (begins_put (record d { frames = frame ∷ d.frames; deepest = max d.deepest frame.depth }) number (length d.frames) frame h.opened).balance ∙ omega arith } }
+    record { opened = record { balance = (begins_put (record d { frames = frame ∷ d.frames }) number (length d.frames) frame h.opened).balance ∙ omega arith } }
 
 shut_balanced : (d : Drawing) (number : ℕ) (since : Option ℕ) → IsBalanced d → IsBalanced (shut_at d number since)
 shut_balanced d number None h = h

@@ -1,6 +1,6 @@
 -- What a trace's signs show line by line.
 use Rattle.std.proofs.Common.{◌≡◌, ℕ, ◌+◌, List, [], ◌∷◌, ◌++◌, length, map, Bool, true, false, Option, Some, None, refl, ◌∙◌, ap, sym, subst, append_assoc}
-use Rattle.std.specs.Prelude.{max, Ok, Err, ◌==◌, nat_lt, nat_le, flat_map, if◌then◌else◌}
+use Rattle.std.specs.Prelude.{Ok, Err, ◌==◌, nat_lt, nat_le, flat_map, if◌then◌else◌}
 use Rattle.std.proofs.lemmas.Bool.{false≢true, and_parts}
 use Rattle.std.proofs.lemmas.List.{append-nil}
 use Rattle.std.proofs.lemmas.Slice.Eq.{bytes_eq-Decides}
@@ -61,7 +61,7 @@ begun_seen : {T : Type 0} (f : ℕ → What → Option T) → ((number : ℕ) (f
 begun_seen f quiet d number level None = refl
 begun_seen f quiet d number level (Some purpose) =
     let frame : Frame = record { purpose = purpose; level = level; number = number; depth = length d.frames + 1; from = d.steps } in
-    seen-quiet f (record d { frames = frame ∷ d.frames; deepest = max d.deepest frame.depth }) number (whats.Begins frame) (quiet number frame)
+    seen-quiet f (record d { frames = frame ∷ d.frames }) number (whats.Begins frame) (quiet number frame)
 
 entered_lines : (d : Drawing) (m : Moment) → seen line_of (entered d m).signs ≡ seen line_of d.signs
 entered_lines d m =

@@ -1,5 +1,5 @@
 -- The signs of a trace: what is drawn of it, line by line, in whatever form.
-use Rattle.std.specs.Prelude.{ℕ, ◌+◌, ◌==◌, ◌&&◌, max, nat_lt, nat_le, List, [], ◌∷◌, ◌++◌, length, Bool, true, false, Option, Some, None, is_some, unwrap_or, Result, Ok, Err, bytes_eq, if◌then◌else◌}
+use Rattle.std.specs.Prelude.{ℕ, ◌+◌, ◌==◌, ◌&&◌, nat_lt, nat_le, List, [], ◌∷◌, ◌++◌, length, Bool, true, false, Option, Some, None, is_some, unwrap_or, Result, Ok, Err, bytes_eq, if◌then◌else◌}
 use Rattle.mcal_base.specs.Names.{service_text}
 use Rattle.mcal_base.specs.declared.moves.Move.{Move}
 use Rattle.mcal_base.specs.declared.moves.Move.TheVariants as moves
@@ -25,9 +25,8 @@ use Rattle.trace_signs.specs.declared.moments.Moment.{Moment}
 -- the signs so far, and where the trace stands behind them
 pub record Drawing : Type 0 where
   pub signs : List Sign
-  -- the frames that are under way, the topmost first, and how many there were at most
+  -- the frames that are under way, the topmost first
   pub frames : List Frame
-  pub deepest : ℕ
   -- the steps that were made, and the ticks that were asked for or waited
   pub steps : ℕ
   pub ticks : ℕ
@@ -37,7 +36,7 @@ pub record Drawing : Type 0 where
   pub fresh : Bool
 
 abbrev pub blank : Drawing
-blank = record { signs = []; frames = []; deepest = 1; steps = 0; ticks = 0; since = None; fresh = false }
+blank = record { signs = []; frames = []; steps = 0; ticks = 0; since = None; fresh = false }
 
 -- with one more sign
 abbrev pub put : Drawing → ℕ → What → Drawing
@@ -55,11 +54,11 @@ abbrev pub ticked : Drawing → Moment → Drawing
 ticked d m = if m.ticks == 0 then d else put (with_ticks d m.ticks) m.number (whats.Ticked m.ticks (sum_up d.ticks m.ticks))
 
 abbrev pub with_frame : Drawing → ℕ → Frame → Drawing
-with_frame d number frame = put (record d { frames = frame ∷ d.frames; deepest = max d.deepest frame.depth }) number (whats.Begins frame)
+with_frame d number frame = put (record d { frames = frame ∷ d.frames }) number (whats.Begins frame)
 
 -- the level of a call that is asked for
 abbrev pub level_of : Asked → ℕ
-level_of (asks.Frame purpose level) = level
+level_of (asks.Frame purpose level whole) = level
 level_of _ = 0
 
 abbrev pub begun : Drawing → ℕ → ℕ → Option Purpose → Drawing

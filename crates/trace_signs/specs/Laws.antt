@@ -7,7 +7,7 @@ use Rattle.bench_report.specs.declared.frames.Purpose.TheVariants as purposes
 use Rattle.trace_reader.specs.declared.told.Told.{Told}
 use Rattle.trace_reader.specs.declared.told.Told.TheVariants as tells
 use Rattle.trace_reader.specs.declared.told.TraceLine.{TraceLine}
-use Rattle.trace_forms.specs.Pages.{is_drawn, is_left_out}
+use Rattle.trace_lanes.specs.Drawn.{is_drawn, is_left_out}
 use Rattle.sign_kinds.specs.declared.signs.Ending.{Ending}
 use Rattle.sign_kinds.specs.declared.signs.Ending.TheVariants as endings
 use Rattle.sign_kinds.specs.declared.signs.Frame.{Frame}

@@ -13,15 +13,25 @@ use Rattle.sign_kinds.specs.declared.signs.Asked.{Asked}
 use Rattle.sign_kinds.specs.declared.signs.Asked.TheVariants as asks
 use Rattle.trace_signs.specs.declared.moments.Moment.{Moment}
 
--- what a directive asks for, as far as it is drawn
+-- what a directive asks for
 abbrev pub asked_of : Order → Asked
-asked_of (orders.Call level request) = asks.Frame (purposes.Call request.service) level
-asked_of (orders.Do level request) = asks.Frame (purposes.Call request.service) level
-asked_of (orders.Enter line) = asks.Frame (purposes.Handler line) 0
-asked_of (orders.Serve line) = asks.Frame (purposes.Handler line) 0
+asked_of (orders.Call level request) = asks.Frame (purposes.Call request.service) level false
+asked_of (orders.Do level request) = asks.Frame (purposes.Call request.service) level true
+asked_of (orders.Enter line) = asks.Frame (purposes.Handler line) 0 false
+asked_of (orders.Serve line) = asks.Frame (purposes.Handler line) 0 true
+asked_of (orders.Run steps) = asks.Run steps
+asked_of (orders.Upto stop) = asks.Upto stop
+asked_of orders.Finish = asks.Finish
+asked_of (orders.Tick ticks) = asks.Tick ticks
 asked_of (orders.Level pin level) = asks.Pin pin level
 asked_of (orders.Analog input value) = asks.Analog input value
-asked_of _ = asks.Other
+asked_of (orders.Trigger input) = asks.Trigger input
+asked_of (orders.Miso unit words) = asks.Miso unit
+asked_of (orders.SpiFault unit) = asks.SpiFault unit
+asked_of orders.Detach = asks.Detach
+asked_of (orders.Fill channel words) = asks.Fill channel
+asked_of (orders.Reset reason) = asks.Reset reason
+asked_of (orders.Show shown) = asks.Show shown
 
 -- the ticks that a directive asks for
 abbrev pub ticks_of : Order → ℕ
@@ -45,7 +55,7 @@ first_of directive line = record {
 }
 
 abbrev pub later_of : TraceLine → Moment
-later_of line = record { number = line.number; told = line.told; first = false; asked = asks.Other; begins = None; ticks = 0 }
+later_of line = record { number = line.number; told = line.told; first = false; asked = asks.Nothing; begins = None; ticks = 0 }
 
 -- the lines that come next with a number, and those behind them
 abbrev pub own_lines : ℕ → List TraceLine → List Moment

@@ -46,7 +46,7 @@ fn level_of(asked: Asked) -> u32
     ensures { result ≡ spec.level_of asked }
 {
     match asked {
-        Asked::Frame(_, level) => level,
+        Asked::Frame(_, level, _) => level,
         _ => 0,
     }
 }
@@ -56,7 +56,6 @@ fn level_of(asked: Asked) -> u32
 pub struct Drawing {
     signs: Vec<Sign>,
     frames: Vec<Frame>,
-    deepest: usize,
     steps: usize,
     ticks: u64,
     since: Option<usize>,
@@ -71,7 +70,6 @@ impl Model for Drawing {
     ghost view = { λ d. record {
       signs = d.signs.items;
       frames = d.frames.items;
-      deepest = d.deepest;
       steps = d.steps;
       ticks = d.ticks;
       since = d.since;
@@ -87,7 +85,6 @@ impl Drawing {
         Drawing {
             signs: Vec::new(alloc),
             frames: Vec::new(alloc),
-            deepest: 1,
             steps: 0,
             ticks: 0,
             since: None,
@@ -107,13 +104,6 @@ impl Drawing {
         ensures { result ≡ self.now.steps }
     {
         self.steps
-    }
-
-    /// How many frames there were at most, or one.
-    pub fn deepest(&self) -> usize
-        ensures { result ≡ self.now.deepest }
-    {
-        self.deepest
     }
 
     /// Adds a sign.
@@ -177,7 +167,6 @@ impl Drawing {
             from: self.steps,
         };
         self.frames.insert(0, frame)?;
-        self.deepest = self.deepest.max(frame.depth);
         self.put(moment.number, What::Begins(frame))
     }
 

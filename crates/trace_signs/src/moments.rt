@@ -25,18 +25,30 @@ pub struct Moment {
     pub ticks: u32,
 }
 
-/// What a directive asks for, as far as it is drawn.
+/// What a directive asks for.
 fn asked_of(order: &Order) -> Asked
     ensures { result ≡ spec.asked_of order.now }
 {
     match order {
-        Order::Call(level, request) | Order::Do(level, request) => {
-            Asked::Frame(Purpose::Call(request.service), *level)
+        Order::Call(level, request) => {
+            Asked::Frame(Purpose::Call(request.service), *level, false)
         }
-        Order::Enter(line) | Order::Serve(line) => Asked::Frame(Purpose::Handler(*line), 0),
+        Order::Do(level, request) => Asked::Frame(Purpose::Call(request.service), *level, true),
+        Order::Enter(line) => Asked::Frame(Purpose::Handler(*line), 0, false),
+        Order::Serve(line) => Asked::Frame(Purpose::Handler(*line), 0, true),
+        Order::Run(steps) => Asked::Run(*steps),
+        Order::Upto(stop) => Asked::Upto(*stop),
+        Order::Finish => Asked::Finish,
+        Order::Tick(ticks) => Asked::Tick(*ticks),
         Order::Level(pin, level) => Asked::Pin(*pin, *level),
         Order::Analog(input, value) => Asked::Analog(*input, *value),
-        _ => Asked::Other,
+        Order::Trigger(input) => Asked::Trigger(*input),
+        Order::Miso(unit, _) => Asked::Miso(*unit),
+        Order::SpiFault(unit) => Asked::SpiFault(*unit),
+        Order::Detach => Asked::Detach,
+        Order::Fill(channel, _) => Asked::Fill(*channel),
+        Order::Reset(reason) => Asked::Reset(*reason),
+        Order::Show(shown) => Asked::Show(*shown),
     }
 }
 
@@ -82,7 +94,7 @@ fn later_of(line: TraceLine) -> Moment
         number: line.number,
         told: line.told,
         first: false,
-        asked: Asked::Other,
+        asked: Asked::Nothing,
         begins: None,
         ticks: 0,
     }

@@ -1,7 +1,6 @@
 -- What the signs of a trace set: which signal is to have which value, and from when on.
 use Rattle.std.specs.Prelude.{ℕ, zero, suc, ◌*◌, min, nat_lt, Bool, true, false, Option, Some, None, List, [], ◌∷◌, ◌++◌, if◌then◌else◌}
 use Rattle.irq_control.specs.declared.held.Held.{Held}
-use Rattle.irq_control.specs.declared.held.Held.TheVariants as causes
 use Rattle.mcal_base.specs.declared.directive.Reason.{Reason}
 use Rattle.mcal_base.specs.declared.moves.Move.{Move}
 use Rattle.mcal_base.specs.declared.moves.Move.TheVariants as moves
@@ -11,6 +10,7 @@ use Rattle.bench_report.specs.declared.frames.Purpose.TheVariants as purposes
 use Rattle.trace_reader.specs.declared.told.Mark.{Mark}
 use Rattle.trace_reader.specs.declared.told.Mark.TheVariants as marks
 use Rattle.trace_reader.specs.declared.told.Step.{Step}
+use Rattle.sign_kinds.specs.Holds.{may_begin}
 use Rattle.sign_kinds.specs.Sums.{sum_up}
 use Rattle.sign_kinds.specs.declared.signs.Asked.{Asked}
 use Rattle.sign_kinds.specs.declared.signs.Asked.TheVariants as asks
@@ -36,7 +36,7 @@ time clocks.Ticks ticks steps = sum_up (min (ticks * 1000) 18446744073709551615)
 
 -- what was told before a sign, and behind it
 abbrev pub nothing : Before
-nothing = record { asked = asks.Other; ticks = 0 }
+nothing = record { asked = asks.Nothing; ticks = 0 }
 
 unfoldable pub behind : Before → What → Before
 behind b (whats.Turn asked) = record b { asked = asked }
@@ -82,14 +82,8 @@ begins at frame =
 abbrev pub gone : ℕ → Frame → List Change
 gone at frame = is at (signals.Runs (context_of frame.purpose frame.level)) (values.Bit false) ∷ call at frame.purpose frame.level values.Nothing
 
--- a directive that is held for such a cause may begin later
-abbrev pub may_begin : Held → Bool
-may_begin causes.Idle = false
-may_begin causes.Unknown = false
-may_begin _ = true
-
 abbrev pub waits : ℕ → Asked → Held → List Change
-waits at (asks.Frame purpose level) cause = is at (signals.Waits (context_of purpose level)) (values.Bit (may_begin cause)) ∷ []
+waits at (asks.Frame purpose level whole) cause = is at (signals.Waits (context_of purpose level)) (values.Bit (may_begin cause)) ∷ []
 waits at _ cause = []
 
 abbrev pub held : ℕ → Asked → Held → List Change

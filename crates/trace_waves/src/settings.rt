@@ -8,7 +8,7 @@ use crate::value::Value;
 use bench_report::Purpose;
 use irq_control::Held;
 use mcal_base::{Move, Reason, Reg};
-use sign_kinds::{Asked, Frame, Sign, What};
+use sign_kinds::{Asked, Frame, Sign, What, may_begin};
 use std::alloc::{AllocError, Global};
 use trace_reader::{Mark, Step};
 
@@ -48,7 +48,7 @@ impl Before {
         ensures { result ≡ spec.nothing }
     {
         Before {
-            asked: Asked::Other,
+            asked: Asked::Nothing,
             ticks: 0,
         }
     }
@@ -79,16 +79,6 @@ fn context_of(purpose: Purpose, level: u32) -> Context
     match purpose {
         Purpose::Call(_) => Context::Level(level),
         Purpose::Handler(line) => Context::Line(line),
-    }
-}
-
-/// Whether a directive that is held for such a cause may begin later.
-fn may_begin(cause: Held) -> bool
-    ensures { result ≡ spec.may_begin cause }
-{
-    match cause {
-        Held::Idle | Held::Unknown => false,
-        _ => true,
     }
 }
 
@@ -199,7 +189,7 @@ fn put_waits(
     ensures { OnOk result (board.new ≡ all_put board.old (spec.waits at asked cause)) }
 {
     match asked {
-        Asked::Frame(purpose, level) => {
+        Asked::Frame(purpose, level, _) => {
             let signal = Signal::Waits(context_of(purpose, level));
             board.set(alloc, at, signal, Value::Bit(may_begin(cause)))
         }

@@ -1,0 +1,4 @@
+pub mod ChannelLaws
+pub mod MeasureLaws
+pub mod ModuleLaws
+pub mod ServeLaws

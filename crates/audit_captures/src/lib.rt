@@ -1,0 +1,14 @@
+//! The machine of the capture channels as a program: what each edge, each call, each serving and a reset do to its state,
+//! and what they tell. Of the edges that were served it keeps what the next one needs.
+#![tactic(auto)]
+
+mod capture;
+mod captures;
+mod checks;
+mod measure;
+mod queue;
+
+pub use capture::{Capture, Start};
+pub use captures::Captures;
+pub use measure::{Seen, Value};
+pub use queue::{Edge, Queue};

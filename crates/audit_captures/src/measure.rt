@@ -1,0 +1,110 @@
+ghost use Rattle.std.specs.Prelude.{◌≡◌, Some, option_map};
+ghost use Rattle.icu_driver.specs.Edges as edges;
+ghost use Rattle.icu_driver.specs.Table as table;
+ghost use Rattle.audit_captures.specs.Measures as spec;
+ghost use Rattle.audit_captures.specs.Stands.{edge_of, seen_as, value_as};
+
+use crate::queue::Edge;
+use icu_driver::Channel;
+use mcal_base::{IcuSignalMeasurementProperty, IcuStartEdge};
+
+/// What was seen of the newest measure that waits for its end. Times are in peripheral ticks, modulo 2^32.
+#[derive(Clone, Copy)]
+pub enum Seen {
+    /// None waits.
+    Nothing,
+    /// Its first edge, at a time.
+    Start(u32),
+    /// Its first edge and the next one, at their times.
+    Next(u32, u32),
+}
+
+/// A value that was measured, in peripheral ticks.
+#[derive(Clone, Copy)]
+pub enum Value {
+    /// A time.
+    Time(u32),
+    /// An active time and a period.
+    Duty(u32, u32),
+}
+
+/// The time from one edge to a later one, modulo 2^32.
+fn span(start: u32, now: u32) -> u32
+    ensures { result ≡ spec.span start now }
+{
+    now.wrapping_sub(start)
+}
+
+fn starts_rising(edge: IcuStartEdge) -> bool
+    ensures { result ≡ table.starts_rising edge }
+{
+    !matches!(edge, IcuStartEdge::Falling)
+}
+
+/// Whether what a channel measures begins at a rising edge.
+pub(crate) fn begins_rising(property: IcuSignalMeasurementProperty, channel: Channel) -> bool
+    ensures { result ≡ edges.begins_rising property channel }
+{
+    match property {
+        IcuSignalMeasurementProperty::HighTime => true,
+        IcuSignalMeasurementProperty::LowTime => false,
+        IcuSignalMeasurementProperty::PeriodTime | IcuSignalMeasurementProperty::DutyCycle => {
+            starts_rising(channel.start_edge)
+        }
+    }
+}
+
+/// Whether it ends at one.
+pub(crate) fn ends_rising(property: IcuSignalMeasurementProperty, channel: Channel) -> bool
+    ensures { result ≡ edges.ends_rising property channel }
+{
+    match property {
+        IcuSignalMeasurementProperty::HighTime => false,
+        IcuSignalMeasurementProperty::LowTime => true,
+        IcuSignalMeasurementProperty::PeriodTime | IcuSignalMeasurementProperty::DutyCycle => {
+            starts_rising(channel.start_edge)
+        }
+    }
+}
+
+impl Seen {
+    /// What is seen with one more edge: a measure begins at one of the first direction, and one of the last ends it.
+    pub(crate) fn with(self, first: bool, last: bool, edge: Edge) -> Seen
+        ensures { seen_as result ≡ spec.seen_with first last (edge_of edge) (seen_as self) }
+    {
+        if edge.rising == first {
+            return Seen::Start(edge.time);
+        }
+        if edge.after_gap || edge.rising == last {
+            return Seen::Nothing;
+        }
+        match self {
+            Seen::Nothing => Seen::Nothing,
+            Seen::Start(start) => Seen::Next(start, edge.time),
+            Seen::Next(..) => self,
+        }
+    }
+
+    /// The value that an edge completes.
+    pub(crate) fn told(
+        self,
+        property: IcuSignalMeasurementProperty,
+        last: bool,
+        edge: Edge,
+    ) -> Option<Value>
+        ensures { option_map value_as result ≡ spec.told_with property last (edge_of edge) (seen_as self) }
+    {
+        if edge.after_gap || edge.rising != last {
+            return None;
+        }
+        let is_duty = matches!(property, IcuSignalMeasurementProperty::DutyCycle);
+        match self {
+            Seen::Nothing => None,
+            Seen::Start(_) if is_duty => None,
+            Seen::Next(start, next) if is_duty => {
+                Some(Value::Duty(span(start, next), span(start, edge.time)))
+            }
+            Seen::Start(start) | Seen::Next(start, _) => Some(Value::Time(span(start, edge.time))),
+        }
+    }
+}

@@ -1,0 +1,384 @@
+ghost use Rattle.std.specs.Prelude.{◌≡◌, OnOk};
+ghost use Rattle.trace_lanes.specs.Board.{put_all as all_put};
+ghost use Rattle.trace_lanes.specs.Course.{row_of, setting_of};
+ghost use Rattle.trace_lanes.specs.Drawn as spec;
+
+use crate::board::{Board, Mark, NO_LIMIT, Shape};
+use crate::caption::Caption;
+use crate::course::{Course, Level, Wait, row_of, setting_of};
+use crate::rows::Row;
+use sign_kinds::{Asked, Ending, Frame, Sign, What};
+use std::alloc::{AllocError, Global};
+
+/// The last step for which a page has room.
+pub(crate) const MOST_STEPS: usize = 20_000;
+
+/// Whether a sign has a shape of its own.
+fn is_shape(what: What) -> bool
+    ensures { result ≡ spec.is_shape what }
+{
+    match what {
+        What::Begins(_) => false,
+        _ => true,
+    }
+}
+
+/// The step where the shape of a sign begins.
+fn first_step(step: usize, what: What) -> usize
+    ensures { result ≡ spec.first_step step what }
+{
+    match what {
+        What::Gone(frame, _) => frame.from,
+        What::Window(first) => first,
+        _ => step,
+    }
+}
+
+/// Whether a sign is drawn.
+#[tactic(auto, unfolding(crate::specs::Drawn::is_drawn))]
+pub(crate) fn is_drawn(sign: &Sign) -> bool
+    ensures { result ≡ spec.is_drawn sign.now }
+{
+    is_shape(sign.what) && first_step(sign.step, sign.what) <= MOST_STEPS
+}
+
+/// Whether the shape of a sign is left out.
+#[tactic(auto, unfolding(crate::specs::Drawn::is_left_out))]
+pub(crate) fn is_left_out(sign: &Sign) -> bool
+    ensures { result ≡ spec.is_left_out sign.now }
+{
+    is_shape(sign.what) && first_step(sign.step, sign.what) > MOST_STEPS
+}
+
+/// The symbol of a sign, in a row, where its step is.
+fn symbol(course: &Course, sign: &Sign, row: Row) -> Shape
+    ensures { result ≡ spec.symbol course.now sign.now row }
+{
+    Shape {
+        mark: Mark::Symbol(sign.what),
+        row,
+        x: course.x.saturating_add(course.breadth(sign.what) / 2),
+        width: 0,
+        sign: *sign,
+    }
+}
+
+/// A shape that a value leaves where it ends.
+fn wave(level: Level, end: usize) -> Shape
+    ensures { result ≡ spec.wave level end }
+{
+    Shape {
+        mark: Mark::Wave(level.value > 0),
+        row: level.row,
+        x: level.x,
+        width: end.saturating_sub(level.x),
+        sign: level.sign,
+    }
+}
+
+/// Puts a value that ends at a place.
+#[tactic(auto, unfolding(crate::specs::Drawn::ended))]
+fn put_level(board: &mut Board, alloc: Global, level: Level, end: usize) -> Result<(), AllocError>
+    ensures { OnOk result (board.new ≡ all_put board.old (spec.ended level end)) }
+{
+    board.draw(alloc, wave(level, end))?;
+    board.say(
+        alloc,
+        level.row,
+        level.x.saturating_add(3),
+        end,
+        Caption::Value(level.value),
+    )
+}
+
+/// Puts the value that another one ends.
+#[tactic(auto, unfolding(crate::specs::Drawn::overtaken))]
+fn put_setting(
+    board: &mut Board,
+    alloc: Global,
+    course: &Course,
+    what: What,
+) -> Result<(), AllocError>
+    ensures { OnOk result (board.new ≡ all_put board.old (spec.overtaken course.now (setting_of what))) }
+{
+    let Some(setting) = setting_of(what) else {
+        return Ok(());
+    };
+    match course.level(setting.row) {
+        Some(level) if level.value != setting.value => put_level(board, alloc, level, course.x),
+        _ => Ok(()),
+    }
+}
+
+/// Puts a directive.
+#[tactic(auto, unfolding(crate::specs::Drawn::turn))]
+fn put_turn(
+    board: &mut Board,
+    alloc: Global,
+    course: &Course,
+    sign: &Sign,
+    asked: Asked,
+) -> Result<(), AllocError>
+    ensures { OnOk result (board.new ≡ all_put board.old (spec.turn course.now sign.now asked)) }
+{
+    board.draw(alloc, symbol(course, sign, Row::Script(0)))?;
+    board.say_script(
+        alloc,
+        course.x.saturating_add(2),
+        Caption::Turn(sign.number, asked),
+    )
+}
+
+/// Puts ticks.
+#[tactic(auto, unfolding(crate::specs::Drawn::gap))]
+fn put_gap(
+    board: &mut Board,
+    alloc: Global,
+    course: &Course,
+    sign: &Sign,
+    all: u64,
+) -> Result<(), AllocError>
+    ensures { OnOk result (board.new ≡ all_put board.old (spec.gap course.now sign.now all)) }
+{
+    let gap = Shape {
+        mark: Mark::Gap,
+        row: Row::Ticks,
+        x: course.x.saturating_add(1),
+        width: 52,
+        sign: *sign,
+    };
+    board.draw(alloc, gap)?;
+    board.say(
+        alloc,
+        Row::Ticks,
+        course.x.saturating_add(3),
+        NO_LIMIT,
+        Caption::Time(all),
+    )
+}
+
+/// Puts that a frame waited.
+#[tactic(auto, unfolding(crate::specs::Drawn::waited_since))]
+fn put_wait(
+    board: &mut Board,
+    alloc: Global,
+    course: &Course,
+    sign: &Sign,
+    row: Row,
+    wait: Wait,
+) -> Result<(), AllocError>
+    ensures { OnOk result (board.new ≡ all_put board.old (spec.waited_since course.now sign.now row wait)) }
+{
+    let line = Shape {
+        mark: Mark::Wait,
+        row,
+        x: wait.x,
+        width: course.x.saturating_sub(wait.x),
+        sign: *sign,
+    };
+    board.draw(alloc, line)?;
+    let steps = sign.step.saturating_sub(wait.step);
+    let ticks = course.ticks.saturating_sub(wait.ticks);
+    board.say(
+        alloc,
+        row,
+        wait.x.saturating_add(3),
+        course.x,
+        Caption::Waits(steps, ticks),
+    )
+}
+
+/// Puts that a frame waited, if it did, where it begins.
+#[tactic(auto, unfolding(crate::specs::Drawn::waited))]
+fn put_begin(
+    board: &mut Board,
+    alloc: Global,
+    course: &Course,
+    sign: &Sign,
+    frame: Frame,
+) -> Result<(), AllocError>
+    ensures { OnOk result (board.new ≡ all_put board.old (spec.waited_in course.now sign.now (row_of frame.purpose frame.level))) }
+{
+    let row = row_of(frame.purpose, frame.level);
+    match course.wait(row) {
+        Some(wait) => put_wait(board, alloc, course, sign, row, wait),
+        None => Ok(()),
+    }
+}
+
+/// Puts the bar of a frame that is gone.
+#[tactic(auto, unfolding(crate::specs::Drawn::gone))]
+fn put_gone(
+    board: &mut Board,
+    alloc: Global,
+    course: &Course,
+    sign: &Sign,
+    frame: Frame,
+    ending: Ending,
+) -> Result<(), AllocError>
+    ensures { OnOk result (board.new ≡ all_put board.old (spec.gone course.now sign.now frame ending)) }
+{
+    let place = course.frame(frame.depth);
+    let bar = Shape {
+        mark: Mark::Bar(frame.purpose, ending),
+        row: row_of(frame.purpose, frame.level),
+        x: place.x,
+        width: course.x.saturating_sub(place.x).max(2),
+        sign: *sign,
+    };
+    board.draw(alloc, bar)?;
+    board.say(
+        alloc,
+        row_of(frame.purpose, frame.level),
+        place.x.saturating_add(3),
+        course.x,
+        Caption::Frame(frame.purpose),
+    )
+}
+
+/// Puts the steps with the mask closed that end here.
+#[tactic(auto, unfolding(crate::specs::Drawn::window))]
+fn put_window(
+    board: &mut Board,
+    alloc: Global,
+    course: &Course,
+    sign: &Sign,
+) -> Result<(), AllocError>
+    ensures { OnOk result (board.new ≡ all_put board.old (spec.window course.now sign.now course.now.shut)) }
+{
+    let Some(place) = course.shut else {
+        return board.draw(alloc, symbol(course, sign, Row::Held));
+    };
+    let bar = Shape {
+        mark: Mark::Mask,
+        row: place.row,
+        x: place.x,
+        width: course.x.saturating_sub(place.x).max(1),
+        sign: *sign,
+    };
+    board.draw(alloc, bar)
+}
+
+/// Puts a symbol with what it says above it.
+#[tactic(auto, unfolding(crate::specs::Drawn::flag))]
+fn put_flag(
+    board: &mut Board,
+    alloc: Global,
+    course: &Course,
+    sign: &Sign,
+    row: Row,
+) -> Result<(), AllocError>
+    ensures { OnOk result (board.new ≡ all_put board.old (spec.flag course.now sign.now row)) }
+{
+    board.draw(alloc, symbol(course, sign, row))?;
+    board.say(alloc, row, course.x, NO_LIMIT, Caption::Says(sign.what))
+}
+
+/// Puts what a sign stands for.
+#[tactic(auto, unfolding(crate::specs::Drawn::shown))]
+fn put_what(
+    board: &mut Board,
+    alloc: Global,
+    course: &Course,
+    sign: &Sign,
+) -> Result<(), AllocError>
+    ensures { OnOk result (board.new ≡ all_put board.old (spec.shown course.now sign.now sign.now.what)) }
+{
+    match sign.what {
+        What::Turn(asked) => put_turn(board, alloc, course, sign, asked),
+        What::Ticked(_, all) | What::Waited(_, all) => put_gap(board, alloc, course, sign, all),
+        What::Begins(frame) => put_begin(board, alloc, course, sign, frame),
+        What::Stepped(_, _) => board.draw(
+            alloc,
+            symbol(course, sign, course.frame(sign.depth).row),
+        ),
+        What::Held(_) => put_flag(board, alloc, course, sign, Row::Held),
+        What::Noted(_) => put_flag(board, alloc, course, sign, Row::Notices),
+        What::Erred(_) | What::Reset(_, _) => put_flag(board, alloc, course, sign, Row::Errors),
+        What::Gone(frame, ending) => put_gone(board, alloc, course, sign, frame, ending),
+        What::Window(_) => put_window(board, alloc, course, sign),
+        What::Shown | What::Done => board.draw(alloc, symbol(course, sign, Row::Script(0))),
+    }
+}
+
+/// Puts a sign.
+#[tactic(auto, using(crate::proofs::Steps::put_all_append), unfolding(crate::specs::Drawn::drawn_by))]
+fn put_sign(
+    board: &mut Board,
+    alloc: Global,
+    course: &Course,
+    sign: &Sign,
+) -> Result<(), AllocError>
+    ensures { OnOk result (board.new ≡ all_put board.old (spec.drawn_by course.now sign.now)) }
+{
+    put_setting(board, alloc, course, sign.what)?;
+    put_what(board, alloc, course, sign)
+}
+
+/// Puts a sign, if the page has room for it, and goes on behind it.
+#[tactic(auto, unfolding(crate::specs::Drawn::strokes_of, crate::specs::Drawn::next))]
+fn put_next(
+    board: &mut Board,
+    alloc: Global,
+    course: &mut Course,
+    sign: &Sign,
+) -> Result<(), AllocError>
+    ensures board { OnOk result (board.new ≡ all_put board.old (spec.strokes_of course.old sign.now)) }
+    ensures course { OnOk result (course.new ≡ spec.next course.old sign.now) }
+{
+    if is_left_out(sign) {
+        return Ok(());
+    }
+    put_sign(board, alloc, course, sign)?;
+    course.advance(sign);
+    Ok(())
+}
+
+/// Puts signs one after another.
+pub(crate) fn put_signs(
+    board: &mut Board,
+    alloc: Global,
+    course: &mut Course,
+    signs: &[Sign],
+) -> Result<(), AllocError>
+    ensures board { OnOk result (board.new ≡ all_put board.old (spec.strokes course.old signs.now)) }
+    ensures course { OnOk result (course.new ≡ spec.behind_all course.old signs.now) }
+{
+    let mut rest = signs;
+    while let [sign, later @ ..] = rest {
+        put_next(board, alloc, course, sign)?;
+        rest = later;
+    }
+    Ok(())
+}
+
+/// Puts a value that stands at the end, if it changed.
+#[tactic(auto, unfolding(crate::specs::Drawn::last))]
+fn put_last(
+    board: &mut Board,
+    alloc: Global,
+    level: Option<Level>,
+    end: usize,
+) -> Result<(), AllocError>
+    ensures { OnOk result (board.new ≡ all_put board.old (spec.last end level)) }
+{
+    match level {
+        Some(level) if level.changed => put_level(board, alloc, level, end),
+        _ => Ok(()),
+    }
+}
+
+/// Puts the values that stand at the end.
+pub(crate) fn put_lasts(
+    board: &mut Board,
+    alloc: Global,
+    levels: &[Option<Level>],
+    end: usize,
+) -> Result<(), AllocError>
+    ensures { OnOk result (board.new ≡ all_put board.old (spec.lasts end levels.now)) }
+{
+    for level in levels {
+        put_last(board, alloc, *level, end)?;
+    }
+    Ok(())
+}

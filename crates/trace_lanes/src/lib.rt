@@ -1,0 +1,15 @@
+//! The page of a run: a lane for each level and each handler's line, with their frames, steps and waits, and what else
+//! was told above and below them.
+#![tactic(auto)]
+
+mod board;
+mod caption;
+mod course;
+mod draw;
+mod laws;
+mod marks;
+mod page;
+mod rows;
+
+pub use laws::keeps_labels_apart;
+pub use page::page_of;
