@@ -231,7 +231,7 @@ static const struct { const char *name; uint8 value; } errors[] = {
   VALUE(PWM_E_ALREADY_INITIALIZED), VALUE(PWM_E_UNINIT), VALUE(PWM_E_PARAM_CHANNEL), VALUE(PWM_E_PERIOD_UNCHANGEABLE),
   VALUE(ICU_E_ALREADY_INITIALIZED), VALUE(ICU_E_UNINIT), VALUE(ICU_E_PARAM_CHANNEL), VALUE(ICU_E_PARAM_ACTIVATION), VALUE(ICU_E_PARAM_BUFFER_SIZE), VALUE(ICU_E_PARAM_NOTIFY_INTERVAL), VALUE(ICU_E_NOT_STARTED),
   VALUE(ADC_E_ALREADY_INITIALIZED), VALUE(ADC_E_UNINIT), VALUE(ADC_E_BUSY), VALUE(ADC_E_IDLE), VALUE(ADC_E_PARAM_GROUP), VALUE(ADC_E_PARAM_POINTER), VALUE(ADC_E_WRONG_TRIGG_SRC), VALUE(ADC_E_BUFFER_UNINIT), VALUE(ADC_E_NOTIF_CAPABILITY),
-  VALUE(SPI_E_ALREADY_INITIALIZED), VALUE(SPI_E_UNINIT), VALUE(SPI_E_PARAM_CHANNEL), VALUE(SPI_E_PARAM_LENGTH), VALUE(SPI_E_PARAM_SEQ), VALUE(SPI_E_SEQ_PENDING), VALUE(SPI_E_PARAM_JOB), VALUE(SPI_E_PARAM_UNIT),
+  VALUE(SPI_E_ALREADY_INITIALIZED), VALUE(SPI_E_UNINIT), VALUE(SPI_E_PARAM_CHANNEL), VALUE(SPI_E_PARAM_LENGTH), VALUE(SPI_E_PARAM_SEQ), VALUE(SPI_E_SEQ_PENDING), VALUE(SPI_E_SEQ_IN_PROCESS), VALUE(SPI_E_PARAM_JOB), VALUE(SPI_E_PARAM_UNIT),
   VALUE(DIO_E_PARAM_INVALID_CHANNEL_ID), VALUE(DIO_E_PARAM_INVALID_PORT_ID), VALUE(DIO_E_PARAM_INVALID_GROUP),
   VALUE(WDG_E_DRIVER_STATE), VALUE(WDG_E_PARAM_MODE), VALUE(WDG_E_PARAM_TIMEOUT),
 };
@@ -610,10 +610,18 @@ Std_ReturnType Spi_SetupEB(Spi_ChannelType channel, const Spi_DataBufferType *so
   Told t = call("Spi_SetupEB", "%u %s %s %u", (unsigned)channel, source ? "src" : "null", destination ? "dst" : "null", (unsigned)length);
   return ok(&t);
 }
-Std_ReturnType Spi_AsyncTransmit(Spi_SequenceType sequence) {
+static void fill_sources(void) {
   for (uint32 channel = 0; channel < 16; channel++)
     if (external[channel].source) fill(channel, external[channel].source, external[channel].length);
+}
+Std_ReturnType Spi_AsyncTransmit(Spi_SequenceType sequence) {
+  fill_sources();
   Told t = call("Spi_AsyncTransmit", "%u", (unsigned)sequence);
+  return ok(&t);
+}
+Std_ReturnType Spi_SyncTransmit(Spi_SequenceType sequence) {
+  fill_sources();
+  Told t = call("Spi_SyncTransmit", "%u", (unsigned)sequence);
   return ok(&t);
 }
 ONE(Spi_Cancel, Spi_SequenceType)

@@ -204,6 +204,7 @@ static void call_serial(void) {
   SERVICE(Spi_ReadIB, read_internal();)
   SERVICE(Spi_SetupEB, STD(Spi_SetupEB(BYTE(3), strcmp(words[4], "src") ? NULL_PTR : sources[channel], strcmp(words[5], "dst") ? NULL_PTR : destinations[channel], HALF(6)), "Spi_SetupEB"))
   SERVICE(Spi_AsyncTransmit, STD(Spi_AsyncTransmit(BYTE(3)), "Spi_AsyncTransmit"))
+  SERVICE(Spi_SyncTransmit, STD(Spi_SyncTransmit(BYTE(3)), "Spi_SyncTransmit"))
   SERVICE(Spi_GetStatus, STATUS(Spi_GetStatus(), "Spi_GetStatus"))
   SERVICE(Spi_GetJobResult, ENUM(Spi_GetJobResult(HALF(3)), "Spi_GetJobResult", "SPI_JOB_OK", "SPI_JOB_PENDING", "SPI_JOB_FAILED", "SPI_JOB_QUEUED"))
   SERVICE(Spi_GetSequenceResult, ENUM(Spi_GetSequenceResult(BYTE(3)), "Spi_GetSequenceResult", "SPI_SEQ_OK", "SPI_SEQ_PENDING", "SPI_SEQ_FAILED", "SPI_SEQ_CANCELED"))

@@ -2,6 +2,16 @@
 
 from mcal import Board, Held, WasReset
 
+WAITING = '''
+[Gpt]
+GptChannelConfiguration = [ { GptChannelId = 0, GptChannelMode = "GPT_CH_MODE_CONTINUOUS" } ]
+[Spi]
+SyncUnits = [0]
+SpiChannel = [ { SpiChannelId = 0, SpiChannelType = "IB", SpiDataWidth = 8, SpiIbNBuffers = 2, SpiDefaultData = 0 } ]
+SpiJob = [ { SpiJobId = 0, Unit = 0, SpiJobPriority = 0, SpiChannelList = [0] } ]
+SpiSequence = [ { SpiSequenceId = 0, SpiInterruptibleSequence = false, SpiJobAssignment = [0] } ]
+'''
+
 
 def test_time_goes_by():
     with Board() as board:
@@ -33,6 +43,19 @@ def test_an_interrupt_waits_for_the_window():
         board.at_each_step(hook)
         board.Gpt_GetTimeElapsed(0)
         assert 'masked' in causes
+
+
+def test_a_call_waits_for_the_bus():
+    with Board(WAITING) as board:
+        board.device(0, lambda word: word + 1)
+        board.Gpt_Init()
+        board.Gpt_StartTimer(0, 1000)
+        board.Spi_Init()
+        board.fill(0, 3, 4)
+        board.Spi_WriteIB(0, 'src')
+        assert board.Spi_SyncTransmit(0) == 'E_OK'
+        assert board.Spi_ReadIB(0) == ['E_OK', 4, 5]
+        assert board.Gpt_GetTimeElapsed(0) == 16        # two words of 8 ticks
 
 
 def test_a_reset_drops_the_service():

@@ -31,10 +31,11 @@ void Spi_Init(const Spi_ConfigType *ConfigPtr);
 Std_ReturnType Spi_DeInit(void);
 Std_ReturnType Spi_WriteIB(Spi_ChannelType Channel, const Spi_DataBufferType *DataBufferPtr);
 Std_ReturnType Spi_ReadIB(Spi_ChannelType Channel, Spi_DataBufferType *DataBufferPointer);
-/* The source is sent as it is at Spi_AsyncTransmit; what comes in is copied to the destination whenever no service and no
-   handler is under way. */
+/* The source is sent as it is at Spi_AsyncTransmit or Spi_SyncTransmit; what comes in is copied to the destination whenever
+   no service and no handler is under way. */
 Std_ReturnType Spi_SetupEB(Spi_ChannelType Channel, const Spi_DataBufferType *SrcDataBufferPtr, Spi_DataBufferType *DesDataBufferPtr, Spi_NumberOfDataType Length);
 Std_ReturnType Spi_AsyncTransmit(Spi_SequenceType Sequence);
+Std_ReturnType Spi_SyncTransmit(Spi_SequenceType Sequence);
 void Spi_Cancel(Spi_SequenceType Sequence);
 Spi_StatusType Spi_GetStatus(void);
 Spi_JobResultType Spi_GetJobResult(Spi_JobType Job);

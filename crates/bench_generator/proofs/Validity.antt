@@ -32,6 +32,9 @@ one_kept breaks x h = λ k d l. one_at breaks x k d l h
 ones : IsList 2 2 1 7 (1 ∷ 1 ∷ [])
 ones = record { enough = omega arith; few = omega arith; each = All-cons (InRange 1 7) 1 (1 ∷ []) (in_range 1 7 1 (omega arith) (omega arith)) (All-cons (InRange 1 7) 1 [] (in_range 1 7 1 (omega arith) (omega arith)) (All-nil (InRange 1 7))) }
 
+no_units : IsList 0 2 0 1 []
+no_units = record { enough = omega arith; few = omega arith; each = All-nil (InRange 0 1) }
+
 inputs : IsList 1 32 0 31 (0 ∷ [])
 inputs = record { enough = omega arith; few = omega arith; each = All-cons (InRange 0 31) 0 [] (in_range 0 31 0 (omega arith) (omega arith)) (All-nil (InRange 0 31)) }
 
@@ -74,7 +77,7 @@ board_is_valid = record {
     units = All-cons (λ (g : AdcGroup). has_id unit_id (the_unit ∷ []) g.unit ≡ true) the_group [] unit_there (All-nil _);
     rules = record { hardware = one_kept hardware_continuous the_group refl; triggers = one_kept shares_trigger the_group refl; single = one_kept single_with_samples the_group refl; streaming = one_kept streaming_once the_group refl };
   };
-  spi = record { tables = record { classification = first_class; levels = ones; channels = no_elements _ _ 16; jobs = no_elements _ _ 16; sequences = no_elements _ _ 8 }; references = record { channels = All-nil _; jobs = All-nil _ }; rules = record { channels_once = nothing_kept names_channel_twice; jobs_once = nothing_kept names_job_twice; one_unit = nothing_kept (mixes_units []); shared = nothing_kept shares_channel } };
+  spi = record { tables = record { classification = first_class; levels = ones; sync_units = no_units; channels = no_elements _ _ 16; jobs = no_elements _ _ 16; sequences = no_elements _ _ 8 }; references = record { channels = All-nil _; jobs = All-nil _ }; rules = record { channels_once = nothing_kept names_channel_twice; jobs_once = nothing_kept names_job_twice; one_unit = nothing_kept (mixes_units []); shared = nothing_kept shares_channel } };
   dio = record { tables = record { groups = no_elements _ _ 8 }; ports = All-nil _; rules = record { masks = nothing_kept mask_off_offset } };
   wdg = record { tables = record { initial_ticks = in_range 1 65535 1000 (omega arith) (omega arith); max_ticks = in_range 1 65535 65535 (omega arith) (omega arith) }; initial = refl };
 }

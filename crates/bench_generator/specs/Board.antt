@@ -56,7 +56,7 @@ no_clock = record { dev_error_detect = true; clock_settings = []; modes = []; ra
 
 -- no channel, job or sequence; the lines of both units at level 1
 abbrev pub no_serial : SpiConfig
-no_serial = record { dev_error_detect = true; classification = 1; levels = 1 ∷ 1 ∷ []; channels = []; jobs = []; sequences = [] }
+no_serial = record { dev_error_detect = true; classification = 1; levels = 1 ∷ 1 ∷ []; sync_units = []; channels = []; jobs = []; sequences = [] }
 
 -- the watchdog with its defaults, off
 abbrev pub watchdog_off : WdgConfig

@@ -89,6 +89,7 @@ fn no_serial() -> SpiConfig
         dev_error_detect: true,
         classification: 1,
         levels: both_at_one(),
+        sync_units: Short::new(),
         channels: Short::new(),
         jobs: Short::new(),
         sequences: Short::new(),

@@ -96,6 +96,7 @@ service_again services.SpiGetSequenceResult = refl
 service_again services.SpiGetHwUnitStatus = refl
 service_again services.SpiSetAsyncMode = refl
 service_again services.SpiMainFunctionHandling = refl
+service_again services.SpiSyncTransmit = refl
 service_again services.DioReadChannel = refl
 service_again services.DioFlipChannel = refl
 service_again services.DioWriteChannel = refl

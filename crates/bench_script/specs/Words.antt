@@ -101,7 +101,7 @@ all_services =
     services.SpiInit ∷ services.SpiDeInit ∷ services.SpiWriteIb ∷ services.SpiReadIb ∷ services.SpiSetupEb ∷
     services.SpiAsyncTransmit ∷ services.SpiCancel ∷ services.SpiGetStatus ∷ services.SpiGetJobResult ∷
     services.SpiGetSequenceResult ∷ services.SpiGetHwUnitStatus ∷ services.SpiSetAsyncMode ∷
-    services.SpiMainFunctionHandling ∷
+    services.SpiMainFunctionHandling ∷ services.SpiSyncTransmit ∷
     services.DioReadChannel ∷ services.DioFlipChannel ∷ services.DioWriteChannel ∷ services.DioReadPort ∷
     services.DioWritePort ∷ services.DioReadChannelGroup ∷ services.DioWriteChannelGroup ∷
     services.WdgInit ∷ services.WdgSetMode ∷ services.WdgSetTriggerCondition ∷

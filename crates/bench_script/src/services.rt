@@ -128,7 +128,11 @@ fn spi_services(letters: usize) -> &'static [Service]
         10 => &[Service::SpiDeInit, Service::SpiReadIb, Service::SpiCancel],
         11 => &[Service::SpiWriteIb, Service::SpiSetupEb],
         13 => &[Service::SpiGetStatus],
-        16 => &[Service::SpiGetJobResult, Service::SpiSetAsyncMode],
+        16 => &[
+            Service::SpiGetJobResult,
+            Service::SpiSetAsyncMode,
+            Service::SpiSyncTransmit,
+        ],
         17 => &[Service::SpiAsyncTransmit],
         19 => &[Service::SpiGetHwUnitStatus],
         21 => &[Service::SpiGetSequenceResult],

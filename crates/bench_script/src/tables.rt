@@ -158,6 +158,7 @@ pub(crate) fn arguments_of(service: Service) -> &'static [Kind]
         | Service::SpiReadIb
         | Service::SpiAsyncTransmit
         | Service::SpiCancel
+        | Service::SpiSyncTransmit
         | Service::SpiGetJobResult
         | Service::SpiGetSequenceResult
         | Service::SpiGetHwUnitStatus

@@ -1,6 +1,10 @@
+pub mod Calls
+pub mod Commented
 pub mod Counted
 pub mod Cutting
 pub mod Differing
+pub mod Lining
+pub mod Marked
 pub mod Numbered
 pub mod Placed
 pub mod Printed

@@ -1,4 +1,5 @@
 pub mod Cuts
+pub mod Faults
 pub mod Flat
 pub mod Groups
 pub mod Lines
@@ -7,4 +8,6 @@ pub mod Outcomes
 pub mod Parts
 pub mod Placed
 pub mod Places
+pub mod Reactions
 pub mod Reports
+pub mod Spoken

@@ -1,3 +1,6 @@
+ghost use Rattle.std.specs.Prelude.{◌≡◌, IfOk, string_bytes};
+ghost use Rattle.bench_sweep.specs.Faults as spec;
+
 use crate::marking::{Mark, Part};
 use std::alloc::{AllocError, Global};
 
@@ -22,60 +25,84 @@ pub enum SweepFault {
     NoStep(u32),
 }
 
-impl SweepFault {
-    /// The line that is printed.
-    pub fn text(self, alloc: Global) -> Result<String, AllocError> {
-        match self {
-            SweepFault::Misplaced(line, mark, Part::Behind) => {
-                let mark = mark.text();
-                format!(in alloc;
-                    "sweep fault {line} Misplaced: {mark} behind end, where no mark may stand\n"
-                )
-            }
-            SweepFault::Misplaced(line, mark, part) => {
-                let mark = mark.text();
-                let ends = part.ends_text();
-                format!(in alloc;
-                    "sweep fault {line} Misplaced: {mark}, where the next mark may be {ends}\n"
-                )
-            }
-            SweepFault::Unended(line, part) => {
-                let ends = part.ends_text();
-                format!(in alloc;
-                    "sweep fault {line} Unended: the script ends, where the next mark must be {ends}\n"
-                )
-            }
-            SweepFault::Empty(line, mark) => {
-                let mark = mark.text();
-                format!(in alloc;
-                    "sweep fault {line} Empty: no directive behind {mark}, where one or more must stand\n"
-                )
-            }
-            SweepFault::Notice(line) => {
-                format!(in alloc;
-                    "sweep fault {line} Notice: on, where on CALLBACK ID do L SERVICE .. must stand\n"
-                )
-            }
-            SweepFault::Reaction(line) => {
-                format!(in alloc;
-                    "sweep fault {line} Reaction: what follows a notice must be one do L SERVICE ..\n"
-                )
-            }
-            SweepFault::Level(line) => {
-                format!(in alloc;
-                    "sweep fault {line} Level: do without a level, where do L SERVICE .. must stand, with L from 0 to 7\n"
-                )
-            }
-            SweepFault::Doubled(line, first) => {
-                format!(in alloc;
-                    "sweep fault {line} Doubled: on for the notice of line {first}, where one line may name it\n"
-                )
-            }
-            SweepFault::NoStep(line) => {
-                format!(in alloc;
-                    "sweep fault {line} NoStep: no directive of the block makes a step, where one or more must\n"
-                )
-            }
+/// What is wrong with a mark in a part.
+fn misplaced_text(alloc: Global, mark: Mark, part: Part) -> Result<String, AllocError>
+    ensures { IfOk result (λ text. string_bytes text ≡ spec.misplaced_text mark part) }
+{
+    let mark = mark.text();
+    match part {
+        Part::Behind => format!(in alloc; "{mark} behind end, where no mark may stand"),
+        _ => {
+            let ends = part.ends_text();
+            format!(in alloc; "{mark}, where the next mark may be {ends}")
         }
+    }
+}
+
+impl SweepFault {
+    /// The line.
+    fn line(self) -> u32
+        ensures { result ≡ spec.line_of self }
+    {
+        match self {
+            SweepFault::Misplaced(line, _, _)
+            | SweepFault::Unended(line, _)
+            | SweepFault::Empty(line, _)
+            | SweepFault::Notice(line)
+            | SweepFault::Reaction(line)
+            | SweepFault::Level(line)
+            | SweepFault::Doubled(line, _)
+            | SweepFault::NoStep(line) => line,
+        }
+    }
+
+    /// The kind of the fault, and what is wrong.
+    fn kind_text(self, alloc: Global) -> Result<String, AllocError>
+        ensures { IfOk result (λ text. string_bytes text ≡ spec.kind_text self) }
+    {
+        match self {
+            SweepFault::Misplaced(_, mark, part) => {
+                let wrong = misplaced_text(alloc, mark, part)?;
+                format!(in alloc; "Misplaced: {wrong}")
+            }
+            SweepFault::Unended(_, part) => {
+                let ends = part.ends_text();
+                format!(in alloc; "Unended: the script ends, where the next mark must be {ends}")
+            }
+            SweepFault::Empty(_, mark) => {
+                let mark = mark.text();
+                format!(in alloc; "Empty: no directive behind {mark}, where one or more must stand")
+            }
+            SweepFault::Notice(_) => String::from_str(
+                alloc,
+                "Notice: on, where on CALLBACK ID do L SERVICE .. must stand",
+            ),
+            SweepFault::Reaction(_) => String::from_str(
+                alloc,
+                "Reaction: what follows a notice must be one do L SERVICE ..",
+            ),
+            SweepFault::Level(_) => String::from_str(
+                alloc,
+                "Level: do without a level, where do L SERVICE .. must stand, with L from 0 to 7",
+            ),
+            SweepFault::Doubled(_, first) => {
+                format!(in alloc;
+                    "Doubled: on for the notice of line {first}, where one line may name it"
+                )
+            }
+            SweepFault::NoStep(_) => String::from_str(
+                alloc,
+                "NoStep: no directive of the block makes a step, where one or more must",
+            ),
+        }
+    }
+
+    /// The line that is printed.
+    pub fn text(self, alloc: Global) -> Result<String, AllocError>
+        ensures { IfOk result (λ text. string_bytes text ≡ spec.fault_text self) }
+    {
+        let line = self.line();
+        let kind = self.kind_text(alloc)?;
+        format!(in alloc; "sweep fault {line} {kind}\n")
     }
 }

@@ -1,4 +1,4 @@
-ghost use Rattle.std.specs.Prelude.{◌≡◌, ℕ, ◌+◌, ◌<◌, List, Some, slice_get, length, IfOk, IfSome, IsTrue, OnOk};
+ghost use Rattle.std.specs.Prelude.{◌≡◌, ℕ, ◌+◌, ◌-◌, ◌<◌, ◌==◌, ◌++◌, ◌∷◌, [], List, None, Some, take, slice_get, length, IfOk, IfSome, IsTrue, OnOk};
 ghost use Rattle.std.specs.List.{All};
 ghost use Rattle.bench_sweep.specs.declared.groups.Settled as records;
 ghost use Rattle.bench_sweep.specs.Groups as spec;
@@ -72,6 +72,7 @@ pub struct Range {
 impl Range {
     /// One place.
     fn of(place: usize, wait: usize) -> Range
+        ensures is { result ≡ spec.one_place place wait }
         ensures first { result.first ≡ place }
         ensures last { result.last ≡ place }
     {
@@ -84,6 +85,7 @@ impl Range {
 
     /// One place more, behind the last.
     fn longer(self, place: usize, wait: usize) -> Range
+        ensures is { result ≡ spec.longer self place wait }
         ensures first { result.first ≡ self.first }
         ensures last { result.last ≡ place }
     {
@@ -96,7 +98,8 @@ impl Range {
 
     /// Whether a place is the next one.
     fn is_before(self, place: usize) -> bool
-        ensures { IsTrue result → self.last + 1 ≡ place }
+        ensures is { result ≡ (self.last + 1 == place) }
+        ensures next { IsTrue result → self.last + 1 ≡ place }
     {
         0 < place && self.last == place - 1
     }
@@ -104,7 +107,8 @@ impl Range {
 
 /// The range of a place that has an outcome, which goes on with the last range where it stands next to that.
 fn range_with(last: Option<Range>, place: usize, wait: usize) -> Range
-    ensures { (settled : List records.Settled) (outcome : ℕ) (s : records.Settled) → slice_get settled place ≡ Some s → s.outcome ≡ outcome → IfSome last (λ r. spec.IsRangeOf settled outcome r) → spec.IsRangeOf settled outcome result }
+    ensures is { result ≡ spec.range_with last place wait }
+    ensures each { (settled : List records.Settled) (outcome : ℕ) (s : records.Settled) → slice_get settled place ≡ Some s → s.outcome ≡ outcome → IfSome last (λ r. spec.IsRangeOf settled outcome r) → spec.IsRangeOf settled outcome result }
 {
     match last {
         Some(last) if last.is_before(place) => last.longer(place, wait),
@@ -113,7 +117,9 @@ fn range_with(last: Option<Range>, place: usize, wait: usize) -> Range
 }
 
 /// Whether a place stands next to the last range.
-fn goes_on(last: Option<Range>, place: usize) -> bool {
+fn goes_on(last: Option<Range>, place: usize) -> bool
+    ensures { result ≡ spec.goes_on last place }
+{
     match last {
         Some(last) => last.is_before(place),
         None => false,
@@ -122,7 +128,9 @@ fn goes_on(last: Option<Range>, place: usize) -> bool {
 
 /// The last range.
 fn last_of(ranges: &[Range]) -> Option<Range>
-    ensures { (settled : List records.Settled) (outcome : ℕ) → All (spec.IsRangeOf settled outcome) ranges.now → IfSome result (λ r. spec.IsRangeOf settled outcome r) }
+    ensures none { result ≡ None → ranges.now ≡ [] }
+    ensures some { IfSome result (λ r. ranges.now ≡ take (length ranges.now - 1) ranges.now ++ r ∷ []) }
+    ensures each { (settled : List records.Settled) (outcome : ℕ) → All (spec.IsRangeOf settled outcome) ranges.now → IfSome result (λ r. spec.IsRangeOf settled outcome r) }
 {
     let count = ranges.len();
     if count == 0 {
@@ -133,7 +141,8 @@ fn last_of(ranges: &[Range]) -> Option<Range>
 
 /// Drops the last range, where a longer one takes its place.
 fn make_way(ranges: &mut Vec<Range>, goes_on: bool)
-    ensures { (settled : List records.Settled) (outcome : ℕ) → All (spec.IsRangeOf settled outcome) ranges.old.items → All (spec.IsRangeOf settled outcome) ranges.new.items }
+    ensures is { ranges.new.items ≡ spec.cut_last goes_on ranges.old.items }
+    ensures each { (settled : List records.Settled) (outcome : ℕ) → All (spec.IsRangeOf settled outcome) ranges.old.items → All (spec.IsRangeOf settled outcome) ranges.new.items }
 {
     if goes_on {
         ranges.truncate(ranges.len().saturating_sub(1));
@@ -142,7 +151,8 @@ fn make_way(ranges: &mut Vec<Range>, goes_on: bool)
 
 /// Keeps a place that has an outcome, in the last range where it stands next to that.
 fn keep_place(ranges: &mut Vec<Range>, place: usize, wait: usize) -> Result<(), AllocError>
-    ensures { OnOk result ((settled : List records.Settled) (outcome : ℕ) (s : records.Settled) → slice_get settled place ≡ Some s → s.outcome ≡ outcome → All (spec.IsRangeOf settled outcome) ranges.old.items → All (spec.IsRangeOf settled outcome) ranges.new.items) }
+    ensures is { OnOk result (ranges.new.items ≡ spec.with_place ranges.old.items place wait) }
+    ensures each { OnOk result ((settled : List records.Settled) (outcome : ℕ) (s : records.Settled) → slice_get settled place ≡ Some s → s.outcome ≡ outcome → All (spec.IsRangeOf settled outcome) ranges.old.items → All (spec.IsRangeOf settled outcome) ranges.new.items) }
 {
     let last = last_of(ranges);
     let range = range_with(last, place, wait);
@@ -167,7 +177,8 @@ fn keep_where(
     outcome: usize,
 ) -> Result<(), AllocError>
     requires { place < length settled.now }
-    ensures { OnOk result (All (spec.IsRangeOf settled.now outcome) ranges.old.items → All (spec.IsRangeOf settled.now outcome) ranges.new.items) }
+    ensures is { OnOk result ((s : records.Settled) → slice_get settled.now place ≡ Some s → ranges.new.items ≡ spec.with_settled outcome ranges.old.items place s) }
+    ensures each { OnOk result (All (spec.IsRangeOf settled.now outcome) ranges.old.items → All (spec.IsRangeOf settled.now outcome) ranges.new.items) }
 {
     let found = settled_at(settled, place);
     if found.outcome != outcome {
@@ -179,7 +190,8 @@ fn keep_where(
 
 /// The ranges of the places that have an outcome.
 pub fn ranges(alloc: Global, settled: &[Settled], outcome: usize) -> Result<Vec<Range>, AllocError>
-    ensures { IfOk result (λ ranges. All (spec.IsRangeOf settled.now outcome) ranges.items) }
+    ensures is { IfOk result (λ ranges. ranges.items ≡ spec.ranges_of outcome settled.now) }
+    ensures each { IfOk result (λ ranges. All (spec.IsRangeOf settled.now outcome) ranges.items) }
 {
     let mut ranges = Vec::new(alloc);
     for place in 0..settled.len() {

@@ -1,4 +1,4 @@
-ghost use Rattle.std.specs.Prelude.{◌≡◌, ◌==◌, ◌≤◌, ◌<◌, IfSome, length};
+ghost use Rattle.std.specs.Prelude.{◌≡◌, ◌==◌, ◌≤◌, ◌<◌, ◌∷◌, IfSome, length};
 ghost use Rattle.std.specs.List.{position};
 ghost use Rattle.std.specs.Str.Lines.{strip_carriage_return};
 ghost use Rattle.bench_sweep.specs.Lines as spec;
@@ -6,7 +6,7 @@ ghost use Rattle.bench_sweep.specs.Lines as spec;
 use memchr::memchr;
 
 /// The place of the first such byte.
-fn place_of(byte: u8, text: &[u8]) -> Option<usize>
+pub(crate) fn place_of(byte: u8, text: &[u8]) -> Option<usize>
     ensures place { result ≡ position (λ b. b == byte) text.now }
     ensures within { IfSome result (λ n. n < length text.now) }
 {
@@ -24,12 +24,17 @@ fn length_before(byte: u8, text: &[u8]) -> usize
     }
 }
 
-/// The length of the first line of a text, without its line feed.
-pub(crate) fn line_length(text: &[u8]) -> usize
-    ensures is { result ≡ spec.length_before 10 text.now }
-    ensures within { result ≤ length text.now }
+/// The first line of a text that is not empty, without its line feed, and what stands behind that.
+#[tactic(auto, using(crate::proofs::Lining::last_line))]
+pub(crate) fn split_line(text: &[u8]) -> (&[u8], &[u8])
+    ensures lines { 0 < length text.now → spec.lines_in text.now ≡ result.0.now ∷ spec.lines_in result.1.now }
+    ensures shorter { 0 < length text.now → length result.1.now < length text.now }
+    ensures within { length result.0.now ≤ length text.now }
 {
-    length_before(b'\n', text)
+    match place_of(b'\n', text) {
+        Some(feed) => (&text[..feed], &text[feed + 1..]),
+        None => (text, &[]),
+    }
 }
 
 /// A line without the carriage return at its end.
@@ -72,8 +77,10 @@ fn up_to_last_word(text: &[u8]) -> &[u8]
 }
 
 /// What a line asks for: its text before a comment, without the blanks around it.
+#[tactic(auto, using(crate::proofs::Lining::asked_shorter))]
 pub(crate) fn asked(line: &[u8]) -> &[u8]
-    ensures { result.now ≡ spec.asked line.now }
+    ensures is { result.now ≡ spec.asked line.now }
+    ensures within { length result.now ≤ length line.now }
 {
     up_to_last_word(from_first_word(before_comment(without_return(line))))
 }
@@ -108,21 +115,27 @@ fn word_length(text: &[u8]) -> usize
 pub(crate) fn split_word(text: &[u8]) -> (&[u8], &[u8])
     ensures word { result.0.now ≡ spec.first_word text.now }
     ensures behind { result.1.now ≡ spec.behind_word text.now }
+    ensures within { length result.1.now ≤ length text.now }
 {
     let length = word_length(text);
     (&text[..length], from_first_word(&text[length..]))
 }
 
 /// What the line of a number asks for, by its number from 1. A line that is not there asks for nothing.
-pub fn line_text(text: &[u8], number: u32) -> &[u8] {
+#[tactic(auto, using(crate::proofs::Lining::line_here, crate::proofs::Lining::line_on))]
+pub fn line_text(text: &[u8], number: u32) -> &[u8]
+    ensures { result.now ≡ spec.asked_at number text.now }
+{
     let mut rest = text;
     let mut line = 1;
-    while line < number {
-        let [_, behind @ ..] = &rest[line_length(rest)..] else {
-            return &[];
-        };
+    while line < number && !rest.is_empty() {
+        let (_, behind) = split_line(rest);
         rest = behind;
         line += 1;
     }
-    asked(&rest[..line_length(rest)])
+    if rest.is_empty() {
+        return asked(rest);
+    }
+    let (first, _) = split_line(rest);
+    asked(first)
 }

@@ -1,8 +1,12 @@
-ghost use Rattle.std.specs.Prelude.{◌≡◌, ◌<◌, ◌^◌, length};
+ghost use Rattle.std.specs.Prelude.{◌≡◌, ℕ, ◌<◌, ◌≤◌, ◌^◌, ◌+◌, ◌++◌, IfOk, IfSome, OnOk, length, map, option_map, option_to_list, vec_len};
+ghost use Rattle.std.specs.List.{All};
+ghost use Rattle.bench_sweep.specs.Faults.{ends_text, mark_text};
 ghost use Rattle.bench_sweep.specs.Marks as spec;
+ghost use Rattle.bench_sweep.specs.Reactions as reactions;
 
 use crate::fault::SweepFault;
-use crate::lines::{asked, line_length, split_word};
+use crate::lines::{asked, place_of, split_line, split_word};
+use crate::outcomes::is_digit;
 use std::alloc::{AllocError, Global};
 
 /// A word that stands alone on its line, and ends a part of a sweep's script.
@@ -20,7 +24,9 @@ pub enum Mark {
 
 impl Mark {
     /// The word.
-    pub fn text(self) -> &'static str {
+    pub fn text(self) -> &'static str
+        ensures { result.now ≡ mark_text self }
+    {
         match self {
             Mark::Sweep => "sweep",
             Mark::And => "and",
@@ -71,7 +77,9 @@ pub enum Part {
 
 impl Part {
     /// The marks that may end the part, as they are printed.
-    pub fn ends_text(self) -> &'static str {
+    pub fn ends_text(self) -> &'static str
+        ensures { result.now ≡ ends_text self }
+    {
         match self {
             Part::Before => "sweep",
             Part::Swept => "and or over",
@@ -140,9 +148,38 @@ impl Marks {
     }
 }
 
+/// What a line makes of the part that it stands in and of the marks before it.
+fn with_line(
+    line: u32,
+    mark: Option<Mark>,
+    part: Part,
+    marks: Marks,
+) -> Result<(Part, Marks), SweepFault>
+    ensures { result ≡ spec.with_line line mark (part, marks) }
+{
+    let Some(mark) = mark else {
+        return Ok((part, marks));
+    };
+    match part_behind(part, mark) {
+        Some(next) => Ok((next, marks.with(mark, line))),
+        None => Err(SweepFault::Misplaced(line, mark, part)),
+    }
+}
+
+/// The marks of a script that ends in a part.
+fn ended_in(last: u32, part: Part, marks: Marks) -> Result<Marks, SweepFault>
+    ensures { result ≡ spec.ended_in last part marks }
+{
+    match part {
+        Part::Behind => Ok(marks),
+        _ => Err(SweepFault::Unended(last, part)),
+    }
+}
+
 /// The marks of a script, which stand in their order and once each.
 pub fn marks_of(text: &[u8]) -> Result<Marks, SweepFault>
     requires { length text.now < 2 ^ 32 }
+    ensures { result ≡ spec.marks_of text.now }
 {
     let mut marks = Marks::none();
     let mut part = Part::Before;
@@ -150,20 +187,17 @@ pub fn marks_of(text: &[u8]) -> Result<Marks, SweepFault>
     let mut line = 0;
     while !rest.is_empty() {
         line += 1;
-        let length = line_length(rest);
-        if let Some(mark) = mark_on(&rest[..length]) {
-            let Some(next) = part_behind(part, mark) else {
-                return Err(SweepFault::Misplaced(line, mark, part));
-            };
-            part = next;
-            marks = marks.with(mark, line);
+        let (first, behind) = split_line(rest);
+        match with_line(line, mark_on(first), part, marks) {
+            Ok((next, more)) => {
+                part = next;
+                marks = more;
+            }
+            Err(fault) => return Err(fault),
         }
-        rest = &rest[rest.len().min(length + 1)..];
+        rest = behind;
     }
-    match part {
-        Part::Behind => Ok(marks),
-        _ => Err(SweepFault::Unended(line, part)),
-    }
+    ended_in(line, part, marks)
 }
 
 /// A line that says what follows a notice: `on CALLBACK ID do L SERVICE ..`.
@@ -179,64 +213,131 @@ pub struct ReactionLine<'a> {
     pub order: &'a [u8],
 }
 
-impl ReactionLine<'_> {
-    /// Whether the call is without a level, which is a number.
-    pub fn lacks_level(&self) -> bool {
-        let (first, rest) = split_word(self.order);
-        let (level, _) = split_word(rest);
-        first == b"do".as_slice() && !matches!(level, [b'0'..=b'9', ..])
+/// Whether a text begins with a decimal digit.
+fn begins_number(text: &[u8]) -> bool
+    ensures { result ≡ reactions.begins_number text.now }
+{
+    match text {
+        [byte, ..] => is_digit(*byte),
+        [] => false,
     }
 }
 
-/// What a line says that follows a notice, where it says so.
-pub fn reaction_on(line: &[u8], number: u32) -> Option<ReactionLine<'_>> {
-    let (first, rest) = split_word(asked(line));
-    if first != b"on".as_slice() {
-        return None;
+impl ReactionLine<'_> {
+    /// Whether the call is without a level, which is a number.
+    pub fn lacks_level(&self) -> bool
+        ensures { result ≡ reactions.lacks_level self.now.order.now }
+    {
+        let (first, rest) = split_word(self.order);
+        let (level, _) = split_word(rest);
+        first == b"do".as_slice() && !begins_number(level)
     }
-    let (callback, rest) = split_word(rest);
+}
+
+/// Whether a text says what follows a notice.
+fn is_reaction(text: &[u8]) -> bool
+    ensures { result ≡ reactions.is_reaction text.now }
+{
+    let (first, _) = split_word(text);
+    first == b"on".as_slice()
+}
+
+/// What a text says behind `on`.
+fn reacting(text: &[u8], number: u32) -> ReactionLine<'_>
+    ensures is { reactions.found_on result ≡ reactions.reacting_by number text.now }
+    ensures within { length result.order.now ≤ length text.now }
+{
+    let (callback, rest) = split_word(text);
     let (object, order) = split_word(rest);
-    Some(ReactionLine {
+    ReactionLine {
         line: number,
         callback,
         object,
         order,
-    })
+    }
+}
+
+/// What a line says that follows a notice, where it says so.
+pub fn reaction_on(line: &[u8], number: u32) -> Option<ReactionLine<'_>>
+    ensures is { option_map (λ r. reactions.found_on r) result ≡ reactions.reaction_on number line.now }
+    ensures within { IfSome result (λ r. length r.order.now ≤ length line.now) }
+{
+    let asked = asked(line);
+    if !is_reaction(asked) {
+        return None;
+    }
+    let (_, said) = split_word(asked);
+    Some(reacting(said, number))
+}
+
+/// Keeps what a line says that follows a notice, where it says so.
+fn keep_reaction<'a>(
+    found: &mut Vec<ReactionLine<'a>>,
+    line: &'a [u8],
+    number: u32,
+) -> Result<(), AllocError>
+    ensures is { OnOk result (map (λ r. reactions.found_on r) found.new.items ≡ map (λ r. reactions.found_on r) found.old.items ++ option_to_list (reactions.reaction_on number line.now)) }
+    ensures within { (most : ℕ) → length line.now ≤ most → All (reactions.IsWithin most) found.old.items → OnOk result (All (reactions.IsWithin most) found.new.items) }
+{
+    if let Some(reaction) = reaction_on(line, number) {
+        found.push(reaction)?;
+    }
+    Ok(())
 }
 
 /// The lines of a script that say what follows a notice.
 pub fn reaction_lines(alloc: Global, text: &[u8]) -> Result<Vec<ReactionLine<'_>>, AllocError>
     requires { length text.now < 2 ^ 32 }
+    ensures is { IfOk result (λ found. map (λ r. reactions.found_on r) found.items ≡ reactions.reactions_in text.now) }
+    ensures within { IfOk result (λ found. All (reactions.IsWithin (length text.now)) found.items) }
 {
     let mut found = Vec::new(alloc);
     let mut rest = text;
     let mut line = 0;
     while !rest.is_empty() {
         line += 1;
-        let length = line_length(rest);
-        if let Some(reaction) = reaction_on(&rest[..length], line) {
-            found.push(reaction)?;
-        }
-        rest = &rest[rest.len().min(length + 1)..];
+        let (first, behind) = split_line(rest);
+        keep_reaction(&mut found, first, line)?;
+        rest = behind;
     }
     Ok(found)
 }
 
 /// Whether a line is none of the bench language, but of a sweep.
-fn is_of_sweep(line: &[u8]) -> bool {
-    mark_on(line).is_some() || reaction_on(line, 0).is_some()
+fn is_of_sweep(line: &[u8]) -> bool
+    ensures { result ≡ reactions.is_of_sweep line.now }
+{
+    mark_on(line).is_some() || is_reaction(asked(line))
+}
+
+/// Puts a line behind others, as a comment where it is of a sweep.
+#[tactic(auto, using(crate::proofs::Commented::empty_kept, crate::proofs::Commented::sweep_kept))]
+fn keep_line(bytes: &mut Vec<u8>, line: &[u8]) -> Result<(), AllocError>
+    ensures is { OnOk result (bytes.new.items ≡ bytes.old.items ++ reactions.kept_line line.now) }
+    ensures length { OnOk result (vec_len bytes.new ≡ vec_len bytes.old + length line.now) }
+{
+    match line {
+        [_, behind @ ..] if is_of_sweep(line) => {
+            bytes.push(b'#')?;
+            bytes.extend_from_slice(behind)
+        }
+        _ => bytes.extend_from_slice(line),
+    }
 }
 
 /// A script in which the lines that are of a sweep alone are comments.
-pub fn without_marks(alloc: Global, text: &[u8]) -> Result<Vec<u8>, AllocError> {
-    let mut bytes = Vec::from_slice(alloc, text)?;
-    let mut start = 0;
-    while start < text.len() {
-        let length = line_length(&text[start..]);
-        if is_of_sweep(&text[start..start + length]) {
-            bytes[start] = b'#';
-        }
-        start += length + 1;
+#[tactic(auto, using(crate::proofs::Commented::kept_last))]
+pub fn without_marks(alloc: Global, text: &[u8]) -> Result<Vec<u8>, AllocError>
+    ensures is { IfOk result (λ bytes. bytes.items ≡ reactions.without_marks text.now) }
+    ensures length { IfOk result (λ bytes. vec_len bytes ≡ length text.now) }
+{
+    let mut bytes = Vec::new(alloc);
+    let mut rest = text;
+    while let Some(feed) = place_of(b'\n', rest) {
+        keep_line(&mut bytes, &rest[..feed])?;
+        bytes.push(b'\n')?;
+        rest = &rest[feed + 1..];
     }
+    keep_line(&mut bytes, rest)?;
     Ok(bytes)
 }

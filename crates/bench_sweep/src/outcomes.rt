@@ -1,5 +1,5 @@
 ghost use Rattle.std.specs.Prelude.{◌≡◌, ◌↔◌, ◌++◌, [], ◌∷◌, Some, None, MatchOption, IsTrue, IsSomeAnd, IfOk, OnOk, nat_le, slice_get, bytes_eq, codes, string_bytes};
-ghost use Rattle.std.specs.List.{position};
+ghost use Rattle.std.specs.List.{list_any, position};
 ghost use Rattle.bench_sweep.specs.Lines.{or_length};
 ghost use Rattle.bench_sweep.specs.Outcomes as spec;
 ghost use Rattle.bench_sweep.specs.Reports as reports;
@@ -115,7 +115,9 @@ impl Outcome {
     }
 
     /// Whether it tells this.
-    pub fn tells(&self, told: &Told) -> bool {
+    pub fn tells(&self, told: &Told) -> bool
+        ensures { result ≡ list_any (λ other. spec.is_told other told.now) self.now.told.items }
+    {
         self.told.iter().any(|other| is_told(told, other))
     }
 
@@ -128,7 +130,7 @@ impl Outcome {
 }
 
 /// Whether a byte is a decimal digit.
-fn is_digit(byte: u8) -> bool
+pub(crate) fn is_digit(byte: u8) -> bool
     ensures { result ≡ reports.is_digit byte }
 {
     b'0' <= byte && byte <= b'9'

@@ -1,4 +1,4 @@
-ghost use Rattle.std.specs.Prelude.{◌≡◌, ◌≤◌, ◌<◌, ◌++◌, nat_lt, length, IfOk, IfSome};
+ghost use Rattle.std.specs.Prelude.{◌≡◌, ◌≤◌, ◌<◌, ◌++◌, nat_lt, length, IfOk, IfSome, MatchResult};
 ghost use Rattle.std.specs.List.{position};
 ghost use Rattle.bench_sweep.specs.Parts as spec;
 
@@ -54,6 +54,7 @@ fn parted(directives: &[Directive], line: u32) -> (&[Directive], &[Directive])
 
 /// The parts between these marks.
 fn parted_at(directives: &[Directive], marks: Marks) -> Parts<'_>
+    ensures is { spec.pieces_of result ≡ spec.pieces_between directives.now marks }
     ensures all { directives.now ≡ result.before.now ++ result.swept.now ++ result.second.now ++ result.block.now ++ result.behind.now }
 {
     let (before, rest) = parted(directives, marks.sweep);
@@ -71,6 +72,7 @@ fn parted_at(directives: &[Directive], marks: Marks) -> Parts<'_>
 
 /// The parts of a script that has these marks. What is placed, and what it is placed in, has a directive at least.
 pub fn parts_of(directives: &[Directive], marks: Marks) -> Result<Parts<'_>, SweepFault>
+    ensures is { MatchResult result (λ p. spec.parts directives.now marks ≡ Ok (spec.pieces_of p)) (λ fault. spec.parts directives.now marks ≡ Err fault) }
     ensures all { IfOk result (λ p. directives.now ≡ p.before.now ++ p.swept.now ++ p.second.now ++ p.block.now ++ p.behind.now) }
     ensures swept { IfOk result (λ p. 0 < length p.swept.now) }
     ensures block { IfOk result (λ p. 0 < length p.block.now) }

@@ -24,6 +24,7 @@ use Rattle.whole_runs.proofs.WholeRounds.{whole_rounds}
 use Rattle.whole_runs.proofs.Promises.{groups_keep, sequences_keep, part_allowed, journal_says}
 use Rattle.run_laws.proofs.EndResults.{all_ended_as}
 use Rattle.run_laws.proofs.RoundStories.{all_served_right}
+use Rattle.run_laws.proofs.SentCalls.{all_sent_so}
 use Rattle.mcal_system.proofs.SoundSerial.{sound_serial}
 use Rattle.mcal_system.specs.Setting.{system_setting, call_of}
 use Rattle.board_promises.specs.Expiries.{ResetsInTime}
@@ -55,6 +56,7 @@ promises_kept devices c script journal valid legal resets =
       results = kept.results;
       ends = kept.ends;
       ends_as = all_ended_as (serial_table.table_of c.spi) (sequence_events devices c script journal) (part_allowed (spi_machine (serial_table.table_of c.spi)) sequences.first_state (system_setting c) (serial_place c) (serial_part c) refl (chip_for devices c script) (deeds_in script journal) legal);
+      sent = all_sent_so (serial_table.table_of c.spi) (sequence_events devices c script journal) (part_allowed (spi_machine (serial_table.table_of c.spi)) sequences.first_state (system_setting c) (serial_place c) (serial_part c) refl (chip_for devices c script) (deeds_in script journal) legal);
       frames = journal_says (system_setting c) (chip_for devices c script) (deeds_in script journal) legal;
       expiry = ends_in_time (system_setting c) (start_moment (system_setting c) (chip_for devices c script)) (deeds_in script journal) legal;
       watchdog = resets;
@@ -79,6 +81,7 @@ nothing_kept devices c script = record {
   results = tt;
   ends = λ sequence. end_once (serial_table.table_of c.spi) [] sequence tt;
   ends_as = tt;
+  sent = tt;
   frames = tt;
   expiry = tt;
   watchdog = tt;

@@ -19,6 +19,7 @@ use Rattle.whole_runs.specs.Runs.{Event}
 use Rattle.whole_runs.specs.SequenceRuns as sequences
 use Rattle.run_laws.specs.Results.{AreEndedAs}
 use Rattle.run_laws.specs.Rounds.{AreServedRight}
+use Rattle.run_laws.specs.Sent.{AreSent}
 use Rattle.mcal_system.specs.Setting.{SystemCall, system_setting, call_of}
 use Rattle.board_promises.specs.Expiries.{EndsInTime, ResetsInTime}
 use Rattle.board_promises.specs.Places.{converter_place, serial_place}
@@ -40,13 +41,15 @@ pub record KeepsPromises (devices : ℕ) (c : Config) (script : List Directive) 
   pub rounds : AreWhole (converter_table.table_of c.adc) (groups.seen_of (converter_table.table_of c.adc) (group_events devices c script journal))
   -- a request of a group that isn't continuous serves one round, and a round that is served was finished
   pub served : AreServedRight (converter_table.table_of c.adc) (group_events devices c script journal)
-  -- each start of a serial unit starts the next job
+  -- each start of a serial unit that isn't one of SyncUnits starts the next job
   pub order : AreInOrder (serial_table.table_of c.spi) (sequences.seen_of (serial_table.table_of c.spi) (sequence_events devices c script journal))
   -- between an accepted request of a sequence and the next one there is one end, which tells its notice once
   pub results : AreEnded (serial_table.table_of c.spi) (sequences.seen_of (serial_table.table_of c.spi) (sequence_events devices c script journal))
   pub ends : (sequence : ℕ) → HasOneEnd sequence (sequences.seen_of (serial_table.table_of c.spi) (sequence_events devices c script journal))
-  -- an end gives the result that the events before it say: canceled, failed by a word of its own job, or OK with its last job
+  -- an end of a requested sequence gives the result that the events before it say: canceled, failed by a word of its own job, or OK with its last job
   pub ends_as : AreEndedAs (serial_table.table_of c.spi) (sequence_events devices c script journal)
+  -- a call of Spi_SyncTransmit that ends with E_OK has sent all words of its sequence, in order, and stored what came in
+  pub sent : AreSent (serial_table.table_of c.spi) (sequence_events devices c script journal)
   -- a frame that ends has given each notice that its events told, once, in their order, and prints the answer of its act
   pub frames : FramesSay (system_setting c) (chip_for devices c script) (deeds_in script journal)
   -- where the watchdog's time is over its reset comes next, and a reset by the watchdog that no directive asks for comes nowhere else

@@ -1,2 +1,3 @@
-//! What is promised of a whole run of a board: whole rounds, the standard's order, one end, the watchdog's time.
+//! What is promised of a whole run of a board: whole rounds, the standard's order, one end, the words of calls that wait,
+//! the watchdog's time.
 #![tactic(auto)]

@@ -469,7 +469,7 @@ impl Bus {
     pub fn pending(&self, line: u32) -> bool
         ensures { result ≡ is_pending self.now line }
     {
-        self.irq.pending(line, self.flags_with(line))
+        self.irq.enabled(line) && self.irq.pending(line, self.flags_with(line))
     }
 
     /// The flags of the block to which a line belongs.

@@ -213,6 +213,7 @@ pub record IsSequence (s : SpiSequence) : Type 0 where
 pub record HasSpiTables (spi : SpiConfig) : Type 0 where
   pub classification : InRange 1 2 spi.classification
   pub levels : IsList 2 2 1 7 spi.levels
+  pub sync_units : IsList 0 2 0 1 spi.sync_units
   pub channels : IsTable IsChannel channel_id 16 spi.channels
   pub jobs : IsTable IsJob job_id 16 spi.jobs
   pub sequences : IsTable IsSequence sequence_id 8 spi.sequences

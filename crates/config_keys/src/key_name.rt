@@ -143,6 +143,8 @@ pub enum KeyName {
     SpiDevErrorDetect,
     /// `Levels`
     Levels,
+    /// `SyncUnits`
+    SyncUnits,
     /// `SpiChannel`
     SpiChannel,
     /// `SpiChannelId`
@@ -277,6 +279,7 @@ impl KeyName {
             KeyName::TriggerInput => "TriggerInput",
             KeyName::SpiDevErrorDetect => "SpiDevErrorDetect",
             KeyName::Levels => "Levels",
+            KeyName::SyncUnits => "SyncUnits",
             KeyName::SpiChannel => "SpiChannel",
             KeyName::SpiChannelId => "SpiChannelId",
             KeyName::SpiChannelType => "SpiChannelType",

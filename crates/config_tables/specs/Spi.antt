@@ -107,6 +107,7 @@ key_checks ms =
     allowed at keys.SpiDevErrorDetect truth ms
     ⨾ allowed at keys.Classification (whole 1 2) ms
     ⨾ allowed_list 2 2 at keys.Levels (whole 1 7) ms
+    ⨾ allowed_list 0 2 at keys.SyncUnits (whole 0 1) ms
     ⨾ array_checks channels 16 ms
     ⨾ array_checks jobs 16 ms
     ⨾ array_checks sequences 8 ms
@@ -116,10 +117,11 @@ value_of ms = do
   detect ← read_or true keys.SpiDevErrorDetect truth ms
   classification ← read_or 1 keys.Classification (whole 1 2) ms
   levels ← read_list_or (1 ∷ 1 ∷ []) keys.Levels (whole 1 7) ms
+  sync_units ← read_list_or [] keys.SyncUnits (whole 0 1) ms
   channels ← array_value channels ms
   jobs ← array_value jobs ms
   sequences ← array_value sequences ms
-  Some (record { dev_error_detect = detect; classification = classification; levels = levels; channels = channels; jobs = jobs; sequences = sequences })
+  Some (record { dev_error_detect = detect; classification = classification; levels = levels; sync_units = sync_units; channels = channels; jobs = jobs; sequences = sequences })
 
 unfoldable pub checks : Members → Checks
 checks ms = key_checks ms ⨾ given (value_of ms) across

@@ -32,6 +32,7 @@ fn keys(table: &Table) -> Result<SpiConfig, ConfigFault>
     let dev_error_detect = truth_or(table, HERE, KeyName::SpiDevErrorDetect, true)?;
     let classification = whole_or(table, HERE, KeyName::Classification, 1, 2, 1)?;
     let levels = numbers_or(table, HERE, KeyName::Levels, 2, 1, 7, both_at_one())?;
+    let sync_units = numbers_or(table, HERE, KeyName::SyncUnits, 0, 0, 1, Short::new())?;
     let channels = elements::<Channels, 16>(table)?;
     let jobs = elements::<Jobs, 16>(table)?;
     let sequences = elements::<Sequences, 8>(table)?;
@@ -39,6 +40,7 @@ fn keys(table: &Table) -> Result<SpiConfig, ConfigFault>
         dev_error_detect,
         classification,
         levels,
+        sync_units,
         channels,
         jobs,
         sequences,

@@ -61,12 +61,16 @@ pub(crate) fn bad(alloc: Global, kind: Kind) -> Result<Vec<String>, AllocError> 
         Kind::Name(_) => values.push(String::from_str(alloc, "\"no such name\"")?)?,
         Kind::Wholes(Range(least, most), Range(low, _)) => {
             let low = format!(in alloc; "{low}")?;
-            values.push(array(alloc, least.saturating_sub(1), low.as_str())?)?;
+            if least > 0 {
+                values.push(array(alloc, least.saturating_sub(1), low.as_str())?)?;
+            }
             values.push(array(alloc, most.saturating_add(1), low.as_str())?)?;
         }
         Kind::Names(Range(least, most), names) => {
             let name = format!(in alloc; "\"{}\"", names.first().copied().unwrap_or(""))?;
-            values.push(array(alloc, least.saturating_sub(1), name.as_str())?)?;
+            if least > 0 {
+                values.push(array(alloc, least.saturating_sub(1), name.as_str())?)?;
+            }
             values.push(array(alloc, most.saturating_add(1), name.as_str())?)?;
         }
         Kind::Tables(most) => values.push(array(alloc, most.saturating_add(1), "{}")?)?,

@@ -47,7 +47,10 @@ pub(crate) fn put_lines(text: &mut String, config: &Config) -> Result<(), AllocE
     if !config.spi.jobs.is_empty() {
         for (unit, level) in config.spi.levels.as_slice().iter().enumerate() {
             let unit = unit as u32;
-            put_line(text, unit.saturating_add(26), "serial unit", unit, *level)?;
+            // of one that a call waits for, the line is never ready
+            if !config.spi.sync_units.as_slice().contains(&unit) {
+                put_line(text, unit.saturating_add(26), "serial unit", unit, *level)?;
+            }
         }
     }
     Ok(())

@@ -410,7 +410,7 @@ pub(crate) const ADC_GROUP_KEYS: [KeyRow; 13] = [
 ];
 
 /// The keys of `[Spi]`.
-pub(crate) const SPI_KEYS: [KeyRow; 6] = [
+pub(crate) const SPI_KEYS: [KeyRow; 7] = [
     KeyRow(
         KeyName::SpiDevErrorDetect,
         Kind::Truth,
@@ -425,6 +425,11 @@ pub(crate) const SPI_KEYS: [KeyRow; 6] = [
         KeyName::Levels,
         Kind::Wholes(Range(2, 2), Range(1, 7)),
         Need::Default("[1, 1]"),
+    ),
+    KeyRow(
+        KeyName::SyncUnits,
+        Kind::Wholes(Range(0, 2), Range(0, 1)),
+        Need::Default("[]"),
     ),
     KeyRow(KeyName::SpiChannel, Kind::Tables(16), Need::Default("[]")),
     KeyRow(KeyName::SpiJob, Kind::Tables(16), Need::Default("[]")),

@@ -92,7 +92,7 @@ const PORT_AND_VALUE: [Place; 2] = [Place::Number("port", MOST), Place::Number("
 const GROUP_AND_VALUE: [Place; 2] = [Place::Number("group", MOST), Place::Number("value", 255)];
 
 /// The services, module by module.
-static SERVICES: [ServiceRow; 86] = [
+static SERVICES: [ServiceRow; 87] = [
     ServiceRow(Service::McuInit, &[]),
     ServiceRow(Service::McuInitRamSection, &SECTION),
     ServiceRow(Service::McuInitClock, &SETTING),
@@ -233,6 +233,7 @@ static SERVICES: [ServiceRow; 86] = [
         &[Place::Name("mode", &ASYNC_MODES)],
     ),
     ServiceRow(Service::SpiMainFunctionHandling, &[]),
+    ServiceRow(Service::SpiSyncTransmit, &SEQUENCE),
     ServiceRow(Service::DioReadChannel, &CHANNEL),
     ServiceRow(Service::DioFlipChannel, &CHANNEL),
     ServiceRow(Service::DioWriteChannel, &CHANNEL_AND_LEVEL),

@@ -11,6 +11,7 @@ is_state_error errors.IcuNotStarted = true
 is_state_error errors.AdcBusy = true
 is_state_error errors.AdcIdle = true
 is_state_error errors.SpiSeqPending = true
+is_state_error errors.SpiSeqInProcess = true
 is_state_error _ = false
 
 -- how a module reports: whether it detects development errors, and how it classifies state errors, 2 as runtime errors

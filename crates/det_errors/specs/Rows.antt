@@ -83,6 +83,7 @@ errors_of services.SpiGetSequenceResult = errors.SpiUninit ∷ errors.SpiParamSe
 errors_of services.SpiGetHwUnitStatus = errors.SpiUninit ∷ errors.SpiParamUnit ∷ []
 errors_of services.SpiSetAsyncMode = errors.SpiUninit ∷ []
 errors_of services.SpiMainFunctionHandling = []
+errors_of services.SpiSyncTransmit = errors.SpiUninit ∷ errors.SpiParamSeq ∷ errors.SpiSeqInProcess ∷ []
 errors_of services.DioReadChannel = errors.DioParamInvalidChannelId ∷ []
 errors_of services.DioFlipChannel = errors.DioParamInvalidChannelId ∷ []
 errors_of services.DioWriteChannel = errors.DioParamInvalidChannelId ∷ []

@@ -29,5 +29,6 @@ fn is_state_error(error: ErrorName) -> bool
             | ErrorName::AdcBusy
             | ErrorName::AdcIdle
             | ErrorName::SpiSeqPending
+            | ErrorName::SpiSeqInProcess
     )
 }

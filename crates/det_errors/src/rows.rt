@@ -195,6 +195,11 @@ fn errors_of(service: Service) -> &'static [ErrorName]
         Service::SpiGetHwUnitStatus => &[ErrorName::SpiUninit, ErrorName::SpiParamUnit],
         Service::SpiSetAsyncMode => &[ErrorName::SpiUninit],
         Service::SpiMainFunctionHandling => &[],
+        Service::SpiSyncTransmit => &[
+            ErrorName::SpiUninit,
+            ErrorName::SpiParamSeq,
+            ErrorName::SpiSeqInProcess,
+        ],
         Service::DioReadChannel => &[ErrorName::DioParamInvalidChannelId],
         Service::DioFlipChannel => &[ErrorName::DioParamInvalidChannelId],
         Service::DioWriteChannel => &[ErrorName::DioParamInvalidChannelId],

@@ -53,6 +53,7 @@ pub fn text(error: ErrorName) -> &'static str
         ErrorName::SpiSeqPending => "SPI_E_SEQ_PENDING",
         ErrorName::SpiParamJob => "SPI_E_PARAM_JOB",
         ErrorName::SpiParamUnit => "SPI_E_PARAM_UNIT",
+        ErrorName::SpiSeqInProcess => "SPI_E_SEQ_IN_PROCESS",
         ErrorName::DioParamInvalidChannelId => "DIO_E_PARAM_INVALID_CHANNEL_ID",
         ErrorName::DioParamInvalidPortId => "DIO_E_PARAM_INVALID_PORT_ID",
         ErrorName::DioParamInvalidGroup => "DIO_E_PARAM_INVALID_GROUP",

@@ -46,6 +46,13 @@ impl Irq {
         self.enabled &= !bits;
     }
 
+    /// Whether the line's enable bit is set.
+    pub fn enabled(&self, line: u32) -> bool
+        ensures { result ≡ has_bit self.now.enabled line }
+    {
+        has(self.enabled, line)
+    }
+
     /// Whether the flag of the line and its enable bit are set.
     pub fn pending(&self, line: u32, flags: u32) -> bool
         ensures { result ≡ is_pending_line self.now line flags }

@@ -21,7 +21,7 @@ use Rattle.spi_machine.specs.declared.call.ChannelCall.TheVariants.{WriteIb, Rea
 use Rattle.spi_machine.specs.declared.call.Pointer.{Pointer}
 use Rattle.spi_machine.specs.declared.call.Pointer.TheVariants.{Users, Null}
 use Rattle.spi_machine.specs.declared.call.Query.TheVariants.{Status, JobResult, SequenceResult, HwUnitStatus}
-use Rattle.spi_machine.specs.declared.call.SequenceCall.TheVariants.{AsyncTransmit, Cancel}
+use Rattle.spi_machine.specs.declared.call.SequenceCall.TheVariants.{AsyncTransmit, Cancel, SyncTransmit}
 use Rattle.spi_machine.specs.declared.table.SpiTable.{SpiTable}
 
 -- ---- boards
@@ -32,6 +32,7 @@ three_sequences = table_of (record {
   dev_error_detect = true;
   classification = 1;
   levels = 4 ∷ 4 ∷ [];
+  sync_units = [];
   channels =
       record { id = 0; channel_type = types.Internal 2; data_width = 8; default_data = 255 }
       ∷ record { id = 1; channel_type = types.External 4; data_width = 16; default_data = 0 }
@@ -55,6 +56,7 @@ two_sequences = table_of (record {
   dev_error_detect = true;
   classification = 1;
   levels = 1 ∷ 1 ∷ [];
+  sync_units = [];
   channels = record { id = 0; channel_type = types.Internal 1; data_width = 4; default_data = 65535 } ∷ [];
   jobs =
       record { id = 0; priority = 0; end_notification = true; channel_list = 0 ∷ []; unit = 1; select = None }
@@ -73,6 +75,7 @@ plain_board n select notifies = table_of (record {
   dev_error_detect = true;
   classification = 1;
   levels = 1 ∷ 1 ∷ [];
+  sync_units = [];
   channels = record { id = 0; channel_type = types.External n; data_width = 16; default_data = 0 } ∷ [];
   jobs = record { id = 0; priority = 0; end_notification = false; channel_list = 0 ∷ []; unit = 0; select = select } ∷ [];
   sequences = record { id = 0; interruptible = false; job_assignment = 0 ∷ []; end_notification = notifies } ∷ [];
@@ -85,12 +88,25 @@ device_board = plain_board 2 (Some 0) false
 abbrev pub noting_board : SpiTable
 noting_board = plain_board 4 None true
 
+-- two words for a device at place 0, of a unit that sends while a call waits
+abbrev pub waiting_board : SpiTable
+waiting_board = table_of (record {
+  dev_error_detect = true;
+  classification = 1;
+  levels = 1 ∷ 1 ∷ [];
+  sync_units = 0 ∷ [];
+  channels = record { id = 0; channel_type = types.External 2; data_width = 16; default_data = 0 } ∷ [];
+  jobs = record { id = 0; priority = 0; end_notification = true; channel_list = 0 ∷ []; unit = 0; select = Some 0 } ∷ [];
+  sequences = record { id = 0; interruptible = false; job_assignment = 0 ∷ []; end_notification = true } ∷ [];
+})
+
 -- an internal channel of one word and an external one of at most two, and three interruptible sequences of a job each on one unit, all of one priority
 abbrev pub equal_sequences : SpiTable
 equal_sequences = table_of (record {
   dev_error_detect = true;
   classification = 1;
   levels = 1 ∷ 1 ∷ [];
+  sync_units = [];
   channels =
       record { id = 0; channel_type = types.Internal 1; data_width = 8; default_data = 255 }
       ∷ record { id = 1; channel_type = types.External 2; data_width = 12; default_data = 43981 }
@@ -199,6 +215,27 @@ abbrev pub device_run : (words : List ℕ) → (first second : ℕ) → List (Ha
 device_run ws first second =
     acting Init ∷ filling ws ∷ acting (Channel 0 (SetupEb Users Users 2)) ∷ transmits 0 ∷ starting first
     ∷ ticks 8 ∷ polling ∷ serving second ∷ ticks 8 ∷ polling ∷ serving 0 ∷ sequence_asked 0 ∷ job_asked 0 ∷ []
+
+-- a call of this sequence begins a word, with which this comes in, and acts
+abbrev pub sending : (sequence received : ℕ) → Happening Call
+sending q received = Starts Spi0 (Some (Sequence q SyncTransmit)) received
+
+abbrev pub sent : (sequence : ℕ) → Happening Call
+sent q = acting (Sequence q SyncTransmit)
+
+-- a call sends two words, and waits for each; before it is refused what the other kind of transmission asks, and in it
+-- what comes too early
+abbrev pub sent_run : List (Happening Call)
+sent_run =
+    acting Init ∷ filling (240 ∷ 0 ∷ []) ∷ acting (Channel 0 (SetupEb Users Users 2)) ∷ transmits 0 ∷ starting 65295 ∷ sending 0 65295
+    ∷ sequence_asked 0 ∷ ticks 7 ∷ sending 0 65535 ∷ sent 0 ∷ ticks 1 ∷ sent 0 ∷ sending 0 65535 ∷ ticks 8 ∷ sending 0 0 ∷ sent 0
+    ∷ sequence_asked 0 ∷ job_asked 0 ∷ []
+
+-- its first word is refused by the device
+abbrev pub refused_run : List (Happening Call)
+refused_run =
+    acting Init ∷ acting (Channel 0 (SetupEb Users Users 2)) ∷ sending 0 65536 ∷ ticks 8 ∷ sending 0 65535 ∷ sent 0 ∷ sequence_asked 0 ∷ job_asked 0
+    ∷ unit_asked 0 ∷ []
 
 -- an internal channel is written a second time while a job sends its words, and before the job starts
 abbrev pub written_in_transfer_run : List (Happening Call)

@@ -3,7 +3,7 @@
 ghost use Rattle.std.specs.Prelude.{◌≡◌, true, false, [], ◌∷◌, Some, None};
 ghost use Rattle.irq_control.specs.declared.held.Held.TheVariants.{Reentry, Full};
 ghost use Rattle.mcal_base.specs.declared.answer_name.AnswerName.TheVariants.{EOk, ENotOk, SpiUninit, SpiIdle, SpiBusy, SpiJobOk, SpiJobPending, SpiJobQueued, SpiJobFailed, SpiSeqOk, SpiSeqPending, SpiSeqFailed, SpiSeqCanceled};
-ghost use Rattle.mcal_base.specs.declared.error_name.ErrorName.TheVariants.{SpiUninit as Uninitialised, SpiAlreadyInitialized as AlreadyInitialised, SpiParamUnit as NoSuchUnit, SpiSeqPending as SequencePending};
+ghost use Rattle.mcal_base.specs.declared.error_name.ErrorName.TheVariants.{SpiUninit as Uninitialised, SpiAlreadyInitialized as AlreadyInitialised, SpiParamUnit as NoSuchUnit, SpiParamSeq as NoSuchSequence, SpiSeqPending as SequencePending};
 ghost use Rattle.mcal_base.specs.declared.notice.NoticeKind.TheVariants.{SpiJobEndNotification, SpiSeqEndNotification};
 ghost use Rattle.run_model.specs.Causes.{call_cause};
 ghost use Rattle.run_model.specs.Frame.{Called};
@@ -17,7 +17,7 @@ ghost use Rattle.spi_machine.specs.declared.call.ChannelCall.TheVariants.{WriteI
 ghost use Rattle.spi_machine.specs.declared.call.Pointer.TheVariants.{Users, Null};
 ghost use Rattle.spi_machine.specs.declared.call.Query.TheVariants.{Status};
 ghost use Rattle.machine_examples.specs.SpiRuns as runs;
-ghost use Rattle.machine_examples.specs.SpiRuns.{three_sequences, two_sequences, equal_sequences, device_board, noting_board, told_on, left, begun_on, word, source_of, destination_of};
+ghost use Rattle.machine_examples.specs.SpiRuns.{three_sequences, two_sequences, equal_sequences, device_board, noting_board, waiting_board, told_on, left, begun_on, word, source_of, destination_of};
 ghost use Rattle.machine_examples.specs.Told.{silence, named, named_with, refused, refused_named, notice, notified, forbidden};
 
 /// A pending sequence is refused, and so is one that has a job in common with it. Its first job runs, and the others
@@ -230,4 +230,21 @@ pub fn faults_of_each_unit()
         ≡ silence ∷ named EOk ∷ silence ∷ silence ∷ silence ∷ notified (notice SpiJobEndNotification 2 ∷ notice SpiSeqEndNotification 1 ∷ []) ∷ named SpiSeqFailed ∷ named SpiJobFailed ∷ [] }
     ensures other { told_on two_sequences (runs.fault_on 0)
         ≡ silence ∷ named EOk ∷ silence ∷ silence ∷ silence ∷ notified (notice SpiJobEndNotification 2 ∷ notice SpiSeqEndNotification 1 ∷ []) ∷ named SpiSeqOk ∷ named SpiJobOk ∷ [] }
+{}
+
+/// A call sends two words and waits for each. Until a word is done neither the next one begins nor the call acts, and
+/// after the last one no further word begins. No notice is given, though both are configured.
+pub fn words_of_a_call_that_waits()
+    ensures tells { told_on waiting_board runs.sent_run
+        ≡ silence ∷ silence ∷ named EOk ∷ refused_named ENotOk NoSuchSequence ∷ forbidden ∷ silence
+        ∷ named SpiSeqPending ∷ silence ∷ forbidden ∷ forbidden ∷ silence ∷ forbidden ∷ silence ∷ silence ∷ forbidden ∷ named EOk
+        ∷ named SpiSeqOk ∷ named SpiJobOk ∷ [] }
+    ensures destination { destination_of (left waiting_board runs.sent_run) 0 2 ≡ 65295 ∷ 65535 ∷ [] }
+    ensures wire { wire_at (left waiting_board runs.sent_run) 0 ≡ (240, 65295) ∷ (0, 65535) ∷ [] }
+{}
+
+/// A word that the device refuses is the last one of such a call, which ends its sequence as failed and frees the unit.
+pub fn refused_word_of_a_call_that_waits()
+    ensures { told_on waiting_board runs.refused_run
+        ≡ silence ∷ named EOk ∷ silence ∷ silence ∷ forbidden ∷ named ENotOk ∷ named SpiSeqFailed ∷ named SpiJobFailed ∷ named SpiIdle ∷ [] }
 {}

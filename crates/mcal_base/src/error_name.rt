@@ -91,6 +91,8 @@ pub enum ErrorName {
     SpiParamJob,
     /// `SPI_E_PARAM_UNIT`
     SpiParamUnit,
+    /// `SPI_E_SEQ_IN_PROCESS`
+    SpiSeqInProcess,
     /// `DIO_E_PARAM_INVALID_CHANNEL_ID`
     DioParamInvalidChannelId,
     /// `DIO_E_PARAM_INVALID_PORT_ID`

@@ -158,6 +158,8 @@ pub enum Service {
     SpiSetAsyncMode,
     /// `Spi_MainFunction_Handling`
     SpiMainFunctionHandling,
+    /// `Spi_SyncTransmit`
+    SpiSyncTransmit,
     /// `Dio_ReadChannel`
     DioReadChannel,
     /// `Dio_FlipChannel`
@@ -262,6 +264,7 @@ impl Service {
             Service::SpiGetHwUnitStatus => "Spi_GetHWUnitStatus",
             Service::SpiSetAsyncMode => "Spi_SetAsyncMode",
             Service::SpiMainFunctionHandling => "Spi_MainFunction_Handling",
+            Service::SpiSyncTransmit => "Spi_SyncTransmit",
             Service::DioReadChannel => "Dio_ReadChannel",
             Service::DioFlipChannel => "Dio_FlipChannel",
             Service::DioWriteChannel => "Dio_WriteChannel",
@@ -357,7 +360,8 @@ impl Service {
             | Service::SpiGetSequenceResult
             | Service::SpiGetHwUnitStatus
             | Service::SpiSetAsyncMode
-            | Service::SpiMainFunctionHandling => ModuleName::Spi,
+            | Service::SpiMainFunctionHandling
+            | Service::SpiSyncTransmit => ModuleName::Spi,
             Service::DioReadChannel
             | Service::DioFlipChannel
             | Service::DioWriteChannel

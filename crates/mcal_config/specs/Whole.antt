@@ -47,7 +47,7 @@ abbrev pub no_converter : AdcConfig
 no_converter = record { dev_error_detect = true; classification = 1; priority_implementation = priorities.None; enable_queuing = false; units = []; groups = [] }
 
 abbrev pub no_serial : SpiConfig
-no_serial = record { dev_error_detect = true; classification = 1; levels = 1 ∷ 1 ∷ []; channels = []; jobs = []; sequences = [] }
+no_serial = record { dev_error_detect = true; classification = 1; levels = 1 ∷ 1 ∷ []; sync_units = []; channels = []; jobs = []; sequences = [] }
 
 abbrev pub watchdog_off : WdgConfig
 watchdog_off = record { dev_error_detect = true; default_mode = Off; disable_allowed = true; initial_ticks = 1000; max_ticks = 65535 }

@@ -21,8 +21,7 @@ use Rattle.adc_driver.specs.laws.bookkeeping.Joined.{joined as converters_of}
 use Rattle.spi_driver.specs.laws.bookkeeping.Joined.{joined}
 use Rattle.spi_machine.specs.Bounds.{fills}
 use Rattle.spi_machine.specs.Fits.{FitsSpi}
-use Rattle.spi_machine.specs.Pending.{is_in_use}
-use Rattle.spi_machine.specs.State.{SpiState}
+use Rattle.spi_machine.specs.State.{SpiState, uses}
 use Rattle.spi_machine.specs.declared.call.Call as serial_calls
 use Rattle.mcal_drivers.specs.Drivers.{as_one}
 use Rattle.mcal_drivers.specs.Frames.{SerialFrame, SystemFrame}
@@ -31,7 +30,7 @@ use Rattle.mcal_drivers.specs.declared.drivers.Drivers.{Drivers}
 
 -- what the serial driver says of the use of an array
 abbrev Says : Drivers → Chip → (channel : ℕ) → Option Bool → Type 0
-Says u chip c result = (w : World) (ps : List (SerialFrame × Open serial_calls.Call)) (s : SpiState) → FitsSpi u.serial.table → AllOutside ps → (services_driver (joined u.serial.table)).relates chip w ps s → IfSome result (λ used. used ≡ is_in_use u.serial.table c s.pending)
+Says u chip c result = (w : World) (ps : List (SerialFrame × Open serial_calls.Call)) (s : SpiState) → FitsSpi u.serial.table → AllOutside ps → (services_driver (joined u.serial.table)).relates chip w ps s → IfSome result (λ used. used ≡ uses u.serial.table s c)
 
 if_there : (o : Option Bool) (there using : Bool) → is_some o ≡ there → IfSome o (λ used. used ≡ using) → IfSome o (λ used. used ≡ there && using)
 if_there None there using e h = tt
@@ -51,7 +50,7 @@ uses_arrays u chip c result there says w ps s fits out h =
     let outside = outside-split (has_handler captured) h.host.seconds h.host.second.firsts h.host.second.seconds h.host.second.splits outs.1 in
     let converters = services_driver (converters_of u.converters.table) in
     let lasts = outside-split (has_handler converters) h.host.second.seconds h.host.second.second.firsts h.host.second.second.seconds h.host.second.second.splits outside.1 in
-    let using = is_in_use u.serial.table c s.1.1.1.pending in
+    let using = uses u.serial.table s.1.1.1 c in
     let there_is = fills u.serial.table c in
     let own = if_there result there_is using there (says w h.host.second.second.seconds s.1.1.1 fits.0.1.1.1 lasts.1 h.host.second.second.second) in
     let last = if_there result there_is (there_is && using) there own in

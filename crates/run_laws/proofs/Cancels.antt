@@ -19,10 +19,10 @@ use Rattle.spi_machine.specs.Promised.{drops}
 use Rattle.spi_machine.specs.State.{SpiState, first_state, is_off, is_running}
 use Rattle.spi_machine.specs.declared.call.Call.{Call}
 use Rattle.spi_machine.specs.declared.call.Call.TheVariants.{Init, DeInit, SetAsyncMode, MainFunctionHandling, Channel, Sequence, Get}
-use Rattle.spi_machine.specs.declared.call.SequenceCall.TheVariants.{AsyncTransmit, Cancel}
+use Rattle.spi_machine.specs.declared.call.SequenceCall.TheVariants.{AsyncTransmit, Cancel, SyncTransmit}
 use Rattle.spi_machine.specs.declared.table.SpiTable.{SpiTable}
 use Rattle.serial_laws.specs.Ends.{Sequel, IsLeft, Starting, GoingOn, BeingCancelled, EndsAtOnce, EndsCancelled, EndsFailed, EndsOk}
-use Rattle.serial_laws.proofs.Sequels.{happens_comes, cancel_waits}
+use Rattle.serial_laws.proofs.Sequels.{happens_sequel, cancel_waits}
 use Rattle.whole_runs.specs.Runs.{Event, AreAllowed, told_by}
 use Rattle.whole_runs.specs.SequenceRuns.{Seen, seen_between, seen_of, begins_by, accepts}
 use Rattle.whole_runs.proofs.SequenceSteps as steps
@@ -75,19 +75,20 @@ new_by q e x p true is a c f = record { accepted = a ∙ is; fresh = ap (λ (y :
 
 new_entry : (d : SpiTable) (e : Seen) (s t : SpiState) (q : ℕ) (p : Pending) → Goes d e s t → find (is_of q) s.pending ≡ None → find (is_of q) t.pending ≡ Some p → IsNew q e p
 new_entry d e s t q p (steps.Leaves calm reset same results requests told) none is = no_entry _ p (ap (λ ps. find (is_of q) ps) same ∙ none) is
-new_entry d e s t q p (steps.Accepts k had accept reset free same results requests told) none is =
+new_entry d e s t q p (steps.Accepts k had own accept reset free same results requests told) none is =
     new_by q e (requested k (s.requests + 1) had) p (k == q) refl (accept q) refl (sym (joined_none q s.pending (requested k (s.requests + 1) had) none) ∙ (sym (ap (λ ps. find (is_of q) ps) same) ∙ is))
 new_entry d e s t q p (steps.Starting k accept reset starts ends same results requests told) none is = no_entry _ p (ap (λ ps. find (is_of q) ps) same ∙ changed_none q k lists.starts (λ x. refl) s.pending none) is
 new_entry d e s t q p (steps.Advances k accept reset starts ends same results requests told) none is = no_entry _ p (ap (λ ps. find (is_of q) ps) same ∙ changed_none q k lists.goes_to_next (λ x. refl) s.pending none) is
 new_entry d e s t q p (steps.Marks k calm reset same results requests told) none is = no_entry _ p (ap (λ ps. find (is_of q) ps) same ∙ changed_none q k marks (λ x. refl) s.pending none) is
 new_entry d e s t q p (steps.Ending k x accept reset starts ends there one same results requests told) none is = no_entry _ p (ap (λ ps. find (is_of q) ps) same ∙ without_none q k s.pending none) is
 new_entry d e s t q p (steps.Initialising begin accept reset off same results told) none is = no_entry _ p (ap (λ ps. find (is_of q) ps) same) is
+new_entry d e s t q p (steps.Sends k x sync calm reset same results requests told) none is = no_entry _ p (ap (λ ps. find (is_of q) ps) same ∙ none) is
 new_entry d e s t q p (steps.Resetting reset accept same results told) none is = no_entry _ p (ap (λ ps. find (is_of q) ps) same) is
 
 -- no request of a pending sequence is accepted
 not_accepted : (d : SpiTable) (e : Seen) (s t : SpiState) (q : ℕ) (p : Pending) → Goes d e s t → find (is_of q) s.pending ≡ Some p → accepts q e ≡ false
 not_accepted d e s t q p (steps.Leaves calm reset same results requests told) is = calm.accepts q
-not_accepted d e s t q p (steps.Accepts k had accept reset free same results requests told) is = accept q ∙ by (k == q) refl where
+not_accepted d e s t q p (steps.Accepts k had own accept reset free same results requests told) is = accept q ∙ by (k == q) refl where
   by : (b : Bool) → (k == q) ≡ b → b ≡ false
   by false x = refl
   by true x =
@@ -98,6 +99,7 @@ not_accepted d e s t q p (steps.Advances k accept reset starts ends same results
 not_accepted d e s t q p (steps.Marks k calm reset same results requests told) is = calm.accepts q
 not_accepted d e s t q p (steps.Ending k x accept reset starts ends there one same results requests told) is = accept q
 not_accepted d e s t q p (steps.Initialising begin accept reset off same results told) is = accept q
+not_accepted d e s t q p (steps.Sends k x sync calm reset same results requests told) is = calm.accepts q
 not_accepted d e s t q p (steps.Resetting reset accept same results told) is = accept q
 
 -- ---- a sequence that stays pending
@@ -107,6 +109,7 @@ cancels_is : (q : ℕ) (h : Happening Call) (o : Option ErrorName) → is_cancel
 cancels_is q (Acts (Sequence k Cancel) times) None e = (times, ap (λ i. Acts (Sequence i Cancel) times) (eq_is k q e), refl)
 cancels_is q (Acts (Sequence k Cancel) times) (Some x) e = absurd (cc e)
 cancels_is q (Acts (Sequence k AsyncTransmit) times) o e = absurd (cc e)
+cancels_is q (Acts (Sequence k SyncTransmit) times) o e = absurd (cc e)
 cancels_is q (Acts Init times) o e = absurd (cc e)
 cancels_is q (Acts DeInit times) o e = absurd (cc e)
 cancels_is q (Acts (SetAsyncMode m) times) o e = absurd (cc e)
@@ -196,7 +199,7 @@ module _ (d : SpiTable) (e : Event Call) (past : List (Event Call)) (out : Outco
       marked d e.world here q p there of.0 out x (is_running here q) (ap (λ h. (spi_machine d).happens e.world here h) (sym of.1) ∙ made) of.2 refl is
       ∙ sym (was_marked (accepts q view) (cancels q view) (was_cancelled q (seen_of d past)) (not_accepted d view here out.state q p goes there) b)
   stays_by q p x false false a b there is =
-      other_by d e.world here q p there e.what _ _ x out.told.error (happens_comes d here q p there e.world e.what out made a) is b
+      other_by d e.world here q p there e.what _ _ x out.told.error (happens_sequel d here q p there e.world e.what out made a).1 is b
       (λ times at error. left_by d e.world here q p there e.what out x made is times (Sequence q Cancel) at error)
       ∙ (before q p there ∙ sym (was_before (accepts q view) (cancels q view) (was_cancelled q (seen_of d past)) (not_accepted d view here out.state q p goes there) b))
   stays_by q p x true false a b there is =

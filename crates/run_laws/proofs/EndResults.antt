@@ -25,6 +25,7 @@ use Rattle.spi_machine.specs.Runs.{Occurrence, after_all}
 use Rattle.spi_machine.specs.Runs as runs
 use Rattle.spi_machine.specs.State.{SpiState, first_state, is_off}
 use Rattle.spi_machine.specs.Table.{jobs_of}
+use Rattle.spi_machine.specs.Wiring.{is_sync_sequence}
 use Rattle.spi_machine.specs.Transfers.{Run}
 use Rattle.spi_machine.specs.declared.call.Call.{Call}
 use Rattle.spi_machine.specs.declared.call.Call.TheVariants.{Init, DeInit, SetAsyncMode, MainFunctionHandling, Channel, Sequence, Get}
@@ -143,7 +144,7 @@ few : (a b : ℕ) → nat_lt (a + 1) b ≡ false → b ≤ suc a
 few a b e = grind (arith, nat_tests)
 
 module _ (d : SpiTable) (e : Event Call) (past : List (Event Call)) (q : ℕ) (out : Outcome SpiState) (p : Pending) (allowed : AreAllowed (spi_machine d) first_state past)
-    (made : (spi_machine d).happens e.world (state_of d past) e.what ≡ Some out) (there : find (is_of q) (state_of d past).pending ≡ Some p) (gone : find (is_of q) out.state.pending ≡ None) where
+    (made : (spi_machine d).happens e.world (state_of d past) e.what ≡ Some out) (there : find (is_of q) (state_of d past).pending ≡ Some p) (gone : find (is_of q) out.state.pending ≡ None) (plain : is_sync_sequence d q ≡ false) where
   abbrev here : SpiState
   here = state_of d past
 
@@ -211,20 +212,20 @@ module _ (d : SpiTable) (e : Event Call) (past : List (Event Call)) (q : ℕ) (o
       (λ f. absurd (cc (sym b ∙ failed_if d own.unit past x word f)))
 
   pub ends_as : drops e.what ≡ false → EndsAs d q e past (sequence_result out.state.sequence_results q)
-  ends_as drop = by_sequel e.what (find (is_of q) out.state.pending) (sequence_result out.state.sequence_results q) refl (happens_comes d here q p there e.world e.what out made drop) gone
+  ends_as drop = by_sequel e.what (find (is_of q) out.state.pending) (sequence_result out.state.sequence_results q) refl (happens_comes d here q p there plain e.world e.what out made drop) gone
 
-ends : (d : SpiTable) (e : Event Call) (past : List (Event Call)) (q : ℕ) → AreAllowed (spi_machine d) first_state (e ∷ past) → is_end q (seen_at d e past) ≡ true → EndsAs d q e past ((seen_at d e past).has q)
-ends d e past q allowed end =
+ends : (d : SpiTable) (e : Event Call) (past : List (Event Call)) (q : ℕ) → AreAllowed (spi_machine d) first_state (e ∷ past) → is_sync_sequence d q ≡ false → is_end q (seen_at d e past) ≡ true → EndsAs d q e past ((seen_at d e past).has q)
+ends d e past q allowed plain end =
     let out = some_out ((spi_machine d).happens e.world (state_of d past) e.what) allowed.0 in
     let after : state_of d (e ∷ past) ≡ out.0.state = ap (λ o. state_by (state_of d past) o) out.1 in
     let parts = and_parts (not (is_reset (seen_at d e past))) (is_pending ((seen_at d e past).had q) && not (is_pending ((seen_at d e past).has q))) end in
     let turns = and_parts (is_pending ((seen_at d e past).had q)) (not (is_pending ((seen_at d e past).has q))) parts.1 in
-    let p = entry q (state_of d past).pending (sym (run_agrees d past allowed.1 q) ∙ turns.0) in
+    let p = entry q (state_of d past).pending (sym ((run_agrees d past allowed.1).plain q plain) ∙ turns.0) in
     let gone : find (is_of q) out.0.state.pending ≡ None =
-    ap (λ (s : SpiState). find (is_of q) s.pending) (sym after) ∙ no_entry q (state_of d (e ∷ past)).pending (sym (run_agrees d (e ∷ past) allowed q) ∙ not-true (is_pending ((seen_at d e past).has q)) turns.1) in
+    ap (λ (s : SpiState). find (is_of q) s.pending) (sym after) ∙ no_entry q (state_of d (e ∷ past)).pending (sym ((run_agrees d (e ∷ past) allowed).plain q plain) ∙ not-true (is_pending ((seen_at d e past).has q)) turns.1) in
     let kept = no_drop d e.world (state_of d past) e.what out.0 q p.0 out.1 (idle d past) (not-true (is_restart e.what) parts.0) p.1 gone in
-    subst (λ (s : SpiState). EndsAs d q e past (sequence_result s.sequence_results q)) (sym after) (ends_as d e past q out.0 p.0 allowed.1 out.1 p.1 gone kept)
+    subst (λ (s : SpiState). EndsAs d q e past (sequence_result s.sequence_results q)) (sym after) (ends_as d e past q out.0 p.0 allowed.1 out.1 p.1 gone plain kept)
 
 pub all_ended_as : (d : SpiTable) (past : List (Event Call)) → AreAllowed (spi_machine d) first_state past → AreEndedAs d past
 all_ended_as d [] allowed = tt
-all_ended_as d (e ∷ past) allowed = (λ q end. ends d e past q allowed end, all_ended_as d past allowed.1)
+all_ended_as d (e ∷ past) allowed = (λ q plain end. ends d e past q allowed plain end, all_ended_as d past allowed.1)

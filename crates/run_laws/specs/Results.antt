@@ -11,6 +11,7 @@ use Rattle.spi_machine.specs.Promised.{received_at}
 use Rattle.spi_machine.specs.State.{SpiState, first_state}
 use Rattle.spi_machine.specs.Table.{jobs_of}
 use Rattle.spi_machine.specs.Transfers.{refused}
+use Rattle.spi_machine.specs.Wiring.{is_sync_sequence}
 use Rattle.spi_machine.specs.declared.call.Call.{Call}
 use Rattle.spi_machine.specs.declared.call.Call.TheVariants.{Sequence}
 use Rattle.spi_machine.specs.declared.call.SequenceCall.TheVariants.{Cancel}
@@ -102,7 +103,7 @@ pub data EndsAs (d : SpiTable) (q : ℕ) (e : Event Call) (past : List (Event Ca
   AfterAll : was_cancelled q (seen_of d past) ≡ false → ends_job q (seen_at d e past) ≡ true → length (jobs_of d q) ≤ suc (jobs_ended q (seen_of d past))
       → (u : ℕ) → serves u e.what ≡ true → (x : WordSince d u past) → (HasFailed x → ⊥) → EndsAs d q e past SpiSeqOk
 
--- each end of a sequence gives the result that the events before it say
+-- each end of a sequence that is requested gives the result that the events before it say
 abbrev pub AreEndedAs : SpiTable → List (Event Call) → Type 0
 AreEndedAs d [] = Unit {0}
-AreEndedAs d (e ∷ past) = ((q : ℕ) → is_end q (seen_at d e past) ≡ true → EndsAs d q e past ((seen_at d e past).has q)) × AreEndedAs d past
+AreEndedAs d (e ∷ past) = ((q : ℕ) → is_sync_sequence d q ≡ false → is_end q (seen_at d e past) ≡ true → EndsAs d q e past ((seen_at d e past).has q)) × AreEndedAs d past

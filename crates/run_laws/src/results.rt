@@ -1,4 +1,4 @@
-//! Which result an end gives.
+//! Which result an end gives, and what a call that waits has sent.
 
 ghost use Rattle.std.specs.Prelude.{◌≢◌, ℕ, List};
 ghost use Rattle.mcal_base.specs.declared.answer_name.AnswerName.TheVariants.{SpiJobFailed};
@@ -9,13 +9,22 @@ ghost use Rattle.spi_machine.specs.declared.call.Call.{Call};
 ghost use Rattle.spi_machine.specs.declared.table.SpiTable.{SpiTable};
 ghost use Rattle.whole_runs.specs.Runs.{Event, AreAllowed, NoneOf};
 ghost use Rattle.run_laws.specs.Results.{AreEndedAs, state_of, can_fail};
+ghost use Rattle.run_laws.specs.Sent.{AreSent};
 
-/// In every run each end gives the result that the events say. It is cancelled where a cancel came since the request, at
-/// that cancel or as its running job ends. Else it ends as its own job ends: failed where that job's word had failed, by
-/// a refused exchange as it began or a fault of its unit's wire before it was done; and OK where the word hadn't, and no
-/// further job of it is there.
+/// In every run each end of a requested sequence gives the result that the events say. It is cancelled where a cancel
+/// came since the request, at that cancel or as its running job ends. Else it ends as its own job ends: failed where
+/// that job's word had failed, by a refused exchange as it began or a fault of its unit's wire before it was done; and
+/// OK where the word hadn't, and no further job of it is there.
 pub fn ends_by_their_events()
     ensures { (d : SpiTable) (past : List (Event Call)) → AreAllowed (spi_machine d) first_state past → AreEndedAs d past }
+{}
+
+/// In every run a call of `Spi_SyncTransmit` that ends with `E_OK` has sent all jobs of its sequence in their order,
+/// each with all its words as its channels stood when it began, and nothing else on its unit. Each word that came in
+/// was stored as it was taken, where a user's array takes it, and as its job ended, where an internal channel does. Its
+/// sequence is OK. One that ends with `E_NOT_OK` and no error ends by a word that failed, and its sequence has failed.
+pub fn calls_that_wait_send_all()
+    ensures { (d : SpiTable) (past : List (Event Call)) → AreAllowed (spi_machine d) first_state past → AreSent d past }
 {}
 
 /// In every run in which no exchange was refused and no fault met a wire no job has failed.

@@ -3,7 +3,6 @@ use Rattle.std.proofs.Common.{◌≡◌, ◌≢◌, ℕ, zero, suc, ◌+◌, ◌
 use Rattle.std.specs.List.{list_all, enumerate_from}
 use Rattle.std.specs.Prelude.{slice_get, if◌then◌else◌}
 use Rattle.std.proofs.lemmas.List.{get_or-replicate, length-replicate}
-use Rattle.plain_facts.specs.Options.{some_is}
 use Rattle.plain_facts.specs.Numbers.{same_or_other}
 use Rattle.mcal_base.specs.declared.error_name.ErrorName.{ErrorName}
 use Rattle.run_model.specs.Machine.{Happening, Acts, Outcome}
@@ -12,7 +11,7 @@ use Rattle.spi_jobs.specs.declared.channel.Channel as configured
 use Rattle.spi_machine.proofs.Numbers.{item-same, item-other, channel-seen}
 use Rattle.spi_machine.specs.Channels.{ChannelState, SetUp, untouched, set_up_or, words_from, initialised, written_from}
 use Rattle.spi_machine.specs.Checks.{error_by}
-use Rattle.spi_machine.specs.Machine.{spi_machine, acts_by, channel_work, finds_held}
+use Rattle.spi_machine.specs.Machine.{spi_machine, acts_by, channel_work, finds_held, sent_by}
 use Rattle.spi_machine.specs.Numbered.{first_items, word_at}
 use Rattle.spi_machine.specs.Runs.{Occurrence, after_all}
 use Rattle.spi_machine.specs.State.{SpiState, is_off, channel_at}
@@ -27,6 +26,7 @@ use Rattle.spi_machine.specs.declared.call.Pointer.TheVariants.{Users, Null}
 use Rattle.spi_machine.specs.declared.table.SpiTable.{SpiTable}
 use Rattle.serial_laws.specs.Buffers.{source_word, leaves_channels, leaves_written, leaves_set_up}
 use Rattle.serial_laws.proofs.Keeping.{IsOfCalls, step_sees, all_same, not_itself}
+use Rattle.serial_laws.proofs.Sendings.{act_plain}
 
 -- ---- lists
 
@@ -111,14 +111,14 @@ set_up_by : (d : SpiTable) (s : SpiState) (c n : ℕ) (p q : Pointer) (e : Optio
 set_up_by d s c n p q (Some e) told = absurd (cc told)
 set_up_by d s c n p q None told = ap (λ (x : ChannelState). x.set_up) (item-same untouched s.channels c _)
 
-acted : (d : SpiTable) (w : World) (s : SpiState) (call : Call) (times : ℕ → ℕ) (out : Outcome SpiState) → (spi_machine d).happens w s (Acts call times) ≡ Some out → acts_by d s call (error_by d call (is_off s.mode) (finds_held d s call)) ≡ out
-acted d w s call times out made = some_is _ out made
+acted : (d : SpiTable) (w : World) (s : SpiState) (call : Call) (times : ℕ → ℕ) (out : Outcome SpiState) → sent_by (Some call) ≡ None → (spi_machine d).happens w s (Acts call times) ≡ Some out → acts_by d s call (error_by d call (is_off s.mode) (finds_held d s call)) ≡ out
+acted d w s call times out n made = act_plain d w s call times out n made
 
 pub written_since : (d : SpiTable) (w : World) (s : SpiState) (c : ℕ) (k : configured.Channel) (p : Pointer) (times : ℕ → ℕ) (out : Outcome SpiState) (xs : List Occurrence)
     → (spi_machine d).happens w s (Acts (Channel c (WriteIb p)) times) ≡ Some out → out.told.error ≡ None → channel_of d c ≡ Some k → list_all (λ (x : Occurrence). leaves_written c x.what) xs ≡ true
     → (channel_at (after_all d out.state xs) c).written ≡ words_from p k.length k (channel_at s c)
 written_since d w s c k p times out xs made told there left =
-    let is = acted d w s (Channel c (WriteIb p)) times out made in
+    let is = acted d w s (Channel c (WriteIb p)) times out refl made in
     written_all d out.state c xs left
     ∙ subst (λ (x : Outcome SpiState). x.told.error ≡ None → (channel_at x.state c).written ≡ words_from p k.length k (channel_at s c)) is
     (λ quiet. written_by d s c k p (error_by d (Channel c (WriteIb p)) (is_off s.mode) false) quiet there) told
@@ -127,7 +127,7 @@ pub set_up_since : (d : SpiTable) (w : World) (s : SpiState) (c n : ℕ) (p q : 
     → (spi_machine d).happens w s (Acts (Channel c (SetupEb p q n)) times) ≡ Some out → out.told.error ≡ None → list_all (λ (x : Occurrence). leaves_set_up c x.what) xs ≡ true
     → (channel_at (after_all d out.state xs) c).set_up ≡ Some (record { source = p; destination = q; words = n })
 set_up_since d w s c n p q times out xs made told left =
-    let is = acted d w s (Channel c (SetupEb p q n)) times out made in
+    let is = acted d w s (Channel c (SetupEb p q n)) times out refl made in
     set_up_all d out.state c xs left
     ∙ subst (λ (x : Outcome SpiState). x.told.error ≡ None → (channel_at x.state c).set_up ≡ Some (record { source = p; destination = q; words = n })) is
     (λ quiet. set_up_by d s c n p q (error_by d (Channel c (SetupEb p q n)) (is_off s.mode) false) quiet) told
@@ -158,7 +158,7 @@ pub initial_since : (d : SpiTable) (w : World) (s : SpiState) (c : ℕ) (k : con
     → (spi_machine d).happens w s (Acts Init times) ≡ Some out → out.told.error ≡ None → channel_of d c ≡ Some k → k.internal ≡ true → c < 16 → list_all (λ (x : Occurrence). leaves_written c x.what) xs ≡ true
     → (channel_at (after_all d out.state xs) c).written ≡ replicate k.length k.default_data
 initial_since d w s c k times out xs made told there internal lt left =
-    let is = acted d w s Init times out made in
+    let is = acted d w s Init times out refl made in
     written_all d out.state c xs left
     ∙ subst (λ (x : Outcome SpiState). x.told.error ≡ None → (channel_at x.state c).written ≡ replicate k.length k.default_data) is
     (λ quiet. initial_by d s c k (error_by d Init (is_off s.mode) false) quiet there internal lt) told
@@ -225,5 +225,5 @@ read_by d s c k None told there = ap (λ o. first_items 0 (length_by o) (channel
 pub read_words : (d : SpiTable) (w : World) (s : SpiState) (c : ℕ) (k : configured.Channel) (times : ℕ → ℕ) (out : Outcome SpiState) → (spi_machine d).happens w s (Acts (Channel c ReadIb) times) ≡ Some out → out.told.error ≡ None
     → channel_of d c ≡ Some k → out.told.answer.words ≡ first_items 0 k.length (channel_at s c).received
 read_words d w s c k times out made told there =
-    subst (λ (x : Outcome SpiState). x.told.error ≡ None → x.told.answer.words ≡ first_items 0 k.length (channel_at s c).received) (acted d w s (Channel c ReadIb) times out made)
+    subst (λ (x : Outcome SpiState). x.told.error ≡ None → x.told.answer.words ≡ first_items 0 k.length (channel_at s c).received) (acted d w s (Channel c ReadIb) times out refl made)
     (λ quiet. read_by d s c k (error_by d (Channel c ReadIb) (is_off s.mode) false) quiet there) told

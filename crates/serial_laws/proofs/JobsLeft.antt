@@ -19,7 +19,7 @@ use Rattle.spi_machine.specs.declared.call.Call.{Call}
 use Rattle.spi_machine.specs.declared.table.SpiTable.{SpiTable}
 use Rattle.serial_laws.specs.Alone.{StaysPending, Now, Later, Ending}
 use Rattle.serial_laws.specs.Ends.{EndsWith, Sequel, IsLeft, Starting, GoingOn, BeingCancelled, EndsAtOnce, EndsCancelled, EndsFailed, EndsOk}
-use Rattle.serial_laws.proofs.Sequels.{happens_comes, has_to_end, has_to_go_on}
+use Rattle.serial_laws.proofs.Sequels.{happens_sequel, has_to_end, has_to_go_on}
 
 -- so many jobs are left
 abbrev Left : SpiTable → ℕ → ℕ → Type 0
@@ -46,7 +46,7 @@ sequel_on d s q p after own left (EndsOk line received r w c f g) e = absurd (cc
 step_by : (d : SpiTable) (w : World) (s : SpiState) (q : ℕ) (p after : Pending) (h : Happening Call) (o : Option (Outcome SpiState)) → (spi_machine d).happens w s h ≡ o → find (is_of q) s.pending ≡ Some p → drops h ≡ false → Left d q p.next
     → find (is_of q) (state_by s o).pending ≡ Some after → GoesOn d q p after
 step_by d w s q p after h None e there kept left is = subst (λ (x : Pending). GoesOn d q p x) (some_is p after (sym there ∙ is)) (omega arith, left)
-step_by d w s q p after h (Some out) e there kept left is = sequel_on d s q p after (found q p s.pending there).0 left (happens_comes d s q p there w h out e kept) is
+step_by d w s q p after h (Some out) e there kept left is = sequel_on d s q p after (found q p s.pending there).0 left (happens_sequel d s q p there w h out e kept).1 is
 
 -- what is pending
 pending_in : {d : SpiTable} {q : ℕ} {s : SpiState} {xs : List Occurrence} {n : ℕ} → StaysPending d q s xs n → (p : Pending) × (find (is_of q) s.pending ≡ Some p)

@@ -1,5 +1,5 @@
 -- What a happening leaves of a channel and of the mode.
-use Rattle.std.proofs.Common.{◌≡◌, ℕ, ◌==◌, Bool, true, false, not, ◌&&◌, List, [], ◌∷◌, Option, Some, None, refl, sym, ◌∙◌, ap}
+use Rattle.std.proofs.Common.{◌≡◌, ℕ, ◌==◌, Bool, true, false, not, List, [], ◌∷◌, Option, Some, None, refl, sym, ◌∙◌, ap}
 use Rattle.std.specs.List.{list_all}
 use Rattle.std.specs.Prelude.{find, if◌then◌else◌}
 use Rattle.std.proofs.lemmas.Bool.{and_parts}
@@ -16,19 +16,20 @@ use Rattle.spi_machine.proofs.Runs.{stored-seen, after_last-seen}
 use Rattle.spi_machine.proofs.WordLaws.{job_over-channels}
 use Rattle.spi_machine.specs.Channels.{ChannelState}
 use Rattle.spi_machine.specs.Checks.{error_by}
-use Rattle.spi_machine.specs.Machine.{acts_by, unless_busy, cancelled, cancelled_by, channel_work, finds_held, stored, kept, all_kept, after_last, sequence_after, job_over, pending_of, served_by, served, unit_of, run_of, ready, start_by, next_at, number_of, moved}
+use Rattle.spi_machine.specs.Machine.{acts_by, sent_on, unless_busy, cancelled, cancelled_by, channel_work, finds_held, stored, kept, all_kept, after_last, sequence_after, job_over, pending_of, served_by, served, unit_of, run_of, ready, start_by, next_at, number_of, moved}
 use Rattle.spi_machine.specs.Pending.{Pending, is_of, end_by, has_further}
 use Rattle.spi_machine.specs.Runs.{Occurrence, state_after, after_all}
-use Rattle.spi_machine.specs.State.{SpiState, Off, mode_of, is_busy, is_off, is_running, channel_at}
+use Rattle.spi_machine.specs.State.{SpiState, Carrying, Off, mode_of, is_busy, is_off, is_running, channel_at}
 use Rattle.spi_machine.specs.Table.{channel_of}
 use Rattle.spi_machine.specs.Transfers.{Goes, ToDestination, ToChannel, Nowhere, JobWord, Run, goes_on, word_of, received_with}
 use Rattle.spi_machine.specs.declared.call.Call.{Call}
 use Rattle.spi_machine.specs.declared.call.Call.TheVariants.{Init, DeInit, SetAsyncMode, MainFunctionHandling, Channel, Sequence, Get}
 use Rattle.spi_machine.specs.declared.call.ChannelCall.{ChannelCall}
 use Rattle.spi_machine.specs.declared.call.ChannelCall.TheVariants.{WriteIb, ReadIb, SetupEb}
-use Rattle.spi_machine.specs.declared.call.SequenceCall.TheVariants.{AsyncTransmit, Cancel}
+use Rattle.spi_machine.specs.declared.call.SequenceCall.TheVariants.{AsyncTransmit, Cancel, SyncTransmit}
 use Rattle.spi_machine.specs.declared.table.SpiTable.{SpiTable}
 use Rattle.serial_laws.specs.Buffers.{leaves_channels, leaves_mode}
+use Rattle.serial_laws.proofs.Sendings.{act_so, start_so}
 
 -- ---- a channel
 
@@ -107,17 +108,26 @@ module _ {A : Type 0} (see : ChannelState → A) (of : IsOfCalls see) (d : SpiTa
   acts_see MainFunctionHandling times None left by = refl
   acts_see (Channel n call) times None left by = by n call refl
   acts_see (Sequence q AsyncTransmit) times None left by = refl
+  acts_see (Sequence q SyncTransmit) times None left by = refl
   acts_see (Sequence q Cancel) times None left by = same_channels (cancelled d s (find (is_of q) s.pending)).state (cancelled_channels d s (find (is_of q) s.pending))
   acts_see (Get query) times None left by = refl
+
+  sent_on_sees : (u received : ℕ) (x : Carrying) (b : Bool) → see (channel_at (sent_on d w s u received x b).state c) ≡ see (channel_at s c)
+  sent_on_sees u received x true = stored_sees s (word_of x.run) (word_of x.run).goes x.run.transfer.incoming
+  sent_on_sees u received x false = after_last_sees x.run false
 
   -- it is left where no call changes it
   pub step_sees : (h : Happening Call) → leaves_channels h ≡ true
       → ((n : ℕ) (by : ChannelCall) (times : ℕ → ℕ) → h ≡ Acts (Channel n by) times → see (channel_at (channel_work (channel_of d n) s n by).state c) ≡ see (channel_at s c))
       → see (channel_at (state_after d w s h) c) ≡ see (channel_at s c)
   step_sees (Acts call times) left by =
-      acts_see call times (error_by d call (is_off s.mode) (finds_held d s call)) left (λ n b e. by n b times (ap (λ x. Acts x times) e))
+      act_so (λ t. see (channel_at t c) ≡ see (channel_at s c)) d w s call refl
+      (acts_see call times (error_by d call (is_off s.mode) (finds_held d s call)) left (λ n b e. by n b times (ap (λ x. Acts x times) e)))
+      (λ q x ends. after_last_sees x.run x.run.transfer.failed)
   step_sees (Serves line received) left by = serves_sees line received (ready w s line)
-  step_sees (Starts unit made_by received) left by = starts_sees (number_of unit) received (next_at d s (number_of unit))
+  step_sees (Starts unit made_by received) left by =
+      start_so (λ t. see (channel_at t c) ≡ see (channel_at s c)) d w s (number_of unit) made_by received refl
+      (λ n. starts_sees (number_of unit) received (next_at d s (number_of unit))) (λ u q on. refl) (λ u q x on more. sent_on_sees u received x (goes_on x.run))
   step_sees (Aborts unit) left by = refl
   step_sees (Moves order) left by = moved_sees order
   step_sees (Restarts reason) left by = absurd (cc left)
@@ -144,6 +154,7 @@ acts_mode d s (Channel n call) times None left = work_mode call where
   work_mode ReadIb = refl
   work_mode (SetupEb p q k) = refl
 acts_mode d s (Sequence q AsyncTransmit) times None left = refl
+acts_mode d s (Sequence q SyncTransmit) times None left = refl
 acts_mode d s (Sequence q Cancel) times None left = cancelled_mode d s (find (is_of q) s.pending)
 acts_mode d s (Get query) times None left = refl
 
@@ -179,10 +190,18 @@ moved_mode d w s (Fill c ws) = refl
 moved_mode d w s (SpiFault u) = refl
 moved_mode d w s order = refl
 
+sent_on_mode : (d : SpiTable) (w : World) (s : SpiState) (u received : ℕ) (x : Carrying) (b : Bool) → (sent_on d w s u received x b).state.mode ≡ s.mode
+sent_on_mode d w s u received x true = stored-seen (λ s. s.mode) (λ s c x. refl) s (word_of x.run) (word_of x.run).goes x.run.transfer.incoming
+sent_on_mode d w s u received x false = after_last-seen (λ s. s.mode) (λ s c x. refl) s x.run false
+
 step_mode : (d : SpiTable) (w : World) (s : SpiState) (h : Happening Call) → leaves_mode h ≡ true → (state_after d w s h).mode ≡ s.mode
-step_mode d w s (Acts call times) left = acts_mode d s call times (error_by d call (is_off s.mode) (finds_held d s call)) left
+step_mode d w s (Acts call times) left =
+    act_so (λ t. t.mode ≡ s.mode) d w s call refl (acts_mode d s call times (error_by d call (is_off s.mode) (finds_held d s call)) left)
+    (λ q x ends. after_last-seen (λ s. s.mode) (λ s c x. refl) s x.run x.run.transfer.failed)
 step_mode d w s (Serves line received) left = serves_mode d w s line received (ready w s line)
-step_mode d w s (Starts unit made_by received) left = starts_mode d w s (number_of unit) received (next_at d s (number_of unit))
+step_mode d w s (Starts unit made_by received) left =
+    start_so (λ t. t.mode ≡ s.mode) d w s (number_of unit) made_by received refl
+    (λ n. starts_mode d w s (number_of unit) received (next_at d s (number_of unit))) (λ u q on. refl) (λ u q x on more. sent_on_mode d w s u received x (goes_on x.run))
 step_mode d w s (Aborts unit) left = refl
 step_mode d w s (Moves order) left = moved_mode d w s order
 step_mode d w s (Restarts reason) left = absurd (cc left)

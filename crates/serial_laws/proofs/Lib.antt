@@ -3,6 +3,8 @@ pub mod BufferLaws
 pub mod Entries
 pub mod Keeping
 pub mod StartLaws
+pub mod Sendings
+pub mod SentWords
 pub mod Sequels
 pub mod Words
 pub mod WordsLeft

@@ -2,7 +2,7 @@
 use Rattle.std.proofs.Common.{◌≡◌, ◌≢◌, ℕ, ◌+◌, ◌==◌, Bool, true, false, not, ◌||◌, List, [], ◌∷◌, Option, Some, None, refl, sym, ◌∙◌, ap, subst, ◌⊎◌, inl, inr}
 use Rattle.std.specs.Prelude.{find, is_some}
 use Rattle.plain_facts.specs.Options.{some_is}
-use Rattle.plain_facts.specs.Numbers.{same_or_other}
+use Rattle.plain_facts.specs.Numbers.{eq_is, same_or_other}
 use Rattle.mcal_base.specs.declared.answer_name.AnswerName.{AnswerName}
 use Rattle.mcal_base.specs.declared.answer_name.AnswerName.TheVariants.{SpiJobOk, SpiSeqOk, SpiSeqPending, SpiSeqFailed, SpiSeqCanceled}
 use Rattle.mcal_base.specs.declared.directive.Order.{Order}
@@ -15,19 +15,21 @@ use Rattle.run_model.specs.Machine.{Happening, Acts, Serves, Starts, Aborts, Mov
 use Rattle.run_model.specs.World.{World}
 use Rattle.spi_machine.proofs.Numbers.{item-same, item-other}
 use Rattle.spi_machine.proofs.Runs.{stored-seen, after_last-seen, serve_by}
+use Rattle.spi_machine.proofs.Sending.{EndsSending, act-either, start-either, plain-start, carried-right}
 use Rattle.spi_machine.proofs.Turns.{found}
 use Rattle.spi_machine.specs.Checks.{error_by}
-use Rattle.spi_machine.specs.Machine.{spi_machine, acts_by, work, unless_busy, cancelled, cancelled_by, finds_held, accepted, ended, after_last, sequence_after, job_over, result_by, pending_of, served_by, served, unit_of, run_of, ready, started, start_by, next_at, number_of, moved}
+use Rattle.spi_machine.specs.Machine.{spi_machine, acts, acts_by, sent, sent_on, carries_job, sequence_begun, as_requested, sequence_result_by, work, unless_busy, cancelled, cancelled_by, finds_held, accepted, ended, after_last, sequence_after, job_over, result_by, pending_of, served_by, served, unit_of, run_of, ready, started, start_by, next_at, number_of, moved}
 use Rattle.spi_machine.specs.Pending.{Pending, is_of, is_pending, changed, without, starts, goes_to_next, cancels, is_held, shares_job, next_job, end_by, has_further, sequence_result}
 use Rattle.spi_machine.specs.Promised.{drops}
-use Rattle.spi_machine.specs.State.{SpiState, Off, mode_of, is_busy, is_off, is_running, run_at, with_run}
+use Rattle.spi_machine.specs.State.{SpiState, Carrying, Off, mode_of, is_busy, is_off, is_running, run_at, with_run}
 use Rattle.spi_machine.specs.Numbered.{with_item}
-use Rattle.spi_machine.specs.Table.{sequence_of}
+use Rattle.spi_machine.specs.Table.{sequence_of, is_sync_unit}
+use Rattle.spi_machine.specs.Wiring.{unit_of_sequence, is_sync_sequence}
 use Rattle.spi_machine.specs.Transfers.{Run, goes_on, word_of}
 use Rattle.spi_machine.specs.declared.call.Call.{Call}
 use Rattle.spi_machine.specs.declared.call.Call.TheVariants.{Init, DeInit, SetAsyncMode, MainFunctionHandling, Channel, Sequence, Get}
 use Rattle.spi_machine.specs.declared.call.ChannelCall.TheVariants.{WriteIb, ReadIb, SetupEb}
-use Rattle.spi_machine.specs.declared.call.SequenceCall.TheVariants.{AsyncTransmit, Cancel}
+use Rattle.spi_machine.specs.declared.call.SequenceCall.TheVariants.{AsyncTransmit, Cancel, SyncTransmit}
 use Rattle.spi_machine.specs.declared.table.SpiTable.{SpiTable}
 use Rattle.serial_laws.specs.Ends.{Sequel, IsLeft, Starting, GoingOn, BeingCancelled, EndsAtOnce, EndsCancelled, EndsFailed, EndsOk, EndsWith}
 use Rattle.serial_laws.proofs.Entries.{find-changed_own, find-changed_other, find-without_own, find-without_other, find-joined}
@@ -45,11 +47,12 @@ not_held d k (p ∷ ps) h =
     let parts = not_held_by (p.sequence == k) (shares_job d k p.sequence) (is_held d k ps) h in
     rw parts.0 (not_held d k ps parts.1)
 
-no_error : (a b c : Bool) → first_error services.SpiAsyncTransmit (a ∷ b ∷ c ∷ false ∷ false ∷ false ∷ []) ≡ None → c ≡ false
-no_error true b c h = absurd (cc h)
-no_error false true c h = absurd (cc h)
-no_error false false true h = absurd (cc h)
-no_error false false false h = refl
+no_error : (a b e c : Bool) → first_error services.SpiAsyncTransmit (a ∷ (b || e) ∷ c ∷ false ∷ false ∷ false ∷ []) ≡ None → c ≡ false
+no_error true b e c h = absurd (cc h)
+no_error false true e c h = absurd (cc h)
+no_error false false true c h = absurd (cc h)
+no_error false false false true h = absurd (cc h)
+no_error false false false false h = refl
 
 -- ---- what comes of it
 
@@ -191,8 +194,9 @@ module _ (d : SpiTable) (s : SpiState) (q : ℕ) (p : Pending) (there : find (is
   acts_comes (Channel c ReadIb) times None is kept = left (Acts (Channel c ReadIb) times) s refl refl
   acts_comes (Channel c (SetupEb a b n)) times None is kept = left (Acts (Channel c (SetupEb a b n)) times) (work d s (Channel c (SetupEb a b n))).state refl refl
   acts_comes (Sequence k AsyncTransmit) times None is kept =
-      let held = no_error (is_off s.mode) (not (is_some (sequence_of d k))) (is_held d k s.pending) is in
+      let held = no_error (is_off s.mode) (not (is_some (sequence_of d k))) (is_sync_sequence d k) (is_held d k s.pending) is in
       accept_comes k times (λ at. let pending : is_pending k s.pending ≡ true = ap (λ i. is_pending i s.pending) (sym at) ∙ (found q p s.pending there).1 in absurd (cc (sym (not_held d k s.pending held) ∙ pending)))
+  acts_comes (Sequence k SyncTransmit) times None is kept = left (Acts (Sequence k SyncTransmit) times) s refl refl
   acts_comes (Sequence k Cancel) times None is kept = cancelled_comes k times (find (is_of k) s.pending) refl
   acts_comes (Get query) times None is kept = left (Acts (Get query) times) s refl refl
 
@@ -220,16 +224,79 @@ module _ (d : SpiTable) (s : SpiState) (q : ℕ) (p : Pending) (there : find (is
   moved_comes w (SpiFault u) = left (Moves (SpiFault u)) (moved d w s (SpiFault u)) refl refl
   moved_comes w order = left (Moves order) s refl refl
 
-  pub happens_comes : (w : World) (h : Happening Call) (out : Outcome SpiState) → (spi_machine d).happens w s h ≡ Some out → drops h ≡ false → Comes d s q p h out.state
-  happens_comes w (Acts call times) out e kept =
-      subst (λ (x : Outcome SpiState). Comes d s q p (Acts call times) x.state) (some_is _ out e) (acts_comes call times (error_by d call (is_off s.mode) (finds_held d s call)) refl kept)
-  happens_comes w (Serves line received) out e kept =
+  -- ---- a happening
+
+  -- what Spi_SyncTransmit does leaves what is pending
+  sent_on_pending : (w : World) (u received : ℕ) (x : Carrying) (b : Bool) → (sent_on d w s u received x b).state.pending ≡ s.pending
+  sent_on_pending w u received x true = stored-seen (λ s. s.pending) (λ s c x. refl) s (word_of x.run) (word_of x.run).goes x.run.transfer.incoming
+  sent_on_pending w u received x false = after_last-seen (λ s. s.pending) (λ s c x. refl) s x.run false
+
+  -- with some result
+  abbrev pub Goes : Happening Call → SpiState → Type 0
+  Goes h after = (r : AnswerName) × Sequel d s q p h (find (is_of q) after.pending) r
+
+  goes : (h : Happening Call) (after : SpiState) → Comes d s q p h after → Goes h after
+  goes h after x = (sequence_result after.sequence_results q, x)
+
+  stays : (h : Happening Call) (after : SpiState) → after.pending ≡ s.pending → Goes h after
+  stays h after e = (sequence_result s.sequence_results q, subst (λ i. Sequel d s q p h i (sequence_result s.sequence_results q)) (sym (ap (λ ps. find (is_of q) ps) e ∙ there)) IsLeft)
+
+  serving_comes : (w : World) (line received : ℕ) (out : Outcome SpiState) → (spi_machine d).happens w s (Serves line received) ≡ Some out → Comes d s q p (Serves line received) out.state
+  serving_comes w line received out e =
       subst (λ (x : Outcome SpiState). Comes d s q p (Serves line received) x.state) (serve_by (ready w s line) (served d w s (unit_of line) received (run_of s (unit_of line))) out e)
       (served_comes w line received (unit_of line) (run_of s (unit_of line)) refl refl)
-  happens_comes w (Starts unit made_by received) out e kept = start_by_comes w unit made_by received (number_of unit) (next_at d s (number_of unit)) out refl refl e
-  happens_comes w (Aborts unit) out e kept = absurd (cc e)
-  happens_comes w (Moves order) out e kept = subst (λ (x : Outcome SpiState). Comes d s q p (Moves order) x.state) (some_is _ out e) (moved_comes w order)
-  happens_comes w (Restarts reason) out e kept = absurd (cc kept)
+
+  moving_comes : (w : World) (order : Order) (out : Outcome SpiState) → (spi_machine d).happens w s (Moves order) ≡ Some out → Comes d s q p (Moves order) out.state
+  moving_comes w order out e = subst (λ (x : Outcome SpiState). Comes d s q p (Moves order) x.state) (some_is _ out e) (moved_comes w order)
+
+  pub happens_sequel : (w : World) (h : Happening Call) (out : Outcome SpiState) → (spi_machine d).happens w s h ≡ Some out → drops h ≡ false → Goes h out.state
+  happens_sequel w (Acts call times) out e kept =
+      act-either (λ (x : Outcome SpiState). Goes (Acts call times) x.state) d w s call out e
+      (goes (Acts call times) (acts d s call).state (acts_comes call times (error_by d call (is_off s.mode) (finds_held d s call)) refl kept))
+      (λ k x c f. stays (Acts call times) s refl)
+      (λ k x c ends. stays (Acts call times) (sent d s (unit_of_sequence d k) x x.run.transfer.failed).state (after_last-seen (λ s. s.pending) (λ s c x. refl) s x.run x.run.transfer.failed))
+  happens_sequel w (Serves line received) out e kept = goes (Serves line received) out.state (serving_comes w line received out e)
+  happens_sequel w (Starts unit made_by received) out e kept =
+      start-either (λ (x : Outcome SpiState). Goes (Starts unit made_by received) x.state) d w s (number_of unit) made_by received out e
+      (λ n f. goes (Starts unit made_by received) out.state (start_by_comes w unit made_by received (number_of unit) (next_at d s (number_of unit)) out refl refl f))
+      (λ u k on new. stays (Starts unit made_by received) (carries_job d w (sequence_begun d s k) u received (as_requested d s k)).state refl)
+      (λ u k x on more. stays (Starts unit made_by received) (sent_on d w s u received x (goes_on x.run)).state (sent_on_pending w u received x (goes_on x.run)))
+  happens_sequel w (Aborts unit) out e kept = absurd (cc e)
+  happens_sequel w (Moves order) out e kept = goes (Moves order) out.state (moving_comes w order out e)
+  happens_sequel w (Restarts reason) out e kept = absurd (cc kept)
+
+  -- with its own result, where it isn't sent by Spi_SyncTransmit
+  module _ (plain : is_sync_sequence d q ≡ false) where
+    not_sent_so : (k : ℕ) → is_sync_sequence d k ≡ true → q ≢ k
+    not_sent_so k sync same = absurd (cc (sym (ap (λ i. is_sync_sequence d i) same ∙ sync) ∙ plain))
+
+    sent_comes : (w : World) (call : Call) (times : ℕ → ℕ) (k : ℕ) (x : Carrying) → EndsSending d w s k x → Comes d s q p (Acts call times) (sent d s (unit_of_sequence d k) x x.run.transfer.failed).state
+    sent_comes w call times k x ends =
+        let failed = x.run.transfer.failed in
+        left (Acts call times) (sent d s (unit_of_sequence d k) x failed).state (ap (λ ps. find (is_of q) ps) (after_last-seen (λ s. s.pending) (λ s c x. refl) s x.run failed))
+        (item-other SpiSeqOk s.sequence_results x.entry.sequence q (sequence_result_by failed)
+        (not_sent_so x.entry.sequence (ap (λ i. is_sync_sequence d i) (eq_is x.entry.sequence k ends.own) ∙ (carried-right d s k x ends.carried).1)))
+
+    sent_on_results : (w : World) (u received : ℕ) (x : Carrying) (b : Bool) → (sent_on d w s u received x b).state.sequence_results ≡ s.sequence_results
+    sent_on_results w u received x true = stored-seen (λ s. s.sequence_results) (λ s c x. refl) s (word_of x.run) (word_of x.run).goes x.run.transfer.incoming
+    sent_on_results w u received x false = after_last-seen (λ s. s.sequence_results) (λ s c x. refl) s x.run false
+
+    pub happens_comes : (w : World) (h : Happening Call) (out : Outcome SpiState) → (spi_machine d).happens w s h ≡ Some out → drops h ≡ false → Comes d s q p h out.state
+    happens_comes w (Acts call times) out e kept =
+        act-either (λ (x : Outcome SpiState). Comes d s q p (Acts call times) x.state) d w s call out e
+        (acts_comes call times (error_by d call (is_off s.mode) (finds_held d s call)) refl kept)
+        (λ k x c f. left (Acts call times) s refl refl) (λ k x c ends. sent_comes w call times k x ends)
+    happens_comes w (Serves line received) out e kept = serving_comes w line received out e
+    happens_comes w (Starts unit made_by received) out e kept =
+        start-either (λ (x : Outcome SpiState). Comes d s q p (Starts unit made_by received) x.state) d w s (number_of unit) made_by received out e
+        (λ n f. start_by_comes w unit made_by received (number_of unit) (next_at d s (number_of unit)) out refl refl f)
+        (λ u k on new. left (Starts unit made_by received) (carries_job d w (sequence_begun d s k) u received (as_requested d s k)).state refl
+        (item-other SpiSeqOk s.sequence_results k q SpiSeqPending (not_sent_so k on.sync)))
+        (λ u k x on more. left (Starts unit made_by received) (sent_on d w s u received x (goes_on x.run)).state
+        (ap (λ ps. find (is_of q) ps) (sent_on_pending w u received x (goes_on x.run))) (ap (λ rs. sequence_result rs q) (sent_on_results w u received x (goes_on x.run))))
+    happens_comes w (Aborts unit) out e kept = absurd (cc e)
+    happens_comes w (Moves order) out e kept = moving_comes w order out e
+    happens_comes w (Restarts reason) out e kept = absurd (cc kept)
 
 -- ---- what has to become of it
 
@@ -317,6 +384,7 @@ started_by d w s k received u next p out made on is there =
     ∙ find-changed_own next.sequence starts (λ y. refl) s.pending p there
 
 pub has_started : (d : SpiTable) (w : World) (s : SpiState) (unit : units.Unit) (made_by : Option Call) (received : ℕ) (out : Outcome SpiState) (u : ℕ) (next p : Pending)
-    → (spi_machine d).happens w s (Starts unit made_by received) ≡ Some out → number_of unit ≡ Some u → next_at d s (Some u) ≡ Some next
+    → (spi_machine d).happens w s (Starts unit made_by received) ≡ Some out → number_of unit ≡ Some u → is_sync_unit d u ≡ false → next_at d s (Some u) ≡ Some next
     → find (is_of next.sequence) s.pending ≡ Some p → find (is_of next.sequence) out.state.pending ≡ Some (starts p)
-has_started d w s unit made_by received out u next p made on is there = started_by d w s (number_of unit) received u next p out made on is there
+has_started d w s unit made_by received out u next p made on plain is there =
+    started_by d w s (number_of unit) received u next p out (plain-start d w s (number_of unit) made_by received out u made on plain) on is there

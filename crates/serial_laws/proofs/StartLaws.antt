@@ -15,13 +15,14 @@ use Rattle.run_model.specs.World.{World}
 use Rattle.service_outline.specs.Done.{named}
 use Rattle.spi_machine.proofs.Numbers.{item-same, item-other}
 use Rattle.spi_machine.proofs.Runs.{serve_by, one_more}
+use Rattle.spi_machine.proofs.Sending.{plain-start}
 use Rattle.spi_machine.specs.Checks.{error_by}
 use Rattle.spi_machine.specs.Machine.{spi_machine, acts_by, unless_busy, finds_held, served_by, served, unit_of, run_of, ready, started, start_by, next_by, next_at, number_of}
 use Rattle.spi_machine.specs.Numbered.{with_item}
 use Rattle.spi_machine.specs.Pending.{Pending, is_for, best, next_on, all_get, job_result, next_job}
 use Rattle.spi_machine.specs.Runs.{Occurrence, after_all}
 use Rattle.spi_machine.specs.State.{SpiState, Polling, mode_of, is_busy, is_off, run_at}
-use Rattle.spi_machine.specs.Table.{jobs_of}
+use Rattle.spi_machine.specs.Table.{jobs_of, is_sync_unit}
 use Rattle.spi_machine.specs.Transfers.{Run, goes_on, begun, received_with}
 use Rattle.spi_machine.specs.declared.call.AsyncMode.{AsyncMode}
 use Rattle.spi_machine.specs.declared.call.Call.{Call}
@@ -64,8 +65,8 @@ pending_by d w s k received u p out made on is =
     ∙ item-same SpiJobOk s.job_results (next_job d p) SpiJobPending
 
 pub started_job : (d : SpiTable) (w : World) (s : SpiState) (unit : units.Unit) (made_by : Option Call) (received : ℕ) (out : Outcome SpiState) (u : ℕ) (p : Pending)
-    → (spi_machine d).happens w s (Starts unit made_by received) ≡ Some out → number_of unit ≡ Some u → next_at d s (Some u) ≡ Some p → job_result out.state.job_results (next_job d p) ≡ SpiJobPending
-started_job d w s unit made_by received out u p made on is = pending_by d w s (number_of unit) received u p out made on is
+    → (spi_machine d).happens w s (Starts unit made_by received) ≡ Some out → number_of unit ≡ Some u → is_sync_unit d u ≡ false → next_at d s (Some u) ≡ Some p → job_result out.state.job_results (next_job d p) ≡ SpiJobPending
+started_job d w s unit made_by received out u p made on plain is = pending_by d w s (number_of unit) received u p out (plain-start d w s (number_of unit) made_by received out u made on plain) on is
 
 -- ---- the mode
 

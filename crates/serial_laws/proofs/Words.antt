@@ -17,20 +17,23 @@ use Rattle.run_model.specs.World.{World}
 use Rattle.spi_machine.proofs.Numbers.{item-same, item-other}
 use Rattle.spi_machine.proofs.Runs.{stored-seen, after_last-seen, serve_by}
 use Rattle.spi_machine.proofs.Begins.{happens-begins}
+use Rattle.spi_machine.proofs.Sending.{start-either}
 use Rattle.spi_machine.specs.Checks.{error_by}
-use Rattle.spi_machine.specs.Machine.{spi_machine, acts_by, unless_busy, cancelled, cancelled_by, finds_held, stored, after_last, sequence_after, job_over, pending_of, served_by, served, unit_of, run_of, ready, started, start_by, next_at, number_of, faulted_run, moved}
+use Rattle.spi_machine.specs.Machine.{spi_machine, acts_by, sent_on, is_sync_number, unless_busy, cancelled, cancelled_by, finds_held, stored, after_last, sequence_after, job_over, pending_of, served_by, served, unit_of, run_of, ready, started, start_by, next_at, number_of, faulted_run, moved}
 use Rattle.spi_machine.specs.Numbered.{with_item}
 use Rattle.spi_machine.specs.Pending.{Pending, is_of, end_by, has_further}
 use Rattle.spi_machine.specs.Promised.{received_at, is_init, is_beginning}
 use Rattle.spi_machine.specs.Runs.{Occurrence, state_after, after_all}
-use Rattle.spi_machine.specs.State.{SpiState, Off, mode_of, is_busy, is_off, is_running, run_at}
+use Rattle.spi_machine.specs.State.{SpiState, Carrying, Off, mode_of, is_busy, is_off, is_running, run_at}
+use Rattle.spi_machine.specs.Table.{is_sync_unit}
 use Rattle.spi_machine.specs.Transfers.{Run, refused, is_done, goes_on, word_of}
 use Rattle.spi_machine.specs.declared.call.Call.{Call}
 use Rattle.spi_machine.specs.declared.call.Call.TheVariants.{Init, DeInit, SetAsyncMode, MainFunctionHandling, Channel, Sequence, Get}
 use Rattle.spi_machine.specs.declared.call.ChannelCall.TheVariants.{WriteIb, ReadIb, SetupEb}
-use Rattle.spi_machine.specs.declared.call.SequenceCall.TheVariants.{AsyncTransmit, Cancel}
+use Rattle.spi_machine.specs.declared.call.SequenceCall.TheVariants.{AsyncTransmit, Cancel, SyncTransmit}
 use Rattle.spi_machine.specs.declared.table.SpiTable.{SpiTable}
 use Rattle.serial_laws.specs.Faults.{MeetsFault, begins_on, is_unit, leaves_word}
+use Rattle.serial_laws.proofs.Sendings.{act_so, start_so}
 
 -- ---- a word begins
 
@@ -49,20 +52,31 @@ started_begins d w s (Some v) received (Some p) out u e on =
     ap (λ (x : Outcome SpiState). word_seen (run_at x.state u)) (sym is)
     ∙ (ap (λ i. word_seen (run_at (started d w s v received p).state i)) (sym at) ∙ ap word_seen (item-same None s.units v _))
 
+sequence_begins : (d : SpiTable) (t : SpiState) (p : Pending) (e : Option AnswerName) → (sequence_after d t p e).begins ≡ None
+sequence_begins d t p None = refl
+sequence_begins d t p (Some x) = refl
+
+over_begins : (d : SpiTable) (t : SpiState) (v : ℕ) (failed : Bool) (o : Option Pending) → (job_over d t v failed o).begins ≡ None
+over_begins d t v failed None = refl
+over_begins d t v failed (Some p) = sequence_begins d _ p (end_by p.cancelled failed (has_further d p))
+
+none_begins : (out : Outcome SpiState) (u : ℕ) → out.begins ≡ None → begins_on u out.begins ≡ true → ⊥
+none_begins out u e on = let no : begins_on u out.begins ≡ false = ap (λ o. begins_on u o) e in absurd (cc (sym no ∙ on))
+
+-- the word of a serving begins on its unit
+served_by_on : (d : SpiTable) (w : World) (s : SpiState) (v received : ℕ) (r : Run) (b : Bool) (u : ℕ) → begins_on u (served_by d w s v received r b).begins ≡ true → (v ≡ u) × (b ≡ true)
+served_by_on d w s v received r true u on = (eq_is v u on, refl)
+served_by_on d w s v received r false u on =
+    absurd (none_begins (job_over d (after_last s r r.transfer.failed) v r.transfer.failed (pending_of s r)) u (over_begins d (after_last s r r.transfer.failed) v r.transfer.failed (pending_of s r)) on)
+
+pub served_begins_on : (d : SpiTable) (w : World) (s : SpiState) (k : Option ℕ) (received : ℕ) (o : Option Run) (u : ℕ) → begins_on u (served d w s k received o).begins ≡ true → (r : Run) × (k ≡ Some u) × (o ≡ Some r)
+served_begins_on d w s None received o u on = absurd (cc on)
+served_begins_on d w s (Some v) received None u on = absurd (cc on)
+served_begins_on d w s (Some v) received (Some r) u on = (r, ap (λ i. Some i) (served_by_on d w s v received r (goes_on r) u on).0, refl)
+
 served_by_begins : (d : SpiTable) (w : World) (s : SpiState) (v received : ℕ) (r : Run) (b : Bool) (u : ℕ) → begins_on u (served_by d w s v received r b).begins ≡ true
     → word_seen (run_at (served_by d w s v received r b).state u) ≡ Some (w.now, received == refused)
-served_by_begins d w s v received r false u on = absurd (none_begins (job_over d (after_last s r r.transfer.failed) v r.transfer.failed (pending_of s r)) (over_begins d (after_last s r r.transfer.failed) v r.transfer.failed (pending_of s r)) on)
-  where
-    sequence_begins : (d : SpiTable) (t : SpiState) (p : Pending) (e : Option AnswerName) → (sequence_after d t p e).begins ≡ None
-    sequence_begins d t p None = refl
-    sequence_begins d t p (Some x) = refl
-
-    over_begins : (d : SpiTable) (t : SpiState) (v : ℕ) (failed : Bool) (o : Option Pending) → (job_over d t v failed o).begins ≡ None
-    over_begins d t v failed None = refl
-    over_begins d t v failed (Some p) = sequence_begins d _ p (end_by p.cancelled failed (has_further d p))
-
-    none_begins : (out : Outcome SpiState) → out.begins ≡ None → begins_on u out.begins ≡ true → ⊥
-    none_begins out e on = let no : begins_on u out.begins ≡ false = ap (λ o. begins_on u o) e in absurd (cc (sym no ∙ on))
+served_by_begins d w s v received r false u on = let no : false ≡ true = (served_by_on d w s v received r false u on).1 in absurd (cc no)
 served_by_begins d w s v received r true u on =
     let at : v ≡ u = eq_is v u on in
     ap (λ i. word_seen (run_at (served_by d w s v received r true).state i)) (sym at) ∙ ap word_seen (item-same None _ v _)
@@ -80,17 +94,40 @@ some_begins u (Some b) e = refl
 not_begun : (d : SpiTable) (w : World) (s : SpiState) (h : Happening Call) (out : Outcome SpiState) (u : ℕ) → (spi_machine d).happens w s h ≡ Some out → is_beginning s h ≡ false → begins_on u out.begins ≡ true → ⊥
 not_begun d w s h out u made none on = absurd (cc (sym (some_begins u out.begins on) ∙ (happens-begins d w s h out made ∙ none)))
 
-pub begins_seen : (d : SpiTable) (w : World) (s : SpiState) (h : Happening Call) (out : Outcome SpiState) (u : ℕ) → (spi_machine d).happens w s h ≡ Some out → begins_on u out.begins ≡ true
+-- the unit of a start is the one on which its word begins
+start_at : (d : SpiTable) (w : World) (s : SpiState) (k : Option ℕ) (received : ℕ) (o : Option Pending) (out : Outcome SpiState) (u : ℕ) → start_by d w s k received o ≡ Some out → begins_on u out.begins ≡ true → k ≡ Some u
+start_at d w s None received o out u e on = absurd (cc e)
+start_at d w s (Some v) received None out u e on = absurd (cc e)
+start_at d w s (Some v) received (Some p) out u e on =
+    ap (λ i. Some i) (eq_is v u (ap (λ (x : Outcome SpiState). begins_on u x.begins) (some_is (started d w s v received p) out e) ∙ on))
+
+pub sent_on_at : (d : SpiTable) (w : World) (s : SpiState) (v received : ℕ) (x : Carrying) (b : Bool) (u : ℕ) → begins_on u (sent_on d w s v received x b).begins ≡ true → v ≡ u
+sent_on_at d w s v received x true u on = eq_is v u on
+sent_on_at d w s v received x false u on = eq_is v u on
+
+-- a word of Spi_SyncTransmit begins on a unit that it uses
+sync_there : (d : SpiTable) (k : Option ℕ) (v u : ℕ) → k ≡ Some v → is_sync_number d k ≡ true → v ≡ u → is_sync_unit d u ≡ false → ⊥
+sync_there d k v u number sync at plain = let on : is_sync_unit d u ≡ true = ap (λ i. is_sync_unit d i) (sym at) ∙ (ap (λ j. is_sync_number d j) (sym number) ∙ sync) in absurd (cc (sym on ∙ plain))
+
+pub plain_there : (d : SpiTable) (w : World) (s : SpiState) (k : Option ℕ) (received : ℕ) (o : Option Pending) (out : Outcome SpiState) (u : ℕ) → is_sync_number d k ≡ false → start_by d w s k received o ≡ Some out → begins_on u out.begins ≡ true
+    → is_sync_unit d u ≡ false
+plain_there d w s k received o out u plain e on = ap (λ j. is_sync_number d j) (sym (start_at d w s k received o out u e on)) ∙ plain
+
+pub begins_seen : (d : SpiTable) (w : World) (s : SpiState) (h : Happening Call) (out : Outcome SpiState) (u : ℕ) → (spi_machine d).happens w s h ≡ Some out → begins_on u out.begins ≡ true → is_sync_unit d u ≡ false
     → word_seen (run_at out.state u) ≡ Some (w.now, received_at h == refused)
-begins_seen d w s (Acts call times) out u made on = absurd (not_begun d w s (Acts call times) out u made refl on)
-begins_seen d w s (Serves line received) out u made on =
+begins_seen d w s (Acts call times) out u made on plain = absurd (not_begun d w s (Acts call times) out u made refl on)
+begins_seen d w s (Serves line received) out u made on plain =
     let is = serve_by (ready w s line) (served d w s (unit_of line) received (run_of s (unit_of line))) out made in
     ap (λ (x : Outcome SpiState). word_seen (run_at x.state u)) (sym is)
     ∙ served_begins d w s (unit_of line) received (run_of s (unit_of line)) u (ap (λ (x : Outcome SpiState). begins_on u x.begins) is ∙ on)
-begins_seen d w s (Starts unit made_by received) out u made on = started_begins d w s (number_of unit) received (next_at d s (number_of unit)) out u made on
-begins_seen d w s (Aborts unit) out u made on = absurd (cc made)
-begins_seen d w s (Moves order) out u made on = absurd (not_begun d w s (Moves order) out u made refl on)
-begins_seen d w s (Restarts reason) out u made on = absurd (not_begun d w s (Restarts reason) out u made refl on)
+begins_seen d w s (Starts unit made_by received) out u made on plain =
+    start-either (λ (x : Outcome SpiState). begins_on u x.begins ≡ true → word_seen (run_at x.state u) ≡ Some (w.now, received == refused)) d w s (number_of unit) made_by received out made
+    (λ n e on. started_begins d w s (number_of unit) received (next_at d s (number_of unit)) out u e on)
+    (λ v q sent new on. absurd (sync_there d (number_of unit) v u sent.number sent.unit (eq_is v u on) plain))
+    (λ v q x sent more on. absurd (sync_there d (number_of unit) v u sent.number sent.unit (sent_on_at d w s v received x (goes_on x.run) u on) plain)) on
+begins_seen d w s (Aborts unit) out u made on plain = absurd (cc made)
+begins_seen d w s (Moves order) out u made on plain = absurd (not_begun d w s (Moves order) out u made refl on)
+begins_seen d w s (Restarts reason) out u made on plain = absurd (not_begun d w s (Restarts reason) out u made refl on)
 
 -- ---- what meets it
 
@@ -104,7 +141,7 @@ abbrev pub After : (unit : ℕ) → World → Option (ℕ × Bool) → Happening
 After u w None h = None
 After u w (Some x) h = Some (x.0, x.1 || hits u x.0 w.now h)
 
-same_word : (u : ℕ) (w : World) (o : Option (ℕ × Bool)) (h : Happening Call) → ((began : ℕ) → hits u began w.now h ≡ false) → After u w o h ≡ o
+pub same_word : (u : ℕ) (w : World) (o : Option (ℕ × Bool)) (h : Happening Call) → ((began : ℕ) → hits u began w.now h ≡ false) → After u w o h ≡ o
 same_word u w None h none = refl
 same_word u w (Some x) h none = ap (λ b. Some (x.0, b)) (ap (λ b. x.1 || b) (none x.0) ∙ or_false x.1)
 
@@ -131,11 +168,16 @@ acts_units d s (Channel c (WriteIb p)) None left = refl
 acts_units d s (Channel c ReadIb) None left = refl
 acts_units d s (Channel c (SetupEb p q n)) None left = refl
 acts_units d s (Sequence q AsyncTransmit) None left = refl
+acts_units d s (Sequence q SyncTransmit) None left = refl
 acts_units d s (Sequence q Cancel) None left = cancelled_units d s (find (is_of q) s.pending)
 acts_units d s (Get query) None left = refl
 
+pub sent_on_units : (d : SpiTable) (w : World) (s : SpiState) (u received : ℕ) (x : Carrying) (b : Bool) → (sent_on d w s u received x b).state.units ≡ s.units
+sent_on_units d w s u received x true = stored-seen (λ s. s.units) (λ s c x. refl) s (word_of x.run) (word_of x.run).goes x.run.transfer.incoming
+sent_on_units d w s u received x false = after_last-seen (λ s. s.units) (λ s c x. refl) s x.run false
+
 -- another unit's run
-not_that : (v u : ℕ) → not (v == u) ≡ true → u ≢ v
+pub not_that : (v u : ℕ) → not (v == u) ≡ true → u ≢ v
 not_that v u e at = let no : not (v == u) ≡ false = ap (λ i. not (v == i)) at ∙ ap not (eq_self v) in absurd (cc (sym no ∙ e))
 
 sequence_units : (d : SpiTable) (s : SpiState) (p : Pending) (e : Option AnswerName) → (sequence_after d s p e).state.units ≡ s.units
@@ -172,7 +214,7 @@ starts_other d w s (Some v) received (Some p) u left = item-other None s.units v
 -- ---- a fault
 
 -- a word that isn't done fails
-abbrev After_fault : (now : ℕ) → Option (ℕ × Bool) → Option (ℕ × Bool)
+abbrev pub After_fault : (now : ℕ) → Option (ℕ × Bool) → Option (ℕ × Bool)
 After_fault now None = None
 After_fault now (Some x) = Some (x.0, x.1 || not (nat_le (x.0 + 8) now))
 
@@ -182,14 +224,14 @@ pair began failed = Some (began, failed)
 abbrev fault_seen : (began : ℕ) (failed late : Bool) → Option (ℕ × Bool)
 fault_seen began failed late = Some (began, failed || late)
 
-fault_own : (u now : ℕ) (o : Option Run) → word_seen (faulted_run now o) ≡ After_fault now (word_seen o)
+pub fault_own : (u now : ℕ) (o : Option Run) → word_seen (faulted_run now o) ≡ After_fault now (word_seen o)
 fault_own u now None = refl
 fault_own u now (Some r) = by_done (is_done now r.transfer) where
   by_done : (b : Bool) → word_seen (Some (record r { transfer = if b then r.transfer else record r.transfer { failed = true } })) ≡ fault_seen r.transfer.began r.transfer.failed (not b)
   by_done true = ap (λ q. pair r.transfer.began q) (sym (or_false r.transfer.failed))
   by_done false = ap (λ q. pair r.transfer.began q) (sym (or_true r.transfer.failed))
 
-hit_own : (u k : ℕ) (w : World) (o : Option (ℕ × Bool)) → (k == u) ≡ true → After_fault w.now o ≡ After u w o (Moves (SpiFault k))
+pub hit_own : (u k : ℕ) (w : World) (o : Option (ℕ × Bool)) → (k == u) ≡ true → After_fault w.now o ≡ After u w o (Moves (SpiFault k))
 hit_own u k w None e = refl
 hit_own u k w (Some x) e = ap (λ q. pair x.0 (x.1 || (q && not (nat_le (x.0 + 8) w.now)))) (sym e)
 
@@ -211,11 +253,17 @@ moved_word d w s u order = sym (same_word u w (word_seen (run_at s u)) (Moves or
 
 pub step_word : (d : SpiTable) (w : World) (s : SpiState) (u : ℕ) (h : Happening Call) → leaves_word u h ≡ true → word_seen (run_at (state_after d w s h) u) ≡ After u w (word_seen (run_at s u)) h
 step_word d w s u (Acts call times) left =
-    ap (λ us. word_seen (slice_index_or us u None)) (acts_units d s call (error_by d call (is_off s.mode) (finds_held d s call)) left) ∙ sym (same_word u w (word_seen (run_at s u)) (Acts call times) (λ b. refl))
+    act_so (λ t. word_seen (run_at t u) ≡ word_seen (run_at s u)) d w s call refl
+    (ap (λ us. word_seen (slice_index_or us u None)) (acts_units d s call (error_by d call (is_off s.mode) (finds_held d s call)) left))
+    (λ q x ends. ap (λ us. word_seen (slice_index_or us u None)) (after_last-seen (λ s. s.units) (λ s c x. refl) s x.run x.run.transfer.failed))
+    ∙ sym (same_word u w (word_seen (run_at s u)) (Acts call times) (λ b. refl))
 step_word d w s u (Serves line received) left =
     ap word_seen (serves_other d w s line received u (ready w s line) left) ∙ sym (same_word u w (word_seen (run_at s u)) (Serves line received) (λ b. refl))
 step_word d w s u (Starts unit made_by received) left =
-    ap word_seen (starts_other d w s (number_of unit) received (next_at d s (number_of unit)) u left) ∙ sym (same_word u w (word_seen (run_at s u)) (Starts unit made_by received) (λ b. refl))
+    start_so (λ t. word_seen (run_at t u) ≡ word_seen (run_at s u)) d w s (number_of unit) made_by received refl
+    (λ n. ap word_seen (starts_other d w s (number_of unit) received (next_at d s (number_of unit)) u left))
+    (λ v q on. refl) (λ v q x on more. ap (λ us. word_seen (slice_index_or us u None)) (sent_on_units d w s v received x (goes_on x.run)))
+    ∙ sym (same_word u w (word_seen (run_at s u)) (Starts unit made_by received) (λ b. refl))
 step_word d w s u (Aborts unit) left = sym (same_word u w (word_seen (run_at s u)) (Aborts unit) (λ b. refl))
 step_word d w s u (Moves order) left = moved_word d w s u order
 step_word d w s u (Restarts reason) left = absurd (cc left)
@@ -288,22 +336,23 @@ fault_fails u began f xs (inr m) = hit_at u began f xs m.among.0 m.fault m.among
 
 -- ---- the word in transfer
 
-seen_failed : (o : Option Run) (r : Run) (began : ℕ) (f : Bool) → word_seen o ≡ Some (began, f) → o ≡ Some r → r.transfer.failed ≡ f
+pub seen_failed : (o : Option Run) (r : Run) (began : ℕ) (f : Bool) → word_seen o ≡ Some (began, f) → o ≡ Some r → r.transfer.failed ≡ f
 seen_failed o r began f e is = let same : Some (r.transfer.began, r.transfer.failed) ≡ Some (began, f) = sym (ap word_seen is) ∙ e in ap (λ (p : ℕ × Bool). p.1) (some_is _ _ same)
 
-pub failed_exactly : (d : SpiTable) (w : World) (s : SpiState) (h : Happening Call) (out : Outcome SpiState) (u : ℕ) (r : Run) (xs : List Occurrence)
-    → (spi_machine d).happens w s h ≡ Some out → begins_on u out.begins ≡ true → list_all (λ (x : Occurrence). leaves_word u x.what) xs ≡ true → run_at (after_all d out.state xs) u ≡ Some r
-    → (r.transfer.failed ≡ true) ↔ ((received_at h ≡ refused) ⊎ MeetsFault u w.now xs)
-failed_exactly d w s h out u r xs made on left runs =
-    let first : Bool = received_at h == refused in
-    let is : r.transfer.failed ≡ fails u w.now first xs =
-    seen_failed (run_at (after_all d out.state xs) u) r w.now (fails u w.now first xs) (all_words d out.state u w.now first xs left (begins_seen d w s h out u made on)) runs in
-    (λ e. forth (fault_found u w.now first xs (sym is ∙ e)), λ e. is ∙ fault_fails u w.now first xs (back e))
+pub fails_exactly : (u began received : ℕ) (xs : List Occurrence) (failed : Bool) → failed ≡ fails u began (received == refused) xs → (failed ≡ true) ↔ ((received ≡ refused) ⊎ MeetsFault u began xs)
+fails_exactly u began received xs failed is = (λ e. forth (fault_found u began (received == refused) xs (sym is ∙ e)), λ e. is ∙ fault_fails u began (received == refused) xs (back e))
   where
-    forth : ((received_at h == refused) ≡ true) ⊎ MeetsFault u w.now xs → (received_at h ≡ refused) ⊎ MeetsFault u w.now xs
-    forth (inl e) = inl (eq_is (received_at h) refused e)
+    forth : ((received == refused) ≡ true) ⊎ MeetsFault u began xs → (received ≡ refused) ⊎ MeetsFault u began xs
+    forth (inl e) = inl (eq_is received refused e)
     forth (inr m) = inr m
 
-    back : (received_at h ≡ refused) ⊎ MeetsFault u w.now xs → ((received_at h == refused) ≡ true) ⊎ MeetsFault u w.now xs
+    back : (received ≡ refused) ⊎ MeetsFault u began xs → ((received == refused) ≡ true) ⊎ MeetsFault u began xs
     back (inl e) = inl (ap (λ n. n == refused) e ∙ eq_self refused)
     back (inr m) = inr m
+
+pub failed_exactly : (d : SpiTable) (w : World) (s : SpiState) (h : Happening Call) (out : Outcome SpiState) (u : ℕ) (r : Run) (xs : List Occurrence)
+    → (spi_machine d).happens w s h ≡ Some out → begins_on u out.begins ≡ true → is_sync_unit d u ≡ false → list_all (λ (x : Occurrence). leaves_word u x.what) xs ≡ true → run_at (after_all d out.state xs) u ≡ Some r
+    → (r.transfer.failed ≡ true) ↔ ((received_at h ≡ refused) ⊎ MeetsFault u w.now xs)
+failed_exactly d w s h out u r xs made on plain left runs =
+    fails_exactly u w.now (received_at h) xs r.transfer.failed
+    (seen_failed (run_at (after_all d out.state xs) u) r w.now (fails u w.now (received_at h == refused) xs) (all_words d out.state u w.now (received_at h == refused) xs left (begins_seen d w s h out u made on plain)) runs)

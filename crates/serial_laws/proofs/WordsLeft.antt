@@ -10,6 +10,7 @@ use Rattle.run_model.specs.Frame.{state_by}
 use Rattle.run_model.specs.Machine.{Happening, Acts, Serves, Starts, Aborts, Moves, Restarts}
 use Rattle.run_model.specs.World.{World}
 use Rattle.spi_machine.proofs.Numbers.{item-same, item-other}
+use Rattle.spi_machine.proofs.Runs.{after_last-seen}
 use Rattle.spi_machine.specs.Checks.{error_by}
 use Rattle.spi_machine.specs.Machine.{faulted_run, finds_held, moved, next_at, number_of, ready, run_of, served, served_by, stored, unit_of}
 use Rattle.spi_machine.specs.Numbered.{with_item}
@@ -20,7 +21,8 @@ use Rattle.spi_machine.specs.declared.call.Call.{Call}
 use Rattle.spi_machine.specs.declared.table.SpiTable.{SpiTable}
 use Rattle.serial_laws.specs.Alone.{RunsOn, Running, Untouched, Serving}
 use Rattle.serial_laws.specs.Faults.{leaves_word}
-use Rattle.serial_laws.proofs.Words.{acts_units, serves_other, starts_other}
+use Rattle.serial_laws.proofs.Sendings.{act_so, start_so}
+use Rattle.serial_laws.proofs.Words.{acts_units, sent_on_units, serves_other, starts_other}
 
 -- what a job has to send, and what came in of it
 abbrev seen_of : Run → List JobWord × List ℕ
@@ -50,9 +52,14 @@ moved_seen d w s u (SpiFault k) = by_unit (same_or_other u k) where
 moved_seen d w s u order = refl
 
 step_seen : (d : SpiTable) (w : World) (s : SpiState) (u : ℕ) (h : Happening Call) → leaves_word u h ≡ true → seen_at (state_after d w s h) u ≡ seen_at s u
-step_seen d w s u (Acts call times) left = ap (λ us. run_seen (slice_index_or us u None)) (acts_units d s call (error_by d call (is_off s.mode) (finds_held d s call)) left)
+step_seen d w s u (Acts call times) left =
+    act_so (λ t. seen_at t u ≡ seen_at s u) d w s call refl
+    (ap (λ us. run_seen (slice_index_or us u None)) (acts_units d s call (error_by d call (is_off s.mode) (finds_held d s call)) left))
+    (λ q x ends. ap (λ us. run_seen (slice_index_or us u None)) (after_last-seen (λ s. s.units) (λ s c x. refl) s x.run x.run.transfer.failed))
 step_seen d w s u (Serves line received) left = ap run_seen (serves_other d w s line received u (ready w s line) left)
-step_seen d w s u (Starts unit made_by received) left = ap run_seen (starts_other d w s (number_of unit) received (next_at d s (number_of unit)) u left)
+step_seen d w s u (Starts unit made_by received) left =
+    start_so (λ t. seen_at t u ≡ seen_at s u) d w s (number_of unit) made_by received refl (λ n. ap run_seen (starts_other d w s (number_of unit) received (next_at d s (number_of unit)) u left))
+    (λ v q on. refl) (λ v q x on more. ap (λ us. run_seen (slice_index_or us u None)) (sent_on_units d w s v received x (goes_on x.run)))
 step_seen d w s u (Aborts unit) left = refl
 step_seen d w s u (Moves order) left = moved_seen d w s u order
 step_seen d w s u (Restarts reason) left = absurd (cc left)

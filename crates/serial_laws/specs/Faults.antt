@@ -5,6 +5,8 @@ use Rattle.run_model.specs.Machine.{Happening, Acts, Serves, Starts, Moves, Rest
 use Rattle.spi_machine.specs.Machine.{number_of, unit_of}
 use Rattle.spi_machine.specs.Promised.{is_init}
 use Rattle.spi_machine.specs.Runs.{Occurrence}
+use Rattle.spi_machine.specs.State.{Carrying}
+use Rattle.spi_machine.specs.Transfers.{Run}
 use Rattle.spi_machine.specs.declared.call.Call.{Call}
 
 -- A word that began on a unit at this time is met by a fault of the unit's wire before it is done.
@@ -13,6 +15,11 @@ pub record MeetsFault (unit began : ℕ) (history : List Occurrence) : Type 0 wh
   pub among : Contains history fault
   pub is : fault.what ≡ Moves (SpiFault unit)
   pub soon : fault.world.now < began + 8
+
+-- the job that a unit runs for a call of Spi_SyncTransmit
+abbrev pub run_carried : Option Carrying → Option Run
+run_carried None = None
+run_carried (Some x) = Some x.run
 
 -- the word begins on this unit
 abbrev pub begins_on : (unit : ℕ) → Option Begun → Bool

@@ -9,18 +9,21 @@ ghost use Rattle.spi_machine.specs.Pending.{Pending, is_of, has_further, goes_to
 ghost use Rattle.spi_machine.specs.Promised.{drops};
 ghost use Rattle.spi_machine.specs.State.{SpiState, is_running};
 ghost use Rattle.spi_machine.specs.Transfers.{Run};
+ghost use Rattle.spi_machine.specs.Table.{is_sync_unit};
+ghost use Rattle.spi_machine.specs.Wiring.{is_sync_sequence};
 ghost use Rattle.spi_machine.specs.declared.call.Call.{Call};
 ghost use Rattle.spi_machine.specs.declared.call.Call.TheVariants.{Sequence};
 ghost use Rattle.spi_machine.specs.declared.call.SequenceCall.TheVariants.{Cancel};
 ghost use Rattle.spi_machine.specs.declared.table.SpiTable.{SpiTable};
 ghost use Rattle.serial_laws.specs.Ends.{Sequel, EndsWith};
 
-/// A pending sequence is left, or changed by what concerns it alone: its job starts, it is cancelled, its job ends well
-/// and its next one waits, or it ends. It ends as cancelled at a cancel while none of its jobs runs, and as its own
-/// running job ends after a cancel; as failed as its own job fails; and as OK as its own last job ends well.
+/// A pending sequence that `Spi_AsyncTransmit` requests is left, or changed by what concerns it alone: its job starts, it
+/// is cancelled, its job ends well and its next one waits, or it ends. It ends as cancelled at a cancel while none of its
+/// jobs runs, and as its own running job ends after a cancel; as failed as its own job fails; and as OK as its own last
+/// job ends well.
 pub fn sequences_by_their_own()
     ensures { (d : SpiTable) (w : World) (s : SpiState) (h : Happening Call) (out : Outcome SpiState) (q : ℕ) (p : Pending)
-        → (spi_machine d).happens w s h ≡ Some out → drops h ≡ false → find (is_of q) s.pending ≡ Some p
+        → (spi_machine d).happens w s h ≡ Some out → drops h ≡ false → is_sync_sequence d q ≡ false → find (is_of q) s.pending ≡ Some p
         → Sequel d s q p h (find (is_of q) out.state.pending) (sequence_result out.state.sequence_results q) }
 {}
 
@@ -45,9 +48,9 @@ pub fn cancelled_while_its_job_runs()
         → find (is_of q) s.pending ≡ Some p → is_running s q ≡ true → out.told.notices ≡ [] }
 {}
 
-/// The sequence whose job a unit starts has started.
+/// The sequence whose job is started by a unit that starts jobs has started.
 pub fn sequence_as_its_job_starts()
     ensures { (d : SpiTable) (w : World) (s : SpiState) (unit : units.Unit) (made_by : Option Call) (received : ℕ) (out : Outcome SpiState) (u : ℕ) (next p : Pending)
-        → (spi_machine d).happens w s (Starts unit made_by received) ≡ Some out → number_of unit ≡ Some u → next_at d s (Some u) ≡ Some next
+        → (spi_machine d).happens w s (Starts unit made_by received) ≡ Some out → number_of unit ≡ Some u → is_sync_unit d u ≡ false → next_at d s (Some u) ≡ Some next
         → find (is_of next.sequence) s.pending ≡ Some p → find (is_of next.sequence) out.state.pending ≡ Some (starts p) }
 {}

@@ -11,7 +11,7 @@ ghost use Rattle.spi_machine.specs.Machine.{spi_machine, next_at, number_of, uni
 ghost use Rattle.spi_machine.specs.Pending.{Pending, is_for, job_result, next_job};
 ghost use Rattle.spi_machine.specs.Runs.{Occurrence, after_all};
 ghost use Rattle.spi_machine.specs.State.{SpiState, is_off, run_at};
-ghost use Rattle.spi_machine.specs.Table.{jobs_of};
+ghost use Rattle.spi_machine.specs.Table.{jobs_of, is_sync_unit};
 ghost use Rattle.spi_machine.specs.Transfers.{Run, goes_on};
 ghost use Rattle.spi_machine.specs.declared.call.AsyncMode.TheVariants.{Polling, Interrupt};
 ghost use Rattle.spi_machine.specs.declared.call.Call.{Call};
@@ -20,13 +20,14 @@ ghost use Rattle.spi_machine.specs.declared.call.SequenceCall.TheVariants.{Async
 ghost use Rattle.spi_machine.specs.declared.table.SpiTable.{SpiTable};
 ghost use Rattle.serial_laws.specs.Buffers.{leaves_mode};
 
-/// As a request is accepted each job of its sequence is queued, and as a unit starts a job that job is pending.
+/// As a request is accepted each job of its sequence is queued, and as a unit that starts jobs starts one that job is
+/// pending.
 pub fn results_of_jobs_that_wait()
     ensures queued { (d : SpiTable) (w : World) (s : SpiState) (q job : ℕ) (times : ℕ → ℕ) (out : Outcome SpiState)
         → (spi_machine d).happens w s (Acts (Sequence q AsyncTransmit) times) ≡ Some out → out.told.error ≡ None
         → Contains (jobs_of d q) job → job_result out.state.job_results job ≡ SpiJobQueued }
     ensures pending { (d : SpiTable) (w : World) (s : SpiState) (unit : units.Unit) (made_by : Option Call) (received : ℕ) (out : Outcome SpiState) (u : ℕ) (p : Pending)
-        → (spi_machine d).happens w s (Starts unit made_by received) ≡ Some out → number_of unit ≡ Some u → next_at d s (Some u) ≡ Some p
+        → (spi_machine d).happens w s (Starts unit made_by received) ≡ Some out → number_of unit ≡ Some u → is_sync_unit d u ≡ false → next_at d s (Some u) ≡ Some p
         → job_result out.state.job_results (next_job d p) ≡ SpiJobPending }
 {}
 

@@ -1,7 +1,7 @@
 use bench_report::Purpose;
 use irq_control::Held;
 use mcal_base::{DevError, Notice, Reason, Shown, Stop};
-use trace_reader::Step;
+use trace_reader::{Reply, Step};
 
 /// What a directive asks for.
 #[derive(Clone, Copy)]
@@ -57,8 +57,10 @@ pub struct Frame {
 /// How a frame went.
 #[derive(Clone, Copy)]
 pub enum Ending {
-    /// It returned, or its handler ended.
-    Ended,
+    /// A call returned, with this answer.
+    Returned(Reply),
+    /// A handler ended.
+    Left,
     /// A reset dropped it.
     Dropped,
     /// It was under way where the trace ends.

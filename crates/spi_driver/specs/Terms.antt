@@ -27,7 +27,7 @@ pub use Rattle.mcal_base.specs.{declared.notice.NoticeKind.TheVariants.{SpiJobEn
 pub use Rattle.mcal_base.specs.{declared.register.Reg.{Reg}, declared.register.Reg.TheVariants.{CaptureCountHigh}}
 pub use Rattle.mcal_base.specs.{declared.register.Reg.TheVariants.{CaptureTimeHigh, EnableClear, EnableSet}}
 pub use Rattle.mcal_base.specs.{declared.register.Reg.TheVariants.{PulseCommit, PulseIdle, SerialAck, SerialData}}
-pub use Rattle.mcal_base.specs.{declared.register.Reg.TheVariants.{SerialReceived, SerialSelect, SerialState}}
+pub use Rattle.mcal_base.specs.{declared.register.Reg.TheVariants.{SerialReceived, SerialSelect, SerialState, SerialWait}}
 pub use Rattle.mcal_base.specs.{declared.register.Reg.TheVariants.{SerialWidth, TimerHigh}}
 pub use Rattle.chip_model.specs.Chip.{Chip, chip_after, happened, is_masked, value_of, word_of}
 pub use Rattle.run_model.specs.{Causes.{blocks}, Frame.{asks_reset, begins_word, Brought, brought_by, Called}}
@@ -171,7 +171,22 @@ pub use Rattle.spi_sequences.specs.laws.{words.PendingWords.{holds_back, holds_c
 pub use Rattle.spi_sequences.specs.laws.{words.SideWords.{trio_fits}, words.WordsOfModule.{has_channel, in_list}}
 pub use Rattle.spi_sequences.specs.laws.{words.WordsOfModule.{of_sixteen, own_first}, words.WordsToState.{any_some}}
 pub use Rattle.spi_sequences.specs.laws.{words.WordsToState.{is_below, is_number, is_past, none_any, not_true}}
-pub use Rattle.spi_sequences.specs.laws.{words.WordsToState.{pending_word, same_number}}
+pub use Rattle.spi_sequences.specs.laws.{words.WordsToState.{same_number}}
+pub use Rattle.spi_machine.proofs.Sending.{carried-right}
+pub use Rattle.spi_machine.specs.{Bounds.{channel_words_steps, job_steps, jobs_steps, sent_steps, uses_unit}}
+pub use Rattle.spi_machine.specs.{Bounds.{words_steps}, Checks.{is_wrong_sequence}}
+pub use Rattle.spi_machine.specs.{Machine.{act_of, cancelled, carried_for, error_of_sending, may_end, not_sent}}
+pub use Rattle.spi_machine.specs.{Machine.{sending_ends, sent}, State.{carried_at, Carrying}, Table.{is_sync_unit}}
+pub use Rattle.spi_machine.specs.{Wiring.{is_sync_sequence}, declared.call.SequenceCall.TheVariants.{SyncTransmit}}
+pub use Rattle.spi_sequences.specs.{PendingWrites.{Sends, sync_owed}, Refinement.{all_of, entry_carried, Sending}}
+pub use Rattle.spi_sequences.specs.{declared.service.sync.SyncBody.{SyncBody}}
+pub use Rattle.spi_sequences.specs.laws.{bookkeeping.RefinementRight.{none_served}, services.CancelRight.{found_none}}
+pub use Rattle.spi_sequences.specs.laws.{services.LookSteps.{cancel_begun, first_served}}
+pub use Rattle.spi_sequences.specs.laws.{services.SyncSteps.{sync_begins}, services.UnitSteps.{main_over, unit_acts}}
+pub use Rattle.spi_sequences.specs.laws.{words.AllSequences.{all_carried, all_cases, all_pending, none_under_way}}
+pub use Rattle.spi_sequences.specs.laws.{words.AllSequences.{shares_unit}, words.WordsToState.{pending_alone}}
+pub use Rattle.spi_sequences.specs.laws.{words.WordsToState.{pending_word}}
+pub use Rattle.spi_machine.specs.State.{carries_channel}
 pub use Rattle.spi_starting.specs.Starting.{start_left, start_place}
 pub use Rattle.spi_starting.specs.laws.services.StartAround.{none_owed, owed_left_is, start_calm, start_later}
 pub use Rattle.spi_starting.specs.laws.services.StartAround.{start_may, start_shorter}
@@ -181,3 +196,7 @@ pub use Rattle.spi_serving.specs.laws.{bookkeeping.LastWordFits.{place_fits}, se
 pub use Rattle.spi_serving.specs.laws.{services.ServeAround.{serve_calm, serve_later}, services.ServeBounds.{less_fuel}}
 pub use Rattle.spi_serving.specs.laws.{services.ServeBounds.{less_room}, services.ServeMoves.{serve_may}}
 pub use Rattle.spi_serving.specs.laws.{services.ServeRight.{steps_right}}
+pub use Rattle.spi_sending.specs.Sending.{about_sent, SendAbout, SendAhead, ToEnd, ToWait}
+pub use Rattle.spi_sending.specs.Sending.{StandsAbout, StandsAhead, sync_bodies, sync_spot, sync_windows}
+pub use Rattle.spi_sending.specs.laws.services.{SendBegins.{begins_at, begins_few}, SendRight.{sender, sync_right}}
+pub use Rattle.spi_sending.specs.laws.services.{SendWindows.{AreWindowsRight}}

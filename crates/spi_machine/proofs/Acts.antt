@@ -1,5 +1,5 @@
 -- What the acts of calls leave and tell.
-use Rattle.std.proofs.Common.{◌≡◌, ℕ, Bool, true, false, Option, Some, None, refl}
+use Rattle.std.proofs.Common.{◌≡◌, ℕ, Bool, true, false, Option, Some, None, is_some, refl}
 use Rattle.std.specs.Prelude.{IsSome, find}
 use Rattle.mcal_base.specs.declared.error_name.ErrorName.{ErrorName}
 use Rattle.run_model.specs.World.{World}
@@ -7,10 +7,12 @@ use Rattle.run_model.specs.Machine.{Acts, Outcome, ErrorLeaves}
 use Rattle.spi_machine.specs.declared.call.Call.{Call}
 use Rattle.spi_machine.specs.declared.call.Call.TheVariants.{Init, DeInit, SetAsyncMode, MainFunctionHandling, Channel, Sequence, Get}
 use Rattle.spi_machine.specs.declared.call.ChannelCall.TheVariants.{WriteIb, ReadIb, SetupEb}
-use Rattle.spi_machine.specs.declared.call.SequenceCall.TheVariants.{AsyncTransmit, Cancel}
+use Rattle.spi_machine.specs.declared.call.SequenceCall.TheVariants.{AsyncTransmit, Cancel, SyncTransmit}
 use Rattle.spi_machine.specs.declared.table.SpiTable.{SpiTable}
 use Rattle.spi_machine.specs.Checks.{error_by}
-use Rattle.spi_machine.specs.Machine.{spi_machine, acts, acts_by, work, unless_busy, cancelled, cancelled_by, finds_held}
+use Rattle.spi_machine.proofs.Sending.{act-either}
+use Rattle.spi_machine.specs.Machine.{spi_machine, acts, acts_by, act_by, sent_by, work, unless_busy, cancelled, cancelled_by, finds_held}
+use Rattle.spi_machine.specs.Promised.{is_sending}
 use Rattle.spi_machine.specs.State.{SpiState, is_busy, is_running, is_off}
 use Rattle.spi_machine.specs.Pending.{Pending, is_of}
 
@@ -43,6 +45,7 @@ quiet-work d s (Channel c ReadIb) = refl
 quiet-work d s (Channel c (SetupEb p q n)) = refl
 quiet-work d s (Sequence q AsyncTransmit) = refl
 quiet-work d s (Sequence q Cancel) = quiet-cancelled d s (find (is_of q) s.pending)
+quiet-work d s (Sequence q SyncTransmit) = refl
 quiet-work d s (Get query) = refl
 
 no_error : (e : Option ErrorName) → e ≡ None → IsSome e → ⊥
@@ -57,12 +60,17 @@ leaves-by d s call (Some e) h = (refl, refl)
 pub error-leaves : (d : SpiTable) (s : SpiState) (call : Call) → ErrorLeaves s (acts d s call)
 error-leaves d s call = leaves-by d s call (error_by d call (is_off s.mode) (finds_held d s call))
 
-pub act-allowed : (d : SpiTable) (w : World) (s : SpiState) (call : Call) (times : ℕ → ℕ) → IsSome ((spi_machine d).happens w s (Acts call times))
-act-allowed d w s call times = refl
+allowed-by : (d : SpiTable) (w : World) (s : SpiState) (call : Call) (o : Option ℕ) → is_some o ≡ false → IsSome (act_by d w s call o)
+allowed-by d w s call None n = refl
+allowed-by d w s call (Some q) n = absurd (cc n)
+
+pub act-allowed : (d : SpiTable) (w : World) (s : SpiState) (call : Call) (times : ℕ → ℕ) → is_sending call ≡ false → IsSome ((spi_machine d).happens w s (Acts call times))
+act-allowed d w s call times n = allowed-by d w s call (sent_by (Some call)) n
 
 pub act-leaves : (d : SpiTable) (w : World) (s : SpiState) (call : Call) (times : ℕ → ℕ) (out : Outcome SpiState)
     → (spi_machine d).happens w s (Acts call times) ≡ Some out → ErrorLeaves s out
-act-leaves d w s call times out h = let e : acts d s call ≡ out = cc h in rw (← e) (error-leaves d s call)
+act-leaves d w s call times out h =
+    act-either (λ t. ErrorLeaves s t) d w s call out h (error-leaves d s call) (λ q e c f some. (refl, refl)) (λ q x c may some. absurd (no_error None refl some))
 
 -- ---- what a call leaves, seen through a function
 

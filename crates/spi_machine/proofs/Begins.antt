@@ -14,17 +14,21 @@ use Rattle.run_model.specs.Machine.{Happening, Acts, Serves, Starts, Aborts, Mov
 use Rattle.run_model.specs.World.{World}
 use Rattle.spi_machine.proofs.Numbers.{item-same, item-other}
 use Rattle.spi_machine.proofs.Runs.{serve_by, one_more, stored-seen, after_last-seen}
-use Rattle.spi_machine.specs.Checks.{error_by}
+use Rattle.spi_machine.proofs.Sending.{act-either, start-either, plain-start}
+use Rattle.service_outline.specs.Done.{tells_error}
+use Rattle.spi_machine.specs.Checks.{answer_refused, error_by}
 use Rattle.spi_machine.specs.Promised.{is_beginning, does_go_on, is_reset, received_at, shown_on}
-use Rattle.spi_machine.specs.Machine.{spi_machine, acts_by, work, unless_busy, cancelled, cancelled_by, finds_held, stored, after_last, sequence_after, job_over, job_started, job_words, served_by, served, unit_of, run_of, ready, started, start_by, next_at, number_of, moved, begins_on, as_begun, pending_of}
+use Rattle.spi_machine.specs.Machine.{spi_machine, acts_by, work, unless_busy, cancelled, cancelled_by, finds_held, stored, after_last, sequence_after, job_over, job_started, job_words, served_by, served, unit_of, run_of, ready, started, start_by, next_at, number_of, moved, begins_on, as_begun, pending_of, sent, sent_on, carries_on, job_begun, job_done, sequence_begun, as_requested}
 use Rattle.spi_machine.specs.Numbered.{with_item}
-use Rattle.spi_machine.specs.Pending.{Pending, is_of, end_by, has_further, next_job}
-use Rattle.spi_machine.specs.State.{SpiState, run_at, wire_at, is_busy, is_off, is_running}
+use Rattle.spi_machine.specs.Pending.{Pending, is_of, end_by, has_further, next_job, goes_to_next}
+use Rattle.spi_machine.specs.Table.{is_sync_unit}
+use Rattle.spi_machine.specs.Wiring.{unit_of_sequence}
+use Rattle.spi_machine.specs.State.{SpiState, Carrying, run_at, wire_at, is_busy, is_off, is_running}
 use Rattle.spi_machine.specs.Transfers.{no_word, Run, goes_on, begun, on_wire, received_with, word_of}
 use Rattle.spi_machine.specs.declared.call.Call.{Call}
 use Rattle.spi_machine.specs.declared.call.Call.TheVariants.{Init, DeInit, SetAsyncMode, MainFunctionHandling, Channel, Sequence, Get}
 use Rattle.spi_machine.specs.declared.call.ChannelCall.TheVariants.{WriteIb, ReadIb, SetupEb}
-use Rattle.spi_machine.specs.declared.call.SequenceCall.TheVariants.{AsyncTransmit, Cancel}
+use Rattle.spi_machine.specs.declared.call.SequenceCall.TheVariants.{AsyncTransmit, Cancel, SyncTransmit}
 use Rattle.spi_machine.specs.declared.table.SpiTable.{SpiTable}
 
 -- ---- what begins no word leaves the wires
@@ -55,6 +59,7 @@ still-work d s (Channel k ReadIb) = (refl, refl)
 still-work d s (Channel k (SetupEb p q n)) = (refl, refl)
 still-work d s (Sequence q AsyncTransmit) = (refl, refl)
 still-work d s (Sequence q Cancel) = still-cancelled d s (find (is_of q) s.pending)
+still-work d s (Sequence q SyncTransmit) = (refl, refl)
 still-work d s (Get query) = (refl, refl)
 
 still-acts : (d : SpiTable) (s : SpiState) (call : Call) (e : Option ErrorName) → IsStill s (acts_by d s call e)
@@ -71,6 +76,10 @@ still-over d s t u failed (Some p) e = still-sequence d s _ p (end_by p.cancelle
 
 still-last : (d : SpiTable) (s : SpiState) (u : ℕ) (r : Run) → IsStill s (job_over d (after_last s r r.transfer.failed) u r.transfer.failed (pending_of s r))
 still-last d s u r = still-over d s (after_last s r r.transfer.failed) u r.transfer.failed (pending_of s r) (after_last-seen (λ s. s.wires) (λ s c x. refl) s r r.transfer.failed)
+
+-- the end of a sequence that a call sends
+still-sent : (d : SpiTable) (s : SpiState) (u : ℕ) (x : Carrying) (failed : Bool) → IsStill s (sent d s u x failed)
+still-sent d s u x failed = (refl, after_last-seen (λ s. s.wires) (λ s c x. refl) s x.run failed)
 
 still-moved : (d : SpiTable) (w : World) (s : SpiState) (order : Order) → (moved d w s order).wires ≡ s.wires
 still-moved d w s (Fill c ws) = refl
@@ -101,13 +110,20 @@ start_by-begins d w s None received o out h = absurd (cc h)
 start_by-begins d w s (Some u) received None out h = absurd (cc h)
 start_by-begins d w s (Some u) received (Some p) out h = rw (← some_is (started d w s u received p) out h) refl
 
+sent_on-begins : (d : SpiTable) (w : World) (s : SpiState) (u received : ℕ) (x : Carrying) (b : Bool) → is_some (sent_on d w s u received x b).begins ≡ true
+sent_on-begins d w s u received x true = refl
+sent_on-begins d w s u received x false = refl
+
 -- at a start and at a serving that goes on, and nowhere else
 pub happens-begins : (d : SpiTable) (w : World) (s : SpiState) (h : Happening Call) (out : Outcome SpiState) → (spi_machine d).happens w s h ≡ Some out → is_some out.begins ≡ is_beginning s h
 happens-begins d w s (Acts call times) out h =
-    rw (← some_is _ out h) (none-begins _ (still-acts d s call (error_by d call (is_off s.mode) (finds_held d s call))).0)
+    act-either (λ t. is_some t.begins ≡ false) d w s call out h (none-begins _ (still-acts d s call (error_by d call (is_off s.mode) (finds_held d s call))).0)
+    (λ q e c f. refl) (λ q x c may. refl)
 happens-begins d w s (Serves l received) out h =
     rw (← serve_by (ready w s l) (served d w s (unit_of l) received (run_of s (unit_of l))) out h) (served-begins d w s (unit_of l) received)
-happens-begins d w s (Starts u made_by received) out h = start_by-begins d w s (number_of u) received (next_at d s (number_of u)) out h
+happens-begins d w s (Starts u made_by received) out h =
+    start-either (λ t. is_some t.begins ≡ true) d w s (number_of u) made_by received out h
+    (λ n e. start_by-begins d w s (number_of u) received (next_at d s (number_of u)) out e) (λ v q on new. refl) (λ v q x on more. sent_on-begins d w s v received x (goes_on x.run))
 happens-begins d w s (Aborts u) out h = absurd (cc h)
 happens-begins d w s (Moves order) out h = rw (← some_is _ out h) refl
 happens-begins d w s (Restarts reason) out h = rw (← some_is _ out h) refl
@@ -129,9 +145,9 @@ start_at-word d w s (Some v) received out u p h e f =
     start_by-word d w s u received p (next_at d s (Some u)) out f h'
 
 pub start-word : (d : SpiTable) (w : World) (s : SpiState) (unit : units.Unit) (made_by : Option Call) (received : ℕ) (out : Outcome SpiState) (u : ℕ) (p : Pending)
-    → (spi_machine d).happens w s (Starts unit made_by received) ≡ Some out → number_of unit ≡ Some u → next_at d s (Some u) ≡ Some p
+    → (spi_machine d).happens w s (Starts unit made_by received) ≡ Some out → number_of unit ≡ Some u → is_sync_unit d u ≡ false → next_at d s (Some u) ≡ Some p
     → out.begins ≡ Some (as_begun d u (Some p) (slice_index_or (job_words d s (next_job d p)) 0 no_word))
-start-word d w s unit made_by received out u p h e f = start_at-word d w s (number_of unit) received out u p h e f
+start-word d w s unit made_by received out u p h e n f = start_at-word d w s (number_of unit) received out u p (plain-start d w s (number_of unit) made_by received out u h e n) e f
 
 served_by-word : (d : SpiTable) (w : World) (s : SpiState) (u received : ℕ) (r : Run) (b : Bool) → b ≡ true
     → (served_by d w s u received r b).begins ≡ Some (as_begun d u (pending_of s r) (slice_index_or r.words (length r.received + 1) no_word))
@@ -197,14 +213,33 @@ grows-start d w s (Some u) received (Some p) out h =
     rw (← some_is (started d w s u received p) out h)
     (grows-with d s (job_started d s p) u received (Some p) (begun w.now received p.sequence (job_words d s (next_job d p)) []) refl)
 
+grows-carries : (d : SpiTable) (s t : SpiState) (u received : ℕ) (p : Pending) (r : Run) → t.wires ≡ s.wires → Grows s received (carries_on d t u received p r)
+grows-carries d s t u received p r e v =
+    more-at t.wires u v (on_wire received (word_of r)) (same_or_other v u) ∙ ap (λ xs. slice_index_or xs v [] ++ shown_on v received (Some (as_begun d u (Some p) (word_of r)))) e
+
+grows-sent_on : (d : SpiTable) (w : World) (s : SpiState) (u received : ℕ) (x : Carrying) (b : Bool) → Grows s received (sent_on d w s u received x b)
+grows-sent_on d w s u received x true =
+    grows-carries d s (stored s (word_of x.run) (word_of x.run).goes x.run.transfer.incoming) u received x.entry (begun w.now received x.entry.sequence x.run.words (received_with x.run))
+    (stored-seen (λ s. s.wires) (λ s c x. refl) s (word_of x.run) (word_of x.run).goes x.run.transfer.incoming)
+grows-sent_on d w s u received x false =
+    grows-carries d s (job_begun d (job_done d s x false) (goes_to_next x.entry)) u received (goes_to_next x.entry)
+    (begun w.now received (goes_to_next x.entry).sequence (job_words d (job_done d s x false) (next_job d (goes_to_next x.entry))) [])
+    (after_last-seen (λ s. s.wires) (λ s c x. refl) s x.run false)
+
 -- whatever happens but a reset
 grows : (d : SpiTable) (w : World) (s : SpiState) (h : Happening Call) (out : Outcome SpiState) → (spi_machine d).happens w s h ≡ Some out → is_reset h ≡ false → Grows s (received_at h) out
 grows d w s (Acts call times) out h i =
     let error : Option ErrorName = error_by d call (is_off s.mode) (finds_held d s call) in
-    rw (← some_is _ out h) (grows-still s 0 (acts_by d s call error) (still-acts d s call error))
+    act-either (Grows s 0) d w s call out h (grows-still s 0 (acts_by d s call error) (still-acts d s call error)) (λ q e c f. grows-still s 0 (outcome s (tells_error (answer_refused (Sequence q SyncTransmit)) e)) (refl, refl))
+    (λ q x c may. grows-still s 0 (sent d s (unit_of_sequence d q) x x.run.transfer.failed) (still-sent d s (unit_of_sequence d q) x x.run.transfer.failed))
 grows d w s (Serves l received) out h i =
     rw (← serve_by (ready w s l) (served d w s (unit_of l) received (run_of s (unit_of l))) out h) (grows-served d w s (unit_of l) received (run_of s (unit_of l)))
-grows d w s (Starts u made_by received) out h i = grows-start d w s (number_of u) received (next_at d s (number_of u)) out h
+grows d w s (Starts u made_by received) out h i =
+    start-either (Grows s received) d w s (number_of u) made_by received out h
+    (λ n e. grows-start d w s (number_of u) received (next_at d s (number_of u)) out e)
+    (λ v q on new. grows-carries d s (job_begun d (sequence_begun d s q) (as_requested d s q)) v received (as_requested d s q)
+    (begun w.now received (as_requested d s q).sequence (job_words d (sequence_begun d s q) (next_job d (as_requested d s q))) []) refl)
+    (λ v q x on more. grows-sent_on d w s v received x (goes_on x.run))
 grows d w s (Aborts u) out h i = absurd (cc h)
 grows d w s (Moves order) out h i = rw (← some_is _ out h) (grows-still s 0 (outcome (moved d w s order) tells_nothing) (refl, still-moved d w s order))
 grows d w s (Restarts reason) out h i = absurd (cc i)

@@ -1,6 +1,7 @@
 -- An uninitialised module: nothing is pending in it, a call finds it so, and a change waits until nothing is pending.
-use Rattle.std.proofs.Common.{◌≡◌, ℕ, suc, arith, Bool, true, false, not, ◌&&◌, List, [], ◌∷◌, length, nat_eq, Option, Some, None, is_some, refl, sym, ◌∙◌, ap}
+use Rattle.std.proofs.Common.{◌≡◌, ℕ, suc, arith, Bool, true, false, not, ◌&&◌, ◌||◌, List, [], ◌∷◌, length, nat_eq, Option, Some, None, is_some, refl, sym, ◌∙◌, ap}
 use Rattle.std.specs.Prelude.{find, if◌then◌else◌}
+use Rattle.std.specs.List.{list_any}
 use Rattle.std.proofs.lemmas.Bool.Decides.{nat_tests}
 use Rattle.plain_facts.specs.Options.{some_is}
 use Rattle.mcal_base.specs.declared.answer_name.AnswerName.{AnswerName}
@@ -17,24 +18,28 @@ use Rattle.run_model.specs.Machine.{Happening, Acts, Serves, Starts, Aborts, Mov
 use Rattle.run_model.specs.World.{World}
 use Rattle.service_outline.specs.Done.{answers, named}
 use Rattle.spi_machine.proofs.Runs.{stored-seen, after_last-seen, serve_by}
-use Rattle.spi_machine.specs.Checks.{error_by}
+use Rattle.spi_machine.proofs.Sending.{act-either, start-either, carried-right, sends-none}
+use Rattle.spi_machine.specs.Checks.{error_by, is_wrong_sequence}
 use Rattle.spi_machine.specs.Promised.{is_change, needs_init, Renewed}
-use Rattle.spi_machine.specs.Machine.{spi_machine, acts_by, unless_busy, accepted, cancelled, cancelled_by, finds_held, next_by, after_last, sequence_after, job_over, served_by, served, unit_of, run_of, has_done, ready, started, start_by, next_at, number_of, moved, pending_of}
+use Rattle.spi_machine.specs.Machine.{spi_machine, acts_by, unless_busy, accepted, cancelled, cancelled_by, finds_held, next_by, after_last, sequence_after, job_over, served_by, served, unit_of, run_of, has_done, ready, started, start_by, next_at, number_of, moved, pending_of, sent, sent_on, error_of_sending}
 use Rattle.spi_machine.specs.Pending.{Pending, is_of, end_by, has_further, is_pending}
 use Rattle.spi_machine.specs.Runs.{Occurrence, state_after, after_all}
-use Rattle.spi_machine.specs.State.{SpiState, first_state, is_busy, is_off, is_running, mode_of, run_at}
-use Rattle.spi_machine.specs.Table.{sequence_of}
-use Rattle.spi_machine.specs.Transfers.{Run, goes_on, word_of}
+use Rattle.spi_machine.specs.State.{SpiState, Carrying, first_state, is_busy, is_off, is_running, mode_of, run_at}
+use Rattle.spi_machine.specs.Wiring.{unit_of_sequence}
+use Rattle.spi_machine.specs.Transfers.{JobWord, Run, goes_on, word_of}
 use Rattle.spi_machine.specs.declared.call.AsyncMode.{AsyncMode}
 use Rattle.spi_machine.specs.declared.call.AsyncMode.TheVariants as modes
 use Rattle.spi_machine.specs.declared.call.Call.{Call}
 use Rattle.spi_machine.specs.declared.call.Call.TheVariants.{Init, DeInit, SetAsyncMode, MainFunctionHandling, Channel, Sequence, Get}
 use Rattle.spi_machine.specs.declared.call.ChannelCall.TheVariants.{WriteIb, ReadIb, SetupEb}
 use Rattle.spi_machine.specs.declared.call.Query.TheVariants.{Status, JobResult, SequenceResult, HwUnitStatus}
-use Rattle.spi_machine.specs.declared.call.SequenceCall.TheVariants.{AsyncTransmit, Cancel}
+use Rattle.spi_machine.specs.declared.call.SequenceCall.TheVariants.{AsyncTransmit, Cancel, SyncTransmit}
 use Rattle.spi_machine.specs.declared.table.SpiTable.{SpiTable}
 
 -- ---- no line and no unit
+
+clash : (b : Bool) → b ≡ false → b ≡ true → ⊥
+clash b e f = cc (e, f)
 
 pub never-ready : (d : SpiTable) (w : World) (s : SpiState) (l : ℕ) → is_off s.mode ≡ true → (spi_machine d).ready w s l ≡ false
 never-ready d w s l off = rw off refl
@@ -61,6 +66,7 @@ found-off d (Channel c ReadIb) held n = refl
 found-off d (Channel c (SetupEb p q k)) held n = refl
 found-off d (Sequence q AsyncTransmit) held n = refl
 found-off d (Sequence q Cancel) held n = refl
+found-off d (Sequence q SyncTransmit) held n = refl
 found-off d (Get Status) held n = absurd (cc n)
 found-off d (Get (JobResult j)) held n = refl
 found-off d (Get (SequenceResult q)) held n = refl
@@ -74,7 +80,9 @@ pub finds-off : (d : SpiTable) (w : World) (s : SpiState) (call : Call) (times :
     → (spi_machine d).happens w s (Acts call times) ≡ Some out → is_off s.mode ≡ true → needs_init call ≡ true → out.told.error ≡ Some SpiUninit
 finds-off d w s call times out h off n =
     let e : error_by d call (is_off s.mode) (finds_held d s call) ≡ Some SpiUninit = rw off (found-off d call (finds_held d s call) n) in
-    rw (← some_is _ out h) (refused-off d s call (error_by d call (is_off s.mode) (finds_held d s call)) e)
+    act-either (λ t. t.told.error ≡ Some SpiUninit) d w s call out h (refused-off d s call (error_by d call (is_off s.mode) (finds_held d s call)) e)
+    (λ q x c f. let g : error_of_sending d s q ≡ Some SpiUninit = rw off (found-off d (Sequence q SyncTransmit) (finds_held d s (Sequence q SyncTransmit)) refl) in sym f ∙ g)
+    (λ q x c ends. absurd (clash (is_off s.mode) (carried-right d s q x ends.carried).0 off))
 
 -- ---- a change while a sequence is pending
 
@@ -97,8 +105,8 @@ pub act-busy : (d : SpiTable) (w : World) (s : SpiState) (call : Call) (times : 
     → (spi_machine d).happens w s (Acts call times) ≡ Some out → out.told.error ≡ None → is_change call ≡ true → is_busy s ≡ true → out ≡ outcome s (answers (named ENotOk))
 act-busy d w s call times out h none c b =
     let error : Option ErrorName = error_by d call (is_off s.mode) (finds_held d s call) in
-    let e : acts_by d s call error ≡ out = some_is _ out h in
-    sym e ∙ changes-busy d s call error (rw e none) c b
+    act-either (λ t. t.told.error ≡ None → t ≡ outcome s (answers (named ENotOk))) d w s call out h (λ quiet. changes-busy d s call error quiet c b)
+    (λ q x e f. absurd (sends-none call q c e)) (λ q x e ends. absurd (sends-none call q c e)) none
 
 -- ---- nothing is pending
 
@@ -106,15 +114,19 @@ act-busy d w s call times out h none c b =
 abbrev IsIdle : SpiState → Type 0
 IsIdle s = is_off s.mode ≡ true → s.pending ≡ []
 
-clash : (b : Bool) → b ≡ false → b ≡ true → ⊥
-clash b e f = cc (e, f)
-
 busy-some : (n : ℕ) → not (nat_eq (suc n) 0) ≡ true
 busy-some n = grind (arith, nat_tests)
+
+or-first : (a b : Bool) → a || b ≡ false → a ≡ false
+or-first true b h = absurd (cc h)
+or-first false b h = refl
 
 empty-of : (ps : List Pending) → not (nat_eq (length ps) 0) ≡ false → ps ≡ []
 empty-of [] h = refl
 empty-of (p ∷ ps) h = absurd (clash (not (nat_eq (suc (length ps)) 0)) h (busy-some (length ps)))
+
+nothing-pending : (s : SpiState) → is_busy s ≡ false → s.pending ≡ []
+nothing-pending s h = empty-of s.pending (or-first (not (nat_eq (length s.pending) 0)) (list_any is_some s.carried) h)
 
 idle-unless : (s after : SpiState) (b : Bool) → is_busy s ≡ b → IsIdle s → (is_busy s ≡ false → IsIdle after) → IsIdle (unless_busy b s after).state
 idle-unless s after true e idle free = idle
@@ -152,14 +164,15 @@ mode-cancelled d s (Some p) = mode-cancelled_by d s p (is_running s p.sequence)
 idle-acts : (d : SpiTable) (s : SpiState) (call : Call) (e : Option ErrorName) → error_by d call (is_off s.mode) (finds_held d s call) ≡ e → IsIdle s → IsIdle (acts_by d s call e).state
 idle-acts d s call (Some e) h idle = idle
 idle-acts d s Init None h idle = λ off. refl
-idle-acts d s DeInit None h idle = idle-unless s _ (is_busy s) refl idle (λ free off. empty-of s.pending free)
+idle-acts d s DeInit None h idle = idle-unless s _ (is_busy s) refl idle (λ free off. nothing-pending s free)
 idle-acts d s (SetAsyncMode m) None h idle = idle-unless s _ (is_busy s) refl idle (λ free off. absurd (clash (is_off (mode_of m)) (never-off m) off))
 idle-acts d s MainFunctionHandling None h idle = idle
 idle-acts d s (Channel c (WriteIb p)) None h idle = idle
 idle-acts d s (Channel c ReadIb) None h idle = idle
 idle-acts d s (Channel c (SetupEb p q n)) None h idle = idle
-idle-acts d s (Sequence q AsyncTransmit) None h idle = idle-on s (accepted d s q) refl (on-transmit (is_off s.mode) (not (is_some (sequence_of d q))) (finds_held d s (Sequence q AsyncTransmit)) h)
-idle-acts d s (Sequence q Cancel) None h idle = idle-on s (cancelled d s (find (is_of q) s.pending)).state (mode-cancelled d s (find (is_of q) s.pending)) (on-cancel (is_off s.mode) (not (is_some (sequence_of d q))) false h)
+idle-acts d s (Sequence q AsyncTransmit) None h idle = idle-on s (accepted d s q) refl (on-transmit (is_off s.mode) (is_wrong_sequence d q AsyncTransmit) (finds_held d s (Sequence q AsyncTransmit)) h)
+idle-acts d s (Sequence q SyncTransmit) None h idle = idle
+idle-acts d s (Sequence q Cancel) None h idle = idle-on s (cancelled d s (find (is_of q) s.pending)).state (mode-cancelled d s (find (is_of q) s.pending)) (on-cancel (is_off s.mode) (is_wrong_sequence d q Cancel) false h)
 idle-acts d s (Get query) None h idle = idle
 
 mode-after : (d : SpiTable) (s : SpiState) (p : Pending) (e : Option AnswerName) → (sequence_after d s p e).state.mode ≡ s.mode
@@ -196,6 +209,13 @@ idle-starts d w s (Some u) received None out e h = absurd (cc h)
 idle-starts d w s (Some u) received (Some p) out e h =
     rw (← some_is (started d w s u received p) out h) (idle-on s (started d w s u received p).state refl (on-next (is_off s.mode) (next_by d s u (run_at s u)) p e))
 
+idle-sent_on : (d : SpiTable) (w : World) (s : SpiState) (u received : ℕ) (x : Carrying) (b : Bool) → IsIdle s → IsIdle (sent_on d w s u received x b).state
+idle-sent_on d w s u received x true idle =
+    let y : JobWord = word_of x.run in
+    idle-same s (sent_on d w s u received x true).state (stored-seen (λ s. s.mode) (λ s c x. refl) s y y.goes x.run.transfer.incoming) (stored-seen (λ s. s.pending) (λ s c x. refl) s y y.goes x.run.transfer.incoming) idle
+idle-sent_on d w s u received x false idle =
+    idle-same s (sent_on d w s u received x false).state (after_last-seen (λ s. s.mode) (λ s c x. refl) s x.run false) (after_last-seen (λ s. s.pending) (λ s c x. refl) s x.run false) idle
+
 idle-moved : (d : SpiTable) (w : World) (s : SpiState) (order : Order) → IsIdle s → IsIdle (moved d w s order)
 idle-moved d w s (Fill c ws) idle = idle
 idle-moved d w s (SpiFault u) idle = idle
@@ -203,12 +223,15 @@ idle-moved d w s _ idle = idle
 
 idle-happens : (d : SpiTable) (w : World) (s : SpiState) (h : Happening Call) (out : Outcome SpiState) → (spi_machine d).happens w s h ≡ Some out → IsIdle s → IsIdle out.state
 idle-happens d w s (Acts call times) out h idle =
-    rw (← some_is _ out h) (idle-acts d s call (error_by d call (is_off s.mode) (finds_held d s call)) refl idle)
+    act-either (λ t. IsIdle t.state) d w s call out h (idle-acts d s call (error_by d call (is_off s.mode) (finds_held d s call)) refl idle) (λ q e c f. idle)
+    (λ q x c ends. idle-same s (sent d s (unit_of_sequence d q) x x.run.transfer.failed).state (after_last-seen (λ s. s.mode) (λ s c x. refl) s x.run x.run.transfer.failed) (after_last-seen (λ s. s.pending) (λ s c x. refl) s x.run x.run.transfer.failed) idle)
 idle-happens d w s (Serves l received) out h idle =
     rw (← serve_by (ready w s l) (served d w s (unit_of l) received (run_of s (unit_of l))) out h)
     (idle-on s (served d w s (unit_of l) received (run_of s (unit_of l))).state (mode-served d w s (unit_of l) received (run_of s (unit_of l)))
     (on-ready (is_off s.mode) (has_done w.now (run_of s (unit_of l))) (served d w s (unit_of l) received (run_of s (unit_of l))) out h))
-idle-happens d w s (Starts u made_by received) out h idle = idle-starts d w s (number_of u) received (next_at d s (number_of u)) out refl h
+idle-happens d w s (Starts u made_by received) out h idle =
+    start-either (λ t. IsIdle t.state) d w s (number_of u) made_by received out h
+    (λ n e. idle-starts d w s (number_of u) received (next_at d s (number_of u)) out refl e) (λ v q on new. idle) (λ v q x on more. idle-sent_on d w s v received x (goes_on x.run) idle)
 idle-happens d w s (Aborts u) out h idle = absurd (cc h)
 idle-happens d w s (Moves order) out h idle = rw (← some_is _ out h) (idle-moved d w s order idle)
 idle-happens d w s (Restarts reason) out h idle = rw (← some_is _ out h) (λ off. refl)

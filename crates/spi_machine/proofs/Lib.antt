@@ -6,6 +6,7 @@ pub mod Idle
 pub mod Numbers
 pub mod Results
 pub mod Runs
+pub mod Sending
 pub mod Stored
 pub mod Turns
 pub mod WordLaws

@@ -1,5 +1,5 @@
 -- Results of jobs that are given, and lists in which no number stands twice.
-use Rattle.std.proofs.Common.{◌≡◌, ℕ, zero, suc, false, ◌||◌, ◌==◌, ◌≢◌, List, [], ◌∷◌, Some, drop, slice_get, slice_index_or, refl, ◌∙◌, arith}
+use Rattle.std.proofs.Common.{◌≡◌, ℕ, zero, suc, false, ◌==◌, ◌≢◌, List, [], ◌∷◌, Some, drop, slice_get, slice_index_or, refl, ◌∙◌, arith}
 use Rattle.std.specs.List.{list_any}
 use Rattle.std.proofs.lemmas.Bool.Decides.{nat_tests}
 use Rattle.std.proofs.lemmas.Bool.{or_parts}

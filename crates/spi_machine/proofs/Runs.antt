@@ -11,17 +11,19 @@ use Rattle.mcal_base.specs.declared.moves.Unit as units
 use Rattle.run_model.specs.Machine.{Happening, Acts, Serves, Starts, Aborts, Moves, Restarts, Outcome, tells_nothing, outcome}
 use Rattle.run_model.specs.World.{World}
 use Rattle.spi_machine.proofs.Numbers.{item-same, item-other}
+use Rattle.spi_machine.proofs.Sending.{act-either, start-either, plain-start}
 use Rattle.spi_machine.specs.Channels.{ChannelState}
 use Rattle.spi_machine.specs.Checks.{error_by}
-use Rattle.spi_machine.specs.Machine.{spi_machine, acts_by, work, unless_busy, cancelled, cancelled_by, finds_held, stored, kept, all_kept, after_last, sequence_after, job_over, served_by, served, unit_of, run_of, ready, started, start_by, next_by, next_at, number_of, job_words, faulted_run, moved}
-use Rattle.spi_machine.specs.State.{SpiState, wire_at, is_busy, is_off, is_running, with_channel, run_at}
+use Rattle.spi_machine.specs.Machine.{spi_machine, acts_by, work, unless_busy, cancelled, cancelled_by, finds_held, stored, kept, all_kept, after_last, sequence_after, job_over, served_by, served, unit_of, run_of, ready, started, start_by, next_by, next_at, number_of, job_words, faulted_run, moved, sent_on}
+use Rattle.spi_machine.specs.Table.{is_sync_unit}
+use Rattle.spi_machine.specs.State.{SpiState, Carrying, wire_at, is_busy, is_off, is_running, with_channel, run_at}
 use Rattle.spi_machine.specs.Numbered.{with_item}
 use Rattle.spi_machine.specs.Pending.{Pending, is_of, end_by, has_further, next_job, next_on}
 use Rattle.spi_machine.specs.Transfers.{no_word, on_wire, Goes, ToDestination, ToChannel, Nowhere, JobWord, Run, goes_on, begun, received_with, word_of}
 use Rattle.spi_machine.specs.declared.call.Call.{Call}
 use Rattle.spi_machine.specs.declared.call.Call.TheVariants.{Init, DeInit, SetAsyncMode, MainFunctionHandling, Channel, Sequence, Get}
 use Rattle.spi_machine.specs.declared.call.ChannelCall.TheVariants.{WriteIb, ReadIb, SetupEb}
-use Rattle.spi_machine.specs.declared.call.SequenceCall.TheVariants.{AsyncTransmit, Cancel}
+use Rattle.spi_machine.specs.declared.call.SequenceCall.TheVariants.{AsyncTransmit, Cancel, SyncTransmit}
 use Rattle.spi_machine.specs.declared.table.SpiTable.{SpiTable}
 
 -- ---- what doesn't look at channels
@@ -122,6 +124,7 @@ work-goes d s (Channel c ReadIb) = goes_same s.units _ refl
 work-goes d s (Channel c (SetupEb p q n)) = goes_same s.units _ refl
 work-goes d s (Sequence q AsyncTransmit) = goes_same s.units _ refl
 work-goes d s (Sequence q Cancel) = goes_same s.units _ (cancelled-units d s (find (is_of q) s.pending))
+work-goes d s (Sequence q SyncTransmit) = goes_same s.units _ refl
 work-goes d s (Get query) = goes_same s.units _ refl
 
 acts_by-goes : (d : SpiTable) (s : SpiState) (call : Call) (e : Option ErrorName) → GoOn s.units (acts_by d s call e).state.units
@@ -167,13 +170,22 @@ pub serve_by : {A : Type 0} (b : Bool) (x out : A) → (if b then Some x else No
 serve_by true x out h = cc h
 serve_by false x out h = absurd (cc h)
 
+-- a word of a sequence that a call sends leaves the units' jobs
+sent_on-units : (d : SpiTable) (w : World) (s : SpiState) (u received : ℕ) (x : Carrying) (b : Bool) → (sent_on d w s u received x b).state.units ≡ s.units
+sent_on-units d w s u received x true = stored-seen (λ s. s.units) (λ s c x. refl) s (word_of x.run) (word_of x.run).goes x.run.transfer.incoming
+sent_on-units d w s u received x false = after_last-seen (λ s. s.units) (λ s c x. refl) s x.run false
+
 -- whatever happens, a unit that runs a job before and after it has the same words
 pub happens-goes : (d : SpiTable) (w : World) (s : SpiState) (h : Happening Call) (out : Outcome SpiState) → (spi_machine d).happens w s h ≡ Some out → GoOn s.units out.state.units
 happens-goes d w s (Acts call times) out h =
-    rw (← some_is _ out h) (acts_by-goes d s call (error_by d call (is_off s.mode) (finds_held d s call)))
+    act-either (λ t. GoOn s.units t.state.units) d w s call out h (acts_by-goes d s call (error_by d call (is_off s.mode) (finds_held d s call)))
+    (λ q e c f. goes_same s.units _ refl) (λ q x c may. goes_same s.units _ (after_last-seen (λ s. s.units) (λ s c x. refl) s x.run x.run.transfer.failed))
 happens-goes d w s (Serves l received) out h =
     rw (← serve_by (ready w s l) (served d w s (unit_of l) received (run_of s (unit_of l))) out h) (served-goes d w s (unit_of l) received (run_of s (unit_of l)) refl)
-happens-goes d w s (Starts u made_by received) out h = start_by-goes d w s (number_of u) received (next_at d s (number_of u)) out refl h
+happens-goes d w s (Starts u made_by received) out h =
+    start-either (λ t. GoOn s.units t.state.units) d w s (number_of u) made_by received out h
+    (λ n e. start_by-goes d w s (number_of u) received (next_at d s (number_of u)) out refl e) (λ v q on new. goes_same s.units _ refl)
+    (λ v q x on more. goes_same s.units _ (sent_on-units d w s v received x (goes_on x.run)))
 happens-goes d w s (Aborts u) out h = absurd (cc h)
 happens-goes d w s (Moves order) out h = rw (← some_is (outcome (moved d w s order) tells_nothing) out h) (moved-goes d w s order)
 happens-goes d w s (Restarts reason) out h = rw (← some_is _ out h) (λ u r q f g. absurd (cc g))
@@ -197,9 +209,9 @@ start_at-begins d w s (Some v) received out u p h e f =
 
 -- the job of the next sequence begins with its words as its channels stand
 pub start-begins : (d : SpiTable) (w : World) (s : SpiState) (unit : units.Unit) (made_by : Option Call) (received : ℕ) (out : Outcome SpiState) (u : ℕ) (p : Pending)
-    → (spi_machine d).happens w s (Starts unit made_by received) ≡ Some out → number_of unit ≡ Some u → next_at d s (Some u) ≡ Some p
+    → (spi_machine d).happens w s (Starts unit made_by received) ≡ Some out → number_of unit ≡ Some u → is_sync_unit d u ≡ false → next_at d s (Some u) ≡ Some p
     → run_at out.state u ≡ Some (begun w.now received p.sequence (job_words d s (next_job d p)) [])
-start-begins d w s unit made_by received out u p h e f = start_at-begins d w s (number_of unit) received out u p h e f
+start-begins d w s unit made_by received out u p h e n f = start_at-begins d w s (number_of unit) received out u p (plain-start d w s (number_of unit) made_by received out u h e n) e f
 
 -- ---- what the wire shows
 

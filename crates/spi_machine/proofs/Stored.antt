@@ -43,7 +43,7 @@ put-at see s k c x place i v e = put-at_by see s k c x place i v e (same_or_othe
 
 -- ---- destinations
 
-stored-word : (s : SpiState) (x : JobWord) (g : Goes) (v c i : ℕ) → destination_word (stored s x g v) c i ≡ (if goes_to_array c i x g then v else destination_word s c i)
+pub stored-word : (s : SpiState) (x : JobWord) (g : Goes) (v c i : ℕ) → destination_word (stored s x g v) c i ≡ (if goes_to_array c i x g then v else destination_word s c i)
 stored-word s x ToDestination v c i = put-at (λ y. y.destination) s x.channel c _ x.place i v refl
 stored-word s x ToChannel v c i = refl
 stored-word s x Nowhere v c i = refl
@@ -58,7 +58,7 @@ all_kept-leaves s [] vs c i = refl
 all_kept-leaves s (x ∷ xs) [] c i = refl
 all_kept-leaves s (x ∷ xs) (v ∷ vs) c i = all_kept-leaves (kept s x x.goes v) xs vs c i ∙ kept-leaves s x x.goes v c i
 
-after_last-word : (s : SpiState) (r : Run) (failed : Bool) (c i : ℕ) → failed ≡ false
+pub after_last-word : (s : SpiState) (r : Run) (failed : Bool) (c i : ℕ) → failed ≡ false
     → destination_word (after_last s r failed) c i ≡ (if goes_to_array c i (word_of r) (word_of r).goes then r.transfer.incoming else destination_word s c i)
 after_last-word s r true c i e = absurd (cc e)
 after_last-word s r false c i e =
@@ -122,6 +122,21 @@ stored-internal s x g v c i = ap (λ ys. word_at ys i) (stored-keeps s x g v c)
 
 over-internal : (d : SpiTable) (t : SpiState) (u : ℕ) (failed : Bool) (o : Option Pending) (c i : ℕ) → internal_word (job_over d t u failed o).state c true i ≡ internal_word t c true i
 over-internal d t u failed o c i = ap (λ xs. word_at (slice_index_or xs c untouched).received i) (job_over-channels d t u failed o)
+
+-- what came in stands where it goes
+pub last-receives : (s : SpiState) (r : Run) (failed : Bool) (n : ℕ) (x : JobWord) → failed ≡ false → length r.words ≤ length (received_with r)
+    → slice_get r.words n ≡ Some x → x.goes ≡ ToChannel → go_there x.channel x.place (drop (n + 1) r.words) ≡ false
+    → internal_word (after_last s r failed) x.channel true x.place ≡ word_at (received_with r) n
+last-receives s r true n x e fit at goes last = absurd (cc e)
+last-receives s r false n x e fit at goes last =
+    let next : n + 1 ≡ suc n = grind arith in
+    all_kept-last (stored s (word_of r) (word_of r).goes r.transfer.incoming) r.words (received_with r) n x.channel x.place x at (there-own x x.goes goes) (rw (← next) last) fit
+
+-- and nothing else changes there
+pub last-leaves : (s : SpiState) (r : Run) (failed : Bool) (c i : ℕ) → failed ≡ false → go_there c i r.words ≡ false → internal_word (after_last s r failed) c true i ≡ internal_word s c true i
+last-leaves s r true c i e none = absurd (cc e)
+last-leaves s r false c i e none =
+    all_kept-none (stored s (word_of r) (word_of r).goes r.transfer.incoming) r.words (received_with r) c i none ∙ stored-internal s (word_of r) (word_of r).goes r.transfer.incoming c i
 
 -- what a good end leaves is seen after the words are kept
 ends-kept : (d : SpiTable) (w : World) (s : SpiState) (u received : ℕ) (r : Run) (b : Bool) (c i : ℕ) → (not r.transfer.failed && not b) ≡ true

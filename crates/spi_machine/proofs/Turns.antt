@@ -1,6 +1,6 @@
 -- What each happening does to a sequence: it stays, is requested or ends.
-use Rattle.std.proofs.Common.{◌≡◌, ℕ, Bool, true, false, not, cond, ◌&&◌, ◌||◌, ◌==◌, ◌≢◌, List, [], ◌∷◌, ◌++◌, Option, Some, None, refl, sym, ◌∙◌, ap, ◌⊎◌, inl, inr}
-use Rattle.std.specs.Prelude.{find, is_some, drop}
+use Rattle.std.proofs.Common.{◌≡◌, ℕ, Bool, true, false, not, cond, ◌&&◌, ◌||◌, ◌==◌, ◌≢◌, List, [], ◌∷◌, ◌++◌, Option, Some, None, refl, sym, ◌∙◌, ap, subst, ◌⊎◌, inl, inr}
+use Rattle.std.specs.Prelude.{find, drop}
 use Rattle.std.specs.List.{list_any}
 use Rattle.std.proofs.lemmas.List.Folds.{list_any-append}
 use Rattle.std.proofs.lemmas.Bool.{or_parts}
@@ -19,17 +19,19 @@ use Rattle.run_model.specs.World.{World}
 use Rattle.spi_machine.proofs.Numbers.{item-same, item-other}
 use Rattle.spi_machine.proofs.Results.{repeats-drop, results-own}
 use Rattle.spi_machine.proofs.Runs.{stored-seen, after_last-seen, serve_by}
-use Rattle.spi_machine.specs.Checks.{error_by}
+use Rattle.spi_machine.proofs.Sending.{act-either, start-either, carried-right}
+use Rattle.spi_machine.specs.Checks.{error_by, is_wrong_sequence}
 use Rattle.spi_machine.specs.Promised.{Turn, Stays, Begins, Ends, names_end, tells_end, is_init, drops, is_cancelled, takes_failed, has_failed, ends_as, had_by, had_of, first_unrun, GivesBack}
-use Rattle.spi_machine.specs.Machine.{spi_machine, acts_by, work, unless_busy, cancelled, cancelled_by, finds_held, ended, after_last, sequence_after, job_over, served_by, served, unit_of, run_of, ready, started, start_by, next_at, number_of, moved}
-use Rattle.spi_machine.specs.State.{SpiState, is_busy, is_off, is_running, notes, job_notice, sequence_notice}
+use Rattle.spi_machine.specs.Machine.{spi_machine, acts_by, work, unless_busy, cancelled, cancelled_by, finds_held, ended, after_last, sequence_after, job_over, served_by, served, unit_of, run_of, ready, started, start_by, next_at, number_of, moved, sent, sent_on, sequence_result_by}
+use Rattle.spi_machine.specs.Wiring.{unit_of_sequence, is_sync_sequence}
+use Rattle.spi_machine.specs.State.{SpiState, Carrying, is_busy, is_off, is_running, notes, job_notice, sequence_notice}
 use Rattle.spi_machine.specs.Pending.{Pending, is_of, is_pending, changed, without, starts, goes_to_next, cancels, is_held, shares_job, end_by, has_further, next_job, given_back, sequence_result}
 use Rattle.spi_machine.specs.Table.{jobs_of, sequence_of, notifies_sequence, job_of, notifies_job}
-use Rattle.spi_machine.specs.Transfers.{Run, goes_on, word_of}
+use Rattle.spi_machine.specs.Transfers.{JobWord, Run, goes_on, word_of}
 use Rattle.spi_machine.specs.declared.call.Call.{Call}
 use Rattle.spi_machine.specs.declared.call.Call.TheVariants.{Init, DeInit, SetAsyncMode, MainFunctionHandling, Channel, Sequence, Get}
 use Rattle.spi_machine.specs.declared.call.ChannelCall.TheVariants.{WriteIb, ReadIb, SetupEb}
-use Rattle.spi_machine.specs.declared.call.SequenceCall.TheVariants.{AsyncTransmit, Cancel}
+use Rattle.spi_machine.specs.declared.call.SequenceCall.TheVariants.{AsyncTransmit, Cancel, SyncTransmit}
 use Rattle.spi_machine.specs.declared.table.SpiTable.{SpiTable}
 
 -- ---- the pending list
@@ -263,8 +265,9 @@ acts_by-turn d q s (Channel c ReadIb) times None h i = Stays refl refl refl refl
 acts_by-turn d q s (Channel c (SetupEb a b n)) times None h i = Stays refl refl refl refl
 acts_by-turn d q s (Sequence k AsyncTransmit) times None h i =
     accepted-turn d q s (Acts (Sequence k AsyncTransmit) times) k
-    (not_held d k s.pending (no_error (is_off s.mode) (not (is_some (sequence_of d k))) (is_held d k s.pending) h)) (same_or_other q k)
+    (not_held d k s.pending (no_error (is_off s.mode) (is_wrong_sequence d k AsyncTransmit) (is_held d k s.pending) h)) (same_or_other q k)
 acts_by-turn d q s (Sequence k Cancel) times None h i = cancelled-turn d q s k times (find (is_of k) s.pending) refl
+acts_by-turn d q s (Sequence k SyncTransmit) times None h i = Stays refl refl refl refl
 acts_by-turn d q s (Get query) times None h i = Stays refl refl refl refl
 
 -- ---- each happening
@@ -281,12 +284,43 @@ moved-turn d w q s (Fill c ws) = Stays refl refl refl refl
 moved-turn d w q s (SpiFault u) = Stays refl refl refl refl
 moved-turn d w q s _ = Stays refl refl refl refl
 
-pub happens-turn : (d : SpiTable) (w : World) (s : SpiState) (h : Happening Call) (out : Outcome SpiState) (q : ℕ) → (spi_machine d).happens w s h ≡ Some out → drops h ≡ false → Turn d q s h out
-happens-turn d w s (Acts call times) out q h i =
-    rw (← some_is _ out h) (acts_by-turn d q s call times (error_by d call (is_off s.mode) (finds_held d s call)) refl i)
-happens-turn d w s (Serves l received) out q h i =
+-- a sequence that a call sends is another one
+other-sent : (d : SpiTable) (q k : ℕ) → is_sync_sequence d q ≡ false → is_sync_sequence d k ≡ true → q ≢ k
+other-sent d q k a b e = let c : is_sync_sequence d k ≡ false = subst (λ n. is_sync_sequence d n ≡ false) e a in cc (b, c)
+
+sent-turn : (d : SpiTable) (q : ℕ) (s : SpiState) (h : Happening Call) (u : ℕ) (x : Carrying) (failed : Bool) → q ≢ x.entry.sequence → Turn d q s h (sent d s u x failed)
+sent-turn d q s h u x failed ne =
+    let t : SpiState = after_last s x.run failed in
+    let pending : t.pending ≡ s.pending = after_last-seen (λ s. s.pending) (λ s c x. refl) s x.run failed in
+    let results : t.sequence_results ≡ s.sequence_results = after_last-seen (λ s. s.sequence_results) (λ s c x. refl) s x.run failed in
+    Stays (ap (λ ps. is_pending q ps) pending)
+    (item-other SpiSeqOk s.sequence_results x.entry.sequence q (sequence_result_by failed) ne) (ap (λ ps. had_of q ps) pending) refl
+
+sent_on-turn : (d : SpiTable) (w : World) (q : ℕ) (s : SpiState) (h : Happening Call) (u received : ℕ) (x : Carrying) (b : Bool) → Turn d q s h (sent_on d w s u received x b)
+sent_on-turn d w q s h u received x true =
+    let y : JobWord = word_of x.run in
+    let pending = stored-seen (λ s. s.pending) (λ s c x. refl) s y y.goes x.run.transfer.incoming in
+    let results = stored-seen (λ s. s.sequence_results) (λ s c x. refl) s y y.goes x.run.transfer.incoming in
+    Stays (ap (λ ps. is_pending q ps) pending) (ap (λ rs. sequence_result rs q) results) (ap (λ ps. had_of q ps) pending) refl
+sent_on-turn d w q s h u received x false =
+    let pending = after_last-seen (λ s. s.pending) (λ s c x. refl) s x.run false in
+    let results = after_last-seen (λ s. s.sequence_results) (λ s c x. refl) s x.run false in
+    Stays (ap (λ ps. is_pending q ps) pending) (ap (λ rs. sequence_result rs q) results) (ap (λ ps. had_of q ps) pending) refl
+
+pub happens-turn : (d : SpiTable) (w : World) (s : SpiState) (h : Happening Call) (out : Outcome SpiState) (q : ℕ) → (spi_machine d).happens w s h ≡ Some out → drops h ≡ false → is_sync_sequence d q ≡ false → Turn d q s h out
+happens-turn d w s (Acts call times) out q h i other =
+    act-either (Turn d q s (Acts call times)) d w s call out h (acts_by-turn d q s call times (error_by d call (is_off s.mode) (finds_held d s call)) refl i) (λ k e c f. Stays refl refl refl refl)
+    (λ k x c ends.
+    let own : x.entry.sequence ≡ k = eq_is x.entry.sequence k ends.own in
+    let ne : q ≢ k = other-sent d q k other (carried-right d s k x ends.carried).1 in
+    sent-turn d q s (Acts call times) (unit_of_sequence d k) x x.run.transfer.failed (λ e. ne (e ∙ own)))
+happens-turn d w s (Serves l received) out q h i other =
     rw (← serve_by (ready w s l) (served d w s (unit_of l) received (run_of s (unit_of l))) out h) (served-turn d w q s l (unit_of l) received (run_of s (unit_of l)) refl)
-happens-turn d w s (Starts u made_by received) out q h i = start_by-turn d w q s (Starts u made_by received) (number_of u) received (next_at d s (number_of u)) out h
-happens-turn d w s (Aborts u) out q h i = absurd (cc h)
-happens-turn d w s (Moves order) out q h i = rw (← some_is _ out h) (moved-turn d w q s order)
-happens-turn d w s (Restarts reason) out q h i = absurd (cc i)
+happens-turn d w s (Starts u made_by received) out q h i other =
+    start-either (Turn d q s (Starts u made_by received)) d w s (number_of u) made_by received out h
+    (λ n e. start_by-turn d w q s (Starts u made_by received) (number_of u) received (next_at d s (number_of u)) out e)
+    (λ v k on new. Stays refl (item-other SpiSeqOk s.sequence_results k q SpiSeqPending (other-sent d q k other on.sync)) refl refl)
+    (λ v k x on more. sent_on-turn d w q s (Starts u made_by received) v received x (goes_on x.run))
+happens-turn d w s (Aborts u) out q h i other = absurd (cc h)
+happens-turn d w s (Moves order) out q h i other = rw (← some_is _ out h) (moved-turn d w q s order)
+happens-turn d w s (Restarts reason) out q h i other = absurd (cc i)

@@ -1,5 +1,5 @@
 -- A cancelled sequence that waits, a failed word, and what may be read of an internal channel.
-use Rattle.std.proofs.Common.{◌≡◌, ℕ, suc, Bool, true, false, not, ◌&&◌, ◌==◌, ◌+◌, List, Option, Some, None, drop, slice_index_or, refl, ◌∙◌, ap, arith}
+use Rattle.std.proofs.Common.{◌≡◌, ℕ, suc, Bool, true, false, not, ◌&&◌, ◌||◌, ◌==◌, ◌+◌, nat_lt, List, length, Option, Some, None, drop, slice_index_or, refl, ◌∙◌, ap, subst, arith}
 use Rattle.std.specs.Prelude.{find}
 use Rattle.std.specs.List.{list_any}
 use Rattle.plain_facts.specs.Options.{some_is}
@@ -13,19 +13,21 @@ use Rattle.run_model.specs.World.{World}
 use Rattle.spi_machine.proofs.Numbers.{item-same, channel-seen}
 use Rattle.spi_machine.proofs.Results.{results-other, not_later}
 use Rattle.spi_machine.proofs.Runs.{serve_by}
+use Rattle.spi_machine.proofs.Sending.{act-either, start-either}
 use Rattle.spi_machine.proofs.Turns.{found, pending-without}
 use Rattle.spi_machine.specs.Channels.{ChannelState, untouched, written_from, filled}
 use Rattle.spi_machine.specs.Checks.{error_by}
-use Rattle.spi_machine.specs.Promised.{EndsCancelled, FailsJob, NamesJobsOnce, ends_well, is_init, renews}
-use Rattle.spi_machine.specs.Machine.{spi_machine, acts_by, work, unless_busy, cancelled, cancelled_by, finds_held, stored, after_last, sequence_after, job_over, served_by, served, unit_of, run_of, ready, started, start_by, next_at, number_of, moved}
-use Rattle.spi_machine.specs.State.{SpiState, channel_at, with_channel, run_at, is_busy, is_off, is_running}
+use Rattle.spi_machine.specs.Promised.{EndsCancelled, FailsJob, NamesJobsOnce, ends_well, is_init, renews, sends_well, carried_well}
+use Rattle.spi_machine.specs.Machine.{spi_machine, acts_by, work, unless_busy, cancelled, cancelled_by, finds_held, stored, after_last, sequence_after, job_over, served_by, served, unit_of, run_of, ready, started, start_by, next_at, number_of, moved, sent, sent_on, sent_by, carried_for, is_sync_number}
+use Rattle.spi_machine.specs.Wiring.{unit_of_sequence}
+use Rattle.spi_machine.specs.State.{SpiState, Carrying, channel_at, with_channel, run_at, is_busy, is_off, is_running}
 use Rattle.spi_machine.specs.Pending.{Pending, is_of, job_result, end_by, has_further, next_job}
 use Rattle.spi_machine.specs.Table.{channel_of, jobs_of}
-use Rattle.spi_machine.specs.Transfers.{Goes, ToDestination, ToChannel, Nowhere, JobWord, Run, goes_on, word_of}
+use Rattle.spi_machine.specs.Transfers.{Goes, ToDestination, ToChannel, Nowhere, JobWord, Run, goes_on, is_done, word_of}
 use Rattle.spi_machine.specs.declared.call.Call.{Call}
 use Rattle.spi_machine.specs.declared.call.Call.TheVariants.{Init, DeInit, SetAsyncMode, MainFunctionHandling, Channel, Sequence, Get}
 use Rattle.spi_machine.specs.declared.call.ChannelCall.TheVariants.{WriteIb, ReadIb, SetupEb}
-use Rattle.spi_machine.specs.declared.call.SequenceCall.TheVariants.{AsyncTransmit, Cancel}
+use Rattle.spi_machine.specs.declared.call.SequenceCall.TheVariants.{AsyncTransmit, Cancel, SyncTransmit}
 use Rattle.spi_machine.specs.declared.call.Pointer.{Pointer}
 use Rattle.spi_jobs.specs.declared.channel.Channel as configured
 use Rattle.spi_machine.specs.declared.table.SpiTable.{SpiTable}
@@ -141,6 +143,7 @@ work-keeps d s (Channel k ReadIb) i = λ c. refl
 work-keeps d s (Channel k (SetupEb p q n)) i = keeps-with s k _ refl
 work-keeps d s (Sequence q AsyncTransmit) i = λ c. refl
 work-keeps d s (Sequence q Cancel) i = keeps-same s.channels _ (cancelled-channels d s (find (is_of q) s.pending))
+work-keeps d s (Sequence q SyncTransmit) i = λ c. refl
 work-keeps d s (Get query) i = λ c. refl
 
 acts_by-keeps : (d : SpiTable) (s : SpiState) (call : Call) (e : Option ErrorName) → is_init call ≡ false → Keeps s (acts_by d s call e).state
@@ -187,12 +190,62 @@ moved-keeps d w s (Fill k ws) = keeps-with s k (filled ws (channel_of d k) (chan
 moved-keeps d w s (SpiFault u) = λ c. refl
 moved-keeps d w s _ = λ c. refl
 
-pub happens-keeps : (d : SpiTable) (w : World) (s : SpiState) (h : Happening Call) (out : Outcome SpiState) → (spi_machine d).happens w s h ≡ Some out → renews s h ≡ false → Keeps s out.state
+-- a word of a sequence that a call sends, and the end of it
+sent_on-keeps : (d : SpiTable) (w : World) (s : SpiState) (u received : ℕ) (x : Carrying) (b : Bool) → b ≡ true → Keeps s (sent_on d w s u received x b).state
+sent_on-keeps d w s u received x true e = stored-keeps s (word_of x.run) (word_of x.run).goes x.run.transfer.incoming
+sent_on-keeps d w s u received x false e = absurd (cc e)
+
+-- a further word of the same job begins where the job doesn't end well
+goes-on-by : (own done failed more further : Bool) → own && done && ((not failed && more) || (not failed && further)) ≡ true → not failed && not (not failed && more) ≡ false
+    → (not failed && more) ≡ true
+goes-on-by false done true more further may w = absurd (cc may)
+goes-on-by true false true more further may w = absurd (cc may)
+goes-on-by true true true more further may w = absurd (cc may)
+goes-on-by own done false true further may w = refl
+goes-on-by own done false false further may w = absurd (cc w)
+
+-- and a sequence ends where it doesn't with a failed word
+failed-by : (done failed more further : Bool) → done && not ((not failed && more) || (not failed && further)) ≡ true → not failed && not (not failed && more) ≡ false → failed ≡ true
+failed-by done true more further may w = refl
+failed-by false false true further may w = absurd (cc may)
+failed-by true false true further may w = absurd (cc may)
+failed-by done false false further may w = absurd (cc w)
+
+sent-keeps : (d : SpiTable) (s : SpiState) (u : ℕ) (x : Carrying) (failed : Bool) → failed ≡ true → Keeps s (sent d s u x failed).state
+sent-keeps d s u x true e = λ c. refl
+sent-keeps d s u x false e = absurd (cc e)
+
+-- what a call sends doesn't end well
+unwell : (d : SpiTable) (s : SpiState) (o : Option ℕ) (q : ℕ) (x : Carrying) → o ≡ Some q → carried_for d s q ≡ Some x → sends_well d s o ≡ false → ends_well (Some x.run) ≡ false
+unwell d s o q x c f n = let e : sends_well d s (Some q) ≡ false = subst (λ p. sends_well d s p ≡ false) c n in subst (λ y. carried_well y ≡ false) f e
+
+or-second : (a b : Bool) → a || b ≡ false → b ≡ false
+or-second true b h = absurd (cc h)
+or-second false b h = h
+
+or-first : (a b : Bool) → a || b ≡ false → a ≡ false
+or-first true b h = absurd (cc h)
+or-first false b h = refl
+
+and-second : (a b : Bool) → a ≡ true → a && b ≡ false → b ≡ false
+and-second true b e h = h
+and-second false b e h = absurd (cc e)
+
+pub happens-keeps : (d : SpiTable) (w : World) (s : SpiState) (h : Happening Call) (out : Outcome SpiState) → (spi_machine d).happens w s h ≡ Some out → renews d s h ≡ false → Keeps s out.state
 happens-keeps d w s (Acts call times) out h i =
-    rw (← some_is _ out h) (acts_by-keeps d s call (error_by d call (is_off s.mode) (finds_held d s call)) i)
+    act-either (λ t. Keeps s t.state) d w s call out h
+    (acts_by-keeps d s call (error_by d call (is_off s.mode) (finds_held d s call)) (or-first (is_init call) (sends_well d s (sent_by (Some call))) i)) (λ q e c f k. refl)
+    (λ q x c ends. sent-keeps d s (unit_of_sequence d q) x x.run.transfer.failed
+    (failed-by (is_done w.now x.run.transfer) x.run.transfer.failed (nat_lt (length x.run.received + 1) (length x.run.words)) (has_further d x.entry) ends.may
+    (unwell d s (sent_by (Some call)) q x c ends.carried (or-second (is_init call) (sends_well d s (sent_by (Some call))) i))))
 happens-keeps d w s (Serves l received) out h i =
     rw (← serve_by (ready w s l) (served d w s (unit_of l) received (run_of s (unit_of l))) out h) (served-keeps d w s (unit_of l) received (run_of s (unit_of l)) i)
-happens-keeps d w s (Starts u made_by received) out h i = start_by-keeps d w s (number_of u) received (next_at d s (number_of u)) out h
+happens-keeps d w s (Starts u made_by received) out h i =
+    start-either (λ t. Keeps s t.state) d w s (number_of u) made_by received out h
+    (λ n e. start_by-keeps d w s (number_of u) received (next_at d s (number_of u)) out e) (λ v q on new c. refl)
+    (λ v q x on more. sent_on-keeps d w s v received x (goes_on x.run)
+    (goes-on-by (is_of q x.entry) (is_done w.now x.run.transfer) x.run.transfer.failed (nat_lt (length x.run.received + 1) (length x.run.words)) (has_further d x.entry) more.may
+    (unwell d s (sent_by made_by) q x more.sends more.carried (and-second (is_sync_number d (number_of u)) (sends_well d s (sent_by made_by)) on.unit i))))
 happens-keeps d w s (Aborts u) out h i = absurd (cc h)
 happens-keeps d w s (Moves order) out h i = rw (← some_is _ out h) (moved-keeps d w s order)
 happens-keeps d w s (Restarts reason) out h i = absurd (cc i)

@@ -1,5 +1,5 @@
 -- How the serial driver's frames begin, what bounds them, and what a run of the driver is over.
-use Rattle.std.specs.Prelude.{◌≡◌, ◌<◌, Contains, ℕ, ◌+◌, ◌*◌, ◌^◌, ◌%◌, ◌==◌, nat_lt, Bool, true, false, ◌&&◌, ◌||◌, not, if◌then◌else◌, List, [], count_by, sum_by, flat_map, Option, Some, None, is_some, slice_index_or}
+use Rattle.std.specs.Prelude.{◌≡◌, ◌<◌, Contains, ℕ, zero, suc, ◌+◌, ◌*◌, ◌^◌, ◌%◌, ◌==◌, nat_lt, Bool, true, false, ◌&&◌, ◌||◌, not, if◌then◌else◌, List, [], count_by, sum_by, flat_map, Option, Some, None, is_some, slice_index_or}
 use Rattle.std.specs.List.{enumerate_from, list_any}
 use Rattle.chip_model.specs.Chip.{word_of}
 use Rattle.mcal_base.specs.Layout.{is_within, own_start, place_of, start_of}
@@ -12,7 +12,7 @@ use Rattle.mcal_base.specs.declared.notice.Notice.{Notice}
 use Rattle.mcal_base.specs.declared.notice.NoticeKind.{NoticeKind}
 use Rattle.mcal_base.specs.declared.notice.NoticeKind.TheVariants.{SpiJobEndNotification, SpiSeqEndNotification}
 use Rattle.mcal_base.specs.declared.register.Reg.{Reg}
-use Rattle.mcal_base.specs.declared.register.Reg.TheVariants.{EnableSet, EnableClear, SerialSelect, SerialWidth, SerialData, SerialReceived, SerialState, SerialAck}
+use Rattle.mcal_base.specs.declared.register.Reg.TheVariants.{EnableSet, EnableClear, SerialSelect, SerialWidth, SerialData, SerialReceived, SerialState, SerialWait, SerialAck}
 use Rattle.run_model.specs.declared.class.Class.{Class}
 use Rattle.run_model.specs.declared.class.Key.{Key}
 use Rattle.run_model.specs.declared.class.KeyKind.{KeyKind}
@@ -28,14 +28,17 @@ use Rattle.spi_machine.specs.declared.call.Call.TheVariants.{Init, DeInit, SetAs
 use Rattle.spi_machine.specs.declared.call.ChannelCall.{ChannelCall}
 use Rattle.spi_machine.specs.declared.call.ChannelCall.TheVariants.{WriteIb, ReadIb, SetupEb}
 use Rattle.spi_machine.specs.declared.call.SequenceCall.{SequenceCall}
-use Rattle.spi_machine.specs.declared.call.SequenceCall.TheVariants.{AsyncTransmit, Cancel}
+use Rattle.spi_machine.specs.declared.call.SequenceCall.TheVariants.{AsyncTransmit, Cancel, SyncTransmit}
 use Rattle.spi_jobs.specs.declared.channel.Channel as configured
+use Rattle.spi_machine.specs.declared.table.ChannelList.{ChannelList}
+use Rattle.spi_machine.specs.declared.table.JobList.{JobList}
+use Rattle.spi_machine.specs.declared.table.Sequence as configured_sequence
 use Rattle.spi_machine.specs.declared.table.SpiTable.{SpiTable}
 use Rattle.spi_machine.specs.Machine.{spi_machine, unit_of}
-use Rattle.spi_machine.specs.State.{SpiState, first_state, channel_at}
+use Rattle.spi_machine.specs.State.{SpiState, first_state, channel_at, uses}
 use Rattle.spi_machine.specs.Numbered.{word_at}
-use Rattle.spi_machine.specs.Pending.{is_in_use}
-use Rattle.spi_machine.specs.Table.{channel_of, jobs_of, channels_of, length_by, is_internal_channel, is_on_unit}
+use Rattle.spi_machine.specs.Table.{channel_of, sequence_of, jobs_of, channels_of, length_by, is_internal_channel, is_on_unit, is_sync_unit}
+use Rattle.spi_machine.specs.Wiring.{channel_number, job_number, list_of}
 
 -- ---- calls and lines
 
@@ -63,9 +66,13 @@ class_of _ = class_with Exclusive None
 abbrev pub uses_unit : SpiTable → ℕ → Bool
 uses_unit d u = list_any (is_on_unit u) d.jobs
 
+-- one that carries out sequences for calls has no handler
+abbrev pub has_handler : SpiTable → ℕ → Bool
+has_handler d u = uses_unit d u && not (is_sync_unit d u)
+
 abbrev pub uses_by : SpiTable → Option ℕ → Bool
 uses_by d None = false
-uses_by d (Some u) = uses_unit d u
+uses_by d (Some u) = has_handler d u
 
 abbrev pub is_used : SpiTable → (line : ℕ) → Bool
 is_used d l = uses_by d (unit_of l)
@@ -101,9 +108,31 @@ channel_steps k (WriteIb p) = 48 + 4 * length_by k
 channel_steps k ReadIb = 48 + 4 * length_by k
 channel_steps k (SetupEb p q n) = 64
 
-abbrev pub sequence_steps : SequenceCall → ℕ
-sequence_steps AsyncTransmit = 144
-sequence_steps Cancel = 96
+abbrev pub channel_words_steps : SpiTable → Option ℕ → ℕ
+channel_words_steps d None = 0
+channel_words_steps d (Some c) = 16 * length_by (channel_of d c)
+
+-- of a sequence that is sent at once 64 more for each job, and 16 for each word
+abbrev pub words_steps : SpiTable → ChannelList → ℕ → ℕ
+words_steps d l zero = 0
+words_steps d l (suc n) = if nat_lt 4 (suc n) then 0 else channel_words_steps d (channel_number l n) + words_steps d l n
+
+abbrev pub job_steps : SpiTable → Option ℕ → ℕ
+job_steps d None = 0
+job_steps d (Some j) = 64 + words_steps d (list_of d j) 4
+
+abbrev pub jobs_steps : SpiTable → JobList → ℕ → ℕ
+jobs_steps d l zero = 0
+jobs_steps d l (suc n) = if nat_lt 16 (suc n) then 0 else job_steps d (job_number l n) + jobs_steps d l n
+
+abbrev pub sent_steps : SpiTable → Option configured_sequence.Sequence → ℕ
+sent_steps d None = 96
+sent_steps d (Some k) = 96 + jobs_steps d k.jobs k.jobs.count
+
+abbrev pub sequence_steps : SpiTable → ℕ → SequenceCall → ℕ
+sequence_steps d q AsyncTransmit = 144
+sequence_steps d q Cancel = 96
+sequence_steps d q SyncTransmit = sent_steps d (sequence_of d q)
 
 abbrev pub call_steps : SpiTable → Call → ℕ
 call_steps d Init = whole_steps d
@@ -111,7 +140,7 @@ call_steps d DeInit = whole_steps d
 call_steps d (SetAsyncMode m) = 64
 call_steps d MainFunctionHandling = 288
 call_steps d (Channel c call) = channel_steps (channel_of d c) call
-call_steps d (Sequence q call) = sequence_steps call
+call_steps d (Sequence q call) = sequence_steps d q call
 call_steps d (Get query) = 64
 
 abbrev pub steps_of : SpiTable → Origin Call → ℕ
@@ -130,6 +159,7 @@ is_serial (SerialData u) = true
 is_serial (SerialReceived u) = true
 is_serial (SerialState u) = true
 is_serial (SerialAck u) = true
+is_serial (SerialWait u) = true
 is_serial _ = false
 
 -- the value has bits of lines 26 and 27, and of no other
@@ -210,7 +240,7 @@ spi_setting d = record {
   halves = λ call. None;
   must = λ call. [];
   fills = fills d;
-  in_use = λ w s c. is_in_use d c s.pending;
+  in_use = λ w s c. uses d s c;
   rest = λ chip w s. (c : ℕ) → HoldsArrays (word_of chip) d s c;
   unmasked = λ chip w s origins. Unit {0};
   shows = λ origin n chip s. (c : ℕ) → Contains (channels_named d n) c → HoldsArrays (word_of chip) d s c;

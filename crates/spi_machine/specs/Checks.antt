@@ -13,12 +13,13 @@ use Rattle.spi_machine.specs.declared.call.Call.TheVariants.{Init, DeInit, SetAs
 use Rattle.spi_machine.specs.declared.call.ChannelCall.{ChannelCall}
 use Rattle.spi_machine.specs.declared.call.ChannelCall.TheVariants.{WriteIb, ReadIb, SetupEb}
 use Rattle.spi_machine.specs.declared.call.SequenceCall.{SequenceCall}
-use Rattle.spi_machine.specs.declared.call.SequenceCall.TheVariants.{AsyncTransmit, Cancel}
+use Rattle.spi_machine.specs.declared.call.SequenceCall.TheVariants.{AsyncTransmit, Cancel, SyncTransmit}
 use Rattle.spi_machine.specs.declared.call.Query.{Query}
 use Rattle.spi_machine.specs.declared.call.Query.TheVariants.{Status, JobResult, SequenceResult, HwUnitStatus}
 use Rattle.spi_jobs.specs.declared.channel.Channel as configured
 use Rattle.spi_machine.specs.declared.table.SpiTable.{SpiTable}
 use Rattle.spi_machine.specs.Table.{channel_of, job_of, sequence_of, length_by, is_internal_channel, is_external_channel}
+use Rattle.spi_machine.specs.Wiring.{is_sync_sequence}
 
 -- the service of a call
 abbrev pub channel_service : ChannelCall → Service
@@ -29,6 +30,7 @@ channel_service (SetupEb p q n) = services.SpiSetupEb
 abbrev pub sequence_service : SequenceCall → Service
 sequence_service AsyncTransmit = services.SpiAsyncTransmit
 sequence_service Cancel = services.SpiCancel
+sequence_service SyncTransmit = services.SpiSyncTransmit
 
 abbrev pub query_service : Query → Service
 query_service Status = services.SpiGetStatus
@@ -49,12 +51,21 @@ service_of (Get query) = query_service query
 abbrev pub is_wrong_length : ℕ → Option configured.Channel → Bool
 is_wrong_length n k = n == 0 || nat_lt (length_by k) n
 
--- whether the errors of a service hold, in their order: the module is uninitialised, a sequence is held by a pending
--- one
+-- whether the errors of a service hold, in their order: the module is uninitialised, a sequence is held, by a pending
+-- one or by what its unit carries out
 abbrev pub channel_facts : Option configured.Channel → ChannelCall → (uninit : Bool) → List Bool
 channel_facts k (WriteIb p) u = u ∷ not (is_internal_channel k) ∷ false ∷ false ∷ false ∷ false ∷ []
 channel_facts k ReadIb u = u ∷ not (is_internal_channel k) ∷ false ∷ false ∷ false ∷ false ∷ []
 channel_facts k (SetupEb p q n) u = u ∷ not (is_external_channel k) ∷ is_wrong_length n k ∷ false ∷ false ∷ false ∷ []
+
+-- a sequence that isn't configured, or that is sent by the other kind of transmission
+abbrev pub is_sent_otherwise : SpiTable → ℕ → SequenceCall → Bool
+is_sent_otherwise d q AsyncTransmit = is_sync_sequence d q
+is_sent_otherwise d q SyncTransmit = not (is_sync_sequence d q)
+is_sent_otherwise d q Cancel = false
+
+abbrev pub is_wrong_sequence : SpiTable → ℕ → SequenceCall → Bool
+is_wrong_sequence d q call = not (is_some (sequence_of d q)) || is_sent_otherwise d q call
 
 abbrev pub query_facts : SpiTable → Query → (uninit : Bool) → List Bool
 query_facts d Status u = false ∷ false ∷ false ∷ false ∷ false ∷ false ∷ []
@@ -68,7 +79,7 @@ facts_by d DeInit u h = u ∷ false ∷ false ∷ false ∷ false ∷ false ∷ 
 facts_by d (SetAsyncMode m) u h = u ∷ false ∷ false ∷ false ∷ false ∷ false ∷ []
 facts_by d MainFunctionHandling u h = false ∷ false ∷ false ∷ false ∷ false ∷ false ∷ []
 facts_by d (Channel c call) u h = channel_facts (channel_of d c) call u
-facts_by d (Sequence q call) u h = u ∷ not (is_some (sequence_of d q)) ∷ h ∷ false ∷ false ∷ false ∷ []
+facts_by d (Sequence q call) u h = u ∷ is_wrong_sequence d q call ∷ h ∷ false ∷ false ∷ false ∷ []
 facts_by d (Get query) u h = query_facts d query u
 
 -- the first error of a call that holds

@@ -1,9 +1,9 @@
 -- The serial driver as the standard has it: what each call, each serving and each start does.
-use Rattle.std.specs.Prelude.{ℕ, ◌+◌, ◌==◌, Bool, true, false, ◌&&◌, not, if◌then◌else◌, List, [], ◌∷◌, ◌++◌, map, find, flat_map, Option, Some, None, is_some}
+use Rattle.std.specs.Prelude.{ℕ, ◌+◌, ◌==◌, Bool, true, false, ◌&&◌, ◌||◌, not, if◌then◌else◌, List, [], ◌∷◌, ◌++◌, map, find, flat_map, Option, Some, None, is_some}
 use Rattle.std.specs.List.{enumerate_from}
 use Rattle.mcal_base.specs.declared.answer.Answer.{Answer}
 use Rattle.mcal_base.specs.declared.answer_name.AnswerName.{AnswerName}
-use Rattle.mcal_base.specs.declared.answer_name.AnswerName.TheVariants.{EOk, ENotOk, SpiUninit, SpiIdle, SpiBusy, SpiJobOk, SpiJobPending, SpiJobFailed, SpiJobQueued, SpiSeqOk, SpiSeqPending, SpiSeqCanceled}
+use Rattle.mcal_base.specs.declared.answer_name.AnswerName.TheVariants.{EOk, ENotOk, SpiUninit, SpiIdle, SpiBusy, SpiJobOk, SpiJobPending, SpiJobFailed, SpiJobQueued, SpiSeqOk, SpiSeqPending, SpiSeqFailed, SpiSeqCanceled}
 use Rattle.mcal_base.specs.declared.directive.Order.{Order}
 use Rattle.mcal_base.specs.declared.directive.Order.TheVariants.{Fill, SpiFault}
 use Rattle.mcal_base.specs.declared.error_name.ErrorName.{ErrorName}
@@ -19,7 +19,7 @@ use Rattle.spi_machine.specs.declared.call.Call.TheVariants as calls
 use Rattle.spi_machine.specs.declared.call.ChannelCall.{ChannelCall}
 use Rattle.spi_machine.specs.declared.call.ChannelCall.TheVariants.{WriteIb, ReadIb, SetupEb}
 use Rattle.spi_machine.specs.declared.call.SequenceCall.{SequenceCall}
-use Rattle.spi_machine.specs.declared.call.SequenceCall.TheVariants.{AsyncTransmit, Cancel}
+use Rattle.spi_machine.specs.declared.call.SequenceCall.TheVariants.{AsyncTransmit, Cancel, SyncTransmit}
 use Rattle.spi_machine.specs.declared.call.Query.{Query}
 use Rattle.spi_machine.specs.declared.call.Query.TheVariants.{Status, JobResult, SequenceResult, HwUnitStatus}
 use Rattle.spi_jobs.specs.declared.channel.Channel.{Channel}
@@ -28,9 +28,10 @@ use Rattle.spi_machine.specs.Channels.{ChannelState, untouched, initialised, wri
 use Rattle.spi_machine.specs.Checks.{service_of, error_by, answer_refused}
 use Rattle.spi_machine.specs.Numbered.{with_item, first_items}
 use Rattle.spi_machine.specs.Pending.{Pending, requested, is_of, changed, without, starts, goes_to_next, cancels, is_held, next_job, has_further, next_on, job_result, sequence_result, all_get, given_back, end_by}
-use Rattle.spi_machine.specs.Table.{channel_of, job_of, jobs_of, channels_of, length_by, select_by}
+use Rattle.spi_machine.specs.Table.{channel_of, job_of, jobs_of, channels_of, is_sync_unit, length_by, select_by}
 use Rattle.spi_machine.specs.Transfers.{Goes, ToDestination, ToChannel, Nowhere, JobWord, Run, channel_words, on_wire, is_done, faulted, word_of, received_with, goes_on, begun}
-use Rattle.spi_machine.specs.State.{SpiState, first_state, is_off, is_polling, is_interrupt, mode_of, channel_at, with_channel, run_at, with_run, wire_at, is_busy, is_running, job_notice, sequence_notice, notes, Off, Polling}
+use Rattle.spi_machine.specs.Wiring.{unit_of_sequence, is_sync_sequence}
+use Rattle.spi_machine.specs.State.{SpiState, Carrying, first_state, is_off, is_polling, is_interrupt, mode_of, channel_at, with_channel, run_at, with_run, carried_at, with_carried, wire_at, is_busy, is_running, job_notice, sequence_notice, notes, Off, Polling}
 
 -- ---- sequences
 
@@ -69,7 +70,7 @@ initialised_channels d xs = map (λ p. initialised (channel_of d p.0) p.1) (enum
 
 -- all results are OK, nothing is pending, and both units are free
 abbrev pub initial : SpiTable → SpiState → SpiState
-initial d s = record s { mode = Polling; channels = initialised_channels d s.channels; job_results = []; sequence_results = []; pending = []; units = [] }
+initial d s = record s { mode = Polling; channels = initialised_channels d s.channels; job_results = []; sequence_results = []; pending = []; units = []; carried = [] }
 
 -- the answer of an internal channel's received words
 abbrev pub read_answer : Option Channel → ChannelState → Answer
@@ -83,6 +84,7 @@ channel_work k s c (SetupEb p q n) = outcome (with_channel s c (record (channel_
 abbrev pub sequence_work : SpiTable → SpiState → ℕ → SequenceCall → Outcome SpiState
 sequence_work d s q AsyncTransmit = outcome (accepted d s q) (answers (named EOk))
 sequence_work d s q Cancel = cancelled d s (find (is_of q) s.pending)
+sequence_work d s q SyncTransmit = outcome s tells_nothing
 
 abbrev pub status_by : (off busy : Bool) → AnswerName
 status_by true _ = SpiUninit
@@ -93,7 +95,7 @@ abbrev pub query_answer : SpiState → Query → AnswerName
 query_answer s Status = status_by (is_off s.mode) (is_busy s)
 query_answer s (JobResult j) = job_result s.job_results j
 query_answer s (SequenceResult q) = sequence_result s.sequence_results q
-query_answer s (HwUnitStatus u) = status_by false (is_some (run_at s u))
+query_answer s (HwUnitStatus u) = status_by false (is_some (run_at s u) || is_some (carried_at s u))
 
 -- a change of the whole module is refused while a sequence is pending
 abbrev pub unless_busy : (busy : Bool) → SpiState → (after : SpiState) → Outcome SpiState
@@ -109,9 +111,14 @@ work d s (calls.Channel c call) = channel_work (channel_of d c) s c call
 work d s (calls.Sequence q call) = sequence_work d s q call
 work d s (Get query) = outcome s (answers (named (query_answer s query)))
 
--- a call finds its sequence, or one that has a job in common with it, pending
+-- what the unit of a sequence carries out; an uninitialised module and a unit of the other kind carry out nothing
+abbrev pub carried_for : SpiTable → SpiState → (sequence : ℕ) → Option Carrying
+carried_for d s q = if is_off s.mode || not (is_sync_sequence d q) then None else carried_at s (unit_of_sequence d q)
+
+-- a call finds its sequence, or one that has a job in common with it, pending, or its unit not free
 abbrev pub finds_held : SpiTable → SpiState → Call → Bool
 finds_held d s (calls.Sequence q AsyncTransmit) = is_held d q s.pending
+finds_held d s (calls.Sequence q SyncTransmit) = is_some (carried_for d s q)
 finds_held d s _ = false
 
 -- an error changes nothing
@@ -135,6 +142,15 @@ with_word s u received r = record s {
   units = with_item None s.units u (Some r);
   wires = with_item [] s.wires u (wire_at s u ++ on_wire received (word_of r) ∷ []);
 }
+
+-- the results of a job and of its sequence
+abbrev pub result_by : (failed : Bool) → AnswerName
+result_by true = SpiJobFailed
+result_by false = SpiJobOk
+
+abbrev pub sequence_result_by : (failed : Bool) → AnswerName
+sequence_result_by true = SpiSeqFailed
+sequence_result_by false = SpiSeqOk
 
 -- the device of a sequence's job, where it has one
 abbrev pub device_of : SpiTable → Option Pending → Option ℕ
@@ -181,6 +197,119 @@ abbrev pub start_by : SpiTable → World → SpiState → Option ℕ → (receiv
 start_by d w s (Some u) received (Some p) = Some (started d w s u received p)
 start_by d w s _ received _ = None
 
+-- ---- what comes in
+
+-- a word that came in: where it goes as it is taken, and where it goes as its job ends well
+abbrev pub stored : SpiState → JobWord → Goes → (value : ℕ) → SpiState
+stored s x ToDestination v = with_channel s x.channel (record (channel_at s x.channel) { destination = with_item 0 (channel_at s x.channel).destination x.place v })
+stored s x ToChannel v = s
+stored s x Nowhere v = s
+
+abbrev pub kept : SpiState → JobWord → Goes → (value : ℕ) → SpiState
+kept s x ToDestination v = s
+kept s x ToChannel v = with_channel s x.channel (record (channel_at s x.channel) { received = with_item 0 (channel_at s x.channel).received x.place v })
+kept s x Nowhere v = s
+
+-- all of them, in their order
+abbrev pub all_kept : SpiState → List JobWord → (values : List ℕ) → SpiState
+all_kept s [] _ = s
+all_kept s (x ∷ xs) [] = s
+all_kept s (x ∷ xs) (v ∷ vs) = all_kept (kept s x x.goes v) xs vs
+
+-- after the last word: it is stored, and the received words of internal channels become readable; a failed word is
+-- stored nowhere
+abbrev pub after_last : SpiState → Run → (failed : Bool) → SpiState
+after_last s r true = s
+after_last s r false = all_kept (stored s (word_of r) (word_of r).goes r.transfer.incoming) r.words (received_with r)
+
+-- ---- what a call of Spi_SyncTransmit does
+
+-- the sequence that a call sends so, where it does
+abbrev pub sent_by : Option Call → Option ℕ
+sent_by (Some (calls.Sequence q SyncTransmit)) = Some q
+sent_by _ = None
+
+-- what a call finds wrong with its sequence before it begins a word
+abbrev pub error_of_sending : SpiTable → SpiState → (sequence : ℕ) → Option ErrorName
+error_of_sending d s q = error_by d (calls.Sequence q SyncTransmit) (is_off s.mode) (finds_held d s (calls.Sequence q SyncTransmit))
+
+-- a word of a sequence's job begins, and the wire shows it
+abbrev pub carries_on : SpiTable → SpiState → (number received : ℕ) → Pending → Run → Outcome SpiState
+carries_on d s u received p r =
+    outcome_with (record (with_carried s u (Some (record { entry = p; run = r }))) { wires = with_item [] s.wires u (wire_at s u ++ on_wire received (word_of r) ∷ []) }) tells_nothing
+    (Some (as_begun d u (Some p) (word_of r)))
+
+-- the next job of a sequence is pending
+abbrev pub job_begun : SpiTable → SpiState → Pending → SpiState
+job_begun d s p = record s { job_results = with_item SpiJobOk s.job_results (next_job d p) SpiJobPending }
+
+-- its first word begins: the job's words are those of its channels as they stand
+abbrev pub carries_job : SpiTable → World → SpiState → (number received : ℕ) → Pending → Outcome SpiState
+carries_job d w s u received p = carries_on d (job_begun d s p) u received p (begun w.now received p.sequence (job_words d s (next_job d p)) [])
+
+-- the sequence as the unit takes it: pending, and its jobs queued
+abbrev pub as_requested : SpiTable → SpiState → (sequence : ℕ) → Pending
+as_requested d s q = requested q 0 (map (job_result s.job_results) (jobs_of d q))
+
+abbrev pub sequence_begun : SpiTable → SpiState → (sequence : ℕ) → SpiState
+sequence_begun d s q = record s { sequence_results = with_item SpiSeqOk s.sequence_results q SpiSeqPending; job_results = all_get SpiJobQueued (jobs_of d q) s.job_results }
+
+-- a job that its last word ended has its result, and its received words are readable
+abbrev pub job_done : SpiTable → SpiState → Carrying → (failed : Bool) → SpiState
+job_done d s x failed = record (after_last s x.run failed) { job_results = with_item SpiJobOk s.job_results (next_job d x.entry) (result_by failed) }
+
+-- a further word is there: of the job, or of a further job
+abbrev pub sends_on : SpiTable → Carrying → Bool
+sends_on d x = goes_on x.run || (not x.run.transfer.failed && has_further d x.entry)
+
+-- the word before is taken, and the next one begins: of the job where it goes on, else of the next job
+abbrev pub sent_on : SpiTable → World → SpiState → (number received : ℕ) → Carrying → (same_job : Bool) → Outcome SpiState
+sent_on d w s u received x true =
+    carries_on d (stored s (word_of x.run) (word_of x.run).goes x.run.transfer.incoming) u received x.entry (begun w.now received x.entry.sequence x.run.words (received_with x.run))
+sent_on d w s u received x false = carries_job d w (job_done d s x false) u received (goes_to_next x.entry)
+
+-- a word begins for a call where the unit is free and the call finds no error, and where the unit carries out the call's
+-- sequence, its word is done and hasn't failed, and a further one is there
+abbrev pub may_go_on : SpiTable → World → Carrying → (sequence : ℕ) → Bool
+may_go_on d w x q = is_of q x.entry && is_done w.now x.run.transfer && sends_on d x
+
+abbrev pub sent_first : SpiTable → World → SpiState → (number received sequence : ℕ) → Option ErrorName → Option (Outcome SpiState)
+sent_first d w s u received q (Some e) = None
+sent_first d w s u received q None = Some (carries_job d w (sequence_begun d s q) u received (as_requested d s q))
+
+abbrev pub sent_from : SpiTable → World → SpiState → (number received sequence : ℕ) → Option Carrying → Option (Outcome SpiState)
+sent_from d w s u received q None = sent_first d w s u received q (error_of_sending d s q)
+sent_from d w s u received q (Some x) = if may_go_on d w x q then Some (sent_on d w s u received x (goes_on x.run)) else None
+
+abbrev pub sent_word : SpiTable → World → SpiState → (number received : ℕ) → (sequence : Option ℕ) → Option (Outcome SpiState)
+sent_word d w s u received None = None
+sent_word d w s u received (Some q) = if unit_of_sequence d q == u then sent_from d w s u received q (carried_for d s q) else None
+
+-- the act of a call that began a word: the last word is taken, the job and the sequence end, and the unit is free
+abbrev pub sequence_sent : SpiTable → SpiState → (number : ℕ) → Carrying → (failed : Bool) → SpiState
+sequence_sent d s u x failed = record (with_carried (job_done d s x failed) u None) {
+  sequence_results = with_item SpiSeqOk s.sequence_results x.entry.sequence (sequence_result_by failed);
+  job_results = given_back d x.entry (x.entry.next + 1) (job_done d s x failed).job_results;
+}
+
+abbrev pub sent : SpiTable → SpiState → (number : ℕ) → Carrying → (failed : Bool) → Outcome SpiState
+sent d s u x failed = outcome (sequence_sent d s u x failed) (answers (named (if failed then ENotOk else EOk)))
+
+-- that of a call that began none: it has an error
+abbrev pub not_sent : SpiState → (sequence : ℕ) → Option ErrorName → Option (Outcome SpiState)
+not_sent s q None = None
+not_sent s q (Some e) = Some (outcome s (tells_error (answer_refused (calls.Sequence q SyncTransmit)) e))
+
+-- the act is allowed where the word is done, and has failed or was the last one
+abbrev pub may_end : SpiTable → World → Carrying → Bool
+may_end d w x = is_done w.now x.run.transfer && not (sends_on d x)
+
+abbrev pub sending_ends : SpiTable → World → SpiState → (sequence : ℕ) → Option Carrying → Option (Outcome SpiState)
+sending_ends d w s q None = not_sent s q (error_of_sending d s q)
+sending_ends d w s q (Some x) =
+    if is_of q x.entry then (if may_end d w x then Some (sent d s (unit_of_sequence d q) x x.run.transfer.failed) else None)
+    else not_sent s q (error_of_sending d s q)
+
 -- ---- what a serving does
 
 -- the unit of a line
@@ -204,34 +333,6 @@ ready w s l = not (is_off s.mode) && has_done w.now (run_of s (unit_of l))
 -- and the mode is interrupt
 abbrev pub due : World → SpiState → (line : ℕ) → Bool
 due w s l = ready w s l && is_interrupt s.mode
-
--- a word that came in, where it goes as it is served, and where it goes as its job ends well
-abbrev pub stored : SpiState → JobWord → Goes → (value : ℕ) → SpiState
-stored s x ToDestination v = with_channel s x.channel (record (channel_at s x.channel) { destination = with_item 0 (channel_at s x.channel).destination x.place v })
-stored s x ToChannel v = s
-stored s x Nowhere v = s
-
-abbrev pub kept : SpiState → JobWord → Goes → (value : ℕ) → SpiState
-kept s x ToDestination v = s
-kept s x ToChannel v = with_channel s x.channel (record (channel_at s x.channel) { received = with_item 0 (channel_at s x.channel).received x.place v })
-kept s x Nowhere v = s
-
--- all of them, in their order
-abbrev pub all_kept : SpiState → List JobWord → (values : List ℕ) → SpiState
-all_kept s [] _ = s
-all_kept s (x ∷ xs) [] = s
-all_kept s (x ∷ xs) (v ∷ vs) = all_kept (kept s x x.goes v) xs vs
-
--- after the last word: it is stored, and the received words of internal channels become readable; a failed word is
--- stored nowhere
-abbrev pub after_last : SpiState → Run → (failed : Bool) → SpiState
-after_last s r true = s
-after_last s r false = all_kept (stored s (word_of r) (word_of r).goes r.transfer.incoming) r.words (received_with r)
-
--- the result of a job
-abbrev pub result_by : (failed : Bool) → AnswerName
-result_by true = SpiJobFailed
-result_by false = SpiJobOk
 
 -- the sequence ends with its job, or its next job waits
 abbrev pub sequence_after : SpiTable → SpiState → Pending → Option AnswerName → Outcome SpiState
@@ -266,19 +367,44 @@ abbrev pub faulted_run : (now : ℕ) → Option Run → Option Run
 faulted_run now None = None
 faulted_run now (Some r) = Some (record r { transfer = faulted now r.transfer })
 
+abbrev pub faulted_carrying : (now : ℕ) → Option Carrying → Option Carrying
+faulted_carrying now None = None
+faulted_carrying now (Some x) = Some (record x { run = record x.run { transfer = faulted now x.run.transfer } })
+
 -- a fill stores into a source array, and a fault meets the word in transfer
 abbrev pub moved : SpiTable → World → SpiState → Order → SpiState
 moved d w s (Fill c ws) = with_channel s c (filled ws (channel_of d c) (channel_at s c))
-moved d w s (SpiFault u) = with_run s u (faulted_run w.now (run_at s u))
+moved d w s (SpiFault u) = with_carried (with_run s u (faulted_run w.now (run_at s u))) u (faulted_carrying w.now (carried_at s u))
 moved d w s _ = s
 
 -- ---- the machine
 
+-- an act of Spi_SyncTransmit ends its sequence, or finds an error; any other call's act is always allowed
+abbrev pub act_by : SpiTable → World → SpiState → Call → (sends : Option ℕ) → Option (Outcome SpiState)
+act_by d w s call None = Some (acts d s call)
+act_by d w s call (Some q) = sending_ends d w s q (carried_for d s q)
+
+abbrev pub act_of : SpiTable → World → SpiState → Call → Option (Outcome SpiState)
+act_of d w s call = act_by d w s call (sent_by (Some call))
+
+-- a start is that of a call's word on a unit that sends so, and else that of the next job
+abbrev pub is_sync_number : SpiTable → Option ℕ → Bool
+is_sync_number d None = false
+is_sync_number d (Some u) = is_sync_unit d u
+
+abbrev pub sent_at : SpiTable → World → SpiState → Option ℕ → (received : ℕ) → (sends : Option ℕ) → Option (Outcome SpiState)
+sent_at d w s None received q = None
+sent_at d w s (Some u) received q = sent_word d w s u received q
+
+abbrev pub start_of : SpiTable → World → SpiState → Option ℕ → (made_by : Option Call) → (received : ℕ) → Option (Outcome SpiState)
+start_of d w s k made_by received =
+    if is_sync_number d k then sent_at d w s k received (sent_by made_by) else start_by d w s k received (next_at d s k)
+
 -- what happens
 abbrev pub happens : SpiTable → World → SpiState → Happening Call → Option (Outcome SpiState)
-happens d w s (Acts call times) = Some (acts d s call)
+happens d w s (Acts call times) = act_of d w s call
 happens d w s (Serves l received) = if ready w s l then Some (served d w s (unit_of l) received (run_of s (unit_of l))) else None
-happens d w s (Starts u made_by received) = start_by d w s (number_of u) received (next_at d s (number_of u))
+happens d w s (Starts u made_by received) = start_of d w s (number_of u) made_by received
 happens d w s (Aborts u) = None
 happens d w s (Moves order) = Some (outcome (moved d w s order) tells_nothing)
 happens d w s (Restarts reason) = Some (outcome first_state tells_nothing)

@@ -1,5 +1,5 @@
 -- What the laws of the machine speak of.
-use Rattle.std.specs.Prelude.{◌+◌, ◌++◌, drop, map, slice_get, ◌≡◌, ◌≤◌, ◌<◌, ◌⊎◌, ℕ, ◌==◌, find, Bool, true, false, ◌&&◌, ◌||◌, not, if◌then◌else◌, List, [], ◌∷◌, Contains, Option, Some, None}
+use Rattle.std.specs.Prelude.{◌+◌, ◌++◌, drop, map, slice_get, ◌≡◌, ◌≤◌, ◌<◌, ◌⊎◌, ℕ, ◌==◌, find, Bool, true, false, ◌&&◌, ◌||◌, not, if◌then◌else◌, List, [], ◌∷◌, Contains, Option, Some, None, is_some}
 use Rattle.std.specs.List.{list_any, AllByRecursion}
 use Rattle.mcal_base.specs.declared.answer_name.AnswerName.{AnswerName}
 use Rattle.mcal_base.specs.declared.answer_name.AnswerName.TheVariants.{SpiJobOk, SpiJobFailed, SpiSeqOk, SpiSeqPending, SpiSeqFailed, SpiSeqCanceled}
@@ -11,8 +11,8 @@ use Rattle.spi_machine.specs.declared.call.Call.{Call}
 use Rattle.spi_machine.specs.declared.call.Call.TheVariants.{Init, DeInit, SetAsyncMode, MainFunctionHandling, Sequence, Get}
 use Rattle.spi_machine.specs.declared.call.Query.TheVariants.{Status}
 use Rattle.spi_machine.specs.declared.call.SequenceCall.TheVariants.{Cancel}
-use Rattle.spi_machine.specs.Machine.{unit_of, run_of}
-use Rattle.spi_machine.specs.State.{SpiState, channel_at, run_at, job_notice, sequence_notice}
+use Rattle.spi_machine.specs.Machine.{unit_of, run_of, number_of, sent_by, carried_for, is_sync_number}
+use Rattle.spi_machine.specs.State.{SpiState, Carrying, channel_at, run_at, job_notice, sequence_notice}
 use Rattle.spi_machine.specs.Numbered.{word_at}
 use Rattle.spi_machine.specs.Pending.{Pending, is_of, is_pending, has_further, next_job, is_for, keeps_unit, priority_of, job_result, sequence_result}
 use Rattle.spi_machine.specs.Table.{job_of, priority_by, jobs_of, sequence_of, notifies_sequence}
@@ -85,6 +85,10 @@ needs_init Init = false
 needs_init MainFunctionHandling = false
 needs_init (Get Status) = false
 needs_init _ = true
+
+-- a call that sends a sequence and waits for its end
+abbrev pub is_sending : Call → Bool
+is_sending call = is_some (sent_by (Some call))
 
 -- ---- what happens to a sequence
 
@@ -208,14 +212,23 @@ pub record EndsJob (d : SpiTable) (u : ℕ) (p : Pending) (given : AnswerName) (
   pub result : job_result out.state.job_results (next_job d p) ≡ given
   pub notices : out.told.notices ≡ job_notice d (next_job d p) ++ (if is_pending p.sequence out.state.pending then [] else sequence_notice d p.sequence)
 
+-- the job of a sequence that a unit carries out for a call ends well with the word in transfer
+abbrev pub carried_well : Option Carrying → Bool
+carried_well None = false
+carried_well (Some x) = ends_well (Some x.run)
+
+abbrev pub sends_well : SpiTable → SpiState → (sequence : Option ℕ) → Bool
+sends_well d s None = false
+sends_well d s (Some q) = carried_well (carried_for d s q)
+
 -- received words may become readable: at the good end of a job, at an initialisation and at a reset
-abbrev pub renews : SpiState → Happening Call → Bool
-renews s (Acts call times) = is_init call
-renews s (Serves l received) = ends_well (run_of s (unit_of l))
-renews s (Starts u made_by received) = false
-renews s (Aborts u) = false
-renews s (Moves order) = false
-renews s (Restarts reason) = true
+abbrev pub renews : SpiTable → SpiState → Happening Call → Bool
+renews d s (Acts call times) = is_init call || sends_well d s (sent_by (Some call))
+renews d s (Serves l received) = ends_well (run_of s (unit_of l))
+renews d s (Starts u made_by received) = is_sync_number d (number_of u) && sends_well d s (sent_by made_by)
+renews d s (Aborts u) = false
+renews d s (Moves order) = false
+renews d s (Restarts reason) = true
 
 -- ---- where a word begins
 

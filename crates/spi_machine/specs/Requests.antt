@@ -18,7 +18,7 @@ use Rattle.spi_machine.specs.declared.call.ChannelCall.TheVariants.{WriteIb, Rea
 use Rattle.spi_machine.specs.declared.call.Pointer.{Pointer}
 use Rattle.spi_machine.specs.declared.call.Pointer.TheVariants.{Users, Null}
 use Rattle.spi_machine.specs.declared.call.SequenceCall.{SequenceCall}
-use Rattle.spi_machine.specs.declared.call.SequenceCall.TheVariants.{AsyncTransmit, Cancel}
+use Rattle.spi_machine.specs.declared.call.SequenceCall.TheVariants.{AsyncTransmit, Cancel, SyncTransmit}
 use Rattle.spi_machine.specs.declared.call.Query.TheVariants.{Status, JobResult, SequenceResult, HwUnitStatus}
 
 -- a number that is asked with, 0 where there is none
@@ -52,6 +52,7 @@ call_by services.SpiReadIb a b c e = Some (on_channel a ReadIb)
 call_by services.SpiSetupEb a b c e = Some (on_channel a (SetupEb (pointer_of b) (pointer_of c) (number_of e)))
 call_by services.SpiAsyncTransmit a b c e = Some (on_sequence a AsyncTransmit)
 call_by services.SpiCancel a b c e = Some (on_sequence a Cancel)
+call_by services.SpiSyncTransmit a b c e = Some (on_sequence a SyncTransmit)
 call_by services.SpiGetStatus a b c e = Some (Get Status)
 call_by services.SpiGetJobResult a b c e = Some (Get (JobResult (number_of a)))
 call_by services.SpiGetSequenceResult a b c e = Some (Get (SequenceResult (number_of a)))

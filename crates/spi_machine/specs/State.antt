@@ -1,5 +1,5 @@
 -- The state of the serial driver, and what is told.
-use Rattle.std.specs.Prelude.{ℕ, ◌==◌, nat_eq, Bool, true, false, not, if◌then◌else◌, List, [], ◌∷◌, length, Option, Some, None, slice_index_or}
+use Rattle.std.specs.Prelude.{ℕ, ◌==◌, nat_eq, Bool, true, false, ◌||◌, not, if◌then◌else◌, List, [], ◌∷◌, length, Option, Some, None, is_some, slice_index_or}
 use Rattle.std.specs.List.{list_any}
 use Rattle.mcal_base.specs.declared.answer_name.AnswerName.{AnswerName}
 use Rattle.mcal_base.specs.declared.notice.Notice.{Notice}
@@ -10,8 +10,8 @@ use Rattle.spi_machine.specs.declared.call.AsyncMode.TheVariants as modes
 use Rattle.spi_machine.specs.declared.table.SpiTable.{SpiTable}
 use Rattle.spi_machine.specs.Channels.{ChannelState, untouched}
 use Rattle.spi_machine.specs.Numbered.{with_item, word_at}
-use Rattle.spi_machine.specs.Pending.{Pending}
-use Rattle.spi_machine.specs.Table.{job_of, sequence_of, notifies_job, notifies_sequence}
+use Rattle.spi_machine.specs.Pending.{Pending, is_in_use, uses_channel}
+use Rattle.spi_machine.specs.Table.{job_of, sequence_of, jobs_of, notifies_job, notifies_sequence}
 use Rattle.spi_machine.specs.Transfers.{Run}
 
 -- uninitialised, or the asynchronous mode of an initialised module
@@ -19,6 +19,11 @@ pub data Mode : Type 0 where
   Off : Mode
   Polling : Mode
   Interrupt : Mode
+
+-- What a unit carries out for one call: the call's sequence, and its job that runs.
+pub record Carrying : Type 0 where
+  pub entry : Pending
+  pub run : Run
 
 -- The module. Lists are by number; what isn't there is as it was at first.
 pub record SpiState : Type 0 where
@@ -32,12 +37,14 @@ pub record SpiState : Type 0 where
   pub requests : ℕ
   -- what each unit runs, where it isn't free
   pub units : List (Option Run)
+  -- what each unit carries out for a call of Spi_SyncTransmit, where it isn't free
+  pub carried : List (Option Carrying)
   -- each word that was begun since the last reset on each unit: what was sent, and what came in
   pub wires : List (List (ℕ × ℕ))
 
 -- after power on and after a reset
 abbrev pub first_state : SpiState
-first_state = record { mode = Off; channels = []; job_results = []; sequence_results = []; pending = []; requests = 0; units = []; wires = [] }
+first_state = record { mode = Off; channels = []; job_results = []; sequence_results = []; pending = []; requests = 0; units = []; carried = []; wires = [] }
 
 abbrev pub is_off : Mode → Bool
 is_off Off = true
@@ -79,9 +86,23 @@ with_run s u r = record s { units = with_item None s.units u r }
 abbrev pub wire_at : SpiState → ℕ → List (ℕ × ℕ)
 wire_at s u = slice_index_or s.wires u []
 
--- a sequence is pending
+abbrev pub carried_at : SpiState → ℕ → Option Carrying
+carried_at s u = slice_index_or s.carried u None
+
+abbrev pub with_carried : SpiState → ℕ → Option Carrying → SpiState
+with_carried s u x = record s { carried = with_item None s.carried u x }
+
+-- a sequence is pending, or a unit carries one out
 abbrev pub is_busy : SpiState → Bool
-is_busy s = not (nat_eq (length s.pending) 0)
+is_busy s = not (nat_eq (length s.pending) 0) || list_any is_some s.carried
+
+-- a pending sequence, or one that a unit carries out, uses a channel
+abbrev pub carries_channel : SpiTable → (channel : ℕ) → Option Carrying → Bool
+carries_channel d c None = false
+carries_channel d c (Some x) = list_any (uses_channel d c) (jobs_of d x.entry.sequence)
+
+abbrev pub uses : SpiTable → SpiState → (channel : ℕ) → Bool
+uses d s c = is_in_use d c s.pending || list_any (carries_channel d c) s.carried
 
 -- a unit runs a job of the sequence
 abbrev pub runs_sequence : (sequence : ℕ) → Option Run → Bool

@@ -1,5 +1,6 @@
 -- The configured channels, jobs and sequences.
 use Rattle.std.specs.Prelude.{ℕ, zero, suc, ◌+◌, ◌*◌, ◌%◌, ◌==◌, Bool, true, false, not, if◌then◌else◌, List, [], ◌∷◌, length, take, Option, Some, None, slice_index_or}
+use Rattle.std.specs.List.{list_any}
 use Rattle.mcal_base.specs.Layout.{words_of}
 use Rattle.mcal_base.specs.declared.config.spi.SpiChannel.{SpiChannel}
 use Rattle.mcal_base.specs.declared.config.spi.SpiChannelType.{SpiChannelType}
@@ -91,6 +92,7 @@ table_of g = record {
   detect = g.dev_error_detect;
   classification = g.classification;
   levels = slice_index_or g.levels 0 1 ∷ slice_index_or g.levels 1 1 ∷ [];
+  sync = list_any (λ n. n == 0) g.sync_units ∷ list_any (λ n. n == 1) g.sync_units ∷ [];
   channels = channels_by_number g.channels;
   blocks = blocks_of (channels_by_number g.channels);
   jobs = jobs_by_number g.jobs;
@@ -106,6 +108,10 @@ job_of d j = slice_index_or d.jobs j None
 
 abbrev pub sequence_of : SpiTable → ℕ → Option Sequence
 sequence_of d q = slice_index_or d.sequences q None
+
+-- a unit sends by Spi_SyncTransmit alone
+abbrev pub is_sync_unit : SpiTable → (number : ℕ) → Bool
+is_sync_unit d u = slice_index_or d.sync u false
 
 -- ---- what is read of them; an object that isn't configured has nothing
 

@@ -1,6 +1,6 @@
 -- What frames read of the table: channels with the places of their words, and the jobs and channels that stand at
 -- places.
-use Rattle.std.specs.Prelude.{ℕ, zero, suc, ◌%◌, ◌==◌, Bool, false, ◌||◌, if◌then◌else◌, List, take, Option, Some, None, is_some, slice_get, slice_index_or}
+use Rattle.std.specs.Prelude.{ℕ, zero, suc, ◌+◌, ◌%◌, ◌^◌, ◌==◌, Bool, false, ◌||◌, if◌then◌else◌, List, take, Option, Some, None, is_some, slice_get, slice_index_or}
 use Rattle.spi_jobs.specs.declared.channel.Placed.{Placed}
 use Rattle.spi_machine.specs.declared.table.ChannelList.{ChannelList}
 use Rattle.spi_machine.specs.declared.table.JobList.{JobList}
@@ -8,7 +8,7 @@ use Rattle.spi_machine.specs.declared.table.Job.{Job}
 use Rattle.spi_machine.specs.declared.table.Sequence.{Sequence}
 use Rattle.spi_machine.specs.declared.table.SpiTable.{SpiTable}
 use Rattle.spi_machine.specs.declared.table.TheConstants.{NO_CHANNEL, NOWHERE, NO_CHANNELS, NO_JOBS}
-use Rattle.spi_machine.specs.Table.{job_of, sequence_of}
+use Rattle.spi_machine.specs.Table.{job_of, sequence_of, is_sync_unit}
 
 -- what an option has, or else this
 abbrev pub or_else : {A : Type 0} → A → Option A → A
@@ -75,3 +75,11 @@ unit_by (Some k) = k.unit % 2
 
 abbrev pub unit_of_sequence : SpiTable → ℕ → ℕ
 unit_of_sequence d q = unit_by (job_of d (job_at_place d q 0))
+
+-- the lines, as the bits of a mask, of the units that handlers or the main function serve
+abbrev pub served_lines : SpiTable → ℕ
+served_lines d = (if is_sync_unit d 0 then 0 else 2 ^ 26) + (if is_sync_unit d 1 then 0 else 2 ^ 27)
+
+-- a sequence is sent by Spi_SyncTransmit
+abbrev pub is_sync_sequence : SpiTable → ℕ → Bool
+is_sync_sequence d q = is_sync_unit d (unit_of_sequence d q)

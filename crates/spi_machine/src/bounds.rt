@@ -3,7 +3,7 @@ ghost use Rattle.spi_machine.specs.Bounds as spec;
 ghost use Rattle.spi_machine.specs.Table as table;
 
 use crate::call::{Call, ChannelCall, SequenceCall};
-use crate::table::SpiTable;
+use crate::table::{ChannelList, JobList, Sequence, SpiTable};
 use spi_jobs::Channel;
 
 /// The most steps of a handler, and of a request.
@@ -28,6 +28,9 @@ impl SpiTable {
             }
             Call::Sequence(_, SequenceCall::AsyncTransmit) => SERIAL_STEPS,
             Call::Sequence(_, SequenceCall::Cancel) => 96,
+            Call::Sequence(number, SequenceCall::SyncTransmit) => {
+                sent_steps(self, self.sequence(number))
+            }
         }
     }
 
@@ -39,6 +42,46 @@ impl SpiTable {
         let objects = counted(&self.channels) + counted(&self.jobs) + counted(&self.sequences);
         64 + 48 * objects + 8 * internal_words(&self.channels)
     }
+}
+
+/// Of `Spi_SyncTransmit`: 64 more for each job of the sequence, and 16 for each word.
+fn sent_steps(table: &SpiTable, sequence: Option<Sequence>) -> u32
+    ensures { result ≡ spec.sent_steps table.now sequence }
+{
+    match sequence {
+        Some(sequence) => 96 + jobs_steps(table, &sequence.jobs, sequence.jobs.count),
+        None => 96,
+    }
+}
+
+/// Of the first jobs of a list.
+fn jobs_steps(table: &SpiTable, jobs: &JobList, end: u8) -> u32
+    ensures is { result ≡ spec.jobs_steps table.now jobs.now end }
+    ensures few { result ≤ 16384 * end }
+{
+    if end == 0 || 16 < end {
+        return 0;
+    }
+    let job = match jobs.at(end - 1) {
+        Some(job) => 64 + words_steps(table, &table.channels_of(job), 4),
+        None => 0,
+    };
+    job + jobs_steps(table, jobs, end - 1)
+}
+
+/// Of the words of the first channels of a list.
+fn words_steps(table: &SpiTable, channels: &ChannelList, end: u8) -> u32
+    ensures is { result ≡ spec.words_steps table.now channels.now end }
+    ensures few { result ≤ 4080 * end }
+{
+    if end == 0 || 4 < end {
+        return 0;
+    }
+    let channel = match channels.at(end - 1) {
+        Some(number) => 16 * length_by(table.channel(u32::from(number))),
+        None => 0,
+    };
+    channel + words_steps(table, channels, end - 1)
 }
 
 /// How many of at most 16 objects are configured.

@@ -54,6 +54,8 @@ pub enum SequenceCall {
     AsyncTransmit,
     /// `Spi_Cancel`
     Cancel,
+    /// `Spi_SyncTransmit`
+    SyncTransmit,
 }
 
 /// What is asked without changing anything.
@@ -156,6 +158,7 @@ impl SequenceCall {
         match self {
             SequenceCall::AsyncTransmit => Service::SpiAsyncTransmit,
             SequenceCall::Cancel => Service::SpiCancel,
+            SequenceCall::SyncTransmit => Service::SpiSyncTransmit,
         }
     }
 }

@@ -1,4 +1,5 @@
-ghost use Rattle.std.specs.Prelude.{◌≡◌, ◌≤◌, slice_index_or, slice_get};
+ghost use Rattle.std.specs.Prelude.{◌≡◌, ◌≤◌, ◌==◌, slice_index_or, slice_get};
+ghost use Rattle.std.specs.List.{list_any};
 ghost use Rattle.spi_machine.specs.Table as spec;
 
 use crate::table::{ChannelList, Job, JobList, Sequence, SpiTable};
@@ -17,6 +18,10 @@ impl SpiTable {
             levels: [
                 level_at(&config.spi.levels, 0),
                 level_at(&config.spi.levels, 1),
+            ],
+            sync: [
+                is_sync(&config.spi.sync_units, 0),
+                is_sync(&config.spi.sync_units, 1),
             ],
             channels,
             blocks: blocks_of(&channels),
@@ -41,6 +46,25 @@ fn level_at(levels: &Short<u32, 2>, at: usize) -> u32
         Some(level) => *level,
         None => 1,
     }
+}
+
+/// Whether a unit is one of those that send by `Spi_SyncTransmit`.
+fn is_sync(units: &Short<u32, 2>, number: u32) -> bool
+    ensures { result ≡ list_any (λ n. n == number) units.now }
+{
+    is_listed(units.as_slice(), number)
+}
+
+/// Whether a number is among these.
+fn is_listed(numbers: &[u32], number: u32) -> bool
+    ensures { result ≡ list_any (λ n. n == number) numbers.now }
+{
+    for listed in numbers {
+        if *listed == number {
+            return true;
+        }
+    }
+    false
 }
 
 /// How many driver words stand before those of each channel: 64 of the module's, and those of the channels before it.

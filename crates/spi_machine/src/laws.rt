@@ -10,6 +10,8 @@ ghost use Rattle.mcal_base.specs.declared.error_name.ErrorName.TheVariants.{SpiU
 ghost use Rattle.service_outline.specs.Done.{answers, named};
 ghost use Rattle.spi_machine.specs.Promised as laws;
 ghost use Rattle.spi_machine.specs.Numbered.{word_at};
+ghost use Rattle.spi_machine.specs.Table.{is_sync_unit};
+ghost use Rattle.spi_machine.specs.Wiring.{is_sync_sequence};
 ghost use Rattle.spi_machine.specs.Runs.{Occurrence, after_all};
 ghost use Rattle.spi_machine.specs.Machine.{spi_machine, number_of, next_at, unit_of, job_words, as_begun, pending_of};
 ghost use Rattle.spi_machine.specs.State.{SpiState, first_state, channel_at, internal_word, is_busy, is_off, is_running, run_at, wire_at};
@@ -21,9 +23,10 @@ ghost use Rattle.spi_machine.specs.declared.call.Call.TheVariants.{Init, Sequenc
 ghost use Rattle.spi_machine.specs.declared.call.SequenceCall.TheVariants.{Cancel};
 ghost use Rattle.spi_machine.specs.declared.table.SpiTable.{SpiTable};
 
-/// An act is always allowed, and one that finds an error leaves the state and gives no notice.
+/// An act of every service but `Spi_SyncTransmit` is always allowed, and one that finds an error leaves the state and
+/// gives no notice.
 pub fn acts()
-    ensures allowed { (d : SpiTable) (w : World) (s : SpiState) (call : Call) (times : ℕ → ℕ) → IsSome ((spi_machine d).happens w s (Acts call times)) }
+    ensures allowed { (d : SpiTable) (w : World) (s : SpiState) (call : Call) (times : ℕ → ℕ) → laws.is_sending call ≡ false → IsSome ((spi_machine d).happens w s (Acts call times)) }
     ensures error { (d : SpiTable) (w : World) (s : SpiState) (call : Call) (times : ℕ → ℕ) (out : Outcome SpiState)
         → (spi_machine d).happens w s (Acts call times) ≡ Some out → ErrorLeaves s out }
 {}
@@ -52,10 +55,11 @@ pub fn next_job_is_the_best()
 {}
 
 /// A job's words are as they stood at its start, whatever happens while it runs. At its start they are the words of its
-/// channels as these stand, and each serving that goes on sends the next one of them.
+/// channels as these stand, and each serving that goes on sends the next one of them. On a unit that `Spi_SyncTransmit`
+/// uses a start is none of the next job.
 pub fn words_as_at_the_start()
     ensures start { (d : SpiTable) (w : World) (s : SpiState) (unit : units.Unit) (made_by : Option Call) (received : ℕ) (out : Outcome SpiState) (u : ℕ) (p : pending.Pending)
-        → (spi_machine d).happens w s (Starts unit made_by received) ≡ Some out → number_of unit ≡ Some u → next_at d s (Some u) ≡ Some p
+        → (spi_machine d).happens w s (Starts unit made_by received) ≡ Some out → number_of unit ≡ Some u → is_sync_unit d u ≡ false → next_at d s (Some u) ≡ Some p
         → run_at out.state u ≡ Some (begun w.now received p.sequence (job_words d s (next_job d p)) []) }
     ensures since { (d : SpiTable) (w : World) (s : SpiState) (h : Happening Call) (out : Outcome SpiState) (u : ℕ) (r after : Run)
         → (spi_machine d).happens w s h ≡ Some out → run_at s u ≡ Some r → run_at out.state u ≡ Some after → after.words ≡ r.words }
@@ -72,7 +76,7 @@ pub fn words_that_begin()
     ensures exactly { (d : SpiTable) (w : World) (s : SpiState) (h : Happening Call) (out : Outcome SpiState)
         → (spi_machine d).happens w s h ≡ Some out → is_some out.begins ≡ laws.is_beginning s h }
     ensures start { (d : SpiTable) (w : World) (s : SpiState) (unit : units.Unit) (made_by : Option Call) (received : ℕ) (out : Outcome SpiState) (u : ℕ) (p : pending.Pending)
-        → (spi_machine d).happens w s (Starts unit made_by received) ≡ Some out → number_of unit ≡ Some u → next_at d s (Some u) ≡ Some p
+        → (spi_machine d).happens w s (Starts unit made_by received) ≡ Some out → number_of unit ≡ Some u → is_sync_unit d u ≡ false → next_at d s (Some u) ≡ Some p
         → out.begins ≡ Some (as_begun d u (Some p) (slice_index_or (job_words d s (next_job d p)) 0 no_word)) }
     ensures serving { (d : SpiTable) (w : World) (s : SpiState) (line received : ℕ) (out : Outcome SpiState) (u : ℕ) (r : Run)
         → (spi_machine d).happens w s (Serves line received) ≡ Some out → unit_of line ≡ Some u → run_at s u ≡ Some r → goes_on r ≡ true
@@ -81,7 +85,7 @@ pub fn words_that_begin()
         → (spi_machine d).happens w s h ≡ Some out → laws.is_reset h ≡ false → wire_at out.state u ≡ wire_at s u ++ laws.shown_on u (laws.received_at h) out.begins }
 {}
 
-/// Between a request of a sequence and its end there is one result. Whatever happens, an initialisation and a reset
+/// Between a request of a sequence that `Spi_AsyncTransmit` sends and its end there is one result. Whatever happens, an initialisation and a reset
 /// excepted, a sequence stays pending or not, with its result and with nothing told; or it wasn't pending and is
 /// requested; or it was pending and ends: at a cancel, at the serving of a failed word, or where no further job of it is there. Its result is then
 /// cancelled, else failed, else OK, its notice is given where that is configured, and its jobs that never ran have the
@@ -89,7 +93,7 @@ pub fn words_that_begin()
 /// OK.
 pub fn one_end_for_each_request()
     ensures turns { (d : SpiTable) (w : World) (s : SpiState) (h : Happening Call) (out : Outcome SpiState) (q : ℕ)
-        → (spi_machine d).happens w s h ≡ Some out → laws.drops h ≡ false → laws.Turn d q s h out }
+        → (spi_machine d).happens w s h ≡ Some out → laws.drops h ≡ false → is_sync_sequence d q ≡ false → laws.Turn d q s h out }
     ensures initialised { (d : SpiTable) (w : World) (xs : List Occurrence) (times : ℕ → ℕ) (out : Outcome SpiState) (q : ℕ)
         → (spi_machine d).happens w (after_all d first_state xs) (Acts Init times) ≡ Some out → out.told.error ≡ None
         → laws.Renewed q (after_all d first_state xs) out }
@@ -156,5 +160,5 @@ pub fn failed_word()
 /// nothing else.
 pub fn received_after_a_good_end()
     ensures { (d : SpiTable) (w : World) (s : SpiState) (h : Happening Call) (out : Outcome SpiState) (c : ℕ)
-        → (spi_machine d).happens w s h ≡ Some out → laws.renews s h ≡ false → (channel_at out.state c).received ≡ (channel_at s c).received }
+        → (spi_machine d).happens w s h ≡ Some out → laws.renews d s h ≡ false → (channel_at out.state c).received ≡ (channel_at s c).received }
 {}

@@ -28,6 +28,7 @@ pub fn call_of(request: &Request) -> Call
         ),
         Service::SpiAsyncTransmit => on_sequence(first, SequenceCall::AsyncTransmit),
         Service::SpiCancel => on_sequence(first, SequenceCall::Cancel),
+        Service::SpiSyncTransmit => on_sequence(first, SequenceCall::SyncTransmit),
         Service::SpiGetStatus => Call::Get(Query::Status),
         Service::SpiGetJobResult => Call::Get(Query::JobResult(number(first))),
         Service::SpiGetSequenceResult => Call::Get(Query::SequenceResult(number(first))),

@@ -2,9 +2,11 @@ ghost use Rattle.std.specs.Prelude.{◌≡◌, slice_index_or, slice_get};
 ghost use Rattle.std.specs.List.{list_any};
 ghost use Rattle.run_model.specs.Machine.{select_of};
 ghost use Rattle.spi_machine.specs.Bounds as bounds;
+ghost use Rattle.spi_machine.specs.Checks as checks;
 ghost use Rattle.spi_machine.specs.Table as spec;
 ghost use Rattle.spi_machine.specs.Wiring as wiring;
 
+use crate::call::SequenceCall;
 use mcal_base::ModuleName;
 use spi_jobs::{Channel, Placed};
 
@@ -61,6 +63,8 @@ pub struct SpiTable {
     pub classification: u32,
     /// `Levels`: those of the lines of the two units.
     pub levels: [u32; 2],
+    /// `SyncUnits`: whether a unit sends by `Spi_SyncTransmit` alone, by number.
+    pub sync: [bool; 2],
     /// The channels by number, where they are configured.
     pub channels: [Option<Channel>; 16],
     /// How many of the module's driver words stand before those of a channel, by number.
@@ -300,13 +304,55 @@ impl SpiTable {
         }
     }
 
-    /// Whether a configured job uses the unit of a line.
+    /// Whether a unit sends by `Spi_SyncTransmit` alone.
+    pub fn is_sync(&self, unit: u8) -> bool
+        ensures { result ≡ spec.is_sync_unit self.now unit }
+    {
+        if unit < 2 {
+            self.sync[unit as usize]
+        } else {
+            false
+        }
+    }
+
+    /// Whether a sequence is sent by `Spi_SyncTransmit`: its unit is one of these.
+    fn is_sent_at_once(&self, sequence: u8) -> bool
+        ensures { result ≡ wiring.is_sync_sequence self.now sequence }
+    {
+        self.is_sync(self.unit_of(sequence))
+    }
+
+    /// Whether a call can't be about a sequence: it isn't configured, or it is sent by the other kind of transmission.
+    pub fn is_wrong_sequence(&self, number: u32, call: SequenceCall) -> bool
+        ensures { result ≡ checks.is_wrong_sequence self.now number call }
+    {
+        if number >= 8 || self.sequences[number as usize].is_none() {
+            return true;
+        }
+        let at_once = self.is_sent_at_once(number as u8);
+        match call {
+            SequenceCall::AsyncTransmit => at_once,
+            SequenceCall::SyncTransmit => !at_once,
+            SequenceCall::Cancel => false,
+        }
+    }
+
+    /// The lines, as the bits of a mask, of the units that handlers or the main function serve.
+    pub fn served_lines(&self) -> u32
+        ensures { result ≡ wiring.served_lines self.now }
+    {
+        let first = if self.is_sync(0) { 0 } else { 1 << 26 };
+        let second = if self.is_sync(1) { 0 } else { 1 << 27 };
+        first + second
+    }
+
+    /// Whether a configured job uses the unit of a line, and a handler serves it.
     pub fn uses(&self, line: u32) -> bool
         ensures { result ≡ bounds.is_used self.now line }
     {
         match line {
-            26 => self.uses_unit(0),
-            27 => self.uses_unit(1),
+            26 => self.has_handler(0),
+            27 => self.has_handler(1),
             _ => false,
         }
     }
@@ -315,14 +361,10 @@ impl SpiTable {
     pub fn level(&self, line: u32) -> u32
         ensures { result ≡ bounds.level_of self.now line }
     {
-        if self.uses(line) {
-            if line == 26 {
-                self.levels[0]
-            } else {
-                self.levels[1]
-            }
-        } else {
-            1
+        match line {
+            26 if self.uses_unit(0) => self.levels[0],
+            27 if self.uses_unit(1) => self.levels[1],
+            _ => 1,
         }
     }
 
@@ -333,6 +375,14 @@ impl SpiTable {
         ModuleName::Spi
     }
 
+    /// Whether jobs use a unit, and a handler or the main function serves it.
+    fn has_handler(&self, unit: u8) -> bool
+        ensures { result ≡ bounds.has_handler self.now unit }
+    {
+        self.uses_unit(unit) && !self.is_sync(unit)
+    }
+
+    /// Whether jobs use a unit.
     fn uses_unit(&self, unit: u8) -> bool
         ensures { result ≡ bounds.uses_unit self.now unit }
     {

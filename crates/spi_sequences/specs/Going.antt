@@ -121,3 +121,8 @@ InTransfer (Some w) t = WordAgrees w t
 abbrev pub UnitAgrees : SpiTable → Serial → Option Run → Option Going → Type 0
 UnitAgrees d x r None = (x.word ≡ None) × (r ≡ None)
 UnitAgrees d x r (Some g) = (t : Transfer) × (r ≡ Some (run_of d g t)) × InTransfer x.word t × (x.select ≡ select_of (select_by (job_of d (next_job d g.pending))))
+
+-- one that carries out a sequence for a call has its word in transfer; once that is done, another device may be selected
+abbrev pub CarriesAgrees : SpiTable → Serial → Option Run → Option Going → Type 0
+CarriesAgrees d x r None = (x.word ≡ None) × (r ≡ None)
+CarriesAgrees d x r (Some g) = (t : Transfer) × (r ≡ Some (run_of d g t)) × InTransfer x.word t

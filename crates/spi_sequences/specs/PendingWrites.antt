@@ -1,5 +1,5 @@
--- What a frame owes its window after its event: the moves that are left of a request, a start, a serving, a cancel or a
--- change of the whole module.
+-- What a frame owes its window after its event: the moves that are left of a request, a start, a serving, a cancel, a
+-- change of the whole module, or a word of a call that waits.
 use Rattle.std.specs.Prelude.{ℕ, zero, suc, ◌+◌, ◌-◌, ◌*◌, Bool, true, false, ◌&&◌, if◌then◌else◌, Option, Some, None}
 use Rattle.mcal_base.specs.declared.moves.Move.{Move}
 use Rattle.service_outline.specs.DeferredWrites.{DeferredWrites, deferring_writes, is_simple}
@@ -40,6 +40,9 @@ use Rattle.spi_sequences.specs.declared.service.serve.ServePlace.{ServePlace}
 use Rattle.spi_sequences.specs.declared.service.serve.ServePlace.TheVariants as serves
 use Rattle.spi_sequences.specs.declared.service.start.StartPlace.{StartPlace}
 use Rattle.spi_sequences.specs.declared.service.start.StartPlace.TheVariants as starts
+use Rattle.spi_sequences.specs.declared.service.sync.SyncBody.{SyncBody}
+use Rattle.spi_sequences.specs.declared.service.sync.SyncPlace.{SyncPlace}
+use Rattle.spi_sequences.specs.declared.service.sync.SyncPlace.TheVariants as sends
 use Rattle.spi_sequences.specs.declared.service.unit.UnitBody.{UnitBody}
 use Rattle.spi_sequences.specs.declared.service.unit.UnitPlace.{UnitPlace}
 use Rattle.spi_sequences.specs.declared.service.unit.UnitPlace.TheVariants as units
@@ -47,6 +50,7 @@ use Rattle.spi_sequences.specs.declared.service.whole.WholeBody.{WholeBody}
 use Rattle.spi_sequences.specs.declared.service.whole.WholeBody.TheVariants as wholes
 use Rattle.spi_sequences.specs.laws.services.CancelSteps.{cancel_work, cancel_takes}
 use Rattle.spi_sequences.specs.laws.services.ServeSteps.{commit_at, meets_at}
+use Rattle.spi_sequences.specs.laws.services.SyncSteps.{sync_work, sync_takes}
 use Rattle.spi_sequences.specs.laws.services.UnitSteps.{unit_work, unit_takes}
 use Rattle.spi_sequences.specs.laws.services.ModuleSteps.{whole_work, whole_takes}
 
@@ -87,6 +91,26 @@ unit_owes (units.Start p) = start_owes p
 unit_owes (units.Serve p) = serve_owes p
 unit_owes _ = false
 
+-- a sequence that a call sends has no order to go on in, and none to leave
+abbrev pub sent_owes : ServePlace → Bool
+sent_owes (serves.Further r v) = false
+sent_owes (serves.Again r a) = false
+sent_owes (serves.Drop r p) = false
+sent_owes p = serve_owes p
+
+abbrev pub sync_owes : SyncPlace → Bool
+sync_owes sends.Pend = true
+sync_owes (sends.Keep r p) = true
+sync_owes (sends.Commit r i p) = true
+sync_owes (sends.Result r) = true
+sync_owes (sends.Prepare i p) = true
+sync_owes sends.Run = true
+sync_owes sends.Stand = true
+sync_owes sends.Nexts = true
+sync_owes (sends.Next v) = true
+sync_owes (sends.Serve p) = sent_owes p
+sync_owes _ = false
+
 abbrev pub cancel_owes : CancelBody → Bool
 cancel_owes (cancels.Drop r p) = true
 cancel_owes _ = false
@@ -101,6 +125,7 @@ pub data PendingWrites : Type 0 where
   Units : UnitBody → PendingWrites
   Cancels : CancelBody → PendingWrites
   Wholes : WholeBody → PendingWrites
+  Sends : SyncBody → PendingWrites
 
 abbrev pub where_owed : Bool → PendingWrites → Option PendingWrites
 where_owed q x = if q then Some x else None
@@ -114,10 +139,14 @@ cancel_owed_at k = where_owed (cancel_owes k) (Cancels k)
 abbrev pub whole_owed : WholeBody → Option PendingWrites
 whole_owed k = where_owed (whole_owes k) (Wholes k)
 
+abbrev pub sync_owed : SyncBody → Option PendingWrites
+sync_owed k = where_owed (sync_owes k.place) (Sends k)
+
 abbrev pub owed_move : PendingWrites → Move
 owed_move (Units k) = unit_work k
 owed_move (Cancels k) = cancel_work k
 owed_move (Wholes k) = whole_work k
+owed_move (Sends k) = sync_work k
 
 -- nothing is owed before the event, and by a body that is done
 abbrev pub unless_done : Option Done → Option PendingWrites → Option PendingWrites
@@ -128,6 +157,7 @@ abbrev pub owed_left : PendingWrites → ℕ → Option PendingWrites
 owed_left (Units k) v = if unit_owes k.place then unless_done (unit_takes k v).1.done (unit_owed (unit_takes k v).0) else None
 owed_left (Cancels k) v = if cancel_owes k then unless_done (cancel_takes k v).1.done (cancel_owed_at (cancel_takes k v).0) else None
 owed_left (Wholes k) v = if whole_owes k then unless_done (whole_takes k v).1.done (whole_owed (whole_takes k v).0) else None
+owed_left (Sends k) v = if sync_owes k.place then unless_done (sync_takes k v).1.done (sync_owed (sync_takes k v).0) else None
 
 -- ---- how many moves follow, at most
 
@@ -223,6 +253,19 @@ unit_more d (units.Start p) = start_more p
 unit_more d (units.Serve p) = serve_more d p
 unit_more d _ = 0
 
+-- a job that began has at most twelve moves after its result, or after the sequence's
+abbrev pub sync_more : SpiTable → SyncPlace → ℕ
+sync_more d sends.Pend = 12
+sync_more d (sends.Keep r p) = 21 + keep_more p
+sync_more d (sends.Commit r i p) = 13 + 2 * (3 - i) + put_more p
+sync_more d (sends.Result r) = 12
+sync_more d (sends.Prepare i p) = 4 + 2 * (3 - i) + prepare_more p
+sync_more d sends.Run = 3
+sync_more d sends.Stand = 2
+sync_more d sends.Nexts = 1
+sync_more d (sends.Serve p) = serve_more d p
+sync_more d _ = 0
+
 abbrev pub cancel_more : CancelBody → ℕ
 cancel_more (cancels.Drop r p) = drop_more p
 cancel_more _ = 0
@@ -231,6 +274,7 @@ abbrev pub more_owed : PendingWrites → ℕ
 more_owed (Units k) = unit_more k.table k.place
 more_owed (Cancels k) = cancel_more k
 more_owed (Wholes k) = 0
+more_owed (Sends k) = sync_more k.table k.place
 
 -- ---- the basis with what is owed: loads and stores of the module's words, and writes that enable or disable its lines
 

@@ -1,5 +1,5 @@
 -- What frames hold, and how words and registers stand for the machine's state.
-use Rattle.std.specs.Prelude.{◌≡◌, ℕ, ◌+◌, ◌<◌, ◌≤◌, ◌==◌, nat_lt, Bool, true, false, ◌&&◌, ◌||◌, not, if◌then◌else◌, List, [], ◌∷◌, map, filter, take, drop, length, replicate, flat_map, Contains, Option, Some, None, is_some, slice_get, slice_index_or}
+use Rattle.std.specs.Prelude.{◌≡◌, ℕ, ◌+◌, ◌<◌, ◌≤◌, ◌==◌, nat_lt, Bool, true, false, ◌&&◌, ◌||◌, not, if◌then◌else◌, List, [], ◌∷◌, map, filter, take, drop, length, replicate, ◌++◌, flat_map, Contains, Option, Some, None, is_some, slice_get, slice_index_or}
 use Rattle.std.specs.List.{list_any}
 use Rattle.chip_model.specs.Chip.{Chip, word_of, source_length}
 use Rattle.chip_units.specs.Serials.{unit_at}
@@ -27,18 +27,22 @@ use Rattle.spi_jobs.specs.declared.channel.Placed.{Placed}
 use Rattle.spi_jobs.specs.declared.channel.Side.TheVariants.{Sent, Received}
 use Rattle.spi_machine.specs.Bounds.{HoldsArrays, is_own_word, is_serial, is_word_of, spi_setting}
 use Rattle.spi_machine.specs.Channels.{ChannelState, SetUp, is_users, untouched, words_from}
-use Rattle.spi_sequences.specs.Going.{Part, Going, GoingAgrees, UnitAgrees, is_to_begin, received_of, taken_of}
-use Rattle.spi_machine.specs.Machine.{moved}
+use Rattle.spi_sequences.specs.Going.{Part, Going, GoingAgrees, UnitAgrees, CarriesAgrees, is_to_begin, received_of, taken_of}
+use Rattle.spi_sequences.specs.declared.words.Position.{Position}
+use Rattle.spi_machine.specs.Machine.{has_done, moved}
 use Rattle.spi_machine.specs.Numbered.{first_items}
+use Rattle.spi_machine.specs.Promised.{has_failed}
 use Rattle.spi_machine.specs.Pending.{Pending, is_pending, shares_job, is_for, job_result, sequence_result}
-use Rattle.spi_machine.specs.State.{SpiState, Mode, Off, Polling, Interrupt, is_off, is_polling, is_interrupt, channel_at, run_at, is_running}
-use Rattle.spi_machine.specs.Table.{channel_of, jobs_of, length_by}
-use Rattle.spi_machine.specs.Wiring.{placed_of}
+use Rattle.spi_machine.specs.State.{SpiState, Carrying, Mode, Off, Polling, Interrupt, is_off, is_polling, is_interrupt, channel_at, run_at, is_running, carried_at}
+use Rattle.spi_machine.specs.Table.{channel_of, jobs_of, is_sync_unit, length_by}
+use Rattle.spi_machine.specs.Transfers.{Run}
+use Rattle.spi_machine.specs.Wiring.{placed_of, unit_of_sequence, is_sync_sequence}
 use Rattle.spi_sequences.specs.Words.{running_word, order_word, job_word, sequence_word, next_in, has_mark, started_bit, cancelled_bit}
 use Rattle.spi_machine.specs.declared.call.Call.{Call}
 use Rattle.spi_machine.specs.declared.call.Call.TheVariants.{Init}
 use Rattle.spi_machine.specs.declared.call.Call.TheVariants as calls
 use Rattle.spi_machine.specs.declared.call.ChannelCall.TheVariants.{WriteIb, ReadIb}
+use Rattle.spi_machine.specs.declared.call.SequenceCall.TheVariants.{SyncTransmit}
 use Rattle.spi_machine.specs.declared.call.Pointer.{Pointer}
 use Rattle.spi_machine.specs.declared.table.SpiTable.{SpiTable}
 use Rattle.spi_sequences.specs.declared.words.TheConstants.{STATE, NEXTS, MARKS}
@@ -75,6 +79,10 @@ pub data Reservation : Type 0 where
   Writing : (channel : ℕ) → Pointer → (bank count : ℕ) → (ready : Option ℕ) → Reservation
   -- it has pinned this bank of what the channel received, which has what it answered
   Reading : (channel bank : ℕ) → Reservation
+  -- it waits for the word in transfer of its sequence on this unit, at this place of the sequence's job at this place:
+  -- these banks have what came in before of internal channels, once the word is done it knows whether the word failed, and
+  -- the unit has selected this device
+  Sending : (number sequence next : ℕ) → Position → (banks : List ℕ) → (failed : Option Bool) → (device : ℕ) → Reservation
   -- the module is being initialised: these words have these values, these sides of channels have their first words, and
   -- this bank of a side is being filled
   Preparing : (stored : List (ℕ × ℕ)) → (readied : List (ℕ × Bool)) → Option (ℕ × Bool × Putting) → Reservation
@@ -100,11 +108,12 @@ words_in (Some a) = a.words
 -- what is held is the frame's, of a module that is initialised or is being so: what it writes are words that its
 -- channel is to send, and what it has pinned is its answer
 abbrev pub HeldRight : SpiTable → Mode → List ChannelState → ReservedBy Call Reservation → Reservation → Type 0
-HeldRight d mode cs h (Debt u) = (u < 2) × (is_off mode ≡ false)
+HeldRight d mode cs h (Debt u) = (u < 2) × (is_off mode ≡ false) × (is_sync_unit d u ≡ false)
 HeldRight d mode cs h (Cleared u) = Unit {0}
 HeldRight d mode cs h Handling = is_polling mode ≡ true
 HeldRight d mode cs h (Writing c p b i x) = (h.by ≡ Called (calls.Channel c (WriteIb p))) × IsReady (to_write (channel_of d c) p (slice_index_or cs c untouched).source) i x × (is_off mode ≡ false) × (is_some (channel_of d c) ≡ true)
 HeldRight d mode cs h (Reading c b) = (h.by ≡ Called (calls.Channel c ReadIb)) × (h.acted ≡ Some (named_with EOk (words_in h.acted))) × (is_off mode ≡ false)
+HeldRight d mode cs h (Sending u q n at banks failed device) = (h.by ≡ Called (calls.Sequence q SyncTransmit)) × (is_off mode ≡ false)
 HeldRight d mode cs h (Preparing stored readied x) = (h.by ≡ Called Init) × (is_off mode ≡ true)
 
 abbrev pub AllRight : SpiTable → Mode → List ChannelState → Reservations → Type 0
@@ -175,6 +184,8 @@ readied_in hs = flat_map (λ h. readied_by h.what) hs
 pub record View : Type 0 where
   pub mode : Mode
   pub pending : List Pending
+  -- the sequence that a unit carries out for a call
+  pub begun : (number : ℕ) → Option Pending
   pub requests : ℕ
   pub job_results : List AnswerName
   pub sequence_results : List AnswerName
@@ -184,10 +195,15 @@ pub record View : Type 0 where
   pub received : (channel : ℕ) → List ℕ
   pub sources : (channel : ℕ) → List ℕ
 
+abbrev pub entry_carried : Option Carrying → Option Pending
+entry_carried None = None
+entry_carried (Some x) = Some x.entry
+
 abbrev pub view : SpiState → View
 view s = record {
   mode = s.mode;
   pending = s.pending;
+  begun = λ u. entry_carried (carried_at s u);
   requests = s.requests;
   job_results = s.job_results;
   sequence_results = s.sequence_results;
@@ -197,6 +213,14 @@ view s = record {
   received = λ c. (channel_at s c).received;
   sources = λ c. (channel_at s c).source;
 }
+
+-- all sequences under way: those that are pending, and those that the units carry out for calls
+abbrev pub entries_begun : Option Pending → List Pending
+entries_begun None = []
+entries_begun (Some p) = p ∷ []
+
+abbrev pub all_of : View → List Pending
+all_of v = v.pending ++ (entries_begun (v.begun 0) ++ entries_begun (v.begun 1))
 
 -- a result that a job has when it isn't queued and doesn't run
 abbrev pub IsLast : AnswerName → Type 0
@@ -228,23 +252,38 @@ pub record IsEntry (d : SpiTable) (v : View) (p : Pending) : Type 0 where
 pub record Results (d : SpiTable) (v : View) : Type 0 where
   pub queued : (p : Pending) (i : ℕ) → Contains v.pending p → p.next ≤ i → i < length (jobs_of d p.sequence)
       → job_result v.job_results (slice_index_or (jobs_of d p.sequence) i 0) ≡ (if i == p.next && v.running p.sequence then SpiJobPending else SpiJobQueued)
-  pub last : (j : ℕ) → list_any (is_left d j) v.pending ≡ false → IsLast (job_result v.job_results j)
+  pub last : (j : ℕ) → list_any (is_left d j) (all_of v) ≡ false → IsLast (job_result v.job_results j)
   pub named : (q : ℕ) → q < 8 → IsOfSequence (sequence_result v.sequence_results q)
-  pub sequences : (q : ℕ) → q < 8 → (sequence_result v.sequence_results q ≡ SpiSeqPending → is_pending q v.pending ≡ true) × (is_pending q v.pending ≡ true → sequence_result v.sequence_results q ≡ SpiSeqPending)
+  pub sequences : (q : ℕ) → q < 8 → (sequence_result v.sequence_results q ≡ SpiSeqPending → is_pending q (all_of v) ≡ true) × (is_pending q (all_of v) ≡ true → sequence_result v.sequence_results q ≡ SpiSeqPending)
+
+-- a unit carries out sequences for calls, or starts jobs of pending ones; what never ran of such a sequence is queued,
+-- but for its job that runs
+pub record CarriesRight (d : SpiTable) (v : View) : Type 0 where
+  pub unit : (u : ℕ) (p : Pending) → v.begun u ≡ Some p → (u < 2) × (is_sync_unit d u ≡ true) × (unit_of_sequence d p.sequence ≡ u)
+  pub asked : (p : Pending) → Contains v.pending p → is_sync_sequence d p.sequence ≡ false
+  pub idle : (u : ℕ) → is_sync_unit d u ≡ true → v.idle u ≡ true
+  pub queued : (u : ℕ) (p : Pending) (i : ℕ) → v.begun u ≡ Some p → p.next ≤ i → i < length (jobs_of d p.sequence)
+      → job_result v.job_results (slice_index_or (jobs_of d p.sequence) i 0) ≡ (if i == p.next then SpiJobPending else SpiJobQueued)
+  pub off : is_off v.mode ≡ true → (u : ℕ) → v.begun u ≡ None
 
 -- no two pending sequences have a job in common, and an uninitialised module has none
 pub record IsSoundState (d : SpiTable) (v : View) : Type 0 where
-  pub entries : (p : Pending) → Contains v.pending p → IsEntry d v p
+  pub entries : (p : Pending) → Contains (all_of v) p → IsEntry d v p
   pub apart : (i j : ℕ) (p q : Pending) → i < j → slice_get v.pending i ≡ Some p → slice_get v.pending j ≡ Some q → (p.request < q.request) × (shares_job d p.sequence q.sequence ≡ false)
   pub requests : (p : Pending) → Contains v.pending p → p.request ≤ v.requests
   pub results : Results d v
+  pub carries : CarriesRight d v
   pub few : (u : ℕ) → 2 ≤ u → v.idle u ≡ true
   pub off : is_off v.mode ≡ true → (v.pending ≡ []) × ((u : ℕ) → v.idle u ≡ true)
 
--- what a unit runs is the next job of a pending sequence that has started
+-- what a unit runs is the next job of a pending sequence that has started, or of the one that it carries out
+abbrev pub RunsBy : (sync : Bool) → View → (number : ℕ) → Pending → Type 0
+RunsBy true v u p = v.begun u ≡ Some p
+RunsBy false v u p = Contains v.pending p × (p.started ≡ true)
+
 abbrev pub RunsNext : SpiTable → View → (number : ℕ) → Option Going → Type 0
 RunsNext d v u None = Unit {0}
-RunsNext d v u (Some g) = Contains v.pending g.pending × (g.pending.started ≡ true) × (is_for d u g.pending ≡ true)
+RunsNext d v u (Some g) = Contains (all_of v) g.pending × RunsBy (is_sync_unit d u) v u g.pending × (is_for d u g.pending ≡ true)
 
 -- ---- sequences
 
@@ -277,8 +316,9 @@ pub record PendingAgrees (m : Memory) (p : Pending) : Type 0 where
 pub record SequencesAgree (d : SpiTable) (m : Memory) (v : View) : Type 0 where
   pub sequences : (q : ℕ) → q < 8 → m (sequence_word q) ≡ sequence_code (sequence_result v.sequence_results q)
   pub pending : (p : Pending) → Contains v.pending p → PendingAgrees m p
-  pub had : (p : Pending) (i : ℕ) → Contains v.pending p → p.next ≤ i → i < length (jobs_of d p.sequence) → m (job_word (slice_index_or (jobs_of d p.sequence) i 0)) ≡ job_code (slice_index_or p.had i SpiJobOk)
-  pub jobs : (j : ℕ) → j < 16 → list_any (is_left d j) v.pending ≡ false → m (job_word j) ≡ job_code (job_result v.job_results j)
+  pub begun : (u : ℕ) (p : Pending) → v.begun u ≡ Some p → next_in (m NEXTS) p.sequence ≡ p.next
+  pub had : (p : Pending) (i : ℕ) → Contains (all_of v) p → p.next ≤ i → i < length (jobs_of d p.sequence) → m (job_word (slice_index_or (jobs_of d p.sequence) i 0)) ≡ job_code (slice_index_or p.had i SpiJobOk)
+  pub jobs : (j : ℕ) → j < 16 → list_any (is_left d j) (all_of v) ≡ false → m (job_word j) ≡ job_code (job_result v.job_results j)
   pub orders : (u : ℕ) → u < 2 → ranked.Holds (record { at = order_word u }) m (entries_of d v u)
 
 -- ---- units
@@ -370,13 +410,55 @@ pub record WordsAgree (d : SpiTable) (held : Reservations) (going : ℕ → Opti
   pub banks : (c : ℕ) (k : Channel) → channel_of d c ≡ Some k → k.internal ≡ true → BanksAgree d held going m v c k
   pub stored : (k n : ℕ) → Contains (stored_in held) (k, n) → (is_own_word d k ≡ true) × (m k ≡ n)
 
--- the lines of both units are enabled in interrupt mode alone
-abbrev pub LinesAgree : Mode → (enabled : ℕ) → Type 0
-LinesAgree mode enabled = (u : ℕ) → u < 2 → has_bit enabled (26 + u) ≡ is_interrupt mode
+-- the lines of the units are enabled in interrupt mode alone, and those of units that carry out sequences for calls never
+abbrev pub LinesAgree : SpiTable → Mode → (enabled : ℕ) → Type 0
+LinesAgree d mode enabled = (u : ℕ) → u < 2 → has_bit enabled (26 + u) ≡ is_interrupt mode && not (is_sync_unit d u)
 
 -- a free unit of which a sequence waits is owed a start
 abbrev pub AreOwed : SpiTable → Reservations → (going : ℕ → Option Going) → SpiState → Type 0
 AreOwed d held going s = (u : ℕ) (p : Pending) → u < 2 → going u ≡ None → Contains s.pending p → is_for d u p ≡ true → is_owed u held ≡ true
+
+-- ---- calls that wait
+
+-- the job that a unit runs for a call
+abbrev pub run_carried : Option Carrying → Option Run
+run_carried None = None
+run_carried (Some x) = Some x.run
+
+-- what a frame knows once its word is done: whether the word failed
+abbrev pub KnowsEnd : (now : ℕ) → Option Run → Option Bool → Type 0
+KnowsEnd now r None = Unit {0}
+KnowsEnd now r (Some failed) = (has_done now r ≡ true) × (has_failed r ≡ failed)
+
+-- the unit of a frame that waits carries out the frame's sequence, as the frame has it
+pub record IsSending (d : SpiTable) (chip : Chip) (w : World) (going : ℕ → Option Going) (s : SpiState) (u q n : ℕ) (at : Position) (banks : List ℕ) (failed : Option Bool) (device : ℕ) : Type 0 where
+  pub few : u < 2
+  pub sync : is_sync_unit d u ≡ true
+  pub job : Going
+  pub is : going u ≡ Some job
+  pub sequence : job.pending.sequence ≡ q
+  pub next : job.pending.next ≡ n
+  pub place : job.at ≡ at
+  pub select : (unit_at chip.serials u).select ≡ device
+  pub kept : (i : ℕ) (x : Part) (k : Channel) → slice_get job.parts i ≡ Some x → channel_of d x.channel ≡ Some k → k.internal ≡ true → 0 < taken_of at i (length x.values) → word_of chip (held_word (placed_of d x.channel)) ≡ slice_index_or banks i 0
+  pub end : KnowsEnd w.now (run_carried (carried_at s u)) failed
+
+abbrev pub SendingRight : SpiTable → Chip → World → (going : ℕ → Option Going) → SpiState → Reservation → Type 0
+SendingRight d chip w going s (Sending u q n at banks failed device) = IsSending d chip w going s u q n at banks failed device
+SendingRight d chip w going s _ = Unit {0}
+
+abbrev pub AllSend : SpiTable → Chip → World → (going : ℕ → Option Going) → SpiState → Reservations → Type 0
+AllSend d chip w going s [] = Unit {0}
+AllSend d chip w going s (h ∷ hs) = SendingRight d chip w going s h.what × AllSend d chip w going s hs
+
+-- a frame waits for a word of this sequence
+abbrev pub is_sent : (sequence : ℕ) → Reservation → Bool
+is_sent q (Sending u p n at banks failed device) = p == q
+is_sent q _ = false
+
+-- each sequence that a unit carries out is some frame's
+abbrev pub AreCarried : View → Reservations → Type 0
+AreCarried v held = (u : ℕ) (p : Pending) → v.begun u ≡ Some p → list_any (λ h. is_sent p.sequence h.what) held ≡ true
 
 -- ---- the agreement
 
@@ -394,12 +476,15 @@ pub record SpiRepresents (d : SpiTable) (held : Reservations) (chip : Chip) (w :
   -- what each unit does
   pub going : ℕ → Option Going
   pub nexts : (u : ℕ) → u < 2 → RunsNext d (view s) u (going u)
-  pub units : (u : ℕ) → u < 2 → UnitAgrees d (unit_at chip.serials u) (run_at s u) (going u)
+  pub units : (u : ℕ) → u < 2 → is_sync_unit d u ≡ false → UnitAgrees d (unit_at chip.serials u) (run_at s u) (going u)
+  pub sends : (u : ℕ) → u < 2 → is_sync_unit d u ≡ true → CarriesAgrees d (unit_at chip.serials u) (run_carried (carried_at s u)) (going u)
+  pub sending : AllSend d chip w going s held
+  pub carriers : AreCarried (view s) held
   pub words : WordsAgree d held going (word_of chip) (view s)
   pub set_ups : is_off s.mode ≡ false → (c : ℕ) (k : Channel) → channel_of d c ≡ Some k → k.internal ≡ false → word_of chip (set_up_word (placed_of d c)) ≡ set_up_code (channel_at s c).set_up
   pub sizes : is_off s.mode ≡ false → (c : ℕ) (k : Channel) → channel_of d c ≡ Some k → ChannelFits k (channel_at s c)
   pub arrays : (c : ℕ) → HoldsArrays (word_of chip) d s c
-  pub lines : LinesAgree s.mode chip.control.enabled
+  pub lines : LinesAgree d s.mode chip.control.enabled
   pub owed : AreOwed d held going s
 
 -- what all services of the driver stand on, but for the moves that a window owes. Places see the driver words, and what

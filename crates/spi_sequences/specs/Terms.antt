@@ -12,14 +12,15 @@ pub use Rattle.std.proofs.lemmas.List.{length-map, length-replicate, length-take
 pub use Rattle.std.proofs.lemmas.List.{map-append, take_all, take_more as one_more}
 pub use Rattle.std.proofs.lemmas.List.Concat.{flat_map-cons}
 pub use Rattle.std.proofs.lemmas.List.Elements.{Contains-append_left, Contains-get_or, Contains-push}
-pub use Rattle.std.proofs.lemmas.List.Elements.{Contains-push_cases, filter-append}
+pub use Rattle.std.proofs.lemmas.List.Elements.{Contains-append_cases, Contains-append_right, Contains-push_cases}
+pub use Rattle.std.proofs.lemmas.List.Elements.{filter-append}
 pub use Rattle.std.proofs.lemmas.List.Sums.{count_by-le-length, sum_by-cons}
 pub use Rattle.std.proofs.lemmas.Nat.{and_assoc, and_le_r, and_mask, and_mod, and_or_apart, and_or_self, and_shr}
 pub use Rattle.std.proofs.lemmas.Nat.{or_disjoint, pow_apart}
 pub use Rattle.std.proofs.lemmas.Option.{same_Some, slice_get-map}
 pub use Rattle.std.specs.List.{enumerate_from, list_any}
 pub use Rattle.std.specs.Option.{option_map}
-pub use Rattle.plain_facts.specs.{Numbers.{eq_isnt, same_or_other}, Options.{some_is}, Truths.{clear_apart, set_apart}}
+pub use Rattle.plain_facts.specs.{Numbers.{eq_isnt, same_or_other}, Options.{some_is}, Truths.{and_false, clear_apart, set_apart}}
 pub use Rattle.mcal_base.proofs.BitLaws.{has_bit-or, has_bit-pow_other, has_bit-without, has_bit-zero}
 pub use Rattle.mcal_base.specs.{Bits.{has_bit}, Layout.{is_within, place_of, start_of}, declared.TheConstants.{WORDS}}
 pub use Rattle.mcal_base.specs.{declared.answer.Answer.{Answer}, declared.answer_name.AnswerName.{AnswerName}}
@@ -100,7 +101,7 @@ pub use Rattle.spi_machine.proofs.{Acts.{act-leaves}, Numbers.{channel-seen, ite
 pub use Rattle.spi_machine.proofs.{Results.{repeats-drop, results-other, results-own}}
 pub use Rattle.spi_machine.specs.{Bounds.{HoldsArrays, internal_by, is_for_lines, is_own_word, is_used, is_users_place}}
 pub use Rattle.spi_machine.specs.{Bounds.{is_users_word, is_word_of, may, may_name, may_write, own_words, spi_setting}}
-pub use Rattle.spi_machine.specs.{Bounds.{uses_by, uses_unit, whole_steps}, Channels.{ChannelState, filled}}
+pub use Rattle.spi_machine.specs.{Bounds.{has_handler, uses_by, uses_unit, whole_steps}, Channels.{ChannelState, filled}}
 pub use Rattle.spi_machine.specs.{Channels.{initialised, is_users, set_up_or, SetUp, untouched, words_from}}
 pub use Rattle.spi_machine.specs.{Channels.{written_from}, Checks.{answer_refused, error_by, service_of}}
 pub use Rattle.spi_machine.specs.{Fits.{AreDifferent, block_of, FitsChannel, FitsSpi}, Machine.{accepted, acts_by}}
@@ -129,12 +130,17 @@ pub use Rattle.spi_machine.specs.{declared.call.Pointer.{Pointer}, declared.call
 pub use Rattle.spi_machine.specs.{declared.call.Query.{Query}, declared.call.Query.TheVariants.{HwUnitStatus}}
 pub use Rattle.spi_machine.specs.{declared.call.Query.TheVariants.{JobResult, SequenceResult, Status}}
 pub use Rattle.spi_machine.specs.{declared.call.SequenceCall.{SequenceCall}}
-pub use Rattle.spi_machine.specs.{declared.call.SequenceCall.TheVariants.{AsyncTransmit, Cancel}}
+pub use Rattle.spi_machine.specs.{declared.call.SequenceCall.TheVariants.{AsyncTransmit, Cancel, SyncTransmit}}
+pub use Rattle.spi_machine.specs.{Machine.{faulted_carrying}, Promised.{has_failed}, State.{carried_at, Carrying}}
+pub use Rattle.spi_machine.specs.{State.{carries_channel, uses, with_carried}, Table.{is_sync_unit}}
+pub use Rattle.spi_machine.specs.{Wiring.{is_sync_sequence, served_lines}}
 pub use Rattle.spi_machine.specs.{declared.table.Job.{Job}, declared.table.Sequence.{Sequence}}
 pub use Rattle.spi_machine.specs.{declared.table.SpiTable.{SpiTable}, declared.table.TheConstants.{NO_CHANNEL}}
 pub use Rattle.spi_sequences.specs.{Going.{ExternalAgrees, goes_by, Going, GoingAgrees, InternalAgrees, InTransfer}}
 pub use Rattle.spi_sequences.specs.{Going.{Part, PartBy, run_of, UnitAgrees, width_by, WordAgrees, words_of}}
-pub use Rattle.spi_sequences.specs.{PendingWrites.{cancel_owed_at, Cancels, commit_more, commits_left, drop_more}}
+pub use Rattle.spi_sequences.specs.{Going.{CarriesAgrees}, Refinement.{all_of, AllSend, CarriesRight, entries_begun}}
+pub use Rattle.spi_sequences.specs.{Refinement.{AreCarried, entry_carried, is_sent, IsSending, KnowsEnd, run_carried, RunsBy, Sending}}
+pub use Rattle.spi_sequences.specs.{Refinement.{SendingRight}, PendingWrites.{cancel_owed_at, Cancels, commit_more, commits_left, drop_more}}
 pub use Rattle.spi_sequences.specs.{PendingWrites.{keep_more, more_owed, next_more, owed_left, owed_move}}
 pub use Rattle.spi_sequences.specs.{PendingWrites.{PendingWrites, prepare_more, put_more, search_more, spi_basis}}
 pub use Rattle.spi_sequences.specs.{PendingWrites.{spi_owing, take_more, unit_more, unit_owed, unit_owes, Units}}

@@ -1,4 +1,4 @@
-ghost use Rattle.std.specs.Prelude.{◌≡◌, ◌==◌, false};
+ghost use Rattle.std.specs.Prelude.{◌≡◌, ◌==◌, ◌&&◌, not, false};
 ghost use Rattle.spi_machine.specs.Checks as checks;
 ghost use Rattle.spi_machine.specs.Table as table;
 ghost use Rattle.spi_machine.specs.Wiring as wiring;
@@ -10,6 +10,7 @@ use crate::service::query::{JobPlace, JobQuery, QueryBody};
 use crate::service::read::{ReadBody, ReadPlace};
 use crate::service::request::RequestPlace;
 use crate::service::set_up::SetUpBody;
+use crate::service::sync::SyncBody;
 use crate::service::unit::{FrameRole, UnitBody, UnitPlace};
 use crate::service::whole::{Whole, WholeBody};
 use crate::service::write::{WriteBody, Written};
@@ -82,7 +83,10 @@ impl Asked {
                     ),
                 }
             }
-            Call::Sequence(number, _) | Call::Get(Query::SequenceResult(number)) => {
+            Call::Sequence(number, call) => {
+                (uninit, self.table.is_wrong_sequence(number, call), false)
+            }
+            Call::Get(Query::SequenceResult(number)) => {
                 (uninit, self.table.sequence(number).is_none(), false)
             }
             Call::Get(Query::JobResult(number)) => {
@@ -121,7 +125,7 @@ impl Asked {
                 Looked::Goes(service::init_body(InitBody { table, place }))
             }
             Call::DeInit => looks(Whole::DeInit),
-            Call::SetAsyncMode(mode) => looks(Whole::Mode(mode)),
+            Call::SetAsyncMode(mode) => looks(Whole::Mode(mode, table.served_lines())),
             Call::MainFunctionHandling => self.begin_main(state),
             Call::Channel(number, call) => self.begin_channel((number % 256) as u8, call),
             Call::Sequence(number, call) => self.begin_sequence((number % 256) as u8, call),
@@ -129,7 +133,8 @@ impl Asked {
         }
     }
 
-    /// The main function serves in polling mode alone.
+    /// The main function serves in polling mode alone, and begins with the second unit where the first one sends by
+    /// `Spi_SyncTransmit`.
     fn begin_main(&self, state: u32) -> Looked<SpiBody>
         ensures { result ≡ spec.main_begun self.now.table (state == 1) }
     {
@@ -137,7 +142,7 @@ impl Asked {
             Looked::Goes(service::unit_body(UnitBody {
                 table: self.table,
                 errand: FrameRole::Main,
-                unit: 0,
+                unit: if self.table.is_sync(0) { 1 } else { 0 },
                 place: UnitPlace::Act,
             }))
         } else {
@@ -181,6 +186,11 @@ impl Asked {
                 unit,
                 place: UnitPlace::Request(RequestPlace::Look(0)),
             })),
+            SequenceCall::SyncTransmit => {
+                Looked::Goes(service::sync_body(SyncBody::new(self.table, sequence, unit)))
+            }
+            // one that is sent at once isn't cancelled
+            SequenceCall::Cancel if self.table.is_sync(unit) => done_with(nothing()),
             SequenceCall::Cancel => Looked::Goes(service::cancel_body(CancelBody::Result(
                 Cancelled {
                     sequence,
@@ -256,7 +266,9 @@ fn refused(call: Call) -> Reply
         Call::DeInit
         | Call::SetAsyncMode(_)
         | Call::Channel(..)
-        | Call::Sequence(_, SequenceCall::AsyncTransmit) => named(AnswerName::ENotOk),
+        | Call::Sequence(_, SequenceCall::AsyncTransmit | SequenceCall::SyncTransmit) => {
+            named(AnswerName::ENotOk)
+        }
     }
 }
 

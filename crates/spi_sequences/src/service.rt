@@ -8,6 +8,7 @@ pub mod request;
 pub mod serve;
 pub mod set_up;
 pub mod start;
+pub mod sync;
 pub mod unit;
 pub mod whole;
 pub mod write;
@@ -21,6 +22,7 @@ use query::QueryBody;
 use read::ReadBody;
 use service_outline::Or;
 use set_up::SetUpBody;
+use sync::SyncBody;
 use unit::UnitBody;
 use whole::WholeBody;
 use write::WriteBody;
@@ -31,8 +33,8 @@ pub type ModuleBody = Or<InitBody, WholeBody>;
 /// The bodies of the calls about a channel.
 pub type ChannelBody = Or<SetUpBody, Or<WriteBody, ReadBody>>;
 
-/// The bodies that start and serve a unit, and that of a cancel.
-pub type SequenceBody = Or<UnitBody, CancelBody>;
+/// The bodies that start and serve a unit, that of a cancel, and that of a sequence that is sent at once.
+pub type SequenceBody = Or<UnitBody, Or<CancelBody, SyncBody>>;
 
 /// A place in any body of the driver.
 pub type SpiBody = Or<Or<ModuleBody, QueryBody>, Or<ChannelBody, SequenceBody>>;
@@ -82,5 +84,11 @@ pub fn unit_body(body: UnitBody) -> SpiBody
 pub(crate) fn cancel_body(body: CancelBody) -> SpiBody
     ensures { result ≡ spec.cancel_body body }
 {
-    Or::Second(Or::Second(Or::Second(body)))
+    Or::Second(Or::Second(Or::Second(Or::First(body))))
+}
+
+pub(crate) fn sync_body(body: SyncBody) -> SpiBody
+    ensures { result ≡ spec.sync_body body }
+{
+    Or::Second(Or::Second(Or::Second(Or::Second(body))))
 }

@@ -10,9 +10,11 @@ use Rattle.spi_jobs.specs.declared.channel.Side.TheVariants.{Sent, Received}
 use Rattle.spi_jobs.specs.declared.finding.Find.{Find}
 use Rattle.spi_jobs.specs.declared.finding.Find.TheVariants as finds
 use Rattle.spi_jobs.specs.declared.keeping.Taker.{Taker}
-use Rattle.spi_machine.specs.State.{SpiState, job_notice, sequence_notice, run_at}
+use Rattle.spi_machine.specs.State.{SpiState, carried_at, job_notice, sequence_notice, run_at}
+use Rattle.spi_machine.specs.Table.{is_sync_unit}
 use Rattle.spi_machine.specs.Transfers.{JobWord, Run, is_done, no_word, received_with}
 use Rattle.spi_machine.specs.declared.table.SpiTable.{SpiTable}
+use Rattle.spi_sequences.specs.Refinement.{run_carried}
 use Rattle.spi_sequences.specs.Words.{cancelled_bit, has_mark, position_in, position_word, run_in, running_word}
 use Rattle.spi_sequences.specs.declared.service.serve.Arrived.{Arrived}
 use Rattle.spi_sequences.specs.declared.service.serve.SequenceNext.{SequenceNext}
@@ -26,16 +28,20 @@ use Rattle.spi_sequences.specs.laws.services.ServeSteps.{after_job, begins_of, c
 
 -- ---- what was loaded and read
 
+-- the job that a unit runs: of a pending sequence, or of the one that it carries out for a call
+abbrev pub unit_run : SpiTable → SpiState → (number : ℕ) → Option Run
+unit_run d s u = if is_sync_unit d u then run_carried (carried_at s u) else run_at s u
+
 -- the word in transfer of a unit is done, and this says whether it failed
-pub record IsDone (s : SpiState) (now u : ℕ) (bad : Bool) : Type 0 where
+pub record IsDone (d : SpiTable) (s : SpiState) (now u : ℕ) (bad : Bool) : Type 0 where
   pub run : Run
-  pub is : run_at s u ≡ Some run
+  pub is : unit_run d s u ≡ Some run
   pub done : is_done now run.transfer ≡ true
   pub failed : run.transfer.failed ≡ bad
 
 -- the unit's words are these
-pub record IsServed (m : Memory) (s : SpiState) (now u : ℕ) (r : Served) : Type 0 where
-  pub done : IsDone s now u r.failed
+pub record IsServed (d : SpiTable) (m : Memory) (s : SpiState) (now u : ℕ) (r : Served) : Type 0 where
+  pub done : IsDone d s now u r.failed
   pub run : run_in (m (running_word u)) ≡ Some r.run
   pub at : position_in (m (position_word u)) ≡ r.at
 
@@ -44,13 +50,13 @@ abbrev pub asked_word : Placed → (place : ℕ) → ℕ
 asked_word x i = if x.channel.internal && i == 0 then control_word x Received else held_word x
 
 pub record IsTaken (d : SpiTable) (m : Memory) (s : SpiState) (now u : ℕ) (r : Served) (t : Taker) : Type 0 where
-  pub served : IsServed m s now u r
+  pub served : IsServed d m s now u r
   pub taker : t ≡ taker_of (channel_served d r) r.at.word (m (asked_word (channel_served d r) r.at.word))
 
 -- this came in, unless it failed
 pub record IsArrived (d : SpiTable) (m : Memory) (s : SpiState) (now u : ℕ) (a : Arrived) : Type 0 where
   pub taken : IsTaken d m s now u a.served a.taker
-  pub word : (run : Run) → run_at s u ≡ Some run → run.transfer.failed ≡ false → a.word ≡ run.transfer.incoming
+  pub word : (run : Run) → unit_run d s u ≡ Some run → run.transfer.failed ≡ false → a.word ≡ run.transfer.incoming
 
 -- a further word is there, at this place
 pub record IsFurther (d : SpiTable) (m : Memory) (s : SpiState) (now u : ℕ) (a : Arrived) (p : Position) : Type 0 where
@@ -82,20 +88,24 @@ pub record IsLast (d : SpiTable) (m : Memory) (s : SpiState) (now u : ℕ) (a : 
 abbrev pub Footing : Type 0
 Footing = Memory × (ℕ → ℕ) × (ℕ → ℕ)
 
+abbrev pub word_place : SpiTable → (number : ℕ) → ServePlace → Footing → World → SpiState → Type 0
+word_place d u serve.Shut f w s = Unit {0}
+word_place d u serve.State f w s = Unit {0}
+word_place d u (serve.Running failed) f w s = IsDone d s w.now u failed
+word_place d u (serve.Position r failed) f w s = IsDone d s w.now u failed × (run_in (f.0 (running_word u)) ≡ Some r)
+word_place d u (serve.Taker r) f w s = IsServed d f.0 s w.now u r
+word_place d u (serve.Receive r t) f w s = IsTaken d f.0 s w.now u r t
+word_place d u (serve.Width a p) f w s = IsFurther d f.0 s w.now u a p
+word_place d u (serve.Find a p x) f w s = IsFurther d f.0 s w.now u a p × (f.2 u ≡ (channel_next d a p).channel.width) × IsFinding f.0 (channel_next d a p) p.word x
+word_place d u (serve.Begin a p v) f w s = IsFurther d f.0 s w.now u a p × (f.2 u ≡ (channel_next d a p).channel.width) × ((run : Run) → unit_run d s u ≡ Some run → v ≡ (word_after run).sent)
+word_place d u (serve.Marks a) f w s = IsLast d f.0 s w.now u a
+word_place d u (serve.Nexts a c) f w s = IsLast d f.0 s w.now u a × (c ≡ has_mark (f.0 MARKS) (cancelled_bit a.served.run.sequence))
+word_place d u (serve.Acknowledge a c) f w s = IsLast d f.0 s w.now u a × (c ≡ after_job d a.served (has_mark (f.0 MARKS) (cancelled_bit a.served.run.sequence)) (f.0 NEXTS))
+word_place d u _ f w s = ⊥
+
+-- those of a frame that serves: its unit starts jobs of pending sequences
 abbrev pub serve_place : SpiTable → (number : ℕ) → ServePlace → Footing → World → SpiState → Type 0
-serve_place d u serve.Shut f w s = Unit {0}
-serve_place d u serve.State f w s = Unit {0}
-serve_place d u (serve.Running failed) f w s = IsDone s w.now u failed
-serve_place d u (serve.Position r failed) f w s = IsDone s w.now u failed × (run_in (f.0 (running_word u)) ≡ Some r)
-serve_place d u (serve.Taker r) f w s = IsServed f.0 s w.now u r
-serve_place d u (serve.Receive r t) f w s = IsTaken d f.0 s w.now u r t
-serve_place d u (serve.Width a p) f w s = IsFurther d f.0 s w.now u a p
-serve_place d u (serve.Find a p x) f w s = IsFurther d f.0 s w.now u a p × (f.2 u ≡ (channel_next d a p).channel.width) × IsFinding f.0 (channel_next d a p) p.word x
-serve_place d u (serve.Begin a p v) f w s = IsFurther d f.0 s w.now u a p × (f.2 u ≡ (channel_next d a p).channel.width) × ((run : Run) → run_at s u ≡ Some run → v ≡ (word_after run).sent)
-serve_place d u (serve.Marks a) f w s = IsLast d f.0 s w.now u a
-serve_place d u (serve.Nexts a c) f w s = IsLast d f.0 s w.now u a × (c ≡ has_mark (f.0 MARKS) (cancelled_bit a.served.run.sequence))
-serve_place d u (serve.Acknowledge a c) f w s = IsLast d f.0 s w.now u a × (c ≡ after_job d a.served (has_mark (f.0 MARKS) (cancelled_bit a.served.run.sequence)) (f.0 NEXTS))
-serve_place d u _ f w s = ⊥
+serve_place d u p f w s = (is_sync_unit d u ≡ false) × word_place d u p f w s
 
 -- the moves of the window that are left, at most, but for its first and last one, and the steps
 abbrev pub find_room : Find → ℕ

@@ -78,6 +78,13 @@ pub use Rattle.spi_sequences.specs.{Going.{is_ahead, is_to_begin, Part, PartBy, 
 pub use Rattle.spi_sequences.specs.{Going.{UnitAgrees, width_by, WordAgrees, words_before, words_of}}
 pub use Rattle.spi_sequences.specs.{PendingWrites.{commit_more, commits_left, keep_more, serve_more, serve_owes}}
 pub use Rattle.spi_sequences.specs.{PendingWrites.{spi_owing, unit_owed, Units, unless_done, where_owed}}
+pub use Rattle.spi_machine.specs.{State.{carried_at}, Table.{is_sync_unit}, Wiring.{is_sync_sequence}}
+pub use Rattle.spi_sequences.specs.{Going.{CarriesAgrees}, Refinement.{all_of, AllSend, entries_begun, run_carried}}
+pub use Rattle.spi_sequences.specs.{Refinement.{RunsBy}}
+pub use Rattle.spi_sequences.specs.laws.{words.AllSequences.{all_carried, all_cases, all_pending, aside_pending}}
+pub use Rattle.spi_sequences.specs.laws.{words.SendsKept.{sends_as}, words.WordsToState.{going_asked, runs_none_sync}}
+pub use Rattle.spi_sequences.specs.laws.{bookkeeping.SequenceEnded.{Leaves, leaves_pending}}
+pub use Rattle.std.proofs.lemmas.List.Folds.{list_any-append}
 pub use Rattle.spi_sequences.specs.{Refinement.{AllRight, AreOwed, BanksAgree, Debt, entries_of, HasPart, HeldRight}}
 pub use Rattle.spi_sequences.specs.{Refinement.{is_left, is_owed, IsEntry, IsOfSequence, IsReady, IsSoundState}}
 pub use Rattle.spi_sequences.specs.{Refinement.{job_code, Keeps, KeepsNone, or_rest, PendingAgrees, Pins, PinsNone}}
@@ -135,4 +142,21 @@ pub use Rattle.spi_sequences.specs.laws.{words.WordsToState.{next_small, none_an
 pub use Rattle.spi_sequences.specs.laws.{words.WordsToState.{one_unit, other_number, running_says, same_number}}
 pub use Rattle.spi_serving.specs.Serving.{asked_word, Footing, IsArrived, IsDone, IsFinding, IsFurther, IsLast}
 pub use Rattle.spi_serving.specs.Serving.{IsServed, IsTaken, notices_by, serve_ahead, serve_fuel, serve_place}
-pub use Rattle.spi_serving.specs.Serving.{serve_room, word_after}
+pub use Rattle.spi_serving.specs.Serving.{serve_room, unit_run, word_after, word_place}
+pub use Rattle.spi_sequences.specs.laws.services.UnitSteps.{main_over}
+pub use Rattle.shapes_on_chip.specs.{Parts.{CommitsAfter}}
+pub use Rattle.spi_jobs.specs.{Parts.{has_ended, keep_ends, keep_move}}
+pub use Rattle.word_shapes.specs.{TripleBuffer.{take_move}}
+pub use Rattle.spi_machine.specs.{Machine.{faulted_carrying}, State.{Carrying, is_interrupt}}
+pub use Rattle.spi_sequences.specs.{PendingWrites.{owed_left, owed_move, owes_move, PendingWrites}, Refinement.{AreCarried, mode_word}}
+pub use Rattle.spi_sequences.specs.laws.{services.ServeSteps.{serve_keeps, serve_lets}}
+pub use Rattle.spi_sequences.specs.laws.{words.AllSequences.{none_under_way}}
+pub use Rattle.spi_sequences.specs.laws.services.ServeSteps.{serve_keeps_last}
+pub use Rattle.spi_jobs.specs.Parts.{commit_ends}
+pub use Rattle.spi_jobs.specs.declared.banks.Commit.{Commit}
+pub use Rattle.run_model.specs.Machine.{outcome, tells_nothing}
+pub use Rattle.spi_machine.specs.State.{Interrupt}
+pub use Rattle.spi_jobs.specs.Parts.{keep_left}
+pub use Rattle.word_shapes.specs.TripleBuffer.{put_left, put_move}
+pub use Rattle.shapes_on_chip.specs.OnChip.{HasWords}
+pub use Rattle.service_outline.specs.laws.Words.{length_after}

@@ -58,9 +58,10 @@ pub use Rattle.spi_machine.specs.{Fits.{FitsSpi}, Machine.{as_begun, faulted_run
 pub use Rattle.spi_machine.specs.{Machine.{moved, next_at, next_by, number_of as unit_number, start_by, with_word}}
 pub use Rattle.spi_machine.specs.{Numbered.{first_items, with_item}, Pending.{best, changed, has_job, is_for, is_of}}
 pub use Rattle.spi_machine.specs.{Pending.{job_result, next_job, next_on, Pending, shares_job, starts, uses_channel}}
-pub use Rattle.spi_machine.specs.{State.{channel_at, is_off, is_running, run_at, runs_sequence, SpiState}}
+pub use Rattle.spi_machine.specs.{State.{carried_at, channel_at, is_off, is_running, run_at, runs_sequence, SpiState}}
 pub use Rattle.spi_machine.specs.{Table.{banked, channel_of, channels_by, channels_of, is_on_unit, job_of, jobs_of}}
-pub use Rattle.spi_machine.specs.{Table.{length_by, select_by}, Transfers.{as_words, begun, channel_words, Goes}}
+pub use Rattle.spi_machine.specs.{Table.{is_sync_unit, length_by, select_by}}
+pub use Rattle.spi_machine.specs.{Transfers.{as_words, begun, channel_words, Goes}}
 pub use Rattle.spi_machine.specs.{Transfers.{JobWord, masked, no_word, Run, ToChannel}, Wiring.{channel_at_place}}
 pub use Rattle.spi_machine.specs.{Wiring.{channel_number, job_at_place, list_by, list_of, placed_by, placed_of}}
 pub use Rattle.spi_machine.specs.{declared.call.Call.{Call}, declared.call.Pointer.{Pointer}}
@@ -70,6 +71,9 @@ pub use Rattle.spi_sequences.specs.{Going.{Going, GoingAgrees, InTransfer, is_to
 pub use Rattle.spi_sequences.specs.{Going.{run_of, taken_of, UnitAgrees, width_by, words_of}}
 pub use Rattle.spi_sequences.specs.{PendingWrites.{PendingWrites, spi_owing, start_more, start_owes, unit_owed, Units}}
 pub use Rattle.spi_sequences.specs.{PendingWrites.{unless_done, where_owed}, Refinement.{AreOwed, BanksAgree, Debt}}
+pub use Rattle.spi_sequences.specs.{Going.{CarriesAgrees}, Refinement.{all_of, run_carried, RunsBy}}
+pub use Rattle.spi_sequences.specs.laws.{words.AllSequences.{all_carried, all_pending, aside_pending}}
+pub use Rattle.spi_sequences.specs.laws.{words.SendsKept.{sends_as}}
 pub use Rattle.spi_sequences.specs.{Refinement.{entries_of, HasPart, is_left, is_owed, IsLast, IsSoundState, job_code}}
 pub use Rattle.spi_sequences.specs.{Refinement.{KeepsNone, Pins, PinsNone, prepares, put_held, PutRight, readied_by}}
 pub use Rattle.spi_sequences.specs.{Refinement.{readied_in, Reservation, Reservations, RunAgrees, RunsNext}}
@@ -120,3 +124,14 @@ pub use Rattle.spi_sequences.specs.laws.{words.WordsToState.{is_past, next_there
 pub use Rattle.spi_sequences.specs.laws.{words.WordsToState.{one_unit, other_number, runs_on, RunsOn, same_number}}
 pub use Rattle.spi_starting.specs.Starting.{find_more, first_word, IsChosen, IsFirst, IsFree, LooksAt, Seen, start_left}
 pub use Rattle.spi_starting.specs.Starting.{start_place, will_give, will_read}
+pub use Rattle.spi_machine.specs.Machine.{sent_by, sent_word, start_of}
+pub use Rattle.spi_sequences.specs.laws.services.UnitSteps.{main_over}
+pub use Rattle.spi_sequences.specs.PendingWrites.{owed_left}
+pub use Rattle.spi_sequences.specs.PendingWrites.{owed_move}
+pub use Rattle.spi_jobs.specs.declared.preparing.Prepare.{Prepare}
+pub use Rattle.spi_jobs.specs.Parts.{prepare_left}
+pub use Rattle.spi_jobs.specs.Parts.{prepare_move}
+pub use Rattle.word_shapes.specs.TripleBuffer.{take_left}
+pub use Rattle.spi_sequences.specs.PendingWrites.{owes_move}
+pub use Rattle.spi_sequences.specs.{Going.{ExternalAgrees, InternalAgrees}, Refinement.{AllRight}}
+pub use Rattle.spi_sequences.specs.laws.{words.KeptWords.{banks_view}, words.PendingWords.{banks_held}}

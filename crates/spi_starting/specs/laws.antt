@@ -1,3 +1,4 @@
+pub mod ToBegin
 pub mod ToStart
 pub mod bookkeeping
 pub mod services

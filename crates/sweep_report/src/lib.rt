@@ -7,5 +7,6 @@ mod page;
 mod shown;
 
 pub use json::sweep_json;
+pub use listed::text_of;
 pub use page::sweep_text;
 pub use shown::{SweepShown, flat_text};

@@ -1,1 +1,7 @@
+pub mod Calling
+pub mod Concluding
+pub mod Ended
+pub mod Printing
+pub mod Reading
 pub mod Watched
+pub mod Wishing

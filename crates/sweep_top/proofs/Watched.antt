@@ -1,14 +1,18 @@
 -- What is seen of a run, item by item.
-use Rattle.std.proofs.Common.{◌≡◌, ℕ, ◌+◌, ◌<◌, List, [], ◌∷◌, ◌++◌, Option, Some, None, length, take, get_or, refl, sym, ap, ap₂, ◌∙◌}
-use Rattle.std.specs.Prelude.{option_to_list}
+use Rattle.std.proofs.Common.{◌≡◌, ◌⊎◌, Bool, true, false, inl, inr, ℕ, ◌+◌, ◌<◌, List, [], ◌∷◌, ◌++◌, Option, Some, None, length, drop, take, get_or, suc, refl, sym, ap, ap₂, ◌∙◌, arith}
+use Rattle.std.specs.Prelude.{String, codes, decimal, map, option_to_list, string_bytes}
+use Rattle.std.specs.declared.alloc.Global.{Global}
 use Rattle.std.specs.List.{filter_map}
-use Rattle.std.proofs.lemmas.List.{take_more}
+use Rattle.std.specs.Str.Pattern.{LacksTextAt}
+use Rattle.std.proofs.lemmas.List.{length-map, take_more}
 use Rattle.std.proofs.lemmas.List.Elements.{filter_map-append}
+use Rattle.std.proofs.lemmas.Fmt.{decimal_digit}
 use Rattle.run_model.specs.Entry.{Entry, entries, said_at}
 use Rattle.run_model.specs.declared.item.Item.{Item}
 use Rattle.run_model.specs.declared.item.What.{What}
 use Rattle.run_model.specs.declared.item.What.TheVariants as whats
-use Rattle.sweep_top.specs.Reported.{step_in, step_on, step_said, steps_of, wait_in, wait_on, wait_said, waiting_of}
+use Rattle.sweep_trials.specs.declared.seen.StepSeen.{StepSeen}
+use Rattle.sweep_top.specs.Reported.{move_in, move_on, move_said, moves_of, step_in, step_on, step_said, steps_of, wait_in, wait_on, wait_said, waiting_of}
 
 one_listed : {Y : Type 0} (o : Option Y) → filter_map (λ z. z) (o ∷ []) ≡ option_to_list o
 one_listed None = refl
@@ -55,3 +59,48 @@ steps_seen words items journal e = steps_by words items ∙ ap steps_of e
 
 pub waiting_seen : (words : List ℕ) (items : List Item) (journal : List Entry) → entries words items ≡ journal → filter_map wait_on items ≡ waiting_of journal
 waiting_seen words items journal e = waiting_by words items ∙ ap waiting_of e
+
+move_same : (words : List ℕ) (w : What) → move_in (said_at words w) ≡ move_said w
+move_same words (whats.Happened h) = refl
+move_same words whats.Begun = refl
+move_same words (whats.Held c) = refl
+move_same words (whats.Stepped s) = refl
+move_same words (whats.Reset r n) = refl
+
+moves_by : (words : List ℕ) (items : List Item) → filter_map move_on items ≡ moves_of (entries words items)
+moves_by words [] = refl
+moves_by words (i ∷ is) = ap₂ put (sym (move_same words i.what)) (moves_by words is)
+
+pub moves_seen : (words : List ℕ) (items : List Item) (journal : List Entry) → entries words items ≡ journal → filter_map move_on items ≡ moves_of journal
+moves_seen words items journal e = moves_by words items ∙ ap moves_of e
+
+-- there is a move for each step
+count_by : (w : What) (line : ℕ) (ms : List (List ℕ)) (ss : List StepSeen) → length ms ≡ length ss → length (put (move_said w) ms) ≡ length (put (step_said line w) ss)
+count_by (whats.Happened h) line ms ss e = e
+count_by whats.Begun line ms ss e = e
+count_by (whats.Held c) line ms ss e = e
+count_by (whats.Stepped s) line ms ss e = ap suc e
+count_by (whats.Reset r n) line ms ss e = e
+
+as_many : (items : List Item) → length (filter_map move_on items) ≡ length (filter_map step_on items)
+as_many [] = refl
+as_many (i ∷ is) = count_by i.what i.line (filter_map move_on is) (filter_map step_on is) (as_many is)
+
+pub named_each : (moves : List (String Global)) (steps : List StepSeen) (items : List Item) → map string_bytes moves ≡ filter_map move_on items → steps ≡ filter_map step_on items → length moves ≡ length steps
+named_each moves steps items m s = sym (length-map moves string_bytes) ∙ ap length m ∙ as_many items ∙ sym (ap length s)
+
+-- the move of a step, behind the words that begin its line
+step_front : (made : List ℕ) → codes "step " ++ (decimal 0 ++ (codes " " ++ made)) ≡ codes "step 0 " ++ made
+step_front made = rw (decimal_digit 0 (omega arith)) refl
+
+pub move_behind : (text made found : List ℕ) → text ≡ codes "step " ++ (decimal 0 ++ (codes " " ++ made)) → text ≡ codes "step 0 " ++ found → found ≡ made
+move_behind text made found e f = ap (drop 7) (sym f ∙ e ∙ step_front made)
+
+-- a step's line begins so
+pub move_there : (text made : List ℕ) → text ≡ codes "step " ++ (decimal 0 ++ (codes " " ++ made)) → LacksTextAt (codes "step 0 ") text 0 → text ≡ made
+move_there text made e h = absurd (h made (e ∙ step_front made))
+
+-- the moves were asked for, or there are none
+pub moves_told : (named : Bool) (moves : List (String Global)) (items : List (List ℕ)) (journal : List Entry) → (named ≡ false → moves ≡ []) → (named ≡ true → map string_bytes moves ≡ items) → items ≡ moves_of journal → (moves ≡ []) ⊎ (map string_bytes moves ≡ moves_of journal)
+moves_told true moves items journal none all e = inr (all refl ∙ e)
+moves_told false moves items journal none all e = inl (none refl)

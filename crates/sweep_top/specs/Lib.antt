@@ -1,1 +1,5 @@
+pub mod Endings
+pub mod Reads
 pub mod Reported
+pub mod Sweeps
+pub mod Wishes

@@ -1,10 +1,11 @@
 -- What is seen of a sweep's run.
-use Rattle.std.specs.Prelude.{◌≡◌, ℕ, List, Option, Some, None, false, string_bytes}
+use Rattle.std.specs.Prelude.{◌≡◌, ◌⊎◌, ◌++◌, ℕ, List, [], Option, Some, None, false, map, string_bytes}
 use Rattle.std.specs.List.{filter_map}
 use Rattle.irq_control.specs.declared.held.Held.{Held}
 use Rattle.irq_control.specs.declared.held.Held.TheVariants.{Masked, Level, Reentry}
 use Rattle.mcal_base.specs.declared.config.whole.Config.{Config}
 use Rattle.mcal_base.specs.declared.directive.Directive.{Directive}
+use Rattle.mcal_base.specs.declared.moves.Event.{Event}
 use Rattle.mcal_base.specs.declared.moves.Move.{Move}
 use Rattle.mcal_base.specs.declared.moves.Move.TheVariants.{Note}
 use Rattle.mcal_base.specs.declared.notice.Notice.{Notice}
@@ -13,6 +14,7 @@ use Rattle.run_model.specs.Entry.{Entry, Said, Stays, Steps}
 use Rattle.run_model.specs.declared.item.Item.{Item}
 use Rattle.run_model.specs.declared.item.What.{What}
 use Rattle.run_model.specs.declared.item.What.TheVariants as whats
+use Rattle.bench_report.specs.Lines.{event_text, incoming_text, move_text}
 use Rattle.bench_top.specs.Runs.{IsWholeRun, report_of}
 use Rattle.sweep_trials.specs.declared.seen.Seen.{Seen}
 use Rattle.sweep_trials.specs.declared.seen.StepSeen.{StepSeen}
@@ -61,13 +63,34 @@ steps_of journal = filter_map (λ e. step_in e.line e.said) journal
 abbrev pub waiting_of : List Entry → List ℕ
 waiting_of journal = filter_map (λ e. wait_in e.line e.said) journal
 
--- this is seen of a script's whole run over a configuration, without devices: its report, its steps and what was held
+-- the move of a step with the value that it gave, its event, and the word that came in, as a trace prints them
+abbrev pub made_text : Move → (value received : ℕ) → Option Event → List ℕ
+made_text made value received event = move_text made value ++ (event_text event ++ incoming_text made received)
+
+abbrev pub move_said : What → Option (List ℕ)
+move_said (whats.Stepped s) = Some (made_text s.made s.value s.received s.event)
+move_said _ = None
+
+abbrev pub move_on : Item → Option (List ℕ)
+move_on i = move_said i.what
+
+abbrev pub move_in : Said → Option (List ℕ)
+move_in (Steps s) = Some (made_text s.made s.value s.received s.event)
+move_in _ = None
+
+-- the moves of a run's steps
+abbrev pub moves_of : List Entry → List (List ℕ)
+moves_of journal = filter_map (λ e. move_in e.said) journal
+
+-- this is seen of a script's whole run over a configuration, without devices: its report, its steps, what was held, and, where they were
+-- asked for, the moves of the steps
 pub record IsReportedOn (config : Config) (script : List Directive) (seen : Seen) : Type 0 where
   pub journal : List Entry
   pub run : IsWholeRun 0 config script journal
   pub report : string_bytes seen.report ≡ report_of 0 false config script journal
   pub steps : seen.steps.items ≡ steps_of journal
   pub waiting : seen.waiting.items ≡ waiting_of journal
+  pub moves : (seen.moves.items ≡ []) ⊎ (map string_bytes seen.moves.items ≡ moves_of journal)
 
 -- the same over the configuration of a text
 pub record IsReported (configuration : List ℕ) (script : List Directive) (seen : Seen) : Type 0 where

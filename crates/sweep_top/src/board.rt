@@ -1,4 +1,4 @@
-ghost use Rattle.std.specs.Prelude.{◌≡◌, List, Some, false, IfOk, string_bytes};
+ghost use Rattle.std.specs.Prelude.{◌≡◌, List, Some, false, true, IfOk, string_bytes, vec_len};
 ghost use Rattle.bench_report.specs.Report as spec;
 ghost use Rattle.bench_report.specs.Rows.{Row};
 ghost use Rattle.bench_report.specs.Shown.{kept, texts_of};
@@ -51,7 +51,8 @@ fn told(alloc: Global, script: &[Directive], ran: &Ran) -> Result<String, Stop>
 fn run_on(alloc: Global, config: Config, script: &[Directive], named: bool) -> Result<Seen, Stop>
     requires valid { IsValid config }
     requires script { IsScript script.now }
-    ensures { IfOk result (λ seen. IsReportedOn config script.now seen) }
+    ensures seen { IfOk result (λ seen. IsReportedOn config script.now seen) }
+    ensures named { named ≡ true → IfOk result (λ seen. vec_len seen.moves ≡ vec_len seen.steps) }
 {
     let mut rack: Vec<Box<dyn SerialDevice>> = Vec::new(alloc);
     let Ok(ran) = run(alloc, config, script, &mut rack) else {

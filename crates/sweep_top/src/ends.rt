@@ -1,6 +1,9 @@
+ghost use Rattle.std.specs.Prelude.{◌≡◌, IfOk, string_bytes};
+ghost use Rattle.sweep_top.specs.Endings as spec;
+ghost use Rattle.sweep_top.specs.declared.ends.SweepEnd.TheVariants as ends;
+
 use bench_sweep::SweepFault;
 use bench_top::Refusal;
-use mcal_config::ConfigFault;
 use std::alloc::{AllocError, AllocFailed, Global};
 use sweep_trials::Stop;
 
@@ -9,8 +12,6 @@ use sweep_trials::Stop;
 pub enum SweepEnd {
     /// The words are of no form.
     Usage,
-    /// The source met a fault.
-    ReadFault,
     /// More bytes came than an input may have.
     TooManyBytes,
     /// The configuration is refused, or no line is the separator.
@@ -24,7 +25,9 @@ pub enum SweepEnd {
 }
 
 /// The line that is printed where a sweep came to no end.
-fn stop_text(alloc: Global, stop: Stop) -> Result<String, AllocError> {
+fn stop_text(alloc: Global, stop: Stop) -> Result<String, AllocError>
+    ensures { IfOk result (λ text. string_bytes text ≡ (spec.stopped stop).text) }
+{
     match stop {
         Stop::TooManyDirectives => {
             String::from_str(alloc, "too long: more than 1100000 directives in a run\n")
@@ -51,10 +54,11 @@ fn stop_text(alloc: Global, stop: Stop) -> Result<String, AllocError> {
 
 impl SweepEnd {
     /// The status.
-    pub fn status(self) -> u8 {
+    pub fn status(self) -> u8
+        ensures { result ≡ (spec.ended self).status }
+    {
         match self {
             SweepEnd::Usage => 1,
-            SweepEnd::ReadFault => 2,
             SweepEnd::NoMemory | SweepEnd::Stopped(Stop::NoMemory) => 4,
             SweepEnd::Refused(refusal) => refusal.status(),
             SweepEnd::Fault(_) | SweepEnd::Stopped(Stop::NoPlace(_)) => 7,
@@ -63,13 +67,14 @@ impl SweepEnd {
     }
 
     /// The line that is printed.
-    pub fn text(self, alloc: Global) -> Result<String, AllocError> {
+    pub fn text(self, alloc: Global) -> Result<String, AllocError>
+        ensures { IfOk result (λ text. string_bytes text ≡ (spec.ended self).text) }
+    {
         match self {
             SweepEnd::Usage => String::from_str(
                 alloc,
                 "usage: mcal_sweep [--first] [--all] [--json] [--part I/N] | mcal_sweep --show PLACE\n",
             ),
-            SweepEnd::ReadFault => String::from_str(alloc, "read fault\n"),
             SweepEnd::TooManyBytes => {
                 String::from_str(alloc, "too long: more than 1048576 bytes\n")
             }
@@ -81,34 +86,9 @@ impl SweepEnd {
     }
 }
 
-impl From<ConfigFault> for SweepEnd {
-    fn from(fault: ConfigFault) -> SweepEnd {
-        match fault {
-            ConfigFault::NoMemory => SweepEnd::NoMemory,
-            _ => SweepEnd::Refused(Refusal::Configuration(fault)),
-        }
-    }
-}
-
-impl From<SweepFault> for SweepEnd {
-    fn from(fault: SweepFault) -> SweepEnd {
-        SweepEnd::Fault(fault)
-    }
-}
-
-impl From<Stop> for SweepEnd {
-    fn from(stop: Stop) -> SweepEnd {
-        SweepEnd::Stopped(stop)
-    }
-}
-
-impl From<AllocError> for SweepEnd {
-    fn from(_e: AllocError) -> SweepEnd {
-        SweepEnd::NoMemory
-    }
-}
-
 impl<T: Drop> From<AllocFailed<T>> for SweepEnd {
+    ghost from_gives = { λ _ e. e ≡ ends.NoMemory };
+
     fn from(_e: AllocFailed<T>) -> SweepEnd {
         SweepEnd::NoMemory
     }

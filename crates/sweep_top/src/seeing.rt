@@ -1,4 +1,4 @@
-ghost use Rattle.std.specs.Prelude.{◌≡◌, ◌++◌, IfOk, OnOk, option_to_list};
+ghost use Rattle.std.specs.Prelude.{◌≡◌, ◌++◌, [], false, true, IfOk, OnOk, map, option_to_list, string_bytes};
 ghost use Rattle.std.specs.List.{filter_map};
 ghost use Rattle.sweep_top.specs.Reported as spec;
 
@@ -54,7 +54,10 @@ pub(crate) fn steps_among(alloc: Global, items: &[Item]) -> Result<Vec<StepSeen>
 }
 
 /// The move of a step, as a trace prints it.
-fn move_text(alloc: Global, logged: &Logged) -> Result<String, AllocError> {
+#[tactic(auto, using(crate::proofs::Watched::move_behind, crate::proofs::Watched::move_there))]
+fn move_text(alloc: Global, logged: &Logged) -> Result<String, AllocError>
+    ensures { IfOk result (λ text. string_bytes text ≡ spec.made_text logged.now.made logged.now.value logged.now.received logged.now.event) }
+{
     let line = Line::Makes(0, logged.made, logged.value, logged.received, logged.event);
     let text = format!(in alloc; "{line}")?;
     match text.as_str().strip_prefix("step 0 ") {
@@ -68,7 +71,10 @@ pub(crate) fn moves_named(
     alloc: Global,
     items: &[Item],
     named: bool,
-) -> Result<Vec<String>, AllocError> {
+) -> Result<Vec<String>, AllocError>
+    ensures none { named ≡ false → IfOk result (λ moves. moves.items ≡ []) }
+    ensures all { named ≡ true → IfOk result (λ moves. map string_bytes moves.items ≡ filter_map (λ i. spec.move_on i) items.now) }
+{
     if named {
         moves_among(alloc, items)
     } else {
@@ -76,13 +82,23 @@ pub(crate) fn moves_named(
     }
 }
 
+/// Keeps the move of the step that an item is.
+fn keep_move(alloc: Global, moves: &mut Vec<String>, item: &Item) -> Result<(), AllocError>
+    ensures { OnOk result (map string_bytes moves.new.items ≡ map string_bytes moves.old.items ++ option_to_list (spec.move_on item.now)) }
+{
+    if let What::Stepped(logged) = &item.what {
+        moves.push(move_text(alloc, logged)?)?;
+    }
+    Ok(())
+}
+
 /// The moves of the steps among items.
-fn moves_among(alloc: Global, items: &[Item]) -> Result<Vec<String>, AllocError> {
+fn moves_among(alloc: Global, items: &[Item]) -> Result<Vec<String>, AllocError>
+    ensures { IfOk result (λ moves. map string_bytes moves.items ≡ filter_map (λ i. spec.move_on i) items.now) }
+{
     let mut moves = Vec::new(alloc);
     for item in items {
-        if let What::Stepped(logged) = &item.what {
-            moves.push(move_text(alloc, logged)?)?;
-        }
+        keep_move(alloc, &mut moves, item)?;
     }
     Ok(moves)
 }

@@ -1,7 +1,9 @@
 pub mod Counting
 pub mod Grown
+pub mod Numbering
 pub mod Pairing
 pub mod Putting
+pub mod Showing
 pub mod Summing
 pub mod Trying
 pub mod Walking

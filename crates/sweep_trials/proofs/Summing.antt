@@ -1,5 +1,5 @@
 -- The groups of outcomes, and the numbers of their places.
-use Rattle.std.proofs.Common.{◌≡◌, ℕ, ◌+◌, ◌<◌, All, List, [], ◌∷◌, ◌++◌, subst, length, map, take, get_or, refl, sym, ap₂, ◌∙◌}
+use Rattle.std.proofs.Common.{◌≡◌, ℕ, ◌+◌, ◌<◌, All, List, [], ◌∷◌, ◌++◌, subst, length, map, take, get_or, refl, sym, ap, ap₂, ◌∙◌}
 use Rattle.std.specs.Prelude.{sum_by}
 use Rattle.std.proofs.lemmas.List.{map-append, take_more}
 use Rattle.std.proofs.lemmas.List.Sums.{sum_by-cons}
@@ -7,9 +7,7 @@ use Rattle.bench_sweep.proofs.Counted.{counts_sum_up}
 use Rattle.bench_sweep.proofs.Ranged.{pushed}
 use Rattle.bench_sweep.specs.Groups.{count_with, numbers_in}
 use Rattle.bench_sweep.specs.declared.groups.Settled.{Settled}
-use Rattle.sweep_trials.specs.Rows.{IsRowOf}
 use Rattle.sweep_trials.specs.declared.summary.Group.{Group}
-use Rattle.sweep_trials.specs.declared.swept.Swept.{Swept}
 
 pub outcomes_more : (groups next : List Group) (g : Group) (numbers : List ℕ) (i : ℕ) → i < length numbers → g.outcome ≡ get_or numbers i 0 → next ≡ groups ++ g ∷ [] → map (λ (x : Group). x.outcome) groups ≡ take i numbers → map (λ (x : Group). x.outcome) next ≡ take (i + 1) numbers
 outcomes_more groups next g numbers i l o e h = rw (e, map-append (λ (x : Group). x.outcome) groups (g ∷ []), h, o) (sym (take_more numbers i 0 l))
@@ -30,5 +28,6 @@ sum_same (x ∷ xs) (n ∷ ns) f e =
 pub all_places : (groups : List Group) (settled : List Settled) → map (λ (x : Group). x.places) groups ≡ map (λ n. count_with n settled) (numbers_in settled) → sum_by (λ (x : Group). x.places) groups ≡ length settled
 all_places groups settled e = sum_same groups (numbers_in settled) (λ n. count_with n settled) e ∙ counts_sum_up settled
 
-pub rows_more : (s : Swept) (groups next : List Group) (g : Group) (number : ℕ) → g.outcome ≡ number → next ≡ groups ++ g ∷ [] → All (IsRowOf s number) g.rows.items → All (λ (x : Group). All (IsRowOf s x.outcome) x.rows.items) groups → All (λ (x : Group). All (IsRowOf s x.outcome) x.rows.items) next
-rows_more s groups next g number o e r all = pushed (λ (x : Group). All (IsRowOf s x.outcome) x.rows.items) groups next g e all (subst (λ (n : ℕ). All (IsRowOf s n) g.rows.items) (sym o) r)
+-- what holds of each group and the number of its outcome
+pub each_more : (P : ℕ → Group → Type 0) (groups next : List Group) (g : Group) (number : ℕ) → g.outcome ≡ number → next ≡ groups ++ g ∷ [] → P number g → All (λ (x : Group). P x.outcome x) groups → All (λ (x : Group). P x.outcome x) next
+each_more P groups next g number o e p all = pushed (λ (x : Group). P x.outcome x) groups next g e all (subst (λ (n : ℕ). P n g) (sym o) p)

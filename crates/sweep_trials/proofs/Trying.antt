@@ -22,15 +22,18 @@ use Rattle.sweep_trials.specs.declared.reactions.Following.{Following}
 use Rattle.sweep_trials.specs.declared.seen.Seen.{Seen}
 use Rattle.sweep_trials.specs.declared.sweeping.Moment.{Moment}
 
-pub opened_of : {E : Type 0} (of_run : List Directive → Seen → Type 0) (following : Following) (first start : List Directive) (count n : ℕ) (found : Followed) (r : Result Opened E) → start ≡ first → n ≡ count → IsSeen of_run following start found → IfOk r (λ o. o.before.items ≡ take n found.directives.items) → IfOk r (λ o. o.block.items ≡ drop n found.directives.items) → IfOk r (λ o. o.steps.items ≡ drop n (counts (vec_len found.directives) found.seen.steps.items)) → IfOk r (λ o. IsOpened of_run following first count o)
-opened_of of_run following first start count n found (Ok o) e f seen b k s = record {
+pub opened_of : {E : Type 0} (of_run : List Directive → Seen → Type 0) (following : Following) (first start : List Directive) (count n : ℕ) (found : Followed) (r : Result Opened E) → start ≡ first → n ≡ count → IsSeen of_run following start found → IfOk r (λ o. o.before.items ≡ take n found.directives.items) → IfOk r (λ o. o.block.items ≡ drop n found.directives.items) → IfOk r (λ o. o.steps.items ≡ drop n (counts (vec_len found.directives) found.seen.steps.items)) → IfOk r (λ o. o.seen.items ≡ found.seen.steps.items) → IfOk r (λ o. o.moves.items ≡ found.seen.moves.items) → IfOk r (λ o. vec_len o.moves ≡ vec_len o.seen) → IfOk r (λ o. IsOpened of_run following first count o)
+opened_of of_run following first start count j found (Ok o) e f seen b k s w m n = record {
   found = found;
   seen = subst (λ (ds : List Directive). IsSeen of_run following ds found) e seen;
   before = b ∙ ap (λ (i : ℕ). take i found.directives.items) f;
   block = k ∙ ap (λ (i : ℕ). drop i found.directives.items) f;
   steps = s ∙ ap (λ (i : ℕ). drop i (counts (vec_len found.directives) found.seen.steps.items)) f;
+  made = w;
+  moves = m;
+  named = n;
 }
-opened_of of_run following first start count n found (Err x) e f seen b k s = tt
+opened_of of_run following first start count j found (Err x) e f seen b k s w m n = tt
 
 pub inner_of : {E : Type 0} (of_run : List Directive → Seen → Type 0) (following : Following) (o : Opened) (placed : List Directive) (n : ℕ) (before block up on : List Directive) (count : ℕ) (r : Result Opened E) → ((p : Place) → slice_get (places o.block.items o.steps.items) n ≡ Some p → up ≡ block_up o.block.items p) → ((p : Place) → slice_get (places o.block.items o.steps.items) n ≡ Some p → on ≡ block_on o.block.items o.steps.items p) → before ≡ o.before.items ++ up → block ≡ placed ++ on → count ≡ length before → IfOk r (λ inner. IsOpened of_run following (before ++ block) count inner) → IfOk r (λ inner. (p : Place) → slice_get (places o.block.items o.steps.items) n ≡ Some p → IsInner of_run following o placed p inner)
 inner_of of_run following o placed n before block up on count (Ok inner) u w b k c opened = λ p h.

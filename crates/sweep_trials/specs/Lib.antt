@@ -1,6 +1,9 @@
 pub mod Counts
 pub mod Follows
 pub mod Grown
+pub mod Names
 pub mod Pairs
 pub mod Rows
+pub mod Shown
+pub mod Standings
 pub mod Trials

@@ -1,5 +1,6 @@
 -- What was tried of a sweep, and what came of it.
-use Rattle.std.specs.Prelude.{◌≡◌, ℕ, zero, suc, ◌+◌, ◌-◌, ◌*◌, ◌/◌, Bool, false, List, [], ◌∷◌, ◌++◌, Some, None, drop, length, min, slice_get, string_bytes, take, vec_len}
+use Rattle.std.specs.Prelude.{◌≡◌, ℕ, zero, suc, ◌+◌, ◌-◌, ◌*◌, ◌/◌, Bool, false, List, [], ◌∷◌, ◌++◌, Some, None, drop, length, min, nat_lt, slice_get, string_bytes, take, vec_len}
+use Rattle.std.specs.List.{list_any}
 use Rattle.mcal_base.specs.declared.directive.Directive.{Directive}
 use Rattle.bench_sweep.specs.Groups.{settled}
 use Rattle.bench_sweep.specs.Outcomes.{AreDifferent, Tells}
@@ -19,13 +20,20 @@ use Rattle.sweep_trials.specs.declared.sweeping.Moment.{Moment}
 use Rattle.sweep_trials.specs.declared.swept.Swept.{Swept}
 
 -- A block was opened: it was run behind so many directives, with calls that follow notices, and each of its directives made
--- so many steps in that run.
+-- so many steps in that run. The steps of the run are kept, with their moves.
 pub record IsOpened (of_run : List Directive → Seen → Type 0) (following : Following) (first : List Directive) (count : ℕ) (o : Opened) : Type 0 where
   pub found : Followed
   pub seen : IsSeen of_run following first found
   pub before : o.before.items ≡ take count found.directives.items
   pub block : o.block.items ≡ drop count found.directives.items
   pub steps : o.steps.items ≡ drop count (counts (vec_len found.directives) found.seen.steps.items)
+  pub made : o.seen.items ≡ found.seen.steps.items
+  pub moves : o.moves.items ≡ found.seen.moves.items
+  pub named : vec_len o.moves ≡ vec_len o.seen
+
+-- some directive of the block makes a step
+abbrev pub has_steps : Opened → Bool
+has_steps o = list_any (λ n. nat_lt 0 n) o.steps.items
 
 -- the same behind what runs before the block, in which calls follow notices too
 pub record IsBlock (of_run : List Directive → Seen → Type 0) (following : Following) (before block : List Directive) (o : Opened) : Type 0 where

@@ -1,4 +1,4 @@
-ghost use Rattle.std.specs.Prelude.{Some, ◌≡◌, ◌<◌, ◌++◌, ◌∷◌, length, slice_get, vec_len, IfOk, MatchOption};
+ghost use Rattle.std.specs.Prelude.{Some, true, ◌≡◌, ◌<◌, ◌++◌, ◌∷◌, length, slice_get, vec_len, IfOk, MatchOption};
 ghost use Rattle.std.specs.Option.{IfSome};
 ghost use Rattle.sweep_trials.specs.Counts.{counts, with_step};
 ghost use Rattle.sweep_trials.specs.Follows.{AreAllFollowed, IsNew, IsUnfollowed, StandsBehind};
@@ -185,7 +185,8 @@ pub fn run_followed<R: Runs>(
     start: Vec<Directive>,
     named: bool,
 ) -> Result<Followed, Stop>
-    ensures { IfOk result (λ found. IsSeen (R.is_seen bench.now.runs.now) bench.now.following start.items found) }
+    ensures seen { IfOk result (λ found. IsSeen (R.is_seen bench.now.runs.now) bench.now.following start.items found) }
+    ensures named { named ≡ true → IfOk result (λ found. vec_len found.seen.moves ≡ vec_len found.seen.steps) }
 {
     let runs = bench.runs;
     let following = bench.following;

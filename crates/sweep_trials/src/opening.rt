@@ -1,15 +1,16 @@
-ghost use Rattle.std.specs.Prelude.{◌≡◌, ◌<◌, ◌++◌, Some, drop, take, length, vec_len, IfOk, slice_get};
+ghost use Rattle.std.specs.Prelude.{◌≡◌, ◌<◌, ◌++◌, Some, drop, map, take, length, string_bytes, vec_len, IfOk, slice_get};
 ghost use Rattle.bench_sweep.specs.Placed.{block_on, block_up, put_in};
 ghost use Rattle.bench_sweep.specs.Places.{places};
 ghost use Rattle.bench_sweep.specs.declared.places.Place.{Place};
 ghost use Rattle.sweep_trials.specs.Counts.{counts};
 ghost use Rattle.sweep_trials.specs.Grown.{IsSeen};
-ghost use Rattle.sweep_trials.specs.Trials.{IsInner, IsOpened};
+ghost use Rattle.sweep_trials.specs.Names.{IsPlaceName, last_move, move_of};
+ghost use Rattle.sweep_trials.specs.Trials.{IsInner, IsOpened, has_steps};
 
 use crate::followed::{Followed, run_followed, steps_of};
 use crate::opened::Opened;
 use crate::reactions::Bench;
-use crate::seen::Runs;
+use crate::seen::{Runs, StepSeen};
 use crate::stop::Stop;
 use bench_sweep::{Cut, Place, Spot, copy_behind, cut_block, places_in, spot_text};
 use mcal_base::Directive;
@@ -47,6 +48,30 @@ fn behind_cut(alloc: Global, placed: &[Directive], cut: &Cut) -> Result<Vec<Dire
     Ok(all)
 }
 
+/// The move of a step of the directive of a number, by which of its steps that is, from 1; the moves of all steps stand beside
+/// them.
+fn move_of<'a>(number: usize, step: u32, steps: &[StepSeen], moves: &'a [String]) -> &'a str
+    ensures { result.now ≡ move_of number step steps.now (map string_bytes moves.now) }
+{
+    let mut left = step;
+    let mut steps = steps;
+    let mut moves = moves;
+    while let [seen, others @ ..] = steps {
+        let [text, more @ ..] = moves else {
+            return "";
+        };
+        if seen.line as usize == number {
+            if left == 1 {
+                return text.as_str();
+            }
+            left = left.saturating_sub(1);
+        }
+        steps = others;
+        moves = more;
+    }
+    ""
+}
+
 impl Opened {
     /// Runs what stands before a block and the block, in which each notice is followed.
     pub fn new<R: Runs>(
@@ -69,6 +94,9 @@ impl Opened {
         ensures before { IfOk result (λ o. o.before.items ≡ take count found.directives.items) }
         ensures block { IfOk result (λ o. o.block.items ≡ drop count found.directives.items) }
         ensures steps { IfOk result (λ o. o.steps.items ≡ drop count (counts (vec_len found.directives) found.seen.steps.items)) }
+        ensures made { IfOk result (λ o. o.seen.items ≡ found.seen.steps.items) }
+        ensures moves { IfOk result (λ o. o.moves.items ≡ found.seen.moves.items) }
+        ensures named { vec_len found.seen.moves ≡ vec_len found.seen.steps → IfOk result (λ o. vec_len o.moves ≡ vec_len o.seen) }
     {
         let mut before = found.directives;
         let seen = found.seen;
@@ -189,44 +217,37 @@ impl Opened {
         Opened::new(alloc, bench, before, &block)
     }
 
-    /// The move of a step of the directive of a number, from 1.
-    fn move_at(&self, number: usize, step: u32) -> &str {
-        let mut made = 0u32;
-        for at in 0..self.seen.len() {
-            if self.seen[at].line as usize == number {
-                made = made.saturating_add(1);
-                if made == step {
-                    return match self.moves.get(at) {
-                        Some(text) => text.as_str(),
-                        None => "",
-                    };
-                }
-            }
-        }
-        ""
-    }
-
-    /// The name of a place.
-    pub fn name(&self, alloc: Global, place: usize) -> Result<String, AllocError>
-        requires { place < vec_len self.now.all }
+    /// The last move before a spot by a directive of the block.
+    fn last_move(&self, directive: usize, spot: Spot) -> &str
+        requires { directive < vec_len self.now.block }
+        ensures { result.now ≡ last_move self.now directive spot }
     {
-        let Place { directive, spot } = self.place(place);
-        let line = self.block[directive].line;
-        let steps = self.steps[directive];
         let number = self
             .before
             .len()
             .saturating_add(directive)
             .saturating_add(1);
-        let last = match spot {
-            Spot::Step(made) => self.move_at(number, made),
+        match spot {
+            Spot::Step(made) => move_of(number, made, &self.seen, &self.moves),
             _ => "",
-        };
-        spot_text(alloc, line, spot, steps, last)
+        }
+    }
+
+    /// The name of a place.
+    pub fn name(&self, alloc: Global, place: usize) -> Result<String, AllocError>
+        requires { place < vec_len self.now.all }
+        ensures { IfOk result (λ text. IsPlaceName self.now place (string_bytes text)) }
+    {
+        let Place { directive, spot } = self.place(place);
+        let line = self.block[directive].line;
+        let steps = self.steps[directive];
+        spot_text(alloc, line, spot, steps, self.last_move(directive, spot))
     }
 
     /// Whether any directive of the block makes a step.
-    pub fn has_steps(&self) -> bool {
+    pub fn has_steps(&self) -> bool
+        ensures { result ≡ has_steps self.now }
+    {
         self.steps.iter().any(|steps| 0 < *steps)
     }
 }

@@ -1,4 +1,4 @@
-ghost use Rattle.std.specs.Prelude.{List, IfOk};
+ghost use Rattle.std.specs.Prelude.{◌≡◌, List, true, IfOk, vec_len};
 ghost use Rattle.mcal_base.specs.declared.directive.Directive as records;
 ghost use Rattle.sweep_trials.specs.declared.seen.Seen as seen_records;
 
@@ -36,5 +36,6 @@ pub trait Runs {
 
     /// Runs a script to its end. The moves of its steps are kept where they are to be named.
     fn run(&self, alloc: Global, script: &[Directive], named: bool) -> Result<Seen, Stop>
-        ensures { IfOk result (λ seen. is_seen self.now script.now seen) };
+        ensures seen { IfOk result (λ seen. is_seen self.now script.now seen) }
+        ensures named { named ≡ true → IfOk result (λ seen. vec_len seen.moves ≡ vec_len seen.steps) };
 }

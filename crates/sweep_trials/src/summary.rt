@@ -1,7 +1,9 @@
-ghost use Rattle.std.specs.Prelude.{◌≡◌, ℕ, map, sum_by, vec_len, IfOk};
+ghost use Rattle.std.specs.Prelude.{◌≡◌, ◌<◌, ℕ, Some, length, map, slice_get, string_bytes, sum_by, vec_len, IfOk};
 ghost use Rattle.std.specs.List.{All};
 ghost use Rattle.bench_sweep.specs.Groups as spec;
-ghost use Rattle.sweep_trials.specs.Rows.{IsNumberOf, IsRowOf};
+ghost use Rattle.sweep_trials.specs.Names.{IsNamed};
+ghost use Rattle.sweep_trials.specs.Rows.{AreRowsOf, IsNumberOf, IsRowAt, IsRowOf};
+ghost use Rattle.sweep_trials.specs.Standings as standings;
 
 use crate::opened::Opened;
 use crate::seen::Runs;
@@ -26,7 +28,9 @@ pub enum Standing {
 
 impl Standing {
     /// The words.
-    pub fn text(self) -> &'static str {
+    pub fn text(self) -> &'static str
+        ensures { result.now ≡ standings.standing_text self }
+    {
         match self {
             Standing::Both => "as before and behind",
             Standing::Before => "as before",
@@ -66,9 +70,19 @@ pub struct Group {
     pub more: usize,
 }
 
+/// The range of a number.
+fn range_at(ranges: &[Range], number: usize) -> Range
+    requires { number < length ranges.now }
+    ensures { slice_get ranges.now number ≡ Some result }
+{
+    ranges[number]
+}
+
 impl Swept {
     /// How an outcome stands to those before and behind the block.
-    fn standing(&self, outcome: usize) -> Standing {
+    fn standing(&self, outcome: usize) -> Standing
+        ensures { result ≡ standings.standing_of self.now outcome }
+    {
         match (outcome == self.before, outcome == self.behind) {
             (true, true) => Standing::Both,
             (true, false) => Standing::Before,
@@ -85,7 +99,8 @@ impl Swept {
         opened: &Opened,
         place: usize,
     ) -> Result<(usize, String), Stop>
-        ensures { IfOk result (λ r. IsNumberOf self.now place r.0) }
+        ensures number { IfOk result (λ r. IsNumberOf self.now place r.0) }
+        ensures name { IfOk result (λ r. IsNamed (R.is_seen sweep.now.bench.runs.now) sweep.now.bench.following sweep.now.parts.swept.now opened.now self.now.moments.items place (string_bytes r.1)) }
     {
         let Some(moment) = self.moments.get(place) else {
             return Err(Stop::NoPlace(self.moments.len()));
@@ -102,7 +117,7 @@ impl Swept {
         opened: &Opened,
         range: Range,
     ) -> Result<Row, Stop>
-        ensures { IfOk result (λ row. (outcome : ℕ) → spec.IsRangeOf self.now.settled.items outcome range → IsRowOf self.now outcome row) }
+        ensures { IfOk result (λ row. IsRowAt (R.is_seen sweep.now.bench.runs.now) sweep.now.bench.following sweep.now.parts.swept.now opened.now self.now range row) }
     {
         let (first, first_name) = self.named(alloc, sweep, opened, range.first)?;
         let (last, last_name) = self.named(alloc, sweep, opened, range.last)?;
@@ -125,14 +140,16 @@ impl Swept {
         most: usize,
     ) -> Result<Group, Stop>
         ensures outcome { IfOk result (λ g. g.outcome ≡ outcome) }
+        ensures standing { IfOk result (λ g. g.standing ≡ standings.standing_of self.now outcome) }
         ensures places { IfOk result (λ g. g.places ≡ spec.count_with outcome self.now.settled.items) }
-        ensures rows { IfOk result (λ g. All (IsRowOf self.now outcome) g.rows.items) }
+        ensures rows { IfOk result (λ g. All (IsRowOf (R.is_seen sweep.now.bench.runs.now) sweep.now.bench.following sweep.now.parts.swept.now opened.now self.now outcome) g.rows.items) }
+        ensures ranges { IfOk result (λ g. AreRowsOf (R.is_seen sweep.now.bench.runs.now) sweep.now.bench.following sweep.now.parts.swept.now opened.now self.now outcome most g.rows.items g.more) }
     {
         let ranges = ranges(alloc, &self.settled, outcome)?;
         let shown = ranges.len().min(most);
         let mut rows = Vec::new(alloc);
         for place in 0..shown {
-            let row = self.row(alloc, sweep, opened, ranges[place])?;
+            let row = self.row(alloc, sweep, opened, range_at(&ranges, place))?;
             rows.push(row)?;
         }
         Ok(Group {
@@ -154,8 +171,10 @@ pub fn groups_of<R: Runs>(
     most: usize,
 ) -> Result<Vec<Group>, Stop>
     ensures outcomes { IfOk result (λ groups. map (λ g. g.outcome) groups.items ≡ spec.numbers_in swept.now.settled.items) }
+    ensures standings { IfOk result (λ groups. All (λ g. g.standing ≡ standings.standing_of swept.now g.outcome) groups.items) }
     ensures places { IfOk result (λ groups. map (λ g. g.places) groups.items ≡ map (λ n. spec.count_with n swept.now.settled.items) (spec.numbers_in swept.now.settled.items)) }
-    ensures rows { IfOk result (λ groups. All (λ g. All (IsRowOf swept.now g.outcome) g.rows.items) groups.items) }
+    ensures rows { IfOk result (λ groups. All (λ g. All (IsRowOf (R.is_seen sweep.now.bench.runs.now) sweep.now.bench.following sweep.now.parts.swept.now opened.now swept.now g.outcome) g.rows.items) groups.items) }
+    ensures ranges { IfOk result (λ groups. All (λ g. AreRowsOf (R.is_seen sweep.now.bench.runs.now) sweep.now.bench.following sweep.now.parts.swept.now opened.now swept.now g.outcome most g.rows.items g.more) groups.items) }
     ensures all { IfOk result (λ groups. sum_by (λ g. g.places) groups.items ≡ vec_len swept.now.settled) }
 {
     let mut groups = Vec::new(alloc);

@@ -1,9 +1,12 @@
-ghost use Rattle.std.specs.Prelude.{◌≡◌, ◌<◌, Some, false, true, length, IfOk, slice_get, vec_len};
+ghost use Rattle.std.specs.Prelude.{◌≡◌, ℕ, ◌<◌, Some, None, false, true, length, IfOk, slice_get, string_bytes, vec_len};
 ghost use Rattle.bench_sweep.specs.Placed.{put_in};
 ghost use Rattle.bench_sweep.specs.Places.{places};
 ghost use Rattle.bench_sweep.specs.declared.places.Place.{Place};
 ghost use Rattle.sweep_trials.specs.Grown.{IsSeen};
+ghost use Rattle.sweep_trials.specs.Names.{IsNameBy, IsPairName};
+ghost use Rattle.sweep_trials.specs.Shown.{IsInnerAt, IsOnceAt, IsPairAt, IsSeenAt};
 ghost use Rattle.sweep_trials.specs.Trials.{IsBlock, IsInner};
+ghost use Rattle.sweep_trials.specs.declared.opened.Opened as records;
 
 use crate::followed::{Followed, run_followed};
 use crate::opened::Opened;
@@ -78,19 +81,58 @@ impl<R: Runs> Sweep<'_, R> {
         !self.parts.second.is_empty()
     }
 
-    /// The run of a moment.
-    pub fn run_of(&self, alloc: Global, opened: &Opened, moment: Moment) -> Result<Followed, Stop> {
-        if moment.first >= opened.count() {
-            return Err(Stop::NoPlace(opened.count()));
-        }
-        let Some(second) = moment.second else {
-            return self.with(alloc, opened, moment.first, self.parts.swept);
-        };
-        let inner = self.inner(alloc, opened, moment.first)?;
+    /// The run in which something is placed at a place of what runs from another one on.
+    fn run_of_pair(
+        &self,
+        alloc: Global,
+        opened: &Opened,
+        first: usize,
+        second: usize,
+    ) -> Result<Followed, Stop>
+        requires { first < vec_len opened.now.all }
+        ensures { IfOk result (λ found. (inner : records.Opened) × IsInnerAt (R.is_seen self.now.bench.runs.now) self.now.bench.following opened.now self.now.parts.swept.now first inner
+            × IsSeenAt (R.is_seen self.now.bench.runs.now) self.now.bench.following self.now.parts.second.now self.now.parts.behind.now inner second found) }
+    {
+        let inner = self.inner(alloc, opened, first)?;
         if second >= inner.count() {
             return Err(Stop::NoPlace(inner.count()));
         }
         self.with(alloc, &inner, second, self.parts.second)
+    }
+
+    /// The run of a moment.
+    pub fn run_of(&self, alloc: Global, opened: &Opened, moment: Moment) -> Result<Followed, Stop>
+        ensures once { moment.second ≡ None → IfOk result (λ found. IsSeenAt (R.is_seen self.now.bench.runs.now) self.now.bench.following self.now.parts.swept.now self.now.parts.behind.now opened.now moment.first found) }
+        ensures twice { (second : ℕ) → moment.second ≡ Some second → IfOk result (λ found. (inner : records.Opened) × IsInnerAt (R.is_seen self.now.bench.runs.now) self.now.bench.following opened.now self.now.parts.swept.now moment.first inner
+            × IsSeenAt (R.is_seen self.now.bench.runs.now) self.now.bench.following self.now.parts.second.now self.now.parts.behind.now inner second found) }
+    {
+        if moment.first >= opened.count() {
+            return Err(Stop::NoPlace(opened.count()));
+        }
+        match moment.second {
+            None => self.with(alloc, opened, moment.first, self.parts.swept),
+            Some(second) => self.run_of_pair(alloc, opened, moment.first, second),
+        }
+    }
+
+    /// The name of a pair.
+    fn name_of_pair(
+        &self,
+        alloc: Global,
+        opened: &Opened,
+        first: usize,
+        second: usize,
+    ) -> Result<String, Stop>
+        requires { first < vec_len opened.now.all }
+        ensures { IfOk result (λ text. IsPairName (R.is_seen self.now.bench.runs.now) self.now.bench.following self.now.parts.swept.now opened.now first second (string_bytes text)) }
+    {
+        let inner = self.inner(alloc, opened, first)?;
+        if second >= inner.count() {
+            return Err(Stop::NoPlace(inner.count()));
+        }
+        let front = opened.name(alloc, first)?;
+        let back = inner.name(alloc, second)?;
+        Ok(format!(in alloc; "{front}; {back}")?)
     }
 
     /// The name of a moment.
@@ -99,20 +141,16 @@ impl<R: Runs> Sweep<'_, R> {
         alloc: Global,
         opened: &Opened,
         moment: Moment,
-    ) -> Result<String, Stop> {
+    ) -> Result<String, Stop>
+        ensures { IfOk result (λ text. IsNameBy (R.is_seen self.now.bench.runs.now) self.now.bench.following self.now.parts.swept.now opened.now moment.first moment.second (string_bytes text)) }
+    {
         if moment.first >= opened.count() {
             return Err(Stop::NoPlace(opened.count()));
         }
-        let first = opened.name(alloc, moment.first)?;
-        let Some(second) = moment.second else {
-            return Ok(first);
-        };
-        let inner = self.inner(alloc, opened, moment.first)?;
-        if second >= inner.count() {
-            return Err(Stop::NoPlace(inner.count()));
+        match moment.second {
+            None => Ok(opened.name(alloc, moment.first)?),
+            Some(second) => self.name_of_pair(alloc, opened, moment.first, second),
         }
-        let second = inner.name(alloc, second)?;
-        Ok(format!(in alloc; "{first}; {second}")?)
     }
 }
 
@@ -122,7 +160,9 @@ fn pair_of<R: Runs>(
     sweep: &Sweep<'_, R>,
     opened: &Opened,
     number: usize,
-) -> Result<Moment, Stop> {
+) -> Result<Moment, Stop>
+    ensures { IfOk result (λ m. (second : ℕ) × (m.second ≡ Some second) × IsPairAt (R.is_seen sweep.now.bench.runs.now) sweep.now.bench.following sweep.now.parts.swept.now opened.now number m.first second) }
+{
     let mut left = number;
     for first in 0..opened.count() {
         let inner = sweep.inner(alloc, opened, first)?;
@@ -145,7 +185,10 @@ pub fn moment_of<R: Runs>(
     sweep: &Sweep<'_, R>,
     opened: &Opened,
     number: usize,
-) -> Result<Moment, Stop> {
+) -> Result<Moment, Stop>
+    ensures once { length sweep.now.parts.second.now ≡ 0 → IfOk result (λ m. IsOnceAt number m) }
+    ensures twice { 0 < length sweep.now.parts.second.now → IfOk result (λ m. (second : ℕ) × (m.second ≡ Some second) × IsPairAt (R.is_seen sweep.now.bench.runs.now) sweep.now.bench.following sweep.now.parts.swept.now opened.now number m.first second) }
+{
     if sweep.is_double() {
         return pair_of(alloc, sweep, opened, number);
     }

@@ -2,6 +2,7 @@ ghost use Rattle.std.specs.Prelude.{◌≡◌, ◌<◌, ◌≤◌, ◌+◌, ◌-
 ghost use Rattle.bench_sweep.specs.Groups.{settled};
 ghost use Rattle.bench_sweep.specs.Outcomes.{AreDifferent};
 ghost use Rattle.sweep_trials.specs.Pairs.{AreSweptPairs, IsSweptTwice, told_from};
+ghost use Rattle.sweep_trials.specs.Standings.{has_neither};
 ghost use Rattle.sweep_trials.specs.Trials.{AreKept, IsSweptOnce, once_from, part_end};
 
 use crate::opened::Opened;
@@ -35,7 +36,9 @@ pub struct Swept {
 
 impl Swept {
     /// Whether some place has an outcome that is neither as before nor as behind.
-    pub fn has_neither(&self) -> bool {
+    pub fn has_neither(&self) -> bool
+        ensures { result ≡ has_neither self.now }
+    {
         let before = self.before;
         let behind = self.behind;
         self.settled

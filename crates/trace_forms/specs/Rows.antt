@@ -34,7 +34,8 @@ event_character (Some marks.Abort) = codes "x"
 event_character (Some marks.Start) = codes "^"
 
 abbrev pub ending_character : Ending → List ℕ
-ending_character endings.Ended = codes "-"
+ending_character (endings.Returned reply) = codes "-"
+ending_character endings.Left = codes "-"
 ending_character endings.Dropped = codes "R"
 ending_character endings.Open = codes "?"
 

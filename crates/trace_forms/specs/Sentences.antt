@@ -15,6 +15,7 @@ use Rattle.bench_report.specs.declared.frames.Purpose.{Purpose}
 use Rattle.bench_report.specs.declared.frames.Purpose.TheVariants as purposes
 use Rattle.trace_reader.specs.declared.told.Mark.{Mark}
 use Rattle.trace_reader.specs.declared.told.Mark.TheVariants as marks
+use Rattle.trace_reader.specs.declared.told.Reply.{Reply}
 use Rattle.sign_kinds.specs.declared.signs.Asked.{Asked}
 use Rattle.sign_kinds.specs.declared.signs.Asked.TheVariants as asks
 use Rattle.sign_kinds.specs.declared.signs.Ending.{Ending}
@@ -38,8 +39,20 @@ abbrev pub event_there : Option Mark → Option Event
 event_there None = None
 event_there (Some mark) = Some (event_of mark)
 
+-- an answer, with a space before each of its parts: its numbers behind the first are two dots
+abbrev pub first_text : Option ℕ → List ℕ
+first_text None = codes ""
+first_text (Some word) = codes " " ++ decimal word
+
+abbrev pub more_text : Bool → List ℕ
+more_text more = if more then codes " .." else codes ""
+
+abbrev pub reply_text : Reply → List ℕ
+reply_text reply = lines.head_text reply.head ++ (first_text reply.first ++ more_text reply.more)
+
 abbrev pub ending_text : Ending → List ℕ
-ending_text endings.Ended = codes " ends"
+ending_text (endings.Returned reply) = codes " returns" ++ reply_text reply
+ending_text endings.Left = codes " ends"
 ending_text endings.Dropped = codes " is dropped"
 ending_text endings.Open = codes " is under way at the end"
 

@@ -7,4 +7,4 @@ mod sentences;
 
 pub use escapes::Escaped;
 pub use rows::rows_of;
-pub use sentences::{Named, Request, Sentence};
+pub use sentences::{Answered, Named, Request, Sentence};

@@ -72,7 +72,7 @@ fn ending_character(ending: Ending) -> &'static str
     ensures { result.now ≡ spec.ending_character ending }
 {
     match ending {
-        Ending::Ended => "-",
+        Ending::Returned(_) | Ending::Left => "-",
         Ending::Dropped => "R",
         Ending::Open => "?",
     }

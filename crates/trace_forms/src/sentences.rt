@@ -1,11 +1,12 @@
 ghost use Rattle.std.specs.Prelude.{◌≡◌, Some};
+ghost use Rattle.bench_report.specs.Lines as lines;
 ghost use Rattle.trace_forms.specs.Sentences as spec;
 
 use bench_report::{Line, Purpose};
-use mcal_base::{Event, Reason, Shown, Stop, Unit};
+use mcal_base::{Event, Head, Reason, Shown, Stop, Unit};
 use sign_kinds::{Asked, Ending, What};
 use std::fmt;
-use trace_reader::Mark;
+use trace_reader::{Mark, Reply};
 
 /// A frame by its service or its line.
 #[derive(Clone, Copy)]
@@ -47,14 +48,79 @@ fn event_there(mark: Option<Mark>) -> Option<Event>
     }
 }
 
-/// How a frame went, in words.
-fn ending_text(ending: Ending) -> &'static str
-    ensures { result.now ≡ spec.ending_text ending }
+/// What an answer begins with, with a space before it.
+#[derive(Clone, Copy)]
+struct Headed(Head);
+
+impl fmt::Display for Headed {
+    ghost output = { λ h. Some (lines.head_text h.0) };
+
+    fn fmt<W: fmt::Write>(&self, f: &mut fmt::Formatter<W>) -> fmt::Result {
+        match self.0 {
+            Head::Nothing | Head::Numbers => f.write_str(""),
+            Head::Name(name) => {
+                let name = name.text();
+                write!(f, " {name}")
+            }
+            Head::ZeroNull => f.write_str(" 0 null"),
+        }
+    }
+}
+
+/// The first number of an answer, with a space before it, if there is one.
+#[derive(Clone, Copy)]
+struct First(Option<u32>);
+
+impl fmt::Display for First {
+    ghost output = { λ n. Some (spec.first_text n.0) };
+
+    fn fmt<W: fmt::Write>(&self, f: &mut fmt::Formatter<W>) -> fmt::Result {
+        match self.0 {
+            None => f.write_str(""),
+            Some(word) => write!(f, " {word}"),
+        }
+    }
+}
+
+/// That there are more numbers, with a space before it.
+fn more_text(more: bool) -> &'static str
+    ensures { result.now ≡ spec.more_text more }
 {
-    match ending {
-        Ending::Ended => " ends",
-        Ending::Dropped => " is dropped",
-        Ending::Open => " is under way at the end",
+    if more { " .." } else { "" }
+}
+
+/// An answer, with a space before each of its parts: its numbers behind the first are two dots.
+#[derive(Clone, Copy)]
+pub struct Answered(pub Reply);
+
+impl fmt::Display for Answered {
+    ghost output = { λ a. Some (spec.reply_text a.0) };
+
+    fn fmt<W: fmt::Write>(&self, f: &mut fmt::Formatter<W>) -> fmt::Result {
+        let head = Headed(self.0.head);
+        let first = First(self.0.first);
+        let more = more_text(self.0.more);
+        write!(f, "{head}{first}{more}")
+    }
+}
+
+/// How a frame went, in words.
+#[derive(Clone, Copy)]
+struct Went(Ending);
+
+impl fmt::Display for Went {
+    ghost output = { λ w. Some (spec.ending_text w.0) };
+
+    fn fmt<W: fmt::Write>(&self, f: &mut fmt::Formatter<W>) -> fmt::Result {
+        match self.0 {
+            Ending::Returned(reply) => {
+                let answer = Answered(reply);
+                write!(f, " returns{answer}")
+            }
+            Ending::Left => f.write_str(" ends"),
+            Ending::Dropped => f.write_str(" is dropped"),
+            Ending::Open => f.write_str(" is under way at the end"),
+        }
     }
 }
 
@@ -206,7 +272,7 @@ impl fmt::Display for Sentence {
             }
             What::Gone(frame, ending) => {
                 let name = Named(frame.purpose);
-                let ending = ending_text(ending);
+                let ending = Went(ending);
                 let from = frame.from;
                 let number = frame.number;
                 write!(

@@ -6,7 +6,7 @@ use Rattle.std.proofs.lemmas.Bool.Decides.{nat_tests}
 use Rattle.std.proofs.lemmas.List.{get_or-set_same, get_or-set_other, length-set}
 use Rattle.bench_report.specs.Numbers.{Each}
 use Rattle.sign_kinds.specs.declared.signs.Sign.{Sign}
-use Rattle.trace_lanes.specs.Board.{Board, Stroke, Draws, Says, SaysLine, empty, fits, placed_to, placed, using, entered, said, script_row, put, put_all}
+use Rattle.trace_lanes.specs.Board.{Board, Stroke, Draws, Says, SaysEither, SaysLine, empty, fits, either, placed_to, placed, using, entered, said, script_row, put, put_all}
 use Rattle.trace_lanes.specs.Captions.{caption_text, width}
 use Rattle.trace_lanes.specs.Course.{first}
 use Rattle.trace_lanes.specs.Drawn.{is_drawn, is_left_out, strokes, behind_all, lasts}
@@ -247,6 +247,7 @@ put_keeps b (Draws shape) h =
     let k : Keeps (entered b shape.row) = (entered_uses b shape.row h).keeps in
     record { rows_free = k.rows_free; rows_used = k.rows_used; stands = k.stands; clear = k.clear }
 put_keeps b (Says row x limit caption) h = said_keeps b row x limit caption h
+put_keeps b (SaysEither row x limit long short) h = said_keeps b row x limit (either (slice_index_or (entered b row).free (slot row) 0) x limit long short) h
 put_keeps b (SaysLine x caption) h = said_keeps b (rows.Script (script_row b.free x)) x 20000000 caption h
 
 all_keep : (b : Board) (ss : List Stroke) → Keeps b → Keeps (put_all b ss)

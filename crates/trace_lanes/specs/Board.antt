@@ -1,5 +1,5 @@
 -- How shapes and labels are put on a page: a label stands where its row is free, and is left out where it isn't.
-use Rattle.std.specs.Prelude.{ℕ, ◌+◌, ◌*◌, ◌&&◌, max, nat_le, Bool, true, false, Option, Some, None, List, [], ◌∷◌, ◌++◌, length, slice_index_or, slice_set, replicate, take, drop, unwrap_or, if◌then◌else◌}
+use Rattle.std.specs.Prelude.{ℕ, ◌+◌, ◌*◌, ◌&&◌, max, nat_le, Bool, true, false, Option, Some, None, List, [], ◌∷◌, ◌++◌, length, slice_index_or, slice_set, replicate, take, drop, is_some, unwrap_or, if◌then◌else◌}
 use Rattle.std.specs.List.{position}
 use Rattle.sign_kinds.specs.Sums.{sum_up}
 use Rattle.trace_lanes.specs.Captions.{caption_text}
@@ -59,18 +59,25 @@ entered b row =
 abbrev pub script_row : List ℕ → ℕ → ℕ
 script_row free x = unwrap_or (position (λ end. nat_le end x) (take 8 (drop 165 free))) 8
 
--- what is put on a page: a shape, a label in a row that may end at a place, and a label in the rows of the script
+-- what is put on a page: a shape, a label in a row that may end at a place, the first of two such that has room there,
+-- and a label in the rows of the script
 pub data Stroke : Type 0 where
   Draws : Shape → Stroke
   Says : Row → ℕ → ℕ → Caption → Stroke
+  SaysEither : Row → ℕ → ℕ → Caption → Caption → Stroke
   SaysLine : ℕ → Caption → Stroke
 
 abbrev pub said : Board → Row → ℕ → ℕ → Caption → Board
 said b row x limit caption = placed (entered b row) row x limit caption
 
+-- the first of two labels, where its row has room for it
+abbrev pub either : ℕ → ℕ → ℕ → Caption → Caption → Caption
+either free x limit long short = if is_some (end_of free x (length (caption_text long)) limit) then long else short
+
 unfoldable pub put : Board → Stroke → Board
 put b (Draws shape) = record (entered b shape.row) { shapes = (entered b shape.row).shapes ++ shape ∷ [] }
 put b (Says row x limit caption) = said b row x limit caption
+put b (SaysEither row x limit long short) = said b row x limit (either (slice_index_or (entered b row).free (slot row) 0) x limit long short)
 put b (SaysLine x caption) = said b (Script (script_row b.free x)) x 20000000 caption
 
 -- so are many, one after another

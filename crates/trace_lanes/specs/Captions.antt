@@ -1,6 +1,6 @@
 -- What labels say.
 use Rattle.std.specs.Prelude.{ℕ, ◌*◌, List, ◌++◌, length, codes, decimal}
-use Rattle.trace_forms.specs.Sentences.{asked_text, purpose_text, sentence}
+use Rattle.trace_forms.specs.Sentences.{asked_text, purpose_text, reply_text, sentence}
 use Rattle.trace_lanes.specs.Rows.{name}
 use Rattle.trace_lanes.specs.declared.caption.Caption.{Caption}
 use Rattle.trace_lanes.specs.declared.caption.Caption.TheVariants as captions
@@ -18,6 +18,7 @@ caption_text (captions.Turn number asked) = decimal number ++ (codes " " ++ aske
 caption_text (captions.Says what) = sentence what
 caption_text (captions.Time ticks) = codes "t=" ++ decimal ticks
 caption_text (captions.Frame purpose) = purpose_text purpose
+caption_text (captions.Answer purpose reply) = purpose_text purpose ++ reply_text reply
 caption_text (captions.Waits steps ticks) = codes "waits " ++ (decimal steps ++ (codes " steps, " ++ (decimal ticks ++ codes " ticks")))
 caption_text (captions.Value value) = decimal value
 caption_text (captions.Run steps ticks) = codes "A run of " ++ (decimal steps ++ (codes " steps and " ++ (decimal ticks ++ codes " ticks")))

@@ -136,7 +136,7 @@ noted c s (whats.Waited ticks all) = record c { ticks = all }
 noted c s (whats.Begins frame) = begun c frame
 noted c s (whats.Stepped step fresh) = closed c s.depth step.made
 noted c s (whats.Held cause) = held c s.step cause c.asked
-noted c s (whats.Window first) = record c { shut = None }
+noted c s (whats.Window step) = record c { shut = None }
 noted c s (whats.Reset reason dropped) = record c { waits = replicate 177 None }
 noted c s _ = c
 

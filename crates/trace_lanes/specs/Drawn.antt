@@ -2,15 +2,18 @@
 use Rattle.std.specs.Prelude.{ℕ, ◌-◌, ◌/◌, ◌==◌, ◌&&◌, max, nat_le, nat_lt, not, Bool, true, false, Option, Some, None, List, [], ◌∷◌, ◌++◌, flat_map, if◌then◌else◌}
 use Rattle.sign_kinds.specs.Sums.{sum_up}
 use Rattle.sign_kinds.specs.declared.signs.Asked.{Asked}
+use Rattle.bench_report.specs.declared.frames.Purpose.{Purpose}
 use Rattle.sign_kinds.specs.declared.signs.Ending.{Ending}
+use Rattle.sign_kinds.specs.declared.signs.Ending.TheVariants as endings
 use Rattle.sign_kinds.specs.declared.signs.Frame.{Frame}
 use Rattle.sign_kinds.specs.declared.signs.Sign.{Sign}
 use Rattle.sign_kinds.specs.declared.signs.What.{What}
 use Rattle.sign_kinds.specs.declared.signs.What.TheVariants as whats
-use Rattle.trace_lanes.specs.Board.{Stroke, Draws, Says, SaysLine}
+use Rattle.trace_lanes.specs.Board.{Stroke, Draws, Says, SaysEither, SaysLine}
 use Rattle.trace_lanes.specs.Course as courses
 use Rattle.trace_lanes.specs.declared.board.Mark.TheVariants as marks
 use Rattle.trace_lanes.specs.declared.board.Shape.{Shape}
+use Rattle.trace_lanes.specs.declared.caption.Caption.{Caption}
 use Rattle.trace_lanes.specs.declared.caption.Caption.TheVariants as captions
 use Rattle.trace_lanes.specs.declared.course.Course.{Course}
 use Rattle.trace_lanes.specs.declared.course.Level.{Level}
@@ -84,11 +87,16 @@ waited c s row (Some wait) = waited_since c s row wait
 abbrev pub waited_in : Course → Sign → Row → List Stroke
 waited_in c s row = waited c s row (courses.wait_in c row)
 
+-- the label of a frame's bar: what it was begun for, and its answer
+abbrev pub long_label : Purpose → Ending → Caption
+long_label purpose (endings.Returned reply) = captions.Answer purpose reply
+long_label purpose _ = captions.Frame purpose
+
 -- the bar of a frame, where it is gone
 unfoldable pub gone : Course → Sign → Frame → Ending → List Stroke
 gone c s frame ending =
     Draws (record { mark = marks.Bar frame.purpose ending; row = courses.row_of frame.purpose frame.level; x = (courses.frame_at c frame.depth).x; width = max (c.x - (courses.frame_at c frame.depth).x) 2; sign = s })
-    ∷ Says (courses.row_of frame.purpose frame.level) (sum_up (courses.frame_at c frame.depth).x 3) c.x (captions.Frame frame.purpose) ∷ []
+    ∷ SaysEither (courses.row_of frame.purpose frame.level) (sum_up (courses.frame_at c frame.depth).x 3) c.x (long_label frame.purpose ending) (captions.Frame frame.purpose) ∷ []
 
 -- the steps with the mask closed, where it is opened
 unfoldable pub window : Course → Sign → Option Place → List Stroke

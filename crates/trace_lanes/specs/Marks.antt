@@ -45,7 +45,8 @@ purpose_class (purposes.Call service) = codes "call"
 purpose_class (purposes.Handler line) = codes "handler"
 
 abbrev pub ending_class : Ending → List ℕ
-ending_class endings.Ended = codes ""
+ending_class (endings.Returned reply) = codes ""
+ending_class endings.Left = codes ""
 ending_class endings.Dropped = codes " dropped"
 ending_class endings.Open = codes " open"
 

@@ -225,6 +225,28 @@ impl Board {
         self.place(alloc, row, x, limit, caption)
     }
 
+    /// Puts the first of two labels that may end at a place and has room, if its row has room for one.
+    #[tactic(auto, unfolding(crate::specs::Board::put))]
+    pub(crate) fn say_either(
+        &mut self,
+        alloc: Global,
+        row: Row,
+        x: usize,
+        limit: usize,
+        long: Caption,
+        short: Caption,
+    ) -> Result<(), AllocError>
+        ensures { OnOk result (self.new ≡ spec.put self.old (spec.SaysEither row x limit long short)) }
+    {
+        self.enter(alloc, row)?;
+        let letters = length_of(alloc, long)?;
+        if end_of(self.free[row.slot()], x, letters, limit).is_some() {
+            self.place(alloc, row, x, limit, long)
+        } else {
+            self.place(alloc, row, x, limit, short)
+        }
+    }
+
     /// The first row of the script that is free at a place, or the last.
     fn script_row(&self, x: usize) -> u32
         ensures { result ≡ spec.script_row self.now.free x }

@@ -5,7 +5,8 @@ use crate::rows::Row;
 use bench_report::Purpose;
 use sign_kinds::{Asked, What};
 use std::fmt;
-use trace_forms::{Named, Request, Sentence};
+use trace_forms::{Answered, Named, Request, Sentence};
+use trace_reader::Reply;
 
 /// What the colors stand for.
 const COLORS: &str = "\
@@ -44,6 +45,8 @@ pub enum Caption {
     Time(u64),
     /// What a frame was begun for.
     Frame(Purpose),
+    /// What a frame was begun for, and its answer.
+    Answer(Purpose, Reply),
     /// A frame waited for so many steps and so many ticks.
     Waits(usize, u64),
     /// A value.
@@ -76,6 +79,11 @@ impl fmt::Display for Caption {
             Caption::Frame(purpose) => {
                 let name = Named(purpose);
                 write!(f, "{name}")
+            }
+            Caption::Answer(purpose, reply) => {
+                let name = Named(purpose);
+                let answer = Answered(reply);
+                write!(f, "{name}{answer}")
             }
             Caption::Waits(steps, ticks) => write!(f, "waits {steps} steps, {ticks} ticks"),
             Caption::Value(value) => write!(f, "{value}"),

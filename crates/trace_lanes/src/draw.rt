@@ -7,6 +7,7 @@ use crate::board::{Board, Mark, NO_LIMIT, Shape};
 use crate::caption::Caption;
 use crate::course::{Course, Level, Wait, row_of, setting_of};
 use crate::rows::Row;
+use bench_report::Purpose;
 use sign_kinds::{Asked, Ending, Frame, Sign, What};
 use std::alloc::{AllocError, Global};
 
@@ -206,6 +207,16 @@ fn put_begin(
     }
 }
 
+/// The label of a frame's bar: what it was begun for, and its answer.
+fn long_label(purpose: Purpose, ending: Ending) -> Caption
+    ensures { result ≡ spec.long_label purpose ending }
+{
+    match ending {
+        Ending::Returned(reply) => Caption::Answer(purpose, reply),
+        _ => Caption::Frame(purpose),
+    }
+}
+
 /// Puts the bar of a frame that is gone.
 #[tactic(auto, unfolding(crate::specs::Drawn::gone))]
 fn put_gone(
@@ -227,11 +238,12 @@ fn put_gone(
         sign: *sign,
     };
     board.draw(alloc, bar)?;
-    board.say(
+    board.say_either(
         alloc,
         row_of(frame.purpose, frame.level),
         place.x.saturating_add(3),
         course.x,
+        long_label(frame.purpose, ending),
         Caption::Frame(frame.purpose),
     )
 }

@@ -63,7 +63,7 @@ fn ending_class(ending: Ending) -> &'static str
     ensures { result.now ≡ spec.ending_class ending }
 {
     match ending {
-        Ending::Ended => "",
+        Ending::Returned(_) | Ending::Left => "",
         Ending::Dropped => " dropped",
         Ending::Open => " open",
     }

@@ -15,7 +15,7 @@ use Rattle.bench_report.specs.Report.{frames_after_end, step_lines, wait_lines, 
 use Rattle.bench_report.specs.Rows.{Row}
 use Rattle.bench_report.specs.declared.frames.Purpose.{Purpose}
 use Rattle.bench_report.specs.declared.frames.Purpose.TheVariants as purposes
-use Rattle.trace_reader.specs.Told.{told, mark_of, given, incoming}
+use Rattle.trace_reader.specs.Told.{told, reply_of, mark_of, given, incoming}
 use Rattle.trace_reader.specs.declared.told.Step.{Step}
 use Rattle.trace_reader.specs.declared.told.Told.{Told}
 use Rattle.trace_reader.specs.declared.told.Told.TheVariants as tells
@@ -119,16 +119,16 @@ top_is d f fs p purpose e is lt h =
     ap (λ (x : List Frame). is_of p (top_of d.steps x)) e
     ∙ (ap (λ (b : Bool). is_of p (if b then Some f.purpose else None)) (lt_from f.from d.steps lt) ∙ (ap p is ∙ h))
 
-one_ended : (n : ℕ) (d : Drawing) (f : Frame) (fs : List Frame) (K : Drawing → Type 0) → d.frames ≡ f ∷ fs → ((e : Drawing) → e.frames ≡ fs → e.steps ≡ d.steps → K e) → K (ended_of d n endings.Ended d.frames)
-one_ended n d f fs K e k = k (ended_of d n endings.Ended d.frames) (ap (λ (x : List Frame). (ended_of d n endings.Ended x).frames) e) (ap (λ (x : List Frame). (ended_of d n endings.Ended x).steps) e)
+one_ended : (n : ℕ) (ending : Ending) (d : Drawing) (f : Frame) (fs : List Frame) (K : Drawing → Type 0) → d.frames ≡ f ∷ fs → ((e : Drawing) → e.frames ≡ fs → e.steps ≡ d.steps → K e) → K (ended_of d n ending d.frames)
+one_ended n ending d f fs K e k = k (ended_of d n ending d.frames) (ap (λ (x : List Frame). (ended_of d n ending x).frames) e) (ap (λ (x : List Frame). (ended_of d n ending x).steps) e)
 
 end_line : (n : ℕ) (d : Drawing) (f : Frame) (fs : List Frame) (purpose : Purpose) (frames : List Purpose) (answer : Answer) (count : ℕ) (K : Drawing → Type 0) → d.frames ≡ f ∷ fs → f.purpose ≡ purpose → f.from < d.steps →
     length d.frames ≡ count → count ≤ 8 → ((e : Drawing) → e.frames ≡ fs → e.steps ≡ d.steps → K e) → Tells n d (end_lines (purpose ∷ frames) (Some answer)) K
 end_line n d f fs (purposes.Call service) frames answer count K e is lt c few k =
     let own : is_call_of service (purposes.Call service) ≡ true = (bytes_eq-Decides (service_text service) (service_text service)).1 refl in
-    (fits_by d (tells.Returned service) count c few (top_is d f fs (is_call_of service) (purposes.Call service) e is lt own), one_ended n d f fs K e k)
+    (fits_by d (tells.Returned service (reply_of answer.head answer.words)) count c few (top_is d f fs (is_call_of service) (purposes.Call service) e is lt own), one_ended n (endings.Returned (reply_of answer.head answer.words)) d f fs K e k)
 end_line n d f fs (purposes.Handler line) frames answer count K e is lt c few k =
-    (fits_by d (tells.Left line) count c few (top_is d f fs (is_handler_of line) (purposes.Handler line) e is lt (eq_self line)), one_ended n d f fs K e k)
+    (fits_by d (tells.Left line) count c few (top_is d f fs (is_handler_of line) (purposes.Handler line) e is lt (eq_self line)), one_ended n endings.Left d f fs K e k)
 
 -- how many frames there are after an end
 abbrev pub end_count : ℕ → Option Answer → ℕ

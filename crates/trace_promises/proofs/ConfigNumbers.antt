@@ -189,21 +189,22 @@ part_fits : (o : Option Data) (m : McuConfig) → first (parts.found_checks tabl
 part_fits None m p h = module_fits no_members m p h
 part_fits (Some d) m p h = table_fits (as_table d) m p h
 
-channels_of : (detect : Bool) (classification : ℕ) (a : Option (List ℕ)) (b : Option (List SpiChannel)) (c : Option (List SpiJob)) (d : Option (List SpiSequence)) (g : SpiConfig) →
-    (a >>= (λ levels. b >>= (λ channels. c >>= (λ jobs. d >>= (λ sequences. Some (record { dev_error_detect = detect; classification = classification; levels = levels; channels = channels; jobs = jobs; sequences = sequences })))))) ≡ Some g → b ≡ Some g.channels
-channels_of detect classification None b c d g h = cc
-channels_of detect classification (Some levels) None c d g h = cc
-channels_of detect classification (Some levels) (Some channels) None d g h = cc
-channels_of detect classification (Some levels) (Some channels) (Some jobs) None g h = cc
-channels_of detect classification (Some levels) (Some channels) (Some jobs) (Some sequences) g h =
-    let e : record { dev_error_detect = detect; classification = classification; levels = levels; channels = channels; jobs = jobs; sequences = sequences } ≡ g = cc in
+channels_of : (detect : Bool) (classification : ℕ) (a e : Option (List ℕ)) (b : Option (List SpiChannel)) (c : Option (List SpiJob)) (d : Option (List SpiSequence)) (g : SpiConfig) →
+    (a >>= (λ levels. e >>= (λ sync_units. b >>= (λ channels. c >>= (λ jobs. d >>= (λ sequences. Some (record { dev_error_detect = detect; classification = classification; levels = levels; sync_units = sync_units; channels = channels; jobs = jobs; sequences = sequences }))))))) ≡ Some g → b ≡ Some g.channels
+channels_of detect classification None e b c d g h = cc
+channels_of detect classification (Some levels) None b c d g h = cc
+channels_of detect classification (Some levels) (Some sync_units) None c d g h = cc
+channels_of detect classification (Some levels) (Some sync_units) (Some channels) None d g h = cc
+channels_of detect classification (Some levels) (Some sync_units) (Some channels) (Some jobs) None g h = cc
+channels_of detect classification (Some levels) (Some sync_units) (Some channels) (Some jobs) (Some sequences) g h =
+    let e : record { dev_error_detect = detect; classification = classification; levels = levels; sync_units = sync_units; channels = channels; jobs = jobs; sequences = sequences } ≡ g = cc in
     ap (λ (y : SpiConfig). Some y.channels) e
 
 serial_fits : (ms : Members) (g : SpiConfig) → spi_table.value_of ms ≡ Some g → Each DefaultFits g.channels
 unfolding spi_table.value_of
 serial_fits ms g h =
     value_fits DefaultFits spi_table.channels channel_fits (entry keys.SpiChannel ms) g.channels
-    (channels_of (found_or true (truth (entry keys.SpiDevErrorDetect ms))) (found_or 1 (whole 1 2 (entry keys.Classification ms))) (read_list_or (1 ∷ 1 ∷ []) keys.Levels (whole 1 7) ms) (array_value spi_table.channels ms) (array_value spi_table.jobs ms)
+    (channels_of (found_or true (truth (entry keys.SpiDevErrorDetect ms))) (found_or 1 (whole 1 2 (entry keys.Classification ms))) (read_list_or (1 ∷ 1 ∷ []) keys.Levels (whole 1 7) ms) (read_list_or [] keys.SyncUnits (whole 0 1) ms) (array_value spi_table.channels ms) (array_value spi_table.jobs ms)
     (array_value spi_table.sequences ms) g h)
 
 serial_table_fits : (o : Option Members) (g : SpiConfig) → (o >>= spi_table.value_of) ≡ Some g → Each DefaultFits g.channels

@@ -1,6 +1,6 @@
 -- The words of serial channels, of running jobs and of wires have 32 bits, whatever happens that brings such words.
-use Rattle.std.proofs.Common.{ℕ, zero, suc, ◌+◌, ◌^◌, Bool, true, false, List, [], ◌∷◌, length, map, Option, Some, None, arith, div-add-mod'}
-use Rattle.std.specs.Prelude.{◌==◌, drop, flat_map, replicate, if◌then◌else◌}
+use Rattle.std.proofs.Common.{ℕ, zero, suc, ◌+◌, ◌^◌, Bool, true, false, List, [], ◌∷◌, ◌++◌, length, map, Option, Some, None, arith, div-add-mod'}
+use Rattle.std.specs.Prelude.{◌==◌, ◌||◌, not, drop, flat_map, replicate, if◌then◌else◌}
 use Rattle.std.specs.List.{enumerate_from}
 use Rattle.mcal_base.specs.declared.answer_name.AnswerName.{AnswerName}
 use Rattle.mcal_base.specs.declared.config.spi.SpiChannel.{SpiChannel}
@@ -15,12 +15,13 @@ use Rattle.spi_jobs.specs.declared.channel.Channel.{Channel}
 use Rattle.spi_machine.specs.Bounds.{spi_setting}
 use Rattle.spi_machine.specs.Channels.{ChannelState, SetUp, untouched, words_from, set_up_or, initialised, written_from, filled}
 use Rattle.spi_machine.specs.Checks.{error_by}
-use Rattle.spi_machine.specs.Machine.{cancelled_by, cancelled, initial, channel_work, sequence_work, unless_busy, work, finds_held, acts_by, job_words, with_word, number_of, next_at, job_started, start_by, unit_of, run_of, ready, stored, kept, all_kept, after_last, sequence_after, job_over, pending_of, served_by, served, faulted_run, moved, happens}
+use Rattle.spi_machine.specs.Machine.{cancelled_by, cancelled, initial, channel_work, sequence_work, unless_busy, work, finds_held, acts_by, job_words, with_word, carried_for, sent_by, error_of_sending, carries_on, job_begun, carries_job, as_requested, sequence_begun, job_done, sent_on, may_go_on, sent_first, sent_from, sent_at, sent, not_sent, may_end, sending_ends, number_of, next_at, job_started, start_by, unit_of, run_of, ready, stored, kept, all_kept, after_last, sequence_after, job_over, pending_of, served_by, served, faulted_run, faulted_carrying, moved, act_by, is_sync_number, happens}
 use Rattle.spi_machine.specs.Numbered.{with_item, first_items, word_at}
-use Rattle.spi_machine.specs.Pending.{Pending, has_further, next_job, end_by}
-use Rattle.spi_machine.specs.State.{SpiState, is_off, channel_at, with_channel, internal_word, run_at, with_run, wire_at, is_busy, is_running}
+use Rattle.spi_machine.specs.Pending.{Pending, is_of, has_further, next_job, goes_to_next, end_by}
+use Rattle.spi_machine.specs.State.{Carrying, SpiState, is_off, channel_at, with_channel, internal_word, run_at, with_run, wire_at, carried_at, with_carried, is_busy, is_running}
 use Rattle.spi_machine.specs.Table.{taken_channel, table_of, channel_of, channel_in, length_by, channels_of}
 use Rattle.spi_machine.specs.Transfers.{Goes, ToDestination, ToChannel, Nowhere, JobWord, Run, masked, refused, goes_to, as_words, external_words, channel_words, no_word, shown, on_wire, is_done, word_of, received_with, goes_on, begun}
+use Rattle.spi_machine.specs.Wiring.{unit_of_sequence, is_sync_sequence}
 use Rattle.spi_machine.specs.declared.call.Call.{Call}
 use Rattle.spi_machine.specs.declared.call.Call.TheVariants as calls
 use Rattle.spi_machine.specs.declared.call.ChannelCall.{ChannelCall}
@@ -28,12 +29,12 @@ use Rattle.spi_machine.specs.declared.call.ChannelCall.TheVariants.{WriteIb, Rea
 use Rattle.spi_machine.specs.declared.call.Pointer.{Pointer}
 use Rattle.spi_machine.specs.declared.call.Pointer.TheVariants.{Users, Null}
 use Rattle.spi_machine.specs.declared.call.SequenceCall.{SequenceCall}
-use Rattle.spi_machine.specs.declared.call.SequenceCall.TheVariants.{AsyncTransmit, Cancel}
+use Rattle.spi_machine.specs.declared.call.SequenceCall.TheVariants.{AsyncTransmit, Cancel, SyncTransmit}
 use Rattle.spi_machine.specs.declared.table.SpiTable.{SpiTable}
 use Rattle.bench_report.specs.Numbers.{IsNumber, Each}
 use Rattle.trace_laws.proofs.Within.{each_append, each_take, each_drop}
 use Rattle.trace_promises.specs.Keeping.{OrderBrings, WorldFits, HappeningFits, Keeps}
-use Rattle.trace_promises.specs.Numbers.{DefaultFits, ChannelFits, SentFits, RunFits, PairFits, WireFits, SerialFits}
+use Rattle.trace_promises.specs.Numbers.{DefaultFits, ChannelFits, SentFits, RunFits, CarryingFits, PairFits, WireFits, SerialFits}
 use Rattle.trace_promises.proofs.Lists.{chosen, at_place}
 
 -- ---- lists
@@ -97,7 +98,7 @@ channel_fits : (s : SpiState) (c : ℕ) → SerialFits s → ChannelFits (channe
 channel_fits s c h = at_place ChannelFits s.channels c untouched h.0 untouched_fits
 
 put_fits : (s : SpiState) (c : ℕ) (x : ChannelState) → SerialFits s → ChannelFits x → SerialFits (with_channel s c x)
-put_fits s c x h k = (with_fits ChannelFits untouched s.channels c x untouched_fits h.0 k, h.1, h.2)
+put_fits s c x h k = (with_fits ChannelFits untouched s.channels c x untouched_fits h.0 k, h.1, h.2, h.3)
 
 from_fits : (p : Pointer) (n : ℕ) (k : Channel) (x : ChannelState) → Small (Some k) → ChannelFits x → Each IsNumber (words_from p n k x)
 from_fits Users n k x m h = firsts_fit IsNumber 0 n x.source zero_fits h.0
@@ -137,19 +138,28 @@ words_fit c (Some k) x m h = words_by k.internal c k x (set_up_or k x.set_up) m 
 begun_fits : (now received q : ℕ) (words : List JobWord) (before : List ℕ) → IsNumber received → Each SentFits words → Each IsNumber before → RunFits (Some (begun now received q words before))
 begun_fits now received q words before r h k = (h, k, masked_fits _ received r)
 
--- a word begins: the run, and the pair on the wire
-begins_fits : (s : SpiState) (u received : ℕ) (r : Run) → SerialFits s → IsNumber received → RunFits (Some r) → SerialFits (with_word s u received r)
-begins_fits s u received r h k f =
+-- a word begins: the pair on the wire, and the run
+wires_fit : (s : SpiState) (u received : ℕ) (r : Run) → SerialFits s → IsNumber received → RunFits (Some r) → Each WireFits (with_item [] s.wires u (wire_at s u ++ on_wire received (word_of r) ∷ []))
+wires_fit s u received r h k f =
     let sent = at_place SentFits r.words (length r.received) no_word f.0 zero_fits in
     let before = at_place WireFits s.wires u [] h.2 tt in
     let wire = each_append PairFits (wire_at s u) (on_wire received (word_of r) ∷ []) before ((sent, shown_fits (word_of r).width received k), tt) in
-    (h.0, with_fits RunFits None s.units u (Some r) tt h.1 f, with_fits WireFits [] s.wires u _ tt h.2 wire)
+    with_fits WireFits [] s.wires u _ tt h.2 wire
+
+begins_fits : (s : SpiState) (u received : ℕ) (r : Run) → SerialFits s → IsNumber received → RunFits (Some r) → SerialFits (with_word s u received r)
+begins_fits s u received r h k f = (h.0, with_fits RunFits None s.units u (Some r) tt h.1 f, wires_fit s u received r h k f, h.3)
 
 run_fits : (s : SpiState) (u : ℕ) → SerialFits s → RunFits (run_at s u)
 run_fits s u h = at_place RunFits s.units u None h.1 tt
 
 put_run : (s : SpiState) (u : ℕ) (r : Option Run) → SerialFits s → RunFits r → SerialFits (with_run s u r)
-put_run s u r h k = (h.0, with_fits RunFits None s.units u r tt h.1 k, h.2)
+put_run s u r h k = (h.0, with_fits RunFits None s.units u r tt h.1 k, h.2, h.3)
+
+carrying_fits : (s : SpiState) (u : ℕ) → SerialFits s → CarryingFits (carried_at s u)
+carrying_fits s u h = at_place CarryingFits s.carried u None h.3 tt
+
+put_carrying : (s : SpiState) (u : ℕ) (x : Option Carrying) → SerialFits s → CarryingFits x → SerialFits (with_carried s u x)
+put_carrying s u x h k = (h.0, h.1, h.2, with_fits CarryingFits None s.carried u x tt h.3 k)
 
 -- ---- what came in
 
@@ -184,7 +194,7 @@ module _ (d : SpiTable) (small : (c : ℕ) → Small (channel_of d c)) where
 
   all_initial : (s : SpiState) → SerialFits s → SerialFits (initial d s)
   all_initial s h =
-      (mapped_fit ChannelFits ChannelFits (λ p. initialised (channel_of d p.0) p.1) 0 (first_items untouched 16 s.channels) (λ c x k. initial_fits (channel_of d c) x (small c) k) (firsts_fit ChannelFits untouched 16 s.channels untouched_fits h.0), tt, h.2)
+      (mapped_fit ChannelFits ChannelFits (λ p. initialised (channel_of d p.0) p.1) 0 (first_items untouched 16 s.channels) (λ c x k. initial_fits (channel_of d c) x (small c) k) (firsts_fit ChannelFits untouched 16 s.channels untouched_fits h.0), tt, h.2, tt)
 
   channel_call : (s : SpiState) (c : ℕ) (call : ChannelCall) → SerialFits s → SerialFits (channel_work (channel_of d c) s c call).state
   channel_call s c (WriteIb p) h = put_fits s c _ h (written_fits p (channel_of d c) (channel_at s c) (small c) (channel_fits s c h))
@@ -201,6 +211,7 @@ module _ (d : SpiTable) (small : (c : ℕ) → Small (channel_of d c)) where
 
   sequence_call : (s : SpiState) (q : ℕ) (call : SequenceCall) → SerialFits s → SerialFits (sequence_work d s q call).state
   sequence_call s q AsyncTransmit h = h
+  sequence_call s q SyncTransmit h = h
   sequence_call s q Cancel h = cancels s _ h
 
   unless_fits : (busy : Bool) (s after : SpiState) → SerialFits s → SerialFits after → SerialFits (unless_busy busy s after).state
@@ -230,6 +241,76 @@ module _ (d : SpiTable) (small : (c : ℕ) → Small (channel_of d c)) where
       begins_fits (job_started d s p) u received _ h k (begun_fits w.now received p.sequence (job_words d s (next_job d p)) [] k (job_fits s (next_job d p) h) tt)
   start_fits w s (Some u) received None k h = h
   start_fits w s None received p k h = h
+
+  -- ---- words of a call that waits
+
+  unless_none : (none : Bool) (s : SpiState) (u : ℕ) → SerialFits s → CarryingFits (if none then None else carried_at s u)
+  unless_none true s u h = tt
+  unless_none false s u h = carrying_fits s u h
+
+  carried_for_fits : (s : SpiState) (q : ℕ) → SerialFits s → CarryingFits (carried_for d s q)
+  carried_for_fits s q h = unless_none (is_off s.mode || not (is_sync_sequence d q)) s (unit_of_sequence d q) h
+
+  carries_fits : (s : SpiState) (u received : ℕ) (p : Pending) (r : Run) → SerialFits s → IsNumber received → RunFits (Some r) → SerialFits (carries_on d s u received p r).state
+  carries_fits s u received p r h k f = (h.0, h.1, wires_fit s u received r h k f, with_fits CarryingFits None s.carried u (Some (record { entry = p; run = r })) tt h.3 f)
+
+  carries_job_fits : (w : World) (s : SpiState) (u received : ℕ) (p : Pending) → IsNumber received → SerialFits s → SerialFits (carries_job d w s u received p).state
+  carries_job_fits w s u received p k h =
+      carries_fits (job_begun d s p) u received p _ h k (begun_fits w.now received p.sequence (job_words d s (next_job d p)) [] k (job_fits s (next_job d p) h) tt)
+
+  sent_on_fits : (w : World) (s : SpiState) (u received : ℕ) (x : Carrying) (same_job : Bool) → IsNumber received → SerialFits s → RunFits (Some x.run) → SerialFits (sent_on d w s u received x same_job).state
+  sent_on_fits w s u received x true k h f =
+      carries_fits (stored s (word_of x.run) (word_of x.run).goes x.run.transfer.incoming) u received x.entry _
+      (stored_fits s (word_of x.run) (word_of x.run).goes x.run.transfer.incoming h f.2) k (begun_fits w.now received x.entry.sequence x.run.words (received_with x.run) k f.0 (with_incoming x.run f))
+  sent_on_fits w s u received x false k h f = carries_job_fits w (job_done d s x false) u received (goes_to_next x.entry) k (last_fits s x.run false h f)
+
+  first_sent : (w : World) (s : SpiState) (u received q : ℕ) (e : Option ErrorName) → IsNumber received → SerialFits s → SerialFits (state_by s (sent_first d w s u received q e))
+  first_sent w s u received q None k h = carries_job_fits w (sequence_begun d s q) u received (as_requested d s q) k h
+  first_sent w s u received q (Some e) k h = h
+
+  next_sent : (may : Bool) (w : World) (s : SpiState) (u received : ℕ) (x : Carrying) → IsNumber received → SerialFits s → RunFits (Some x.run) →
+      SerialFits (state_by s (if may then Some (sent_on d w s u received x (goes_on x.run)) else None))
+  next_sent true w s u received x k h f = sent_on_fits w s u received x (goes_on x.run) k h f
+  next_sent false w s u received x k h f = h
+
+  further_sent : (w : World) (s : SpiState) (u received q : ℕ) (o : Option Carrying) → IsNumber received → SerialFits s → CarryingFits o → SerialFits (state_by s (sent_from d w s u received q o))
+  further_sent w s u received q None k h f = first_sent w s u received q (error_of_sending d s q) k h
+  further_sent w s u received q (Some x) k h f = next_sent (may_go_on d w x q) w s u received x k h f
+
+  own_sent : (own : Bool) (w : World) (s : SpiState) (u received q : ℕ) → IsNumber received → SerialFits s → SerialFits (state_by s (if own then sent_from d w s u received q (carried_for d s q) else None))
+  own_sent true w s u received q k h = further_sent w s u received q (carried_for d s q) k h (carried_for_fits s q h)
+  own_sent false w s u received q k h = h
+
+  word_sent : (w : World) (s : SpiState) (u : Option ℕ) (received : ℕ) (q : Option ℕ) → IsNumber received → SerialFits s → SerialFits (state_by s (sent_at d w s u received q))
+  word_sent w s None received q k h = h
+  word_sent w s (Some u) received None k h = h
+  word_sent w s (Some u) received (Some q) k h = own_sent (unit_of_sequence d q == u) w s u received q k h
+
+  either_start : (sync : Bool) (w : World) (s : SpiState) (u : Option ℕ) (q : Option ℕ) (received : ℕ) → IsNumber received → SerialFits s →
+      SerialFits (state_by s (if sync then sent_at d w s u received q else start_by d w s u received (next_at d s u)))
+  either_start true w s u q received k h = word_sent w s u received q k h
+  either_start false w s u q received k h = start_fits w s u received (next_at d s u) k h
+
+  refusal_fits : (s : SpiState) (q : ℕ) (e : Option ErrorName) → SerialFits s → SerialFits (state_by s (not_sent s q e))
+  refusal_fits s q None h = h
+  refusal_fits s q (Some e) h = h
+
+  end_fits : (may : Bool) (s : SpiState) (u : ℕ) (x : Carrying) → SerialFits s → RunFits (Some x.run) → SerialFits (state_by s (if may then Some (sent d s u x x.run.transfer.failed) else None))
+  end_fits true s u x h f = put_carrying (job_done d s x x.run.transfer.failed) u None (last_fits s x.run x.run.transfer.failed h f) tt
+  end_fits false s u x h f = h
+
+  own_end : (own : Bool) (w : World) (s : SpiState) (q : ℕ) (x : Carrying) → SerialFits s → RunFits (Some x.run) →
+      SerialFits (state_by s (if own then (if may_end d w x then Some (sent d s (unit_of_sequence d q) x x.run.transfer.failed) else None) else not_sent s q (error_of_sending d s q)))
+  own_end true w s q x h f = end_fits (may_end d w x) s (unit_of_sequence d q) x h f
+  own_end false w s q x h f = refusal_fits s q (error_of_sending d s q) h
+
+  ends_fit : (w : World) (s : SpiState) (q : ℕ) (o : Option Carrying) → SerialFits s → CarryingFits o → SerialFits (state_by s (sending_ends d w s q o))
+  ends_fit w s q None h f = refusal_fits s q (error_of_sending d s q) h
+  ends_fit w s q (Some x) h f = own_end (is_of q x.entry) w s q x h f
+
+  either_act : (w : World) (s : SpiState) (call : Call) (q : Option ℕ) → SerialFits s → SerialFits (state_by s (act_by d w s call q))
+  either_act w s call None h = act_fits s call (error_by d call (is_off s.mode) (finds_held d s call)) h
+  either_act w s call (Some q) h = ends_fit w s q (carried_for d s q) h (carried_for_fits s q h)
 
   -- ---- servings
 
@@ -269,23 +350,27 @@ module _ (d : SpiTable) (small : (c : ℕ) → Small (channel_of d c)) where
   fault_fits now None f = tt
   fault_fits now (Some r) f = failing_fits (is_done now r.transfer) r f
 
+  fault_carrying : (now : ℕ) (o : Option Carrying) → CarryingFits o → CarryingFits (faulted_carrying now o)
+  fault_carrying now None f = tt
+  fault_carrying now (Some x) f = failing_fits (is_done now x.run.transfer) x.run f
+
   moved_fits : (w : World) (s : SpiState) (order : Order) → OrderBrings order → SerialFits s → SerialFits (moved d w s order)
   moved_fits w s (Fill c ws) k h = put_fits s c _ h (filled_fits ws (channel_of d c) (channel_at s c) k (channel_fits s c h))
-  moved_fits w s (SpiFault u) k h = put_run s u _ h (fault_fits w.now (run_at s u) (run_fits s u h))
+  moved_fits w s (SpiFault u) k h = put_carrying (with_run s u _) u _ (put_run s u _ h (fault_fits w.now (run_at s u) (run_fits s u h))) (fault_carrying w.now (carried_at s u) (carrying_fits s u h))
   moved_fits w s _ k h = h
 
   -- ---- the machine
 
   stays : (w : World) (s : SpiState) (x : Happening Call) → WorldFits w → HappeningFits x → SerialFits s → SerialFits (state_by s (happens d w s x))
-  stays w s (Acts call times) v f h = act_fits s call (error_by d call (is_off s.mode) (finds_held d s call)) h
+  stays w s (Acts call times) v f h = either_act w s call (sent_by (Some call)) h
   stays w s (Serves l received) v f h = serving_fits (ready w s l) w s l received f h
-  stays w s (Starts u made_by received) v f h = start_fits w s (number_of u) received (next_at d s (number_of u)) f h
+  stays w s (Starts u made_by received) v f h = either_start (is_sync_number d (number_of u)) w s (number_of u) (sent_by made_by) received f h
   stays w s (Aborts u) v f h = h
   stays w s (Moves order) v f h = moved_fits w s order f h
-  stays w s (Restarts reason) v f h = (tt, tt, tt)
+  stays w s (Restarts reason) v f h = (tt, tt, tt, tt)
 
   pub serial_keeps : Keeps (spi_setting d) SerialFits
-  serial_keeps = record { first = (tt, tt, tt); stays = stays }
+  serial_keeps = record { first = (tt, tt, tt, tt); stays = stays }
 
 -- ---- what is shown
 

@@ -17,7 +17,7 @@ use Rattle.icu_driver.specs.Machine as captures
 use Rattle.adc_machine.specs.Groups.{GroupState, Request, Round, StoredRound}
 use Rattle.adc_machine.specs.Turns.{AdcState}
 use Rattle.spi_machine.specs.Channels.{ChannelState}
-use Rattle.spi_machine.specs.State.{SpiState}
+use Rattle.spi_machine.specs.State.{Carrying, SpiState}
 use Rattle.spi_machine.specs.Transfers.{JobWord, Run}
 use Rattle.mcal_system.specs.Setting.{SystemState}
 use Rattle.bench_report.specs.Numbers.{IsNumber, Each}
@@ -108,6 +108,11 @@ abbrev pub RunFits : Option Run → Type 0
 RunFits None = Unit {0}
 RunFits (Some r) = Each SentFits r.words × Each IsNumber r.received × IsNumber r.transfer.incoming
 
+-- those of the job that a unit carries out for a call
+abbrev pub CarryingFits : Option Carrying → Type 0
+CarryingFits None = Unit {0}
+CarryingFits (Some x) = RunFits (Some x.run)
+
 abbrev pub PairFits : ℕ × ℕ → Type 0
 PairFits p = IsNumber p.0 × IsNumber p.1
 
@@ -115,7 +120,7 @@ abbrev pub WireFits : List (ℕ × ℕ) → Type 0
 WireFits pairs = Each PairFits pairs
 
 abbrev pub SerialFits : SpiState → Type 0
-SerialFits s = Each ChannelFits s.channels × Each RunFits s.units × Each WireFits s.wires
+SerialFits s = Each ChannelFits s.channels × Each RunFits s.units × Each WireFits s.wires × Each CarryingFits s.carried
 
 abbrev pub StateFits : SystemState → Type 0
 StateFits s = ClockFits s.0.0.0 × CapturesFit s.1.0.1 × ConverterFits s.1.1.0 × SerialFits s.1.1.1

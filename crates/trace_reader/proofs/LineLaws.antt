@@ -33,7 +33,7 @@ use Rattle.bench_report.specs.declared.rows.Value.{Value}
 use Rattle.bench_report.specs.declared.rows.Value.TheVariants as values
 use Rattle.trace_reader.specs.Guess.{words_of, before_colon, value, notice, found, marked, ending, followed, made_step, with_more, guess, each, numbered, answer, is_numeral}
 use Rattle.trace_reader.specs.Numbers.{number}
-use Rattle.trace_reader.specs.Told.{told, given, incoming, mark_of}
+use Rattle.trace_reader.specs.Told.{told, printed_head, given, incoming, mark_of}
 use Rattle.trace_reader.specs.Trace.{HasLineNumbers, HasNameNumbers, HasValueNumbers}
 use Rattle.trace_reader.proofs.Digits.{none, none_append, number_again, no_space, no_feed, no_stroke, not_n, digits_of, some_digit}
 use Rattle.trace_reader.proofs.NameLaws.{cause_again, cause_plain, reason_again, reason_plain, notice_again, notice_plain, answer_again, answer_plain, answer_letter, error_again, error_plain, service_again, service_plain}
@@ -427,12 +427,17 @@ return_guess s words read h = rw (service_again s) h
 return_split : (s : Service) (t : List ℕ) (words : List (List ℕ)) → spaced t ≡ true → tail_words t ≡ words → words_of (codes "return " ++ (service_text s ++ t)) ≡ codes "return" ∷ service_text s ∷ words
 return_split s t words k e = ap (λ (ws : List (List ℕ)). codes "return" ∷ ws) (front_word (service_text s) t (service_plain s) k ∙ ap (λ (ws : List (List ℕ)). service_text s ∷ ws) e)
 
+plain_printed : (ns : List ℕ) → printed_head (plain_head ns) ≡ heads.Nothing
+unfolding plain_head
+plain_printed [] = refl
+plain_printed (n ∷ ns) = refl
+
 plain_prints : (s : Service) (head : Head) (ns : List ℕ) → head_text head ≡ [] → line_text (Returns s (plain_head ns) ns) ≡ line_text (Returns s head ns)
 plain_prints s head ns e = rw (plain_text ns, e) refl
 
 return_read : (s : Service) (head : Head) (ns : List ℕ) → Each IsNumber ns → IsRead (words_of (line_text (Returns s head ns))) (Returns s head ns)
-return_read s heads.Nothing ns h = by_words _ (codes "return" ∷ service_text s ∷ map decimal ns) (Returns s (plain_head ns) ns) (Returns s heads.Nothing ns) (return_split s (words_text ns) (map decimal ns) (words_spaced ns) (words_split ns h)) (return_guess s (map decimal ns) _ (plain_again s ns h)) (plain_prints s heads.Nothing ns refl) refl
-return_read s heads.Numbers ns h = by_words _ (codes "return" ∷ service_text s ∷ map decimal ns) (Returns s (plain_head ns) ns) (Returns s heads.Numbers ns) (return_split s (words_text ns) (map decimal ns) (words_spaced ns) (words_split ns h)) (return_guess s (map decimal ns) _ (plain_again s ns h)) (plain_prints s heads.Numbers ns refl) refl
+return_read s heads.Nothing ns h = by_words _ (codes "return" ∷ service_text s ∷ map decimal ns) (Returns s (plain_head ns) ns) (Returns s heads.Nothing ns) (return_split s (words_text ns) (map decimal ns) (words_spaced ns) (words_split ns h)) (return_guess s (map decimal ns) _ (plain_again s ns h)) (plain_prints s heads.Nothing ns refl) (rw (plain_printed ns) refl)
+return_read s heads.Numbers ns h = by_words _ (codes "return" ∷ service_text s ∷ map decimal ns) (Returns s (plain_head ns) ns) (Returns s heads.Numbers ns) (return_split s (words_text ns) (map decimal ns) (words_spaced ns) (words_split ns h)) (return_guess s (map decimal ns) _ (plain_again s ns h)) (plain_prints s heads.Numbers ns refl) (rw (plain_printed ns) refl)
 return_read s heads.ZeroNull ns h =
     by_words _ (codes "return" ∷ service_text s ∷ codes "0" ∷ codes "null" ∷ map decimal ns) (Returns s heads.ZeroNull ns) (Returns s heads.ZeroNull ns)
     (return_split s (codes " 0 null" ++ words_text ns) (codes "0" ∷ codes "null" ∷ map decimal ns) refl (ap (λ (ws : List (List ℕ)). codes "0" ∷ ws) (front_word (codes "null") (words_text ns) refl (words_spaced ns)) ∙ ap (λ (ws : List (List ℕ)). codes "0" ∷ codes "null" ∷ ws) (words_split ns h)))

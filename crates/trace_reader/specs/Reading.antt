@@ -37,7 +37,7 @@ read_line text = read_words (words_of text) text
 -- ---- what the last line counts
 
 abbrev pub is_returned : Told → Bool
-is_returned (tells.Returned service) = true
+is_returned (tells.Returned service reply) = true
 is_returned _ = false
 
 abbrev pub is_left : Told → Bool

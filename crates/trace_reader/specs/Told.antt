@@ -1,5 +1,7 @@
--- What a line of a report tells: all that it prints but the numbers of an answer and the values of a row.
-use Rattle.std.specs.Prelude.{ℕ, option_map}
+-- What a line of a report tells: all that it prints but the numbers of an answer behind its first and the values of a row.
+use Rattle.std.specs.Prelude.{ℕ, List, length, nat_lt, slice_get, option_map}
+use Rattle.mcal_base.specs.declared.answer.Head.{Head}
+use Rattle.mcal_base.specs.declared.answer.Head.TheVariants as heads
 use Rattle.mcal_base.specs.declared.moves.Event.{Event}
 use Rattle.mcal_base.specs.declared.moves.Event.TheVariants as events
 use Rattle.mcal_base.specs.declared.moves.Move.{Move}
@@ -9,6 +11,7 @@ use Rattle.bench_report.specs.Lines.{Line, Holds, Makes, Waits, Notes, Errs, Ret
 use Rattle.bench_report.specs.Report.{Numbered}
 use Rattle.trace_reader.specs.declared.told.Mark.{Mark}
 use Rattle.trace_reader.specs.declared.told.Mark.TheVariants as marks
+use Rattle.trace_reader.specs.declared.told.Reply.{Reply}
 use Rattle.trace_reader.specs.declared.told.Told.{Told}
 use Rattle.trace_reader.specs.declared.told.Told.TheVariants as tells
 use Rattle.trace_reader.specs.declared.told.TraceLine.{TraceLine}
@@ -31,6 +34,15 @@ abbrev pub incoming : Move → ℕ → ℕ
 incoming (moves.Write (regs.SerialData unit) sent) received = received
 incoming _ received = 0
 
+-- what an answer begins with, as it is printed: where it is numbers alone, nothing stands before them
+abbrev pub printed_head : Head → Head
+printed_head heads.Numbers = heads.Nothing
+printed_head head = head
+
+-- what a call answered with a head and numbers
+abbrev pub reply_of : Head → List ℕ → Reply
+reply_of head words = record { head = printed_head head; first = slice_get words 0; more = nat_lt 1 (length words) }
+
 -- what a line tells
 abbrev pub told : Line → Told
 told (Holds cause) = tells.Held cause
@@ -39,7 +51,7 @@ told (Makes depth made value received event) =
 told (Waits ticks) = tells.Waited ticks
 told (Notes notice) = tells.Noted notice
 told (Errs found) = tells.Erred found
-told (Returns service head words) = tells.Returned service
+told (Returns service head words) = tells.Returned service (reply_of head words)
 told (Leaves line) = tells.Left line
 told (Restarts reason dropped) = tells.Reset reason dropped
 told (Shows row) = tells.Shown

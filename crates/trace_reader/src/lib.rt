@@ -14,4 +14,4 @@ mod told;
 
 pub use laws::reads_traces;
 pub use read::{TraceFault, read_line, read_trace};
-pub use told::{Mark, Step, Told, TraceLine};
+pub use told::{Mark, Reply, Step, Told, TraceLine};

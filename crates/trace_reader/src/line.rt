@@ -3,7 +3,7 @@ ghost use Rattle.bench_report.specs.Lines as spec;
 ghost use Rattle.trace_reader.specs.Read.{line_of};
 ghost use Rattle.trace_reader.specs.Told as tells;
 
-use crate::told::{Mark, Step, Told};
+use crate::told::{Mark, Reply, Step, Told};
 use bench_report::{Line, RowName, Value, Values};
 use mcal_base::{Event, Head, Move, Reg, Service};
 use std::fmt;
@@ -69,6 +69,27 @@ fn incoming(made: Move, received: u32) -> u32
     }
 }
 
+/// What an answer begins with, as it is printed.
+fn printed_head(head: Head) -> Head
+    ensures { result ≡ tells.printed_head head }
+{
+    match head {
+        Head::Numbers => Head::Nothing,
+        _ => head,
+    }
+}
+
+/// What a call answered with a head and numbers.
+fn reply_of(head: Head, words: &[u32]) -> Reply
+    ensures { result ≡ tells.reply_of head words.now }
+{
+    Reply {
+        head: printed_head(head),
+        first: words.first().copied(),
+        more: words.len() > 1,
+    }
+}
+
 /// What a line tells.
 fn told_by(line: Line<'_>) -> Told
     ensures { result ≡ tells.told (spec.line_of line.entry) }
@@ -85,7 +106,7 @@ fn told_by(line: Line<'_>) -> Told
         Line::Waits(ticks) => Told::Waited(ticks),
         Line::Notes(notice) => Told::Noted(notice),
         Line::Errs(found) => Told::Erred(found),
-        Line::Returns(service, _, _) => Told::Returned(service),
+        Line::Returns(service, head, words) => Told::Returned(service, reply_of(head, words)),
         Line::Leaves(line) => Told::Left(line),
         Line::Restarts(reason, dropped) => Told::Reset(reason, dropped),
         Line::Done => Told::Done,
@@ -99,7 +120,9 @@ impl Read {
     {
         match self {
             Read::Plain(line) => told_by(*line),
-            Read::Returns(service, _, _) => Told::Returned(*service),
+            Read::Returns(service, head, words) => {
+                Told::Returned(*service, reply_of(*head, words.as_slice()))
+            }
             Read::Shows(_, _) => Told::Shown,
         }
     }

@@ -74,7 +74,7 @@ const ANSWERS: [AnswerName; 30] = [
 ];
 
 /// The errors, module by module.
-const ERRORS: [ErrorName; 51] = [
+const ERRORS: [ErrorName; 52] = [
     ErrorName::McuUninit,
     ErrorName::McuParamRamsection,
     ErrorName::McuParamClock,
@@ -120,6 +120,7 @@ const ERRORS: [ErrorName; 51] = [
     ErrorName::SpiSeqPending,
     ErrorName::SpiParamJob,
     ErrorName::SpiParamUnit,
+    ErrorName::SpiSeqInProcess,
     ErrorName::DioParamInvalidChannelId,
     ErrorName::DioParamInvalidPortId,
     ErrorName::DioParamInvalidGroup,

@@ -11,7 +11,7 @@ pub(crate) fn tally_of(lines: &[TraceLine]) -> Tally
     let mut tally = Tally::default();
     for line in lines {
         match line.told {
-            Told::Returned(_) => tally.calls += 1,
+            Told::Returned(_, _) => tally.calls += 1,
             Told::Left(_) => tally.handlers += 1,
             Told::Held(_) => tally.held += 1,
             Told::Erred(_) => tally.errors += 1,

@@ -1,5 +1,5 @@
 use irq_control::Held;
-use mcal_base::{DevError, Move, Notice, Reason, Service};
+use mcal_base::{DevError, Head, Move, Notice, Reason, Service};
 
 /// What is marked at a step.
 #[derive(Clone, Copy)]
@@ -29,6 +29,17 @@ pub struct Step {
     pub mark: Option<Mark>,
 }
 
+/// What a call answered: what its answer begins with, the first of its numbers, and whether there are more.
+#[derive(Clone, Copy)]
+pub struct Reply {
+    /// What it begins with, as it is printed: `Nothing` where it is numbers alone.
+    pub head: Head,
+    /// The first of its numbers, if it has one.
+    pub first: Option<u32>,
+    /// Whether there are more.
+    pub more: bool,
+}
+
 /// What a line of a report tells, behind the number of its script line.
 #[derive(Clone, Copy)]
 pub enum Told {
@@ -42,8 +53,8 @@ pub enum Told {
     Noted(Notice),
     /// An error was reported.
     Erred(DevError),
-    /// A call of the service returned.
-    Returned(Service),
+    /// A call of the service returned, with this answer.
+    Returned(Service, Reply),
     /// The handler of the line ended.
     Left(u32),
     /// The chip was reset, and so many frames were dropped.

@@ -135,8 +135,8 @@ told_balanced d number (tells.Step step) h = stepped_balanced d number step h
 told_balanced d number (tells.Waited ticks) h = put_balanced (with_ticks d ticks) number (whats.Waited ticks _) refl refl (record { opened = h.opened })
 told_balanced d number (tells.Noted notice) h = put_balanced d number (whats.Noted notice) refl refl h
 told_balanced d number (tells.Erred found) h = put_balanced d number (whats.Erred found) refl refl h
-told_balanced d number (tells.Returned service) h = ended_balanced d number endings.Ended d.frames refl h
-told_balanced d number (tells.Left line) h = ended_balanced d number endings.Ended d.frames refl h
+told_balanced d number (tells.Returned service reply) h = ended_balanced d number (endings.Returned reply) d.frames refl h
+told_balanced d number (tells.Left line) h = ended_balanced d number endings.Left d.frames refl h
 told_balanced d number (tells.Reset reason dropped) h =
     let reset : IsBalanced (put (freshly d) number (whats.Reset reason dropped)) = put_balanced (freshly d) number (whats.Reset reason dropped) refl refl (record { opened = h.opened }) in
     let gone : IsClosed (all_ended (put (freshly d) number (whats.Reset reason dropped)) number endings.Dropped) =

@@ -9,18 +9,20 @@ use Rattle.mcal_base.specs.Names.{service_text}
 use Rattle.mcal_base.specs.declared.service.Service.{Service}
 use Rattle.bench_report.specs.declared.frames.Purpose.{Purpose}
 use Rattle.bench_report.specs.declared.frames.Purpose.TheVariants as purposes
+use Rattle.trace_reader.specs.declared.told.Reply.{Reply}
 use Rattle.trace_reader.specs.declared.told.Told.{Told}
 use Rattle.trace_reader.specs.declared.told.Told.TheVariants as tells
 use Rattle.trace_reader.specs.declared.told.TraceLine.{TraceLine}
 use Rattle.trace_reader.proofs.NameLaws.{service_injective}
 use Rattle.sign_kinds.specs.Sums.{sum_up}
 use Rattle.sign_kinds.specs.declared.signs.Asked.{Asked}
+use Rattle.sign_kinds.specs.declared.signs.Ending.{Ending}
 use Rattle.sign_kinds.specs.declared.signs.Ending.TheVariants as endings
 use Rattle.sign_kinds.specs.declared.signs.Frame.{Frame}
 use Rattle.sign_kinds.specs.declared.signs.What.{What}
 use Rattle.sign_kinds.specs.declared.signs.What.TheVariants as whats
 use Rattle.trace_signs.specs.Drawing.{Drawing, blank, put, turned, level_of, with_ticks, ticked, begun, entered, all_ended, ended_of, freshly, told, is_call_of, is_handler_of, top_of, is_of, fits_frames, fits, drawn, completed}
-use Rattle.trace_signs.specs.Laws.{seen, end_of, line_of, turn_of}
+use Rattle.trace_signs.specs.Laws.{seen, gone_line, returned_line, left_line, line_of, turn_of}
 use Rattle.trace_signs.specs.declared.moments.Moment.{Moment}
 use Rattle.trace_signs.proofs.Seen.{seen-quiet, seen-more, seen-shut, seen-ended, seen-stepped}
 
@@ -78,20 +80,21 @@ top_case : (p : Purpose → Bool) (purpose : Purpose) (b : Bool) → is_of p (if
 top_case p purpose true h = h
 top_case p purpose false h = absurd (false≢true h)
 
-call_end : (service : Service) (purpose : Purpose) → is_call_of service purpose ≡ true → end_of purpose ≡ tells.Returned service
-call_end service (purposes.Call own) h = ap (λ s. tells.Returned s) (service_injective own service ((bytes_eq-Decides (service_text own) (service_text service)).0 h))
-call_end service (purposes.Handler line) h = absurd (false≢true h)
+call_end : (number : ℕ) (service : Service) (reply : Reply) (purpose : Purpose) → is_call_of service purpose ≡ true → returned_line number purpose reply ≡ Some (record { number = number; told = tells.Returned service reply })
+call_end number service reply (purposes.Call own) h =
+    ap (λ (s : Service). Some (record { number = number; told = tells.Returned s reply })) (service_injective own service ((bytes_eq-Decides (service_text own) (service_text service)).0 h))
+call_end number service reply (purposes.Handler line) h = absurd (false≢true h)
 
-handler_end : (line : ℕ) (purpose : Purpose) → is_handler_of line purpose ≡ true → end_of purpose ≡ tells.Left line
-handler_end line (purposes.Call own) h = absurd (false≢true h)
-handler_end line (purposes.Handler own) h = ap (λ n. tells.Left n) (eq_is own line h)
+handler_end : (number line : ℕ) (purpose : Purpose) → is_handler_of line purpose ≡ true → left_line number purpose ≡ Some (record { number = number; told = tells.Left line })
+handler_end number line (purposes.Call own) h = absurd (false≢true h)
+handler_end number line (purposes.Handler own) h = ap (λ (n : ℕ). Some (record { number = number; told = tells.Left n })) (eq_is own line h)
 
-ended_line : (p : Purpose → Bool) (t : Told) → ((purpose : Purpose) → p purpose ≡ true → end_of purpose ≡ t) → (d : Drawing) (number : ℕ) (frames : List Frame) → is_of p (top_of d.steps frames) ≡ true →
-    seen line_of (ended_of d number endings.Ended frames).signs ≡ seen line_of d.signs ++ record { number = number; told = t } ∷ []
-ended_line p t same d number [] h = absurd (false≢true h)
-ended_line p t same d number (frame ∷ frames) h =
-    let e : end_of frame.purpose ≡ t = same frame.purpose (top_case p frame.purpose (nat_lt frame.from d.steps) h) in
-    seen-more line_of d number (whats.Gone frame endings.Ended) (record { number = number; told = t }) (ap (λ (x : Told). Some (record { number = number; told = x })) e)
+ended_line : (p : Purpose → Bool) (t : Told) (ending : Ending) (number : ℕ) → ((purpose : Purpose) → p purpose ≡ true → gone_line number purpose ending ≡ Some (record { number = number; told = t })) →
+    (d : Drawing) (frames : List Frame) → is_of p (top_of d.steps frames) ≡ true →
+    seen line_of (ended_of d number ending frames).signs ≡ seen line_of d.signs ++ record { number = number; told = t } ∷ []
+ended_line p t ending number same d [] h = absurd (false≢true h)
+ended_line p t ending number same d (frame ∷ frames) h =
+    seen-more line_of d number (whats.Gone frame ending) (record { number = number; told = t }) (same frame.purpose (top_case p frame.purpose (nat_lt frame.from d.steps) h))
 
 -- ---- each line is shown
 
@@ -101,8 +104,8 @@ told_line d number (tells.Step step) h = seen-stepped line_of (λ n s. refl) d n
 told_line d number (tells.Waited ticks) h = seen-more line_of (with_ticks d ticks) number (whats.Waited ticks _) _ refl
 told_line d number (tells.Noted notice) h = seen-more line_of d number (whats.Noted notice) _ refl
 told_line d number (tells.Erred found) h = seen-more line_of d number (whats.Erred found) _ refl
-told_line d number (tells.Returned service) h = ended_line (is_call_of service) (tells.Returned service) (call_end service) d number d.frames h
-told_line d number (tells.Left line) h = ended_line (is_handler_of line) (tells.Left line) (handler_end line) d number d.frames h
+told_line d number (tells.Returned service reply) h = ended_line (is_call_of service) (tells.Returned service reply) (endings.Returned reply) number (call_end number service reply) d d.frames h
+told_line d number (tells.Left line) h = ended_line (is_handler_of line) (tells.Left line) endings.Left number (handler_end number line) d d.frames h
 told_line d number (tells.Reset reason dropped) h =
     let reset : Drawing = put (freshly d) number (whats.Reset reason dropped) in
     seen-shut line_of (λ n s. refl) (all_ended reset number endings.Dropped) number _
@@ -132,9 +135,9 @@ turn_case : (d : Drawing) (number : ℕ) (asked : Asked) (b : Bool) → seen tur
 turn_case d number asked true = seen-more turn_of d number (whats.Turn asked) number refl
 turn_case d number asked false = sym (append-nil (seen turn_of d.signs))
 
-ended_turns : (d : Drawing) (number : ℕ) (frames : List Frame) → seen turn_of (ended_of d number endings.Ended frames).signs ≡ seen turn_of d.signs
-ended_turns d number [] = refl
-ended_turns d number (frame ∷ frames) = seen-quiet turn_of d number (whats.Gone frame endings.Ended) refl
+ended_turns : (d : Drawing) (number : ℕ) (ending : Ending) (frames : List Frame) → seen turn_of (ended_of d number ending frames).signs ≡ seen turn_of d.signs
+ended_turns d number ending [] = refl
+ended_turns d number ending (frame ∷ frames) = seen-quiet turn_of d number (whats.Gone frame ending) refl
 
 told_turns : (d : Drawing) (number : ℕ) (t : Told) → seen turn_of (told d number t).signs ≡ seen turn_of d.signs
 told_turns d number (tells.Held cause) = seen-quiet turn_of (freshly d) number (whats.Held cause) refl
@@ -142,8 +145,8 @@ told_turns d number (tells.Step step) = seen-stepped turn_of (λ n s. refl) d nu
 told_turns d number (tells.Waited ticks) = seen-quiet turn_of (with_ticks d ticks) number (whats.Waited ticks _) refl
 told_turns d number (tells.Noted notice) = seen-quiet turn_of d number (whats.Noted notice) refl
 told_turns d number (tells.Erred found) = seen-quiet turn_of d number (whats.Erred found) refl
-told_turns d number (tells.Returned service) = ended_turns d number d.frames
-told_turns d number (tells.Left line) = ended_turns d number d.frames
+told_turns d number (tells.Returned service reply) = ended_turns d number (endings.Returned reply) d.frames
+told_turns d number (tells.Left line) = ended_turns d number endings.Left d.frames
 told_turns d number (tells.Reset reason dropped) =
     let reset : Drawing = put (freshly d) number (whats.Reset reason dropped) in
     seen-shut turn_of (λ n s. refl) (all_ended reset number endings.Dropped) number _

@@ -120,8 +120,8 @@ told d number (tells.Step step) = stepped d number step
 told d number (tells.Waited ticks) = put (with_ticks d ticks) number (whats.Waited ticks (sum_up d.ticks ticks))
 told d number (tells.Noted notice) = put d number (whats.Noted notice)
 told d number (tells.Erred found) = put d number (whats.Erred found)
-told d number (tells.Returned service) = ended d number endings.Ended
-told d number (tells.Left line) = ended d number endings.Ended
+told d number (tells.Returned service reply) = ended d number (endings.Returned reply)
+told d number (tells.Left line) = ended d number endings.Left
 told d number (tells.Reset reason dropped) = shut (all_ended (put (freshly d) number (whats.Reset reason dropped)) number endings.Dropped) number
 told d number tells.Shown = put d number whats.Shown
 told d number tells.Done = put d number whats.Done
@@ -153,7 +153,7 @@ is_of p (Some purpose) = p purpose
 -- a step has as many frames as are there; a call or a handler ends that is the topmost; a reset drops all
 abbrev pub fits_frames : Drawing → Told → Bool
 fits_frames d (tells.Step step) = (step.depth == length d.frames) && (nat_lt 0 step.depth && is_on_chip step.mark)
-fits_frames d (tells.Returned service) = is_of (is_call_of service) (top_of d.steps d.frames)
+fits_frames d (tells.Returned service reply) = is_of (is_call_of service) (top_of d.steps d.frames)
 fits_frames d (tells.Left line) = is_of (is_handler_of line) (top_of d.steps d.frames)
 fits_frames d (tells.Reset reason dropped) = dropped == length d.frames
 fits_frames d _ = true

@@ -4,7 +4,7 @@ use Rattle.std.specs.List.{filter_map}
 use Rattle.mcal_base.specs.declared.directive.Directive.{Directive}
 use Rattle.bench_report.specs.declared.frames.Purpose.{Purpose}
 use Rattle.bench_report.specs.declared.frames.Purpose.TheVariants as purposes
-use Rattle.trace_reader.specs.declared.told.Told.{Told}
+use Rattle.trace_reader.specs.declared.told.Reply.{Reply}
 use Rattle.trace_reader.specs.declared.told.Told.TheVariants as tells
 use Rattle.trace_reader.specs.declared.told.TraceLine.{TraceLine}
 use Rattle.trace_lanes.specs.Drawn.{is_drawn, is_left_out}
@@ -20,13 +20,18 @@ use Rattle.trace_signs.specs.Drawing.{Drawing}
 abbrev pub seen : {T : Type 0} → (ℕ → What → Option T) → List Sign → List T
 seen f signs = filter_map (λ s. f s.number s.what) signs
 
--- a frame that ended shows the line of its end
-abbrev pub end_of : Purpose → Told
-end_of (purposes.Call service) = tells.Returned service
-end_of (purposes.Handler line) = tells.Left line
+-- a call that returned and a handler that ended show the line of their end
+abbrev pub returned_line : ℕ → Purpose → Reply → Option TraceLine
+returned_line number (purposes.Call service) reply = Some (record { number = number; told = tells.Returned service reply })
+returned_line number (purposes.Handler line) reply = None
+
+abbrev pub left_line : ℕ → Purpose → Option TraceLine
+left_line number (purposes.Call service) = None
+left_line number (purposes.Handler line) = Some (record { number = number; told = tells.Left line })
 
 abbrev pub gone_line : ℕ → Purpose → Ending → Option TraceLine
-gone_line number purpose endings.Ended = Some (record { number = number; told = end_of purpose })
+gone_line number purpose (endings.Returned reply) = returned_line number purpose reply
+gone_line number purpose endings.Left = left_line number purpose
 gone_line number purpose endings.Dropped = None
 gone_line number purpose endings.Open = None
 

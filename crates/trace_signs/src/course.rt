@@ -280,7 +280,8 @@ impl Drawing {
             Told::Waited(ticks) => self.wait(number, ticks),
             Told::Noted(notice) => self.put(number, What::Noted(notice)),
             Told::Erred(error) => self.put(number, What::Erred(error)),
-            Told::Returned(_) | Told::Left(_) => self.end(number, Ending::Ended),
+            Told::Returned(_, reply) => self.end(number, Ending::Returned(reply)),
+            Told::Left(_) => self.end(number, Ending::Left),
             Told::Reset(reason, dropped) => self.reset(number, reason, dropped),
             Told::Shown => self.put(number, What::Shown),
             Told::Done => self.put(number, What::Done),
@@ -311,7 +312,7 @@ impl Drawing {
     {
         match told {
             Told::Step(step) => self.fits_step(step),
-            Told::Returned(service) => match self.top() {
+            Told::Returned(service, _) => match self.top() {
                 Some(purpose) => is_call_of(service, purpose),
                 None => false,
             },

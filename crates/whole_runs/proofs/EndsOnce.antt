@@ -1,10 +1,10 @@
 -- One end for each request of a sequence.
-use Rattle.std.proofs.Common.{◌≡◌, ◌≢◌, ℕ, zero, suc, ◌+◌, ◌≤◌, ◌==◌, Bool, true, false, cond, ◌&&◌, ◌||◌, not, List, [], ◌∷◌, ◌++◌, Option, Some, None, refl, sym, ◌∙◌, ap, subst, ◌⊎◌, inl, inr, arith}
+use Rattle.std.proofs.Common.{◌≡◌, ◌≢◌, ℕ, zero, suc, ◌+◌, ◌≤◌, ◌==◌, Bool, true, false, cond, ◌&&◌, not, List, [], ◌∷◌, ◌++◌, Option, Some, None, refl, sym, ◌∙◌, ap, subst, ◌⊎◌, inl, inr, arith}
 use Rattle.std.specs.Prelude.{Contains, count_by, IsSome}
 use Rattle.std.specs.List.{list_any}
 use Rattle.std.proofs.lemmas.List.Folds.{list_any-append}
 use Rattle.std.proofs.lemmas.List.Sums.{sum_by-cons}
-use Rattle.std.proofs.lemmas.Bool.{or_parts}
+use Rattle.std.proofs.lemmas.Bool.{or_from, or_parts}
 use Rattle.plain_facts.specs.Truths.{or_false, or_true}
 use Rattle.plain_facts.specs.Numbers.{eq_is, eq_self, eq_turned, same_or_other}
 use Rattle.mcal_base.specs.declared.answer_name.AnswerName.{AnswerName}
@@ -22,15 +22,16 @@ use Rattle.spi_machine.specs.State.{SpiState, first_state, is_off}
 use Rattle.spi_machine.specs.Table.{sequence_of, notifies_sequence}
 use Rattle.spi_machine.specs.declared.call.Call.{Call}
 use Rattle.spi_machine.specs.declared.call.Call.TheVariants.{Init, DeInit, SetAsyncMode, MainFunctionHandling, Channel, Sequence, Get}
-use Rattle.spi_machine.specs.declared.call.SequenceCall.TheVariants.{AsyncTransmit, Cancel}
+use Rattle.spi_machine.specs.declared.call.SequenceCall.TheVariants.{AsyncTransmit, Cancel, SyncTransmit}
 use Rattle.spi_machine.specs.declared.table.SpiTable.{SpiTable}
+use Rattle.spi_machine.specs.Wiring.{is_sync_sequence}
 use Rattle.spi_machine.proofs.Idle.{idle-run}
 use Rattle.spi_machine.proofs.Numbers.{item-same, item-other}
 use Rattle.spi_machine.proofs.Turns.{pending-changed, pending-without}
 use Rattle.whole_runs.specs.Runs.{Event, state_after, AreAllowed, NoneOf, told_by, is_restart, is_of}
 use Rattle.whole_runs.specs.SequenceRuns.{Seen, seen_between, seen_of, begins_by, is_accepted, accepts, is_begun, initialises, is_reset, is_pending, is_end, starts_job, ends_job, is_starting, is_serving}
 use Rattle.whole_runs.specs.Ends.{ResultGoes, Stays, Becomes, Ends, Begins, Reset, TellsEnd, IsEnded, AreEnded, HasOneEnd}
-use Rattle.whole_runs.proofs.SequenceSteps.{seen, ends_told, end_results, Goes, Leaves, Accepts, Starting, Advances, Marks, Ending, Initialising, Resetting, happens_goes}
+use Rattle.whole_runs.proofs.SequenceSteps.{seen, ends_told, end_results, Goes, Leaves, Accepts, Starting, Advances, Marks, Ending, Initialising, Sends, Resetting, happens_goes}
 
 -- ---- the pending list
 
@@ -52,8 +53,13 @@ without_other q k (p ∷ ps) ne = without_by q k p ps (without k ps) (p.sequence
 -- ---- what the state says
 
 -- a sequence is pending exactly where its result says so
-abbrev pub Agrees : SpiState → Type 0
-Agrees s = (q : ℕ) → is_pending (sequence_result s.sequence_results q) ≡ lists.is_pending q s.pending
+abbrev AgreesOn : SpiState → ℕ → Type 0
+AgreesOn s q = is_pending (sequence_result s.sequence_results q) ≡ lists.is_pending q s.pending
+
+-- but one that Spi_SyncTransmit sends, which isn't in the list
+pub record Agrees (d : SpiTable) (s : SpiState) : Type 0 where
+  pub plain : (q : ℕ) → is_sync_sequence d q ≡ false → is_pending (sequence_result s.sequence_results q) ≡ lists.is_pending q s.pending
+  pub sent : (q : ℕ) → is_sync_sequence d q ≡ true → lists.is_pending q s.pending ≡ false
 
 -- and none is while the module is uninitialised
 abbrev IsIdle : SpiState → Type 0
@@ -84,20 +90,20 @@ tells_none : (d : SpiTable) (q : ℕ) (e : Seen) → is_end q e ≡ false → en
 tells_none d q e none told = told ∙ rw none refl
 
 stays : (d : SpiTable) (q : ℕ) (e : Seen) (s t : SpiState) → accepts q e ≡ false → e.had q ≡ sequence_result s.sequence_results q → e.has q ≡ sequence_result t.sequence_results q
-    → sequence_result t.sequence_results q ≡ sequence_result s.sequence_results q → lists.is_pending q t.pending ≡ lists.is_pending q s.pending → ends_told q e ≡ 0 → Agrees s → Comes d q e t
+    → sequence_result t.sequence_results q ≡ sequence_result s.sequence_results q → lists.is_pending q t.pending ≡ lists.is_pending q s.pending → ends_told q e ≡ 0 → AgreesOn s q → Comes d q e t
 stays d q e s t accept had has same pending told agrees =
     let still : e.has q ≡ e.had q = has ∙ same ∙ sym had in
-    record { result = Stays accept still; told = tells_none d q e (no_end q e still) told; agrees = ap (λ r. is_pending r) same ∙ agrees q ∙ sym pending }
+    record { result = Stays accept still; told = tells_none d q e (no_end q e still) told; agrees = ap (λ r. is_pending r) same ∙ agrees ∙ sym pending }
 
 -- an event as it is seen between two states
 abbrev Between : ℕ → Seen → SpiState → SpiState → Type 0
 Between q e s t = (e.had q ≡ sequence_result s.sequence_results q) × (e.has q ≡ sequence_result t.sequence_results q)
 
 accepted : (d : SpiTable) (q k : ℕ) (e : Seen) (s t : SpiState) (x : Pending) → Between q e s t → accepts q e ≡ (k == q) → lists.is_pending k s.pending ≡ false → x.sequence ≡ k → t.pending ≡ s.pending ++ x ∷ []
-    → t.sequence_results ≡ with_item SpiSeqOk s.sequence_results k SpiSeqPending → ends_told q e ≡ 0 → Agrees s → (q ≡ k) ⊎ (q ≢ k) → Comes d q e t
+    → t.sequence_results ≡ with_item SpiSeqOk s.sequence_results k SpiSeqPending → ends_told q e ≡ 0 → AgreesOn s q → (q ≡ k) ⊎ (q ≢ k) → Comes d q e t
 accepted d q k e s t x views accept free own pending results told agrees (inl at) =
     let has : e.has q ≡ SpiSeqPending = views.1 ∙ ap (λ rs. sequence_result rs q) results ∙ rw at (item-same SpiSeqOk s.sequence_results k SpiSeqPending) in
-    let had : is_pending (e.had q) ≡ false = ap (λ r. is_pending r) views.0 ∙ agrees q ∙ rw at free in
+    let had : is_pending (e.had q) ≡ false = ap (λ r. is_pending r) views.0 ∙ agrees ∙ rw at free in
     record {
       result = Becomes (accept ∙ rw at (eq_self k)) had has;
       told = tells_none d q e (none (is_reset e) (is_pending (e.had q)) (is_pending (e.has q)) had) told;
@@ -123,10 +129,10 @@ ends_now q e calm had has = rw (calm, had, has) refl
 
 ended : (d : SpiTable) (q k : ℕ) (e : Seen) (s t : SpiState) (x : AnswerName) → Between q e s t → accepts q e ≡ false → is_reset e ≡ false → lists.is_pending k s.pending ≡ true → Contains end_results x
     → t.pending ≡ without k s.pending → t.sequence_results ≡ with_item SpiSeqOk s.sequence_results k x
-    → ends_told q e ≡ cond (notifies_sequence (sequence_of d k) && (k == q)) 1 0 → Agrees s → (q ≡ k) ⊎ (q ≢ k) → Comes d q e t
+    → ends_told q e ≡ cond (notifies_sequence (sequence_of d k) && (k == q)) 1 0 → AgreesOn s q → (q ≡ k) ⊎ (q ≢ k) → Comes d q e t
 ended d q k e s t x views accept calm there one pending results told agrees (inl at) =
     let has : e.has q ≡ x = views.1 ∙ ap (λ rs. sequence_result rs q) results ∙ rw at (item-same SpiSeqOk s.sequence_results k x) in
-    let had : is_pending (e.had q) ≡ true = ap (λ r. is_pending r) views.0 ∙ agrees q ∙ rw at there in
+    let had : is_pending (e.had q) ≡ true = ap (λ r. is_pending r) views.0 ∙ agrees ∙ rw at there in
     let over : is_pending (e.has q) ≡ false = ap (λ r. is_pending r) has ∙ end_over x one in
     let now : is_end q e ≡ true = ends_now q e calm had over in
     record {
@@ -149,21 +155,28 @@ ended d q k e s t x views accept calm there one pending results told agrees (inr
     and_false true = refl
     and_false false = refl
 
-pub comes : (d : SpiTable) (q : ℕ) (e : Seen) (s t : SpiState) → Goes d e s t → Between q e s t → Agrees s → IsIdle s → Comes d q e t
-comes d q e s t (Leaves calm reset pending results requests told) views agrees idle =
+clash : {b : Bool} → b ≡ true → b ≡ false → ⊥
+clash e f = absurd (cc (e, f))
+
+-- one of each kind
+kinds_apart : (d : SpiTable) (q k : ℕ) → is_sync_sequence d q ≡ false → is_sync_sequence d k ≡ true → q ≢ k
+kinds_apart d q k plain sync same = clash (ap (λ n. is_sync_sequence d n) same ∙ sync) plain
+
+pub comes : (d : SpiTable) (q : ℕ) (e : Seen) (s t : SpiState) → Goes d e s t → is_sync_sequence d q ≡ false → Between q e s t → AgreesOn s q → IsIdle s → Comes d q e t
+comes d q e s t (Leaves calm reset pending results requests told) plain views agrees idle =
     stays d q e s t (calm.accepts q) views.0 views.1 (ap (λ rs. sequence_result rs q) results) (ap (λ ps. lists.is_pending q ps) pending) (told q) agrees
-comes d q e s t (Accepts k had accept reset free pending results requests told) views agrees idle =
+comes d q e s t (Accepts k had own accept reset free pending results requests told) plain views agrees idle =
     accepted d q k e s t (requested k (s.requests + 1) had) views (accept q) free refl pending results (told q) agrees (same_or_other q k)
-comes d q e s t (Starting k accept reset start end pending results requests told) views agrees idle =
+comes d q e s t (Starting k accept reset start end pending results requests told) plain views agrees idle =
     stays d q e s t (accept q) views.0 views.1 (ap (λ rs. sequence_result rs q) results) (ap (λ ps. lists.is_pending q ps) pending ∙ pending-changed q k starts (λ p. refl) s.pending) (told q) agrees
-comes d q e s t (Advances k accept reset start end pending results requests told) views agrees idle =
+comes d q e s t (Advances k accept reset start end pending results requests told) plain views agrees idle =
     stays d q e s t (accept q) views.0 views.1 (ap (λ rs. sequence_result rs q) results) (ap (λ ps. lists.is_pending q ps) pending ∙ pending-changed q k goes_to_next (λ p. refl) s.pending) (told q) agrees
-comes d q e s t (Marks k calm reset pending results requests told) views agrees idle =
+comes d q e s t (Marks k calm reset pending results requests told) plain views agrees idle =
     stays d q e s t (calm.accepts q) views.0 views.1 (ap (λ rs. sequence_result rs q) results) (ap (λ ps. lists.is_pending q ps) pending ∙ pending-changed q k cancels (λ p. refl) s.pending) (told q) agrees
-comes d q e s t (Ending k x accept reset start end there one pending results requests told) views agrees idle =
+comes d q e s t (Ending k x accept reset start end there one pending results requests told) plain views agrees idle =
     ended d q k e s t x views (accept q) reset there one pending results (told q) agrees (same_or_other q k)
-comes d q e s t (Initialising begin accept reset off pending results told) views agrees idle =
-    let free : is_pending (e.had q) ≡ false = ap (λ r. is_pending r) views.0 ∙ agrees q ∙ ap (λ ps. lists.is_pending q ps) (idle off) in
+comes d q e s t (Initialising begin accept reset off pending results told) plain views agrees idle =
+    let free : is_pending (e.had q) ≡ false = ap (λ r. is_pending r) views.0 ∙ agrees ∙ ap (λ ps. lists.is_pending q ps) (idle off) in
     let has : e.has q ≡ SpiSeqOk = views.1 ∙ ap (λ rs. sequence_result rs q) results in
     record {
       result = Begins begin free has;
@@ -174,11 +187,49 @@ comes d q e s t (Initialising begin accept reset off pending results told) views
     none : (a b c : Bool) → b ≡ false → (not a && (b && not c)) ≡ false
     none true b c h = refl
     none false b c h = rw h refl
-comes d q e s t (Resetting reset accept pending results told) views agrees idle = record {
+comes d q e s t (Sends k x sync calm reset pending results requests told) plain views agrees idle =
+    stays d q e s t (calm.accepts q) views.0 views.1 (ap (λ rs. sequence_result rs q) results ∙ item-other SpiSeqOk s.sequence_results k q x (kinds_apart d q k plain sync)) (ap (λ ps. lists.is_pending q ps) pending) (told q) agrees
+comes d q e s t (Resetting reset accept pending results told) plain views agrees idle = record {
   result = Reset reset (views.1 ∙ ap (λ rs. sequence_result rs q) results);
   told = tells_none d q e (rw reset refl) (told q);
   agrees = ap (λ rs. is_pending (sequence_result rs q)) results ∙ sym (ap (λ ps. lists.is_pending q ps) pending);
 }
+
+-- what comes of it for a sequence that Spi_SyncTransmit sends
+record Unasked (q : ℕ) (e : Seen) (t : SpiState) : Type 0 where
+  accept : accepts q e ≡ false
+  told : ends_told q e ≡ 0
+  absent : lists.is_pending q t.pending ≡ false
+
+comes_sent : (d : SpiTable) (q : ℕ) (e : Seen) (s t : SpiState) → Goes d e s t → is_sync_sequence d q ≡ true → lists.is_pending q s.pending ≡ false → Unasked q e t
+comes_sent d q e s t (Leaves calm reset pending results requests told) sync absent = record { accept = calm.accepts q; told = told q; absent = ap (λ ps. lists.is_pending q ps) pending ∙ absent }
+comes_sent d q e s t (Accepts k had own accept reset free pending results requests told) sync absent =
+    let ne : q ≢ k = λ same. kinds_apart d k q own sync (sym same) in
+    record {
+      accept = accept q ∙ eq_turned q k ne;
+      told = told q;
+      absent = ap (λ ps. lists.is_pending q ps) pending ∙ joined_other q k s.pending (requested k (s.requests + 1) had) refl ne ∙ absent;
+    }
+comes_sent d q e s t (Starting k accept reset start end pending results requests told) sync absent =
+    record { accept = accept q; told = told q; absent = ap (λ ps. lists.is_pending q ps) pending ∙ pending-changed q k starts (λ p. refl) s.pending ∙ absent }
+comes_sent d q e s t (Advances k accept reset start end pending results requests told) sync absent =
+    record { accept = accept q; told = told q; absent = ap (λ ps. lists.is_pending q ps) pending ∙ pending-changed q k goes_to_next (λ p. refl) s.pending ∙ absent }
+comes_sent d q e s t (Marks k calm reset pending results requests told) sync absent =
+    record { accept = calm.accepts q; told = told q; absent = ap (λ ps. lists.is_pending q ps) pending ∙ pending-changed q k cancels (λ p. refl) s.pending ∙ absent }
+comes_sent d q e s t (Ending k x accept reset start end there one pending results requests told) sync absent =
+    let ne : q ≢ k = λ same. clash there (subst (λ n. lists.is_pending n s.pending ≡ false) same absent) in
+    record {
+      accept = accept q;
+      told = told q ∙ rw (eq_turned q k ne) (ap once (and_false (notifies_sequence (sequence_of d k))));
+      absent = ap (λ ps. lists.is_pending q ps) pending ∙ without_other q k s.pending ne ∙ absent;
+    }
+  where
+    and_false : (b : Bool) → (b && false) ≡ false
+    and_false true = refl
+    and_false false = refl
+comes_sent d q e s t (Initialising begin accept reset off pending results told) sync absent = record { accept = accept q; told = told q; absent = ap (λ ps. lists.is_pending q ps) pending }
+comes_sent d q e s t (Sends k x own calm reset pending results requests told) sync absent = record { accept = calm.accepts q; told = told q; absent = ap (λ ps. lists.is_pending q ps) pending ∙ absent }
+comes_sent d q e s t (Resetting reset accept pending results told) sync absent = record { accept = accept q; told = told q; absent = ap (λ ps. lists.is_pending q ps) pending }
 
 -- ---- a run
 
@@ -204,17 +255,20 @@ run_idle : (d : SpiTable) (past : List (Event Call)) → IsIdle (state_of d past
 run_idle d past = subst IsIdle (same_state d past) (idle-run d (occurrences past))
 
 abbrev After : SpiTable → SpiState → Event Call → Option (Outcome SpiState) → Type 0
-After d s e o = let x : Seen = seen_between d s (state_by s o) e.what (told_by o) (begins_by o) in IsEnded d x × Agrees (state_by s o)
+After d s e o = let x : Seen = seen_between d s (state_by s o) e.what (told_by o) (begins_by o) in IsEnded d x × Agrees d (state_by s o)
 
-event_ends : (d : SpiTable) (s : SpiState) (e : Event Call) (o : Option (Outcome SpiState)) → (spi_machine d).happens e.world s e.what ≡ o → IsSome o → Agrees s → IsIdle s → After d s e o
+event_ends : (d : SpiTable) (s : SpiState) (e : Event Call) (o : Option (Outcome SpiState)) → (spi_machine d).happens e.world s e.what ≡ o → IsSome o → Agrees d s → IsIdle s → After d s e o
 event_ends d s e None at some agrees idle = absurd (cc some)
 event_ends d s e (Some out) at some agrees idle =
     let goes : Goes d (seen d e.what s out) s out.state = happens_goes d e.world s e.what out at in
-    let all = λ (q : ℕ). comes d q (seen d e.what s out) s out.state goes (refl, refl) agrees idle in
-    (record { results = λ q. (all q).result; told = λ q. (all q).told }, λ q. (all q).agrees)
+    let all = λ (q : ℕ) (plain : is_sync_sequence d q ≡ false). comes d q (seen d e.what s out) s out.state goes plain (refl, refl) (agrees.plain q plain) idle in
+    let others = λ (q : ℕ) (sync : is_sync_sequence d q ≡ true). comes_sent d q (seen d e.what s out) s out.state goes sync (agrees.sent q sync) in (
+      record { results = λ q plain. (all q plain).result; told = λ q plain. (all q plain).told; sent = λ q sync. ((others q sync).accept, (others q sync).told) },
+      record { plain = λ q plain. (all q plain).agrees; sent = λ q sync. (others q sync).absent },
+    )
 
-run_ends : (d : SpiTable) (past : List (Event Call)) → AreAllowed (spi_machine d) first_state past → AreEnded d (seen_of d past) × Agrees (state_of d past)
-run_ends d [] allowed = (tt, λ q. refl)
+run_ends : (d : SpiTable) (past : List (Event Call)) → AreAllowed (spi_machine d) first_state past → AreEnded d (seen_of d past) × Agrees d (state_of d past)
+run_ends d [] allowed = (tt, record { plain = λ q plain. refl; sent = λ q sync. refl })
 run_ends d (e ∷ past) allowed =
     let before = run_ends d past allowed.1 in
     let after : After d (state_of d past) e ((spi_machine d).happens e.world (state_of d past) e.what) =
@@ -224,7 +278,7 @@ run_ends d (e ∷ past) allowed =
 pub all_end : (d : SpiTable) (past : List (Event Call)) → AreAllowed (spi_machine d) first_state past → AreEnded d (seen_of d past)
 all_end d past allowed = (run_ends d past allowed).0
 
-pub run_agrees : (d : SpiTable) (past : List (Event Call)) → AreAllowed (spi_machine d) first_state past → Agrees (state_of d past)
+pub run_agrees : (d : SpiTable) (past : List (Event Call)) → AreAllowed (spi_machine d) first_state past → Agrees d (state_of d past)
 run_agrees d past allowed = (run_ends d past allowed).1
 
 -- ---- counts
@@ -243,10 +297,18 @@ linked_later : (q : ℕ) (later past : List Seen) → Linked q (later ++ past) �
 linked_later q [] past h = h
 linked_later q (e ∷ later) past h = linked_later q later past h.2
 
-run_linked : (d : SpiTable) (q : ℕ) (past : List (Event Call)) → AreEnded d (seen_of d past) → Linked q (seen_of d past)
-run_linked d q [] h = tt
-run_linked d q (e ∷ []) h = (refl, h.0.results q, tt)
-run_linked d q (e ∷ x ∷ past) h = (refl, h.0.results q, run_linked d q (x ∷ past) h.1)
+run_linked : (d : SpiTable) (q : ℕ) (past : List (Event Call)) → is_sync_sequence d q ≡ false → AreEnded d (seen_of d past) → Linked q (seen_of d past)
+run_linked d q [] plain h = tt
+run_linked d q (e ∷ []) plain h = (refl, h.0.results q plain, tt)
+run_linked d q (e ∷ x ∷ past) plain h = (refl, h.0.results q plain, run_linked d q (x ∷ past) plain h.1)
+
+-- no request of a sequence that Spi_SyncTransmit sends is accepted
+none_asked : (d : SpiTable) (q : ℕ) (log : List Seen) → is_sync_sequence d q ≡ true → AreEnded d log → NoneOf (accepts q) log
+none_asked d q [] sync h = refl
+none_asked d q (e ∷ log) sync h = or_from (accepts q e) (list_any (accepts q) log) (h.0.sent q sync).0 (none_asked d q log sync h.1)
+
+none_later : (q : ℕ) (later past : List Seen) → NoneOf (accepts q) (later ++ past) → NoneOf (accepts q) past
+none_later q later past h = (or_parts (list_any (accepts q) later) (list_any (accepts q) past) (sym (list_any-append (accepts q) later past) ∙ h)).1
 
 -- an accepted request is neither an initialisation nor a reset
 accepts_calm : (q : ℕ) (e : Seen) → accepts q e ≡ true → (initialises e ≡ false) × (is_reset e ≡ false)
@@ -255,6 +317,7 @@ accepts_calm q e h = by_what e.what e.told.error h
     by_what : (h : Happening Call) (o : Option ErrorName) → is_accepted q h o ≡ true → (is_begun h o ≡ false) × (is_restart h ≡ false)
     by_what (Acts (Sequence k AsyncTransmit) times) o f = (refl, refl)
     by_what (Acts (Sequence k Cancel) times) o f = absurd (cc f)
+    by_what (Acts (Sequence k SyncTransmit) times) o f = absurd (cc f)
     by_what (Acts Init times) o f = absurd (cc f)
     by_what (Acts DeInit times) o f = absurd (cc f)
     by_what (Acts (SetAsyncMode m) times) o f = absurd (cc f)
@@ -391,5 +454,18 @@ one_end q log links = record {
       at_most (count_by (is_end q) between) (result_now q (between ++ first ∷ before)) c.most;
 }
 
+-- where none is accepted there is nothing to end
+none_ends : (q : ℕ) (log : List Seen) → NoneOf (accepts q) log → HasOneEnd q log
+none_ends q log none = record {
+  one = λ later between before second first is again request clear calm.
+      absurd (clash again (or_parts (accepts q second) (list_any (accepts q) (between ++ first ∷ before)) (none_later q later (second ∷ (between ++ first ∷ before)) (subst (λ es. NoneOf (accepts q) es) is none))).0);
+  most = λ later between before first is request clear.
+      absurd (clash request (or_parts (accepts q first) (list_any (accepts q) before) (none_later q between (first ∷ before) (none_later q later (between ++ first ∷ before) (subst (λ es. NoneOf (accepts q) es) is none)))).0);
+}
+
 pub end_once : (d : SpiTable) (past : List (Event Call)) (q : ℕ) → AreAllowed (spi_machine d) first_state past → HasOneEnd q (seen_of d past)
-end_once d past q allowed = one_end q (seen_of d past) (run_linked d q past (all_end d past allowed))
+end_once d past q allowed = by_kind (is_sync_sequence d q) refl
+  where
+    by_kind : (b : Bool) → is_sync_sequence d q ≡ b → HasOneEnd q (seen_of d past)
+    by_kind true sync = none_ends q (seen_of d past) (none_asked d q (seen_of d past) sync (all_end d past allowed))
+    by_kind false plain = one_end q (seen_of d past) (run_linked d q past plain (all_end d past allowed))

@@ -14,18 +14,20 @@ use Rattle.run_model.specs.Machine.{Happening, Acts, Serves, Starts, Aborts, Mov
 use Rattle.spi_machine.specs.Promised.{HasPriorities, IsNext, Yields, ToStarted, ToPriority, ToEarlier}
 use Rattle.spi_machine.specs.Machine.{spi_machine, start_by, next_at, number_of}
 use Rattle.spi_machine.specs.Pending as lists
-use Rattle.spi_machine.specs.Pending.{Pending, is_of as is_entry, is_for, changed, starts, goes_to_next, cancels, next_job, keeps_unit, priority_of, requested, sequence_result}
+use Rattle.spi_machine.specs.Pending.{Pending, is_of as is_entry, is_for, starts, goes_to_next, cancels, next_job, keeps_unit, priority_of, requested, sequence_result}
 use Rattle.spi_machine.specs.State.{SpiState, first_state}
-use Rattle.spi_machine.specs.Table.{jobs_of, job_of, sequence_of, priority_by, is_interruptible, is_on_unit}
+use Rattle.spi_machine.specs.Table.{jobs_of, job_of, sequence_of, priority_by, is_interruptible, is_on_unit, is_sync_unit}
+use Rattle.spi_machine.specs.Wiring.{is_sync_sequence}
 use Rattle.spi_machine.specs.declared.call.Call.{Call}
 use Rattle.spi_machine.specs.declared.table.SpiTable.{SpiTable}
 use Rattle.spi_machine.proofs.Best.{next_is}
 use Rattle.spi_machine.proofs.Runs.{start-on}
+use Rattle.spi_machine.proofs.Sending.{plain-start}
 use Rattle.whole_runs.specs.Runs.{Event, state_after, AreAllowed, told_by}
 use Rattle.whole_runs.specs.SequenceRuns.{Seen, seen_between, seen_of, begins_by, accepts, is_pending, starts_job, ends_job, requested_at, jobs_ended, has_started}
 use Rattle.whole_runs.specs.Order.{job_in, priority_in, keeps_unit_in, GoesFirst, Started, Priority, Earlier, StartsNext, InOrderBy, AreInOrder}
 use Rattle.whole_runs.proofs.EndsOnce.{Agrees, run_agrees, accepts_no_job}
-use Rattle.whole_runs.proofs.SequenceSteps.{seen, Goes, Leaves, Accepts, Starting, Advances, Marks, Ending, Initialising, Resetting, happens_goes}
+use Rattle.whole_runs.proofs.SequenceSteps.{seen, Goes, Leaves, Accepts, Starting, Advances, Marks, Ending, Initialising, Sends, Resetting, happens_goes}
 
 -- ---- lists
 
@@ -138,7 +140,7 @@ entries_go : (d : SpiTable) (e : Seen) (s t : SpiState) → Goes d e s t → (x 
 entries_go d e s t (Leaves calm reset pending results requests told) x has =
     let there : Contains s.pending x = subst (λ ps. Contains ps x) pending has in
     same_entry e s x there (calm.accepts x.sequence) (calm.starts x.sequence) (calm.ends x there)
-entries_go d e s t (Accepts k had accept reset free pending results requests told) x has = by_place (Contains-push_cases s.pending (requested k (s.requests + 1) had) x (subst (λ ps. Contains ps x) pending has))
+entries_go d e s t (Accepts k had own accept reset free pending results requests told) x has = by_place (Contains-push_cases s.pending (requested k (s.requests + 1) had) x (subst (λ ps. Contains ps x) pending has))
   where
     self : (n : ℕ) → (n == n) ≡ true
     self n = grind (arith, nat_tests)
@@ -186,6 +188,9 @@ entries_go d e s t (Initialising begin accept reset off pending results told) x 
   where
     none : Contains {X = Pending} [] x → ⊥
     none (n, within, is) = omega (arith, within)
+entries_go d e s t (Sends k y sync calm reset pending results requests told) x has =
+    let there : Contains s.pending x = subst (λ ps. Contains ps x) pending has in
+    same_entry e s x there (calm.accepts x.sequence) (calm.starts x.sequence) (calm.ends x there)
 entries_go d e s t (Resetting reset accept pending results told) x has = absurd (none (subst (λ ps. Contains ps x) pending has))
   where
     none : Contains {X = Pending} [] x → ⊥
@@ -205,7 +210,7 @@ bound_same e s t x accept same = (omega (arith, same), λ h. absurd (clash h (ac
 
 bound : (d : SpiTable) (e : Seen) (s t : SpiState) → Goes d e s t → (x : Pending) → Contains t.pending x → Bound e s t x
 bound d e s t (Leaves calm reset pending results requests told) x has = bound_same e s t x calm.accepts requests
-bound d e s t (Accepts k had accept reset free pending results requests told) x has = (omega (arith, requests), λ h. requests)
+bound d e s t (Accepts k had own accept reset free pending results requests told) x has = (omega (arith, requests), λ h. requests)
 bound d e s t (Starting k accept reset start end pending results requests told) x has = bound_same e s t x accept requests
 bound d e s t (Advances k accept reset start end pending results requests told) x has = bound_same e s t x accept requests
 bound d e s t (Marks k calm reset pending results requests told) x has = bound_same e s t x calm.accepts requests
@@ -214,6 +219,7 @@ bound d e s t (Initialising begin accept reset off pending results told) x has =
   where
     none : Contains {X = Pending} [] x → ⊥
     none (n, within, is) = omega (arith, within)
+bound d e s t (Sends k y sync calm reset pending results requests told) x has = bound_same e s t x calm.accepts requests
 bound d e s t (Resetting reset accept pending results told) x has = absurd (none (subst (λ ps. Contains ps x) pending has))
   where
     none : Contains {X = Pending} [] x → ⊥
@@ -317,7 +323,7 @@ goes_first d past s q p h has there (ToEarlier same both le) =
     by_both (inl keeps) = inl (sym (keeps_is d past s p h there) ∙ same ∙ keeps)
     by_both (inr equal) = inr (sym (priority_is d past s p h there) ∙ sym equal ∙ priority_is d past s q h has)
 
-start_next : (d : SpiTable) (past : List Seen) (s : SpiState) (e : Seen) (u : ℕ) (p : Pending) → HasPriorities d → Ordered past s → Agrees s → next_at d s (Some u) ≡ Some p
+start_next : (d : SpiTable) (past : List Seen) (s : SpiState) (e : Seen) (u : ℕ) (p : Pending) → HasPriorities d → Ordered past s → Agrees d s → next_at d s (Some u) ≡ Some p
     → e.sequence ≡ Some p.sequence → e.job ≡ Some (next_job d p) → ((q : ℕ) → e.had q ≡ sequence_result s.sequence_results q) → StartsNext d u e past
 start_next d past s e u p fits h agrees at named job had =
     let best : IsNext d u s.pending p = next_is d u s.pending p fits (start-on d s u p at) in
@@ -325,28 +331,36 @@ start_next d past s e u p fits h agrees at named job had =
       sequence = p.sequence;
       named = named;
       job = job ∙ ap (λ j. Some j) (job_is d past s p h best.among);
-      pending = had p.sequence ∙ pending_is (sequence_result s.sequence_results p.sequence) (agrees p.sequence ∙ is_there s.pending p best.among);
+      pending = had p.sequence ∙ pending_is (sequence_result s.sequence_results p.sequence) (agrees.plain p.sequence (is_plain p best.among) ∙ is_there s.pending p best.among);
       on = ap (λ j. is_on_unit u (job_of d j)) (sym (job_is d past s p h best.among)) ∙ best.on;
-      first = λ other waits on. first_by best other (entry_of other s.pending (sym (agrees other) ∙ ap (λ r. is_pending r) (sym (had other) ∙ waits))) on;
+      first = λ other plain waits on. first_by best other (entry_of other s.pending (sym (agrees.plain other plain) ∙ ap (λ r. is_pending r) (sym (had other) ∙ waits))) on;
     }
   where
+    is_plain : (q : Pending) → Contains s.pending q → is_sync_sequence d q.sequence ≡ false
+    is_plain q there = false_from_ne_true (is_sync_sequence d q.sequence) (λ sync. clash (is_there s.pending q there) (agrees.sent q.sequence sync))
+      where
+        clash : {b : Bool} → b ≡ true → b ≡ false → ⊥
+        clash a b = absurd (cc (a, b))
+
     first_by : IsNext d u s.pending p → (other : ℕ) → (q : Pending) × Contains s.pending q × (q.sequence ≡ other) → is_on_unit u (job_of d (job_in d other past)) ≡ true → GoesFirst d past p.sequence other
     first_by best other (q, there, same) on =
         let for_unit : is_for d u q ≡ true = ap (λ j. is_on_unit u (job_of d j)) (job_is d past s q h there) ∙ ap (λ n. is_on_unit u (job_of d (job_in d n past))) same ∙ on in
         subst (λ n. GoesFirst d past p.sequence n) same (goes_first d past s q p h there best.among (each_at (λ q. is_for d u q ≡ true → Yields d q p) s.pending q best.first there for_unit))
 
-start_by_next : (d : SpiTable) (w : World) (past : List Seen) (s : SpiState) (unit : units.Unit) (made_by : Option Call) (received u : ℕ) (o : Option Pending) (out : Outcome SpiState) → HasPriorities d → Ordered past s → Agrees s
-    → number_of unit ≡ Some u → next_at d s (Some u) ≡ o → start_by d w s (Some u) received o ≡ Some out → StartsNext d u (seen d (Starts unit made_by received) s out) past
-start_by_next d w past s unit made_by received u None out fits h agrees num at e = absurd (cc e)
-start_by_next d w past s unit made_by received u (Some p) out fits h agrees num at e =
-    start_next d past s (seen d (Starts unit made_by received) s out) u p fits h agrees at (rw (num, at) refl) (rw (num, at) refl) (λ q. refl)
+start_by_next : (d : SpiTable) (w : World) (past : List Seen) (s : SpiState) (unit : units.Unit) (made_by : Option Call) (received u : ℕ) (o : Option Pending) (out : Outcome SpiState) → HasPriorities d → Ordered past s → Agrees d s
+    → number_of unit ≡ Some u → is_sync_unit d u ≡ false → next_at d s (Some u) ≡ o → start_by d w s (Some u) received o ≡ Some out → StartsNext d u (seen d (Starts unit made_by received) s out) past
+start_by_next d w past s unit made_by received u None out fits h agrees num plain at e = absurd (cc e)
+start_by_next d w past s unit made_by received u (Some p) out fits h agrees num plain at e =
+    start_next d past s (seen d (Starts unit made_by received) s out) u p fits h agrees at (rw (num, plain, at) refl) (rw (num, plain, at) refl) (λ q. refl)
 
-in_order : (d : SpiTable) (w : World) (past : List Seen) (s : SpiState) (h : Happening Call) (out : Outcome SpiState) → HasPriorities d → Ordered past s → Agrees s → (spi_machine d).happens w s h ≡ Some out
+in_order : (d : SpiTable) (w : World) (past : List Seen) (s : SpiState) (h : Happening Call) (out : Outcome SpiState) → HasPriorities d → Ordered past s → Agrees d s → (spi_machine d).happens w s h ≡ Some out
     → InOrderBy d (seen d h s out) past h
 in_order d w past s (Acts call times) out fits o agrees e = tt
 in_order d w past s (Serves l received) out fits o agrees e = tt
 in_order d w past s (Starts unit made_by received) out fits o agrees e =
-    λ u num. start_by_next d w past s unit made_by received u (next_at d s (Some u)) out fits o agrees num refl (ap (λ k. start_by d w s k received (next_at d s k)) (sym num) ∙ e)
+    λ u num plain.
+    start_by_next d w past s unit made_by received u (next_at d s (Some u)) out fits o agrees num plain refl
+    (ap (λ k. start_by d w s k received (next_at d s k)) (sym num) ∙ plain-start d w s (number_of unit) made_by received out u e num plain)
 in_order d w past s (Aborts u) out fits o agrees e = tt
 in_order d w past s (Moves order) out fits o agrees e = tt
 in_order d w past s (Restarts reason) out fits o agrees e = tt
@@ -356,7 +370,7 @@ in_order d w past s (Restarts reason) out fits o agrees e = tt
 abbrev After : SpiTable → SpiState → Event Call → List Seen → Option (Outcome SpiState) → Type 0
 After d s e past o = let x : Seen = seen_between d s (state_by s o) e.what (told_by o) (begins_by o) in InOrderBy d x past e.what × Ordered (x ∷ past) (state_by s o)
 
-event_order : (d : SpiTable) (s : SpiState) (e : Event Call) (past : List Seen) (o : Option (Outcome SpiState)) → HasPriorities d → (spi_machine d).happens e.world s e.what ≡ o → IsSome o → Ordered past s → Agrees s → After d s e past o
+event_order : (d : SpiTable) (s : SpiState) (e : Event Call) (past : List Seen) (o : Option (Outcome SpiState)) → HasPriorities d → (spi_machine d).happens e.world s e.what ≡ o → IsSome o → Ordered past s → Agrees d s → After d s e past o
 event_order d s e past None fits at some h agrees = absurd (cc some)
 event_order d s e past (Some out) fits at some h agrees =
     (in_order d e.world past s e.what out fits h agrees at, ordered_after d (seen d e.what s out) past s out.state (happens_goes d e.world s e.what out at) h)

@@ -1,10 +1,11 @@
 -- What each event does to the pending sequences and to the results.
 use Rattle.std.proofs.Common.{◌≡◌, ℕ, zero, suc, ◌+◌, ◌==◌, Bool, true, false, cond, ◌&&◌, ◌||◌, not, List, [], ◌∷◌, ◌++◌, Option, Some, None, refl, sym, ◌∙◌, ap, subst, arith}
-use Rattle.std.specs.Prelude.{is_some, Contains, count_by, find}
+use Rattle.std.specs.Prelude.{is_some, Contains, count_by, find, map}
 use Rattle.std.proofs.lemmas.Bool.Decides.{nat_tests}
 use Rattle.std.proofs.lemmas.List.Sums.{sum_by-append}
 use Rattle.plain_facts.specs.Truths.{and_false, and_true}
 use Rattle.plain_facts.specs.Options.{some_is}
+use Rattle.plain_facts.specs.Numbers.{eq_is}
 use Rattle.det_errors.specs.Rows.{first_error}
 use Rattle.mcal_base.specs.declared.answer_name.AnswerName.{AnswerName}
 use Rattle.mcal_base.specs.declared.answer_name.AnswerName.TheVariants.{SpiSeqOk, SpiSeqPending, SpiSeqFailed, SpiSeqCanceled}
@@ -17,19 +18,21 @@ use Rattle.run_model.specs.World.{World}
 use Rattle.run_model.specs.Machine.{Happening, Acts, Serves, Starts, Aborts, Moves, Restarts, Outcome, outcome, tells_nothing}
 use Rattle.spi_machine.specs.Checks.{error_by}
 use Rattle.spi_machine.specs.Promised.{names_end}
-use Rattle.spi_machine.specs.Machine.{spi_machine, acts, acts_by, unless_busy, cancelled, cancelled_by, finds_held, after_last, sequence_after, job_over, served_by, served, unit_of, run_of, ready, started, start_by, next_at, number_of, moved}
+use Rattle.spi_machine.specs.Machine.{spi_machine, acts_by, sent, sent_on, sent_by, sequence_result_by, is_sync_number, unless_busy, cancelled, cancelled_by, finds_held, after_last, sequence_after, job_over, served_by, served, unit_of, run_of, ready, started, start_by, next_at, number_of, moved}
 use Rattle.spi_machine.specs.Numbered.{with_item}
 use Rattle.spi_machine.specs.Pending as lists
-use Rattle.spi_machine.specs.Pending.{Pending, is_of as is_entry, changed, without, starts, goes_to_next, cancels, is_held, shares_job, end_by, has_further, next_job, requested}
-use Rattle.spi_machine.specs.State.{SpiState, first_state, is_busy, is_off, is_running, job_notice, sequence_notice}
-use Rattle.spi_machine.specs.Table.{sequence_of, notifies_sequence, job_of, notifies_job}
+use Rattle.spi_machine.specs.Pending.{Pending, is_of as is_entry, changed, without, starts, goes_to_next, cancels, is_held, shares_job, end_by, has_further, next_job, requested, job_result}
+use Rattle.spi_machine.specs.State.{SpiState, Carrying, first_state, is_busy, is_off, is_running, job_notice, sequence_notice}
+use Rattle.spi_machine.specs.Table.{sequence_of, notifies_sequence, job_of, jobs_of, notifies_job}
 use Rattle.spi_machine.specs.Transfers.{Run, goes_on, word_of}
 use Rattle.spi_machine.specs.declared.call.Call.{Call}
 use Rattle.spi_machine.specs.declared.call.Call.TheVariants.{Init, DeInit, SetAsyncMode, MainFunctionHandling, Channel, Sequence, Get}
 use Rattle.spi_machine.specs.declared.call.ChannelCall.TheVariants.{WriteIb, ReadIb, SetupEb}
-use Rattle.spi_machine.specs.declared.call.SequenceCall.TheVariants.{AsyncTransmit, Cancel}
+use Rattle.spi_machine.specs.declared.call.SequenceCall.TheVariants.{AsyncTransmit, Cancel, SyncTransmit}
 use Rattle.spi_machine.specs.declared.table.SpiTable.{SpiTable}
+use Rattle.spi_machine.specs.Wiring.{unit_of_sequence, is_sync_sequence}
 use Rattle.spi_machine.proofs.Runs.{stored-seen, after_last-seen, serve_by}
+use Rattle.spi_machine.proofs.Sending.{EndsSending, act-either, start-either, carried-right}
 use Rattle.spi_machine.proofs.Turns.{found}
 use Rattle.whole_runs.specs.Runs.{is_of}
 use Rattle.whole_runs.specs.SequenceRuns.{Seen, seen_between, is_accepted, accepts, initialises, is_reset, starts_job, ends_job, sequence_seen}
@@ -55,7 +58,7 @@ pub record IsSilentMove (e : Seen) (ps : List Pending) : Type 0 where
 -- What an event does to the pending sequences and to the results.
 pub data Goes (d : SpiTable) (e : Seen) (s t : SpiState) : Type 0 where
   Leaves : IsSilentMove e s.pending → is_reset e ≡ false → t.pending ≡ s.pending → t.sequence_results ≡ s.sequence_results → t.requests ≡ s.requests → ((q : ℕ) → ends_told q e ≡ 0) → Goes d e s t
-  Accepts : (k : ℕ) (had : List AnswerName) → ((q : ℕ) → accepts q e ≡ (k == q)) → is_reset e ≡ false → lists.is_pending k s.pending ≡ false → t.pending ≡ s.pending ++ requested k (s.requests + 1) had ∷ []
+  Accepts : (k : ℕ) (had : List AnswerName) → is_sync_sequence d k ≡ false → ((q : ℕ) → accepts q e ≡ (k == q)) → is_reset e ≡ false → lists.is_pending k s.pending ≡ false → t.pending ≡ s.pending ++ requested k (s.requests + 1) had ∷ []
       → t.sequence_results ≡ with_item SpiSeqOk s.sequence_results k SpiSeqPending → t.requests ≡ s.requests + 1 → ((q : ℕ) → ends_told q e ≡ 0) → Goes d e s t
   Starting : (k : ℕ) → ((q : ℕ) → accepts q e ≡ false) → is_reset e ≡ false → ((q : ℕ) → starts_job q e ≡ (k == q)) → ((q : ℕ) → ends_job q e ≡ false) → t.pending ≡ changed k starts s.pending
       → t.sequence_results ≡ s.sequence_results → t.requests ≡ s.requests → ((q : ℕ) → ends_told q e ≡ 0) → Goes d e s t
@@ -66,6 +69,9 @@ pub data Goes (d : SpiTable) (e : Seen) (s t : SpiState) : Type 0 where
       → Contains end_results x → t.pending ≡ without k s.pending → t.sequence_results ≡ with_item SpiSeqOk s.sequence_results k x → t.requests ≡ s.requests
       → ((q : ℕ) → ends_told q e ≡ cond (notifies_sequence (sequence_of d k) && (k == q)) 1 0) → Goes d e s t
   Initialising : initialises e ≡ true → ((q : ℕ) → accepts q e ≡ false) → is_reset e ≡ false → is_off s.mode ≡ true → t.pending ≡ [] → t.sequence_results ≡ [] → ((q : ℕ) → ends_told q e ≡ 0) → Goes d e s t
+  -- Spi_SyncTransmit begins one of its sequences, or ends it
+  Sends : (k : ℕ) (x : AnswerName) → is_sync_sequence d k ≡ true → IsSilentMove e s.pending → is_reset e ≡ false → t.pending ≡ s.pending → t.sequence_results ≡ with_item SpiSeqOk s.sequence_results k x → t.requests ≡ s.requests
+      → ((q : ℕ) → ends_told q e ≡ 0) → Goes d e s t
   Resetting : is_reset e ≡ true → ((q : ℕ) → accepts q e ≡ false) → t.pending ≡ [] → t.sequence_results ≡ [] → ((q : ℕ) → ends_told q e ≡ 0) → Goes d e s t
 
 -- ---- notices
@@ -95,6 +101,7 @@ told_both d q j k =
 not_accepted : (q : ℕ) (call : Call) (times : ℕ → ℕ) (x : ErrorName) → is_accepted q (Acts call times) (Some x) ≡ false
 not_accepted q (Sequence k AsyncTransmit) times x = refl
 not_accepted q (Sequence k Cancel) times x = refl
+not_accepted q (Sequence k SyncTransmit) times x = refl
 not_accepted q Init times x = refl
 not_accepted q DeInit times x = refl
 not_accepted q (SetAsyncMode m) times x = refl
@@ -114,11 +121,12 @@ unless_goes : (d : SpiTable) (s after : SpiState) (call : Call) (times : ℕ →
 unless_goes d s after call times true none e f g = Leaves (record { accepts = none; starts = λ q. refl; ends = λ p at. refl }) refl refl refl refl (λ q. refl)
 unless_goes d s after call times false none e f g = Leaves (record { accepts = none; starts = λ q. refl; ends = λ p at. refl }) refl e f g (λ q. refl)
 
-no_error : (a b c : Bool) → first_error services.SpiAsyncTransmit (a ∷ b ∷ c ∷ false ∷ false ∷ false ∷ []) ≡ None → c ≡ false
-no_error true b c h = absurd (cc h)
-no_error false true c h = absurd (cc h)
-no_error false false true h = absurd (cc h)
-no_error false false false h = refl
+no_error : (a b b' c : Bool) → first_error services.SpiAsyncTransmit (a ∷ (b || b') ∷ c ∷ false ∷ false ∷ false ∷ []) ≡ None → (b' ≡ false) × (c ≡ false)
+no_error true b b' c h = absurd (cc h)
+no_error false true b' c h = absurd (cc h)
+no_error false false true c h = absurd (cc h)
+no_error false false false true h = absurd (cc h)
+no_error false false false false h = (refl, refl)
 
 not_held_by : (a b c : Bool) → ((a || b) || c) ≡ false → (a ≡ false) × (c ≡ false)
 not_held_by true b c h = absurd (cc h)
@@ -160,7 +168,9 @@ act_by d s (Channel c (WriteIb p)) times None at = Leaves (record { accepts = λ
 act_by d s (Channel c ReadIb) times None at = Leaves (record { accepts = λ q. refl; starts = λ q. refl; ends = λ p at. refl }) refl refl refl refl (λ q. refl)
 act_by d s (Channel c (SetupEb a b n)) times None at = Leaves (record { accepts = λ q. refl; starts = λ q. refl; ends = λ p at. refl }) refl refl refl refl (λ q. refl)
 act_by d s (Sequence k AsyncTransmit) times None at =
-    Accepts k _ (λ q. refl) refl (not_held d k s.pending (no_error (is_off s.mode) (not (is_some (sequence_of d k))) (is_held d k s.pending) at)) refl refl refl (λ q. refl)
+    let clear = no_error (is_off s.mode) (not (is_some (sequence_of d k))) (is_sync_sequence d k) (is_held d k s.pending) at in
+    Accepts k (map (job_result s.job_results) (jobs_of d k)) clear.0 (λ q. refl) refl (not_held d k s.pending clear.1) refl refl refl (λ q. refl)
+act_by d s (Sequence k SyncTransmit) times None at = Leaves (record { accepts = λ q. refl; starts = λ q. refl; ends = λ p at. refl }) refl refl refl refl (λ q. refl)
 act_by d s (Sequence k Cancel) times None at = cancel_goes d s k times (find (is_entry k) s.pending) refl
 act_by d s (Get query) times None at = Leaves (record { accepts = λ q. refl; starts = λ q. refl; ends = λ p at. refl }) refl refl refl refl (λ q. refl)
 
@@ -228,13 +238,48 @@ served_goes d w s l received (Some u) (Some r) unit at = served_by_goes d w s l 
 
 -- ---- all else
 
-start_goes : (d : SpiTable) (w : World) (s : SpiState) (unit : units.Unit) (made_by : Option Call) (k : Option ℕ) (received : ℕ) (o : Option Pending) (out : Outcome SpiState) → next_at d s (number_of unit) ≡ o
-    → start_by d w s k received o ≡ Some out → Goes d (seen d (Starts unit made_by received) s out) s out.state
-start_goes d w s unit made_by None received o out at e = absurd (cc e)
-start_goes d w s unit made_by (Some u) received None out at e = absurd (cc e)
-start_goes d w s unit made_by (Some u) received (Some p) out at e =
+start_goes : (d : SpiTable) (w : World) (s : SpiState) (unit : units.Unit) (made_by : Option Call) (k : Option ℕ) (received : ℕ) (o : Option Pending) (out : Outcome SpiState) → is_sync_number d (number_of unit) ≡ false
+    → next_at d s (number_of unit) ≡ o → start_by d w s k received o ≡ Some out → Goes d (seen d (Starts unit made_by received) s out) s out.state
+start_goes d w s unit made_by None received o out plain at e = absurd (cc e)
+start_goes d w s unit made_by (Some u) received None out plain at e = absurd (cc e)
+start_goes d w s unit made_by (Some u) received (Some p) out plain at e =
     subst (λ (x : Outcome SpiState). Goes d (seen d (Starts unit made_by received) s x) s x.state) (some_is (started d w s u received p) out e)
-    (Starting p.sequence (λ q. refl) refl (λ q. rw at refl) (λ q. refl) refl refl refl (λ q. refl))
+    (Starting p.sequence (λ q. refl) refl (λ q. rw (plain, at) refl) (λ q. refl) refl refl refl (λ q. refl))
+
+-- ---- what Spi_SyncTransmit does
+
+-- its act is no accepted request
+unasked : (q k : ℕ) (call : Call) (times : ℕ → ℕ) → sent_by (Some call) ≡ Some k → is_accepted q (Acts call times) None ≡ false
+unasked q k Init times c = absurd (cc c)
+unasked q k DeInit times c = absurd (cc c)
+unasked q k (SetAsyncMode m) times c = absurd (cc c)
+unasked q k MainFunctionHandling times c = absurd (cc c)
+unasked q k (Channel n call) times c = absurd (cc c)
+unasked q k (Sequence n AsyncTransmit) times c = absurd (cc c)
+unasked q k (Sequence n Cancel) times c = absurd (cc c)
+unasked q k (Sequence n SyncTransmit) times c = refl
+unasked q k (Get query) times c = absurd (cc c)
+
+sent_goes : (d : SpiTable) (w : World) (s : SpiState) (k : ℕ) (call : Call) (times : ℕ → ℕ) (x : Carrying) → sent_by (Some call) ≡ Some k → EndsSending d w s k x
+    → ActGoes d s call times (sent d s (unit_of_sequence d k) x x.run.transfer.failed)
+sent_goes d w s k call times x c ends =
+    let failed = x.run.transfer.failed in
+    Sends x.entry.sequence (sequence_result_by failed) (ap (λ q. is_sync_sequence d q) (eq_is x.entry.sequence k ends.own) ∙ (carried-right d s k x ends.carried).1)
+    (record { accepts = λ q. unasked q k call times c; starts = λ q. refl; ends = λ p at. refl }) refl
+    (after_last-seen (λ s. s.pending) (λ s c x. refl) s x.run failed) refl (after_last-seen (λ s. s.requests) (λ s c x. refl) s x.run failed) (λ q. refl)
+
+sending_goes : (d : SpiTable) (w : World) (s : SpiState) (unit : units.Unit) (made_by : Option Call) (received u : ℕ) (x : Carrying) (b : Bool) → is_sync_number d (number_of unit) ≡ true
+    → Goes d (seen d (Starts unit made_by received) s (sent_on d w s u received x b)) s (sent_on d w s u received x b).state
+sending_goes d w s unit made_by received u x true sync =
+    Leaves (record { accepts = λ q. refl; starts = λ q. rw sync refl; ends = λ p has. refl }) refl
+    (stored-seen (λ s. s.pending) (λ s c x. refl) s (word_of x.run) (word_of x.run).goes x.run.transfer.incoming)
+    (stored-seen (λ s. s.sequence_results) (λ s c x. refl) s (word_of x.run) (word_of x.run).goes x.run.transfer.incoming)
+    (stored-seen (λ s. s.requests) (λ s c x. refl) s (word_of x.run) (word_of x.run).goes x.run.transfer.incoming) (λ q. refl)
+sending_goes d w s unit made_by received u x false sync =
+    Leaves (record { accepts = λ q. refl; starts = λ q. rw sync refl; ends = λ p has. refl }) refl
+    (after_last-seen (λ s. s.pending) (λ s c x. refl) s x.run false)
+    (after_last-seen (λ s. s.sequence_results) (λ s c x. refl) s x.run false)
+    (after_last-seen (λ s. s.requests) (λ s c x. refl) s x.run false) (λ q. refl)
 
 calm_move : (d : SpiTable) (w : World) (s : SpiState) (order : Order) → (moved d w s order).pending ≡ s.pending → (moved d w s order).sequence_results ≡ s.sequence_results → (moved d w s order).requests ≡ s.requests
     → Goes d (seen d (Moves order) s (outcome (moved d w s order) tells_nothing)) s (moved d w s order)
@@ -247,11 +292,18 @@ move_goes d w s order = calm_move d w s order refl refl refl
 
 pub happens_goes : (d : SpiTable) (w : World) (s : SpiState) (h : Happening Call) (out : Outcome SpiState) → (spi_machine d).happens w s h ≡ Some out → Goes d (seen d h s out) s out.state
 happens_goes d w s (Acts call times) out e =
-    subst (λ (x : Outcome SpiState). Goes d (seen d (Acts call times) s x) s x.state) (some_is (acts d s call) out e) (act_by d s call times (error_by d call (is_off s.mode) (finds_held d s call)) refl)
+    act-either (λ (x : Outcome SpiState). Goes d (seen d (Acts call times) s x) s x.state) d w s call out e
+    (act_by d s call times (error_by d call (is_off s.mode) (finds_held d s call)) refl)
+    (λ k x c f. Leaves (record { accepts = λ q. not_accepted q call times x; starts = λ q. refl; ends = λ p at. refl }) refl refl refl refl (λ q. refl))
+    (λ k x c ends. sent_goes d w s k call times x c ends)
 happens_goes d w s (Serves l received) out e =
     subst (λ (x : Outcome SpiState). Goes d (seen d (Serves l received) s x) s x.state) (serve_by (ready w s l) (served d w s (unit_of l) received (run_of s (unit_of l))) out e)
     (served_goes d w s l received (unit_of l) (run_of s (unit_of l)) refl refl)
-happens_goes d w s (Starts unit made_by received) out e = start_goes d w s unit made_by (number_of unit) received (next_at d s (number_of unit)) out refl e
+happens_goes d w s (Starts unit made_by received) out e =
+    start-either (λ (x : Outcome SpiState). Goes d (seen d (Starts unit made_by received) s x) s x.state) d w s (number_of unit) made_by received out e
+    (λ plain f. start_goes d w s unit made_by (number_of unit) received (next_at d s (number_of unit)) out plain refl f)
+    (λ u k on new. Sends k SpiSeqPending on.sync (record { accepts = λ q. refl; starts = λ q. rw on.unit refl; ends = λ p has. refl }) refl refl refl refl (λ q. refl))
+    (λ u k x on more. sending_goes d w s unit made_by received u x (goes_on x.run) on.unit)
 happens_goes d w s (Aborts u) out e = absurd (cc e)
 happens_goes d w s (Moves order) out e =
     subst (λ (x : Outcome SpiState). Goes d (seen d (Moves order) s x) s x.state) (some_is (outcome (moved d w s order) tells_nothing) out e) (move_goes d w s order)

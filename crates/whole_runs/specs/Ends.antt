@@ -3,6 +3,7 @@ use Rattle.std.specs.Prelude.{◌≡◌, ℕ, ◌≤◌, true, false, ◌&&◌, 
 use Rattle.mcal_base.specs.declared.answer_name.AnswerName.TheVariants.{SpiSeqOk, SpiSeqPending, SpiSeqFailed, SpiSeqCanceled}
 use Rattle.spi_machine.specs.Promised.{names_end}
 use Rattle.spi_machine.specs.Table.{sequence_of, notifies_sequence}
+use Rattle.spi_machine.specs.Wiring.{is_sync_sequence}
 use Rattle.spi_machine.specs.declared.table.SpiTable.{SpiTable}
 use Rattle.whole_runs.specs.Runs.{NoneOf}
 use Rattle.whole_runs.specs.SequenceRuns.{Seen, accepts, initialises, is_reset, is_pending, is_end}
@@ -22,9 +23,12 @@ pub data ResultGoes (q : ℕ) (e : Seen) : Type 0 where
 abbrev pub TellsEnd : SpiTable → ℕ → Seen → Type 0
 TellsEnd d q e = count_by (names_end q) e.told.notices ≡ cond (is_end q e && notifies_sequence (sequence_of d q)) 1 0
 
+-- What an event does to the results of sequences, and which ends it tells.
 pub record IsEnded (d : SpiTable) (e : Seen) : Type 0 where
-  pub results : (q : ℕ) → ResultGoes q e
-  pub told : (q : ℕ) → TellsEnd d q e
+  pub results : (q : ℕ) → is_sync_sequence d q ≡ false → ResultGoes q e
+  pub told : (q : ℕ) → is_sync_sequence d q ≡ false → TellsEnd d q e
+  -- of a sequence that Spi_SyncTransmit sends no request is accepted, and no end told
+  pub sent : (q : ℕ) → is_sync_sequence d q ≡ true → (accepts q e ≡ false) × (count_by (names_end q) e.told.notices ≡ 0)
 
 abbrev pub AreEnded : SpiTable → List Seen → Type 0
 AreEnded d [] = Unit {0}

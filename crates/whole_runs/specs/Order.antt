@@ -3,7 +3,8 @@ use Rattle.std.specs.Prelude.{◌≡◌, ℕ, ◌<◌, ◌≤◌, ◌⊎◌, Boo
 use Rattle.mcal_base.specs.declared.answer_name.AnswerName.TheVariants.{SpiSeqPending}
 use Rattle.run_model.specs.Machine.{Happening, Starts}
 use Rattle.spi_machine.specs.Machine.{number_of}
-use Rattle.spi_machine.specs.Table.{job_of, jobs_of, sequence_of, priority_by, is_interruptible, is_on_unit}
+use Rattle.spi_machine.specs.Table.{job_of, jobs_of, sequence_of, priority_by, is_interruptible, is_on_unit, is_sync_unit}
+use Rattle.spi_machine.specs.Wiring.{is_sync_sequence}
 use Rattle.spi_machine.specs.declared.call.Call.{Call}
 use Rattle.spi_machine.specs.declared.table.SpiTable.{SpiTable}
 use Rattle.whole_runs.specs.SequenceRuns.{Seen, requested_at, jobs_ended, has_started}
@@ -29,18 +30,18 @@ pub data GoesFirst (d : SpiTable) (past : List Seen) (q other : ℕ) : Type 0 wh
   Earlier : keeps_unit_in d q past ≡ keeps_unit_in d other past → (keeps_unit_in d q past ≡ true) ⊎ (priority_in d q past ≡ priority_in d other past)
       → requested_at q past ≤ requested_at other past → GoesFirst d past q other
 
--- A unit starts the next job: that of a pending sequence whose next job is for the unit, and which goes before all others of which that holds.
+-- A unit starts the next job: that of a pending sequence whose next job is for the unit, and which goes before all others of which that holds, but for those that Spi_SyncTransmit sends.
 pub record StartsNext (d : SpiTable) (u : ℕ) (e : Seen) (past : List Seen) : Type 0 where
   pub sequence : ℕ
   pub named : e.sequence ≡ Some sequence
   pub job : e.job ≡ Some (job_in d sequence past)
   pub pending : e.had sequence ≡ SpiSeqPending
   pub on : is_on_unit u (job_of d (job_in d sequence past)) ≡ true
-  pub first : (other : ℕ) → e.had other ≡ SpiSeqPending → is_on_unit u (job_of d (job_in d other past)) ≡ true → GoesFirst d past sequence other
+  pub first : (other : ℕ) → is_sync_sequence d other ≡ false → e.had other ≡ SpiSeqPending → is_on_unit u (job_of d (job_in d other past)) ≡ true → GoesFirst d past sequence other
 
--- each start on a serial unit starts the next job
+-- each start on a serial unit starts the next job, but on a unit that sends by Spi_SyncTransmit
 abbrev pub InOrderBy : SpiTable → Seen → List Seen → Happening Call → Type 0
-InOrderBy d e past (Starts unit made_by received) = (u : ℕ) → number_of unit ≡ Some u → StartsNext d u e past
+InOrderBy d e past (Starts unit made_by received) = (u : ℕ) → number_of unit ≡ Some u → is_sync_unit d u ≡ false → StartsNext d u e past
 InOrderBy d e past _ = Unit {0}
 
 abbrev pub AreInOrder : SpiTable → List Seen → Type 0

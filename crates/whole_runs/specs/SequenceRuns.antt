@@ -1,10 +1,10 @@
 -- What a run of the serial driver shows, event by event, and what each event is to a sequence.
-use Rattle.std.specs.Prelude.{ℕ, ◌==◌, suc, Bool, true, false, ◌&&◌, ◌||◌, not, cond, List, [], ◌∷◌, length, Option, Some, None, is_some}
+use Rattle.std.specs.Prelude.{ℕ, ◌==◌, suc, Bool, true, false, ◌&&◌, ◌||◌, not, cond, if◌then◌else◌, List, [], ◌∷◌, length, Option, Some, None, is_some}
 use Rattle.mcal_base.specs.declared.answer_name.AnswerName.{AnswerName}
 use Rattle.mcal_base.specs.declared.answer_name.AnswerName.TheVariants.{SpiSeqPending}
 use Rattle.mcal_base.specs.declared.error_name.ErrorName.{ErrorName}
 use Rattle.run_model.specs.Machine.{Happening, Acts, Serves, Starts, Aborts, Moves, Restarts, Told, Outcome}
-use Rattle.spi_machine.specs.Machine.{spi_machine, number_of, next_at, unit_of, run_of}
+use Rattle.spi_machine.specs.Machine.{spi_machine, number_of, next_at, unit_of, run_of, is_sync_number}
 use Rattle.spi_machine.specs.Pending.{Pending, next_job, sequence_result}
 use Rattle.spi_machine.specs.State.{SpiState, first_state}
 use Rattle.spi_machine.specs.Transfers.{Run}
@@ -20,7 +20,8 @@ pub record Seen : Type 0 where
   pub what : Happening Call
   pub told : Told
   pub begins : Bool
-  -- the sequence whose job starts there or has its word served, and the job that starts
+  -- the sequence whose job starts there or has its word served, and the job that starts; none where Spi_SyncTransmit
+  -- begins a word
   pub sequence : Option ℕ
   pub job : Option ℕ
   -- the result of each sequence before it and after it, as Spi_GetSequenceResult tells it
@@ -44,13 +45,13 @@ sequence_of_run (Some r) = Some r.sequence
 abbrev pub sequence_seen : SpiTable → SpiState → Happening Call → Option ℕ
 sequence_seen d s (Acts call times) = None
 sequence_seen d s (Serves l received) = sequence_of_run (run_of s (unit_of l))
-sequence_seen d s (Starts u made_by received) = sequence_of_next (next_at d s (number_of u))
+sequence_seen d s (Starts u made_by received) = if is_sync_number d (number_of u) then None else sequence_of_next (next_at d s (number_of u))
 sequence_seen d s (Aborts u) = None
 sequence_seen d s (Moves order) = None
 sequence_seen d s (Restarts reason) = None
 
 abbrev pub job_seen : SpiTable → SpiState → Happening Call → Option ℕ
-job_seen d s (Starts u made_by received) = job_of_next d (next_at d s (number_of u))
+job_seen d s (Starts u made_by received) = if is_sync_number d (number_of u) then None else job_of_next d (next_at d s (number_of u))
 job_seen d s _ = None
 
 abbrev pub begins_by : Option (Outcome SpiState) → Bool

@@ -67,6 +67,8 @@ pub struct SpiConfig {
     pub classification: u32,
     /// `Levels` of the lines of the two units, each 1 to 7; 1 at first.
     pub levels: Short<u32, 2>,
+    /// `SyncUnits`: the units whose sequences are sent by `Spi_SyncTransmit` alone, each 0 or 1; none at first.
+    pub sync_units: Short<u32, 2>,
     /// `SpiChannel`.
     pub channels: Short<SpiChannel, 16>,
     /// `SpiJob`.

@@ -1,4 +1,5 @@
 pub mod RequestAsking
+pub mod SendPart
 pub mod ServePart
 pub mod StartPart
 pub mod UnitBegins

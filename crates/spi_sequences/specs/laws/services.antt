@@ -21,6 +21,7 @@ pub mod ServeSteps
 pub mod SetUpRight
 pub mod SetUpSteps
 pub mod StartSteps
+pub mod SyncSteps
 pub mod UnitSteps
 pub mod WriteRight
 pub mod WriteSteps

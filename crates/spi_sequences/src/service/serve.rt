@@ -400,7 +400,7 @@ impl Served {
     }
 
     /// The first place among the last ones of four whose channel is internal.
-    fn first_internal(&self, table: &SpiTable, count: u8) -> Option<u8>
+    pub(crate) fn first_internal(&self, table: &SpiTable, count: u8) -> Option<u8>
         ensures { result ≡ spec.first_internal table.now self.now count }
     {
         if count == 0 || 4 < count {
@@ -479,8 +479,7 @@ impl Leaving {
         }
     }
 
-    /// The received words of the channel at a place become readable: in the bank that the job holds, which is known of
-    /// the channel of the last word.
+    /// The received words of the channel at a place become readable. Of the last word's channel the bank is known.
     fn commit(&self, table: &SpiTable, place: u8) -> Commit
         ensures { result ≡ spec.commit_at table.now self.now place }
     {
@@ -506,7 +505,7 @@ impl Leaving {
 
 impl Arrived {
     /// The word that begins next, where one does, or the end of the job.
-    fn begins(&self, table: &SpiTable) -> ServePlace
+    pub(crate) fn begins(&self, table: &SpiTable) -> ServePlace
         ensures { result ≡ spec.begins_of table.now self.now }
     {
         if self.served.failed {
@@ -523,9 +522,10 @@ impl Arrived {
         ensures { result ≡ spec.further_of table.now self.now }
     {
         let at = self.served.at;
+        let most = self.served.channel(table).channel.length;
         let length = match self.taker {
-            Taker::Bank(_) => self.served.channel(table).channel.length,
-            Taker::SetUp(set_up) => set_up.length,
+            Taker::Bank(_) => most,
+            Taker::SetUp(set_up) => set_up.length.min(most),
         };
         if at.word < 255 && at.word + 1 < length {
             return Some(Position {
@@ -555,7 +555,7 @@ impl Arrived {
     }
 
     /// What came in is kept.
-    fn keep(&self, table: &SpiTable) -> Keep
+    pub(crate) fn keep(&self, table: &SpiTable) -> Keep
         ensures { result ≡ spec.keep_of table.now self.now }
     {
         let placed = self.served.channel(table);
@@ -586,7 +586,7 @@ fn left_from(place: u8) -> u8
     if place < 4 { 4 - place } else { 0 }
 }
 
-fn left_after(place: u8) -> u8
+pub(crate) fn left_after(place: u8) -> u8
     ensures { result ≡ 3 - place }
 {
     if place < 3 { 3 - place } else { 0 }

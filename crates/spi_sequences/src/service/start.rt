@@ -286,7 +286,7 @@ fn rank(table: &SpiTable, sequence: u8, nexts: u32, marks: u32) -> u32
 }
 
 /// A unit by its number.
-fn named(unit: u8) -> Unit
+pub(crate) fn named(unit: u8) -> Unit
     ensures { result ≡ spec.unit_named unit }
 {
     if unit == 0 { Unit::Spi0 } else { Unit::Spi1 }

@@ -42,7 +42,7 @@ pub enum After {
 pub enum UnitPlace {
     /// In the first window of a request.
     Request(RequestPlace),
-    /// The main function acts.
+    /// The main function acts, and ends there where its unit sends by `Spi_SyncTransmit`, as the other one does then.
     Act,
     /// It opens the mask.
     Opens(After),
@@ -93,6 +93,10 @@ impl Body for UnitBody {
                 Requested::Held => self.held(),
                 Requested::Accepted => self.opens(After::Start),
             },
+            UnitPlace::Act if self.table.is_sync(self.unit) => acts_with(
+                nothing(),
+                Epilogue::Nothing,
+            ),
             UnitPlace::Act => {
                 self.place = UnitPlace::Opens(After::Serve);
                 acts()
@@ -171,7 +175,7 @@ impl UnitBody {
         ensures step { result ≡ (spec.unit_over self.old self.old.place self.old.errand self.old.unit).1 }
     {
         match self.errand {
-            FrameRole::Main if self.unit == 0 => {
+            FrameRole::Main if self.unit == 0 && !self.table.is_sync(1) => {
                 self.errand = self.rest();
                 self.unit = 1;
                 self.opens(After::Serve)

@@ -11,8 +11,8 @@ use spi_machine::AsyncMode;
 pub enum Whole {
     /// `Spi_DeInit`
     DeInit,
-    /// `Spi_SetAsyncMode`
-    Mode(AsyncMode),
+    /// `Spi_SetAsyncMode`, with the lines that handlers serve in interrupt mode.
+    Mode(AsyncMode, u32),
     /// `Spi_GetStatus` of an initialised module.
     Status,
 }
@@ -24,18 +24,20 @@ impl Whole {
     {
         match self {
             Whole::DeInit => 0,
-            Whole::Mode(AsyncMode::Polling) | Whole::Status => 1,
-            Whole::Mode(AsyncMode::Interrupt) => 2,
+            Whole::Mode(AsyncMode::Polling, _) | Whole::Status => 1,
+            Whole::Mode(AsyncMode::Interrupt, _) => 2,
         }
     }
 
-    /// What enables the lines, or disables them.
-    fn lines(self) -> Reg
-        ensures { result ≡ spec.lines_register self }
+    /// What enables the lines, or disables them. No line is named where there is none to enable.
+    fn lines(self) -> Move
+        ensures { result ≡ spec.lines_move self }
     {
         match self {
-            Whole::Mode(AsyncMode::Interrupt) => Reg::EnableSet,
-            _ => Reg::EnableClear,
+            Whole::Mode(AsyncMode::Interrupt, lines) if lines != 0 => {
+                Move::Write(Reg::EnableSet, lines)
+            }
+            _ => Move::Write(Reg::EnableClear, LINES),
         }
     }
 
@@ -73,7 +75,7 @@ impl Body for WholeBody {
         match *self {
             WholeBody::Look(_, sequence) => Move::Load(sequence_word(sequence)),
             WholeBody::Store(whole) => Move::Store(STATE, whole.state()),
-            WholeBody::Lines(whole) => Move::Write(whole.lines(), LINES),
+            WholeBody::Lines(whole) => whole.lines(),
         }
     }
 

@@ -1,8 +1,12 @@
+pub mod EndsOwed
 pub mod FailedEnded
+pub mod FreedServed
 pub mod FreedUnit
 pub mod FurtherBegun
 pub mod FurtherRight
+pub mod FurtherServed
 pub mod GoesOnRight
+pub mod JobLeft
 pub mod JobOverRight
 pub mod SequenceOverRight
 pub mod ServeAround

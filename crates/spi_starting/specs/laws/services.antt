@@ -1,3 +1,4 @@
+pub mod ReadyOwed
 pub mod StartAround
 pub mod StartBegun
 pub mod StartRight

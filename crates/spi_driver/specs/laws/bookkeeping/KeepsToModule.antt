@@ -1,7 +1,7 @@
 -- The driver keeps to its module: registers, words and lines of others are nothing to it.
 -- From bookkeeping.ModuleBounds, bookkeeping.Joined, bookkeeping.Lawful.
 -- Used by mcal_drivers: proofs/Joining.
-use Rattle.std.proofs.Common.{◌≡◌, ◌+◌, ◌*◌, ◌%◌, ◌<◌, ◌≤◌, ◌^◌, ◌==◌, ◌&&◌, ◌||◌, [], ◌∷◌, ◌∙◌, if◌then◌else◌}
+use Rattle.std.proofs.Common.{◌≡◌, ◌+◌, ◌<◌, ◌≤◌, ◌^◌, ◌==◌, ◌&&◌, ◌||◌, [], ◌∷◌, ◌∙◌, if◌then◌else◌}
 use Rattle.spi_driver.specs.Terms
 use Terms.{Adc0, Adc1, All, and_first, and_parts, ap, arith, Asked, basis_right, Bool, Call, Called, Channel}
 use Terms.{Destination, EnableClear, EnableSet, EnablesOthers, EnablesWithin, entering, enumerate_from, false, FitsSpi}
@@ -9,9 +9,10 @@ use Terms.{has_bit, has_lines, is_for_lines, is_line_of, is_number, is_of, is_ow
 use Terms.{is_used, is_users_place, is_users_word, is_within, is_word_of, IsSome, KeepsTo, length, length_by, List}
 use Terms.{list_all, list_any, Load, may_name, may_write, module_of_line, module_of_register, module_of_unit}
 use Terms.{module_of_word, Move, names_there, NamesOthers, NamesWithin, nat_lt, nat_tests, None, not, not-unless, only}
-use Terms.{Option, own_words, owns_written, polls, Read, refl, Reg, SerialAck, SerialData, SerialReceived, SerialSelect}
-use Terms.{SerialState, SerialWidth, services_driver, Some, Source, Spi, Spi0, Spi1, spi_machine, spi_owns, SpiState}
-use Terms.{SpiTable, start_of, Starts, Store, suc, sym, true, uses_by, World, Write, WritesOthers, WritesWithin, ℕ}
+use Terms.{Option, own_words, owns_written, polls, Read, refl, Reg, SerialAck, SerialData, SerialReceived}
+use Terms.{SerialSelect, SerialState, SerialWait, SerialWidth, services_driver, Some, Source, Spi, Spi0, Spi1, spi_machine}
+use Terms.{spi_owns, SpiState, SpiTable, start_of, Starts, Store, suc, sym, true, uses_by, World, Write, WritesOthers}
+use Terms.{WritesWithin, ℕ}
 use Rattle.spi_driver.specs.laws.{bookkeeping.Joined.{joined}, bookkeeping.Lawful.{handled_by}}
 use Rattle.spi_driver.specs.laws.{bookkeeping.ModuleBounds.{all_few, own_few}}
 use Rattle.mcal_base.specs.declared.moves.Unit as units
@@ -26,6 +27,7 @@ own_register (SerialWidth u) e = refl
 own_register (SerialData u) e = refl
 own_register (SerialReceived u) e = refl
 own_register (SerialState u) e = refl
+own_register (SerialWait u) e = refl
 own_register (SerialAck u) e = refl
 own_register _ e = cc
 

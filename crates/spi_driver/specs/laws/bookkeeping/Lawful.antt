@@ -3,31 +3,36 @@
 -- Used by services.UnitBegins, bookkeeping.KeepsToModule.
 use Rattle.std.proofs.Common.{◌≡◌, ◌+◌, ◌-◌, ◌%◌, ◌<◌, ◌≤◌, ◌==◌, ◌||◌, [], ◌∷◌, ◌∙◌, if◌then◌else◌}
 use Rattle.spi_driver.specs.Terms
-use Terms.{Act, acts_by, AllLet, AllRight, and_parts, Answer, answer_refused, answers, ap, AreEnding, AreEndingServices}
-use Terms.{AreLong, arith, Asked, asks_no, asks_none, AssertedAt, AsyncTransmit, basis_right, begins, Beside, blocks}
-use Terms.{Bool, both, both_ending, both_right, Call, Called, CanBegin, Cancel, cancel_bodies, cancel_right, CancelBody}
-use Terms.{CaptureCountHigh, CaptureTimeHigh, Channel, channel_begun, channel_of, ChannelCall, ChannelState, Chip}
-use Terms.{class_of, Cleared, Debt, Decides, Declines, Done, ended_at, ending_gave, Entered, error_by, error_told}
-use Terms.{ErrorName, false, finds_held, First, FitsSpi, FrameHistory, free_windows, Handler, Handling, has_channel}
-use Terms.{HeldRight, in_list, init_bodies, init_right, init_within, InitBody, Interrupt, is_busy, is_external_channel}
-use Terms.{is_internal_channel, is_number, is_off, is_past, is_polling, is_some, Is_this_frame, is_used, is_users}
-use Terms.{is_windowed, is_wrong_length, IsLawful, job_of, LeavesNone, length_by, List, LongBodies, Looked, looked_by}
-use Terms.{Main, mark_of, may_name, may_store, Mode, mode_word, Move, named, names_there, nat_lt, no_answer, no_duties}
-use Terms.{None, NoneBefore, not, Nothing, of_sixteen, Off, Option, Or, or_rest, Origin, outcome, own_first, placed_of}
-use Terms.{Plain, Pointer, Polling, polls, Preparing, Proceeds, PulseCommit, PulseIdle, put_by, put_held, Query}
-use Terms.{query_begun, query_bodies, query_right, QueryBody, Read, read_bodies, read_right, ReadBody, ReadIb, Reading}
-use Terms.{refl, Reservation, Reservations, ReservedBy, same_number, Second, sequence_begun, sequence_of, SequenceCall}
-use Terms.{Services, services_driver, services_lawful, set_up_bodies, set_up_right, SetUpBody, SetupEb, short_left}
-use Terms.{short_move, Some, some_of, spi_basis, spi_ends, spi_looked, spi_machine, spi_setting, SpiBody, SpiRepresents}
-use Terms.{SpiState, SpiTable, SpiUninit, STATE, status_by, steps_of, subst, suc, sym, take, take_by, take_held}
-use Terms.{tells_error, tells_nothing, TimerHigh, to_write, Transmit, true, unit_body, unit_by, unit_of_sequence}
-use Terms.{UnitBody, value_of, whole_bodies, whole_right, WholeBody, word_of, words_in, World, Write, write_bodies}
-use Terms.{write_right, WriteBody, WriteIb, Writing, zero, ℕ}
+use Terms.{Act, act_of, acts_by, all_carried, all_of, AllLet, AllRight, and_parts, Answer, answer_refused, answers, ap}
+use Terms.{AreEnding, AreEndingServices, AreLong, arith, Asked, asks_no, asks_none, AssertedAt, AsyncTransmit}
+use Terms.{basis_right, begins, Beside, blocks, Bool, both, both_ending, both_right, Call, Called, CanBegin, Cancel}
+use Terms.{cancel_begun, cancel_bodies, cancel_right, CancelBody, cancelled, CaptureCountHigh, CaptureTimeHigh}
+use Terms.{carried-right, carried_at, carried_for, Carrying, Channel, channel_begun, channel_of, ChannelCall}
+use Terms.{ChannelState, Chip, class_of, Cleared, Debt, Decides, Declines, Done, ended_at, ending_gave, Entered}
+use Terms.{entry_carried, error_by, error_of_sending, error_told, ErrorName, false, finds_held, First, first_served}
+use Terms.{FitsSpi, found_none, FrameHistory, free_windows, fresh_history, Handler, Handling, has_channel, HeldRight}
+use Terms.{in_list, init_bodies, init_right, init_within, InitBody, Interrupt, is_busy, is_closed, is_external_channel}
+use Terms.{is_internal_channel, is_number, is_off, is_past, is_pending, is_polling, is_some, is_sync_sequence}
+use Terms.{Is_this_frame, is_used, is_users, is_windowed, is_wrong_length, is_wrong_sequence, IsLawful, job_of}
+use Terms.{jobs_by, jobs_of, LeavesNone, length, length_by, List, LongBodies, Looked, looked_by, Main, mark_of, may_end}
+use Terms.{may_name, may_store, Mode, mode_word, Move, named, names_there, nat_lt, no_answer, no_duties, None}
+use Terms.{none_any, NoneBefore, not, not_sent, not_true, Nothing, of_sixteen, Off, Option, Or, or_rest, Origin}
+use Terms.{outcome, own_first, placed_of, Plain, Pointer, Polling, polls, Preparing, Proceeds, PulseCommit, PulseIdle}
+use Terms.{put_by, put_held, Query, query_begun, query_bodies, query_right, QueryBody, Read, read_bodies, read_right}
+use Terms.{ReadBody, ReadIb, Reading, refl, Reservation, Reservations, ReservedBy, same_number, Second, Sending}
+use Terms.{sending_ends, sent, sent_steps, Sequence, sequence_begun, sequence_of, SequenceCall, Services}
+use Terms.{services_driver, services_lawful, set_up_bodies, set_up_right, SetUpBody, SetupEb, short_left, short_move}
+use Terms.{Some, some_of, spi_basis, spi_ends, spi_looked, spi_machine, spi_setting, SpiBody, SpiRepresents, SpiState}
+use Terms.{SpiTable, SpiUninit, STATE, status_by, steps_of, subst, suc, sym, sync_begins, SyncBody, SyncTransmit, take}
+use Terms.{take_by, take_held, tells_error, tells_nothing, TimerHigh, to_write, Transmit, true, unit_body, unit_by}
+use Terms.{unit_few, unit_of_sequence, UnitBody, value_of, view, whole_bodies, whole_right, WholeBody, word_of}
+use Terms.{words_in, World, Write, write_bodies, write_right, WriteBody, WriteIb, Writing, zero, ℕ}
 use Rattle.spi_driver.specs.laws.bookkeeping.UnpolledFrames.{LeavesBy, PollsNone, cancel_unpolled, init_unpolled}
 use Rattle.spi_driver.specs.laws.bookkeeping.UnpolledFrames.{leaves_unpolled, lets_none, query_unpolled, read_unpolled}
 use Rattle.spi_driver.specs.laws.bookkeeping.UnpolledFrames.{set_up_unpolled, unpolled_left, whole_unpolled}
 use Rattle.spi_driver.specs.laws.bookkeeping.UnpolledFrames.{write_unpolled}
 use Rattle.mcal_base.specs.declared.error_name.ErrorName.TheVariants as errors
+use Rattle.spi_machine.specs.Pending.{is_of}
 use Rattle.spi_machine.specs.declared.call.Call.TheVariants as calls
 use Rattle.spi_machine.specs.declared.call.Query.TheVariants as queries
 use Rattle.spi_sequences.specs.declared.service.request.RequestPlace.TheVariants as request
@@ -51,14 +56,26 @@ clear_three false true true e f g h = absurd (cc)
 clear_three false true false e f g h = (refl, refl, refl)
 clear_three false false bad e f g h = absurd (cc)
 
+clear_sequence : (off wrong : Bool) (e f : ErrorName) → (if off then Some e else if wrong then Some f else None) ≡ None → (off ≡ false) × (wrong ≡ false)
+clear_sequence true wrong e f h = absurd (cc)
+clear_sequence false true e f h = absurd (cc)
+clear_sequence false false e f h = (refl, refl)
+
+-- a sequence that is configured, and sent so
+neither : (there otherwise : Bool) → not there || otherwise ≡ false → (there ≡ true) × (otherwise ≡ false)
+neither true false e = (refl, refl)
+neither true true e = absurd (cc)
+neither false otherwise e = absurd (cc)
+
 -- an error that is found before a pending sequence is looked for
-found_first : (off good held : Bool) (e f g x : ErrorName) → (if off then Some e else if not good then Some f else None) ≡ Some x → (if off then Some e else if not good then Some f else if held then Some g else None) ≡ Some x
-found_first true good held e f g x h = h
-found_first false true held e f g x h = absurd (cc)
-found_first false false held e f g x h = h
+found_first : (off wrong held : Bool) (e f g x : ErrorName) → (if off then Some e else if wrong then Some f else None) ≡ Some x → (if off then Some e else if wrong then Some f else if held then Some g else None) ≡ Some x
+found_first true wrong held e f g x h = h
+found_first false true held e f g x h = h
+found_first false false held e f g x h = absurd (cc)
 
 refused_so : (d : SpiTable) (s : SpiState) (call : Call) (x : ErrorName) → error_by d call (is_off s.mode) false ≡ Some x → error_by d call (is_off s.mode) (finds_held d s call) ≡ Some x
-refused_so d s (calls.Sequence q AsyncTransmit) x e = found_first (is_off s.mode) (is_some (sequence_of d q)) (finds_held d s (calls.Sequence q AsyncTransmit)) errors.SpiUninit errors.SpiParamSeq errors.SpiSeqPending x e
+refused_so d s (calls.Sequence q AsyncTransmit) x e = found_first (is_off s.mode) (is_wrong_sequence d q AsyncTransmit) (finds_held d s (calls.Sequence q AsyncTransmit)) errors.SpiUninit errors.SpiParamSeq errors.SpiSeqPending x e
+refused_so d s (calls.Sequence q SyncTransmit) x e = found_first (is_off s.mode) (is_wrong_sequence d q SyncTransmit) (finds_held d s (calls.Sequence q SyncTransmit)) errors.SpiUninit errors.SpiParamSeq errors.SpiSeqInProcess x e
 refused_so d s (calls.Sequence q Cancel) x e = e
 refused_so d s calls.Init x e = e
 refused_so d s calls.DeInit x e = e
@@ -129,6 +146,7 @@ module _ (d : SpiTable) (mode : Mode) (cs : List ChannelState) (on : is_off mode
   not_written p sources h (Cleared u) right l = refl
   not_written p sources h Handling right l = refl
   not_written p sources h (Reading n b) right l = refl
+  not_written p sources h (Sending u q n at banks failed device) right l = refl
   not_written p sources h (Preparing stored readied x) right l = absurd (let off = right.1 in cc)
   not_written p sources h (Writing n q b i x) right l = by (n == c) refl
     where
@@ -152,6 +170,7 @@ module _ (d : SpiTable) (mode : Mode) (cs : List ChannelState) (on : is_off mode
   not_read h (Cleared u) right l = refl
   not_read h Handling right l = refl
   not_read h (Writing n q b i x) right l = refl
+  not_read h (Sending u q n at banks failed device) right l = refl
   not_read h (Preparing stored readied x) right l = refl
   not_read h (Reading n b) right l = by (n == c) refl
     where
@@ -180,14 +199,24 @@ abbrev FirstBody : Type 0
 FirstBody = Or (Or InitBody WholeBody) QueryBody
 
 abbrev LastBody : Type 0
-LastBody = Or (Or SetUpBody (Or WriteBody ReadBody)) (Or UnitBody CancelBody)
+LastBody = Or (Or SetUpBody (Or WriteBody ReadBody)) (Or UnitBody (Or CancelBody SyncBody))
 
-module _ (d : SpiTable) (unit_bodies : LongBodies (spi_basis d) UnitBody) where
+-- what is left to show of the frames that send a sequence and wait
+pub record AreSending (d : SpiTable) (sync_bodies : LongBodies (spi_basis d) SyncBody) : Type 1 where
+  pub right : AreLong (spi_basis d) sync_bodies
+  pub begins : (below : Reservations) (chip : Chip) (w : World) (s : SpiState) (q : ℕ) → q < 8 → is_some (sequence_of d q) ≡ true → is_sync_sequence d q ≡ true → is_off s.mode ≡ false → Beside (spi_setting d) (Called (calls.Sequence q SyncTransmit)) below → SpiRepresents d below chip w s
+      → AssertedAt (spi_basis d) sync_bodies below chip w s (sync_begins d q (unit_of_sequence d q)) (Called (calls.Sequence q SyncTransmit)) fresh_history
+  pub closed : (q : ℕ) → is_closed (sync_bodies.assertion (sync_begins d q (unit_of_sequence d q))) ≡ true
+  pub fuel : (q : ℕ) → q < 8 → is_some (sequence_of d q) ≡ true → sync_bodies.fuel (sync_begins d q (unit_of_sequence d q)) ≤ sent_steps d (sequence_of d q) - 7
+  pub room : (q : ℕ) → sync_bodies.room (sync_begins d q (unit_of_sequence d q)) ≤ 29
+  pub unpolled : (below : Reservations) (chip : Chip) (w : World) (s : SpiState) (o : Origin Call) (t : FrameHistory) (k : SyncBody) → AssertedAt (spi_basis d) sync_bodies below chip w s k o t → PollsNone o t.polled
+
+module _ (d : SpiTable) (unit_bodies : LongBodies (spi_basis d) UnitBody) (sync_bodies : LongBodies (spi_basis d) SyncBody) where
   abbrev firsts : LongBodies (spi_basis d) FirstBody
   firsts = both (both (init_bodies d) (whole_bodies d)) (query_bodies d)
 
   abbrev lasts : LongBodies (spi_basis d) LastBody
-  lasts = both (both (set_up_bodies d) (both (write_bodies d) (read_bodies d))) (both unit_bodies (cancel_bodies d))
+  lasts = both (both (set_up_bodies d) (both (write_bodies d) (read_bodies d))) (both unit_bodies (both (cancel_bodies d) sync_bodies))
 
   -- the driver; any call may be made
   abbrev pub spi : Services SpiState Call Asked SpiBody
@@ -206,13 +235,14 @@ module _ (d : SpiTable) (unit_bodies : LongBodies (spi_basis d) UnitBody) where
     body_of = λ line. handled_by d line (is_used d line);
   }
 
-  -- what is left to show of the frames that start or serve units
-  pub record AreRight : Type 0 where
+  -- what is left to show of the frames that start or serve units, and of those that send and wait
+  pub record AreRight : Type 1 where
     pub units : AreLong (spi_basis d) unit_bodies
-    pub begins_request : (below : Reservations) (chip : Chip) (w : World) (s : SpiState) (q : ℕ) → q < 8 → is_off s.mode ≡ false → error_by d (calls.Sequence q AsyncTransmit) (is_off s.mode) false ≡ None → SpiRepresents d below chip w s
+    pub sends : AreSending d sync_bodies
+    pub begins_request : (below : Reservations) (chip : Chip) (w : World) (s : SpiState) (q : ℕ) → q < 8 → is_sync_sequence d q ≡ false → is_off s.mode ≡ false → error_by d (calls.Sequence q AsyncTransmit) (is_off s.mode) false ≡ None → SpiRepresents d below chip w s
         → Proceeds spi below chip w s (calls.Sequence q AsyncTransmit) (unit_body (record { table = d; errand = Transmit q; unit = unit_of_sequence d q; place = place.Request (request.Look 0) }))
     pub begins_main : (below : Reservations) (chip : Chip) (w : World) (s : SpiState) → is_polling s.mode ≡ true → SpiRepresents d below chip w s
-        → Proceeds spi below chip w s calls.MainFunctionHandling (unit_body (record { table = d; errand = Main; unit = 0; place = place.Act }))
+        → Proceeds spi below chip w s calls.MainFunctionHandling (unit_body (record { table = d; errand = Main; unit = first_served d; place = place.Act }))
     pub enters : (line : ℕ) (k : SpiBody) → handled_by d line (is_used d line) ≡ Some k → CanBegin spi k (Entered line)
     pub line_steps : (line : ℕ) (k : SpiBody) → handled_by d line (is_used d line) ≡ Some k → 6 + (both firsts lasts).fuel k ≤ 144
     pub leaves : (below : Reservations) (chip : Chip) (w : World) (s : SpiState) (k : UnitBody) (o : Origin Call) (y : ℕ) (t : FrameHistory) (n : Done) → AssertedAt (spi_basis d) unit_bodies below chip w s k o t → let r = (unit_bodies.takes k (value_of chip (unit_bodies.work_of k))).1 in r.done ≡ Some n → LeavesBy d w s o t (unit_bodies.work_of k) y r.event n
@@ -221,10 +251,53 @@ module _ (d : SpiTable) (unit_bodies : LongBodies (spi_basis d) UnitBody) where
     abbrev Looks : Call → Looked SpiBody → Type 0
     Looks call l = Decides spi below chip w s call l
 
+    -- a call that sends a sequence and waits: what its unit carries out isn't this one, which isn't configured
+    sending_refused : (q : ℕ) (e : ErrorName) → error_by d (calls.Sequence q SyncTransmit) (is_off s.mode) false ≡ Some e → sending_ends d w s q (carried_for d s q) ≡ Some (outcome s (tells_error (answer_refused (calls.Sequence q SyncTransmit)) e))
+    sending_refused q e is = by (carried_for d s q) refl
+      where
+        refused : not_sent s q (error_of_sending d s q) ≡ Some (outcome s (tells_error (answer_refused (calls.Sequence q SyncTransmit)) e))
+        refused = ap (not_sent s q) (refused_so d s (calls.Sequence q SyncTransmit) e is)
+
+        found : (off there sync : Bool) → off ≡ false → sync ≡ true → (if off then Some errors.SpiUninit else if not there || not sync then Some errors.SpiParamSeq else None) ≡ Some e → there ≡ false
+        found true there sync f g h = absurd (cc)
+        found false true true f g h = absurd (cc)
+        found false true false f g h = absurd (cc)
+        found false false sync f g h = refl
+
+        other : (x : Carrying) → carried_for d s q ≡ Some x → is_of q x.entry ≡ false
+        other x f = not_true (is_of q x.entry) (λ own. none (carried-right d s q x f) own)
+          where
+            no_jobs : (o : Option Sequence) → is_some o ≡ false → {n : ℕ} → n < length (jobs_by o) → ⊥
+            no_jobs None e lt = omega (arith, lt)
+            no_jobs (Some k) e lt = absurd (cc)
+
+            none : (is_off s.mode ≡ false) × (is_sync_sequence d q ≡ true) → is_of q x.entry ≡ true → ⊥
+            none r own =
+                let begun : (view s).begun (unit_of_sequence d q) ≡ Some x.entry = ap entry_carried (sym (ap (λ z. if z || not (is_sync_sequence d q) then None else carried_at s (unit_of_sequence d q)) r.0 ∙ ap (λ z. if not z then None else carried_at s (unit_of_sequence d q)) r.1) ∙ f) in
+                let there = all_carried (view s) (unit_of_sequence d q) x.entry (unit_few d fits q) begun in
+                let next = (h.sound.entries x.entry there).next in
+                let unknown = found (is_off s.mode) (is_some (sequence_of d q)) (is_sync_sequence d q) r.0 r.1 is in
+                no_jobs (sequence_of d q) unknown (subst (λ n. x.entry.next < length (jobs_of d n)) (is_number x.entry.sequence q own) next)
+
+        by : (o : Option Carrying) → carried_for d s q ≡ o → sending_ends d w s q o ≡ Some (outcome s (tells_error (answer_refused (calls.Sequence q SyncTransmit)) e))
+        by None f = refused
+        by (Some x) f = ap (λ b. if b then (if may_end d w x then Some (sent d s (unit_of_sequence d q) x x.run.transfer.failed) else None) else not_sent s q (error_of_sending d s q)) (other x f) ∙ refused
+
+    act_refused : (call : Call) (e : ErrorName) → error_by d call (is_off s.mode) false ≡ Some e → act_of d w s call ≡ Some (outcome s (tells_error (answer_refused call) e))
+    act_refused (calls.Sequence q SyncTransmit) e is = sending_refused q e is
+    act_refused (calls.Sequence q AsyncTransmit) e is = ap (λ y. Some (acts_by d s (calls.Sequence q AsyncTransmit) y)) (refused_so d s (calls.Sequence q AsyncTransmit) e is)
+    act_refused (calls.Sequence q Cancel) e is = ap (λ y. Some (acts_by d s (calls.Sequence q Cancel) y)) is
+    act_refused calls.Init e is = ap (λ y. Some (acts_by d s calls.Init y)) is
+    act_refused calls.DeInit e is = ap (λ y. Some (acts_by d s calls.DeInit y)) is
+    act_refused (calls.SetAsyncMode m) e is = ap (λ y. Some (acts_by d s (calls.SetAsyncMode m) y)) is
+    act_refused calls.MainFunctionHandling e is = ap (λ y. Some (acts_by d s calls.MainFunctionHandling y)) is
+    act_refused (calls.Channel c call) e is = ap (λ y. Some (acts_by d s (calls.Channel c call) y)) is
+    act_refused (calls.Get x) e is = ap (λ y. Some (acts_by d s (calls.Get x) y)) is
+
     declines : (call : Call) (e : ErrorName) → error_by d call (is_off s.mode) false ≡ Some e → Looks call (looked_by (record { call = call; table = d }) (mode_word s.mode) (Some e))
     declines call e is = record {
       told = tells_error (answer_refused call) e;
-      is = λ times. ap (λ y. Some (acts_by d s call y)) (refused_so d s call e is);
+      is = λ times. act_refused call e is;
       tells = error_told (spi_machine d) call (answer_refused call) e;
       reset = asks_no (spi_machine d) call (Some Act) (Some (outcome s (tells_error (answer_refused call) e))) (asks_none call);
       polls = polls_none d s call e is;
@@ -233,7 +306,7 @@ module _ (d : SpiTable) (unit_bodies : LongBodies (spi_basis d) UnitBody) where
     whole_begins : (call : Call) → class_of call ≡ class_of calls.Init → Beside (spi_setting d) (Called call) below → below ≡ []
     whole_begins call e lets = alone_by d call below e lets
 
-    none_before : NoneBefore s.pending 0
+    none_before : NoneBefore (all_of (view s)) 0
     none_before k lt = absurd (omega (arith, lt))
 
     -- at the channel's own number
@@ -355,8 +428,8 @@ module _ (d : SpiTable) (unit_bodies : LongBodies (spi_basis d) UnitBody) where
       reset = asks_no (spi_machine d) (calls.Get queries.Status) (Some Act) (Some (outcome s (answers (named SpiUninit)))) refl;
       polls = refl;
     }
-    query_begins queries.Status lets clear Polling e = record { at = (h, ((Is_this_frame, clear, ap is_off e, tt), omega arith, none_before)); closed = refl; fuel = omega arith; room = omega arith }
-    query_begins queries.Status lets clear Interrupt e = record { at = (h, ((Is_this_frame, clear, ap is_off e, tt), omega arith, none_before)); closed = refl; fuel = omega arith; room = omega arith }
+    query_begins queries.Status lets clear Polling e = record { at = (h, ((Is_this_frame, clear, ap is_off e, tt, tt), omega arith, none_before)); closed = refl; fuel = omega arith; room = omega arith }
+    query_begins queries.Status lets clear Interrupt e = record { at = (h, ((Is_this_frame, clear, ap is_off e, tt, tt), omega arith, none_before)); closed = refl; fuel = omega arith; room = omega arith }
     query_begins (queries.JobResult j) lets clear m e = job_begins j clear
     query_begins (queries.SequenceResult q) lets clear m e =
         let facts = clear_two (is_off s.mode) (is_some (sequence_of d q)) errors.SpiUninit errors.SpiParamSeq clear in
@@ -368,20 +441,49 @@ module _ (d : SpiTable) (unit_bodies : LongBodies (spi_basis d) UnitBody) where
         record { at = (h, (u, (Is_this_frame, clear, facts.0), omega (arith, lt), below_byte u (omega (arith, lt)))); closed = refl; fuel = omega arith; room = omega arith }
 
     module _ (a : AreRight) where
-      sequence_begins : (q : ℕ) (call : SequenceCall) → error_by d (calls.Sequence q call) (is_off s.mode) false ≡ None → Looks (calls.Sequence q call) (sequence_begun d (q % 256) call)
-      sequence_begins q AsyncTransmit clear =
-          let facts = clear_three (is_off s.mode) (is_some (sequence_of d q)) false errors.SpiUninit errors.SpiParamSeq errors.SpiSeqPending clear in
-          let lt = sequence_small q facts.1 in
-          subst (λ n. Looks (calls.Sequence q AsyncTransmit) (sequence_begun d n AsyncTransmit)) (sym (below_byte q (omega (arith, lt)))) (a.begins_request below chip w s q lt facts.0 clear h)
-      sequence_begins q Cancel clear =
-          let facts = clear_two (is_off s.mode) (is_some (sequence_of d q)) errors.SpiUninit errors.SpiParamSeq clear in
-          let lt = sequence_small q facts.1 in
-          subst (λ n. Looks (calls.Sequence q Cancel) (sequence_begun d n Cancel)) (sym (below_byte q (omega (arith, lt)))) (record {
-            at = (h, (q, (Is_this_frame, lt, clear, facts.0), record { sequence = refl; unit = refl; notes = refl }));
+      sequence_begins : (q : ℕ) (call : SequenceCall) → Beside (spi_setting d) (Called (calls.Sequence q call)) below → error_by d (calls.Sequence q call) (is_off s.mode) false ≡ None → Looks (calls.Sequence q call) (sequence_begun d (q % 256) call)
+      sequence_begins q AsyncTransmit lets clear =
+          let facts = clear_sequence (is_off s.mode) (is_wrong_sequence d q AsyncTransmit) errors.SpiUninit errors.SpiParamSeq clear in
+          let kind = neither (is_some (sequence_of d q)) (is_sync_sequence d q) facts.1 in
+          let lt = sequence_small q kind.0 in
+          subst (λ n. Looks (calls.Sequence q AsyncTransmit) (sequence_begun d n AsyncTransmit)) (sym (below_byte q (omega (arith, lt)))) (a.begins_request below chip w s q lt kind.1 facts.0 clear h)
+      sequence_begins q SyncTransmit lets clear =
+          let facts = clear_sequence (is_off s.mode) (is_wrong_sequence d q SyncTransmit) errors.SpiUninit errors.SpiParamSeq clear in
+          let kind = neither (is_some (sequence_of d q)) (not (is_sync_sequence d q)) facts.1 in
+          let lt = sequence_small q kind.0 in
+          subst (λ n. Looks (calls.Sequence q SyncTransmit) (sequence_begun d n SyncTransmit)) (sym (below_byte q (omega (arith, lt)))) (record {
+            at = a.sends.begins below chip w s q lt kind.0 (sent_so (is_sync_sequence d q) kind.1) facts.0 lets h;
+            closed = a.sends.closed q;
+            fuel = a.sends.fuel q lt kind.0;
+            room = a.sends.room q;
+          })
+        where
+          sent_so : (b : Bool) → not b ≡ false → b ≡ true
+          sent_so true e = refl
+          sent_so false e = absurd (cc)
+      sequence_begins q Cancel lets clear =
+          let facts = clear_sequence (is_off s.mode) (is_wrong_sequence d q Cancel) errors.SpiUninit errors.SpiParamSeq clear in
+          let lt = sequence_small q (neither (is_some (sequence_of d q)) false facts.1).0 in
+          subst (λ n. Looks (calls.Sequence q Cancel) (sequence_begun d n Cancel)) (sym (below_byte q (omega (arith, lt)))) (by lt facts.0 (is_sync_sequence d q) refl)
+        where
+          -- one that is sent at once isn't pending
+          none : is_sync_sequence d q ≡ true → is_pending q s.pending ≡ false
+          none sync = none_any (is_of q) s.pending (λ p there. not_true (is_of q p) (λ own. let async = h.sound.carries.asked p there in let f = sym sync ∙ ap (is_sync_sequence d) (sym (is_number p.sequence q own)) ∙ async in cc))
+
+          by : q < 8 → is_off s.mode ≡ false → (b : Bool) → is_sync_sequence d q ≡ b → Looks (calls.Sequence q Cancel) (cancel_begun d q b)
+          by lt on true sync = record {
+            told = tells_nothing;
+            is = λ times. ap (λ y. Some (acts_by d s (calls.Sequence q Cancel) y)) clear ∙ ap (λ o. Some (cancelled d s o)) (found_none q s.pending (none sync));
+            tells = (refl, refl, refl);
+            reset = asks_no (spi_machine d) (calls.Sequence q Cancel) (Some Act) (Some (outcome s tells_nothing)) refl;
+            polls = refl;
+          }
+          by lt on false async = record {
+            at = (h, (q, (Is_this_frame, lt, clear, on), record { async = async; sequence = refl; unit = refl; notes = refl }));
             closed = refl;
             fuel = omega arith;
             room = omega arith;
-          })
+          }
 
       init_begins : below ≡ [] → error_by d calls.Init (is_off s.mode) false ≡ None → Looks calls.Init (begins d calls.Init (mode_word s.mode))
       init_begins e clear = by below e h
@@ -419,11 +521,11 @@ module _ (d : SpiTable) (unit_bodies : LongBodies (spi_basis d) UnitBody) where
 
       goes_on : (call : Call) → Beside (spi_setting d) (Called call) below → error_by d call (is_off s.mode) false ≡ None → Looks call (begins d call (mode_word s.mode))
       goes_on calls.Init lets clear = init_begins (whole_begins calls.Init refl lets) clear
-      goes_on calls.DeInit lets clear = record { at = (h, ((Is_this_frame, clear, clear_one (is_off s.mode) errors.SpiUninit clear, whole_begins calls.DeInit refl lets), omega arith, none_before)); closed = refl; fuel = omega arith; room = omega arith }
-      goes_on (calls.SetAsyncMode m) lets clear = record { at = (h, ((Is_this_frame, clear, clear_one (is_off s.mode) errors.SpiUninit clear, whole_begins (calls.SetAsyncMode m) refl lets), omega arith, none_before)); closed = refl; fuel = omega arith; room = omega arith }
+      goes_on calls.DeInit lets clear = record { at = (h, ((Is_this_frame, clear, clear_one (is_off s.mode) errors.SpiUninit clear, whole_begins calls.DeInit refl lets, tt), omega arith, none_before)); closed = refl; fuel = omega arith; room = omega arith }
+      goes_on (calls.SetAsyncMode m) lets clear = record { at = (h, ((Is_this_frame, clear, clear_one (is_off s.mode) errors.SpiUninit clear, whole_begins (calls.SetAsyncMode m) refl lets, refl), omega arith, none_before)); closed = refl; fuel = omega arith; room = omega arith }
       goes_on calls.MainFunctionHandling lets clear = main_begins s.mode refl
       goes_on (calls.Channel c call) lets clear = on_channel c call lets clear
-      goes_on (calls.Sequence q call) lets clear = sequence_begins q call clear
+      goes_on (calls.Sequence q call) lets clear = sequence_begins q call lets clear
       goes_on (calls.Get x) lets clear = query_begins x lets clear s.mode refl
 
       look_by : (call : Call) → Beside (spi_setting d) (Called call) below → (e : Option ErrorName) → error_by d call (is_off s.mode) false ≡ e → Looks call (looked_by (record { call = call; table = d }) (mode_word s.mode) e)
@@ -450,8 +552,8 @@ module _ (d : SpiTable) (unit_bodies : LongBodies (spi_basis d) UnitBody) where
         let first = both_right g (both (init_bodies d) (whole_bodies d)) (query_bodies d) (both_right g (init_bodies d) (whole_bodies d) (init_right d fits) (whole_right d fits)) (query_right d fits) in
         let kept = both_ending g (write_bodies d) (read_bodies d) (λ k. spi_ends (Second (First (Second k)))) (write_right d fits) (read_right d fits) in
         let of_channel = both_ending g (set_up_bodies d) (both (write_bodies d) (read_bodies d)) (λ k. spi_ends (Second (First k))) (set_up_right d fits) kept in
-        let of_sequence = both_right g unit_bodies (cancel_bodies d) a.units (cancel_right d fits) in
-        both_ending g firsts lasts spi_ends first (both_ending g (both (set_up_bodies d) (both (write_bodies d) (read_bodies d))) (both unit_bodies (cancel_bodies d)) (λ k. spi_ends (Second k)) of_channel of_sequence)
+        let of_sequence = both_right g unit_bodies (both (cancel_bodies d) sync_bodies) a.units (both_right g (cancel_bodies d) sync_bodies (cancel_right d fits) a.sends.right) in
+        both_ending g firsts lasts spi_ends first (both_ending g (both (set_up_bodies d) (both (write_bodies d) (read_bodies d))) (both unit_bodies (both (cancel_bodies d) sync_bodies)) (λ k. spi_ends (Second k)) of_channel of_sequence)
 
     -- it reads no high half, and sets no output
     no_windows : (made : Move) → may_name d made ≡ true → is_windowed made ≡ false
@@ -476,6 +578,11 @@ module _ (d : SpiTable) (unit_bodies : LongBodies (spi_basis d) UnitBody) where
     call_steps (calls.Channel c (SetupEb p q n)) = omega arith
     call_steps (calls.Sequence q AsyncTransmit) = omega arith
     call_steps (calls.Sequence q Cancel) = omega arith
+    call_steps (calls.Sequence q SyncTransmit) = by (sequence_of d q)
+      where
+        by : (o : Option Sequence) → 7 + (sent_steps d o - 7) ≤ sent_steps d o
+        by None = omega arith
+        by (Some k) = omega arith
     call_steps (calls.Get x) = omega arith
 
     -- no frame leaves a unit waiting whose line it has served
@@ -493,7 +600,8 @@ module _ (d : SpiTable) (unit_bodies : LongBodies (spi_basis d) UnitBody) where
     done below chip w s (Second (First (Second (First k)))) o y t n h e = unpolled w chip s (Second (First (Second (First k)))) o y t n (write_unpolled d below chip w s o t k h)
     done below chip w s (Second (First (Second (Second k)))) o y t n h e = unpolled w chip s (Second (First (Second (Second k)))) o y t n (read_unpolled d below chip w s o t k h)
     done below chip w s (Second (Second (First k))) o y t n h e = a.leaves below chip w s k o y t n h e
-    done below chip w s (Second (Second (Second k))) o y t n h e = unpolled w chip s (Second (Second (Second k))) o y t n (cancel_unpolled d below chip w s o t k h)
+    done below chip w s (Second (Second (Second (First k)))) o y t n h e = unpolled w chip s (Second (Second (Second (First k)))) o y t n (cancel_unpolled d below chip w s o t k h)
+    done below chip w s (Second (Second (Second (Second k)))) o y t n h e = unpolled w chip s (Second (Second (Second (Second k)))) o y t n (a.sends.unpolled below chip w s o t k h)
 
     -- a read alone ends its frame itself
     stops : (below : Reservations) (chip : Chip) (w : World) (s : SpiState) (k : SpiBody) (o : Origin Call) (t : FrameHistory) (x : Answer) → AssertedAt (spi_basis d) (both firsts lasts) below chip w s k o t → ended_at (both firsts lasts) spi_ends k (value_of chip ((both firsts lasts).work_of k)) ≡ Some x → LeavesNone (spi_machine d) w s o t.polled t.served

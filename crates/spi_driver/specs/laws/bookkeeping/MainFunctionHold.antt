@@ -21,7 +21,7 @@ like_more d by acted held = record {
 
 module _ (d : SpiTable) (by : Origin Call) (acted : Option Answer) (held : Reservations) (chip : Chip) (w : World) (s : SpiState) where
   pub handling_begins : is_polling s.mode ≡ true → SpiRepresents d held chip w s → SpiRepresents d (handling_of by acted ∷ held) chip w s
-  handling_begins polling h = holds_changed d held (handling_of by acted ∷ held) chip w s h (like_more d by acted held) (polling, h.right) h.owed
+  handling_begins polling h = holds_changed d held (handling_of by acted ∷ held) chip w s h (like_more d by acted held) (polling, h.right) (tt, h.sending) h.carriers h.owed
 
   pub handling_over : SpiRepresents d (handling_of by acted ∷ held) chip w s → SpiRepresents d held chip w s
-  handling_over h = holds_changed d (handling_of by acted ∷ held) held chip w s h (holds_back d held (handling_of by acted ∷ held) (like_more d by acted held)) h.right.1 h.owed
+  handling_over h = holds_changed d (handling_of by acted ∷ held) held chip w s h (holds_back d held (handling_of by acted ∷ held) (like_more d by acted held)) h.right.1 h.sending.1 h.carriers h.owed

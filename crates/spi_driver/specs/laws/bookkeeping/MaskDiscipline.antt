@@ -1,18 +1,18 @@
 -- Frames of units: how their steps turn the mask, and the moves that their windows have left.
 -- From services.UnitFrames, services.UnitParts, services.UnitRight.
 -- Used by services.UnitBounds.
-use Rattle.std.proofs.Common.{◌≡◌, ◌+◌, ◌-◌, ◌/◌, ◌%◌, ◌<◌, ◌≤◌, ◌==◌, ◌&&◌, ◌||◌, ◌∷◌, ◌∙◌, if◌then◌else◌}
+use Rattle.std.proofs.Common.{◌≡◌, ◌+◌, ◌-◌, ◌/◌, ◌%◌, ◌<◌, ◌≤◌, ◌==◌, ◌&&◌, ◌||◌, ◌∷◌, if◌then◌else◌}
 use Rattle.spi_driver.specs.Terms
-use Terms.{after_request, after_serve, after_start, Answer, arith, Arrived, begins_by, begins_of, BodyTaken, Bool, Call}
-use Terms.{channel_next, channel_served, Chip, false, Find, find_gave, FitsSpi, FrameHistory, FrameRole, Front}
-use Terms.{front_gave, further_of, gave, Handler, has_ended, is_below, is_closed, is_last_place, is_shared, keep_of}
-use Terms.{KeepsMask, lets_of, LongBodies, Main, nat_lt, None, Notice, Option, or_owed, Origin, PENDING, plain_turns}
-use Terms.{Position, refl, releasing, request_looked, requested_by, Reservations, Rest, run_in, Running, Sent}
-use Terms.{sequence_word, serve_finds, serve_more, serve_move, serve_owes, serve_run, serve_takes, ServePlace}
+use Terms.{after_request, after_serve, after_start, Answer, arith, Arrived, begins_by, begins_of, BodyTaken, Bool}
+use Terms.{Call, channel_next, channel_served, Chip, false, find_gave, FitsSpi, FrameHistory, FrameRole, front_gave}
+use Terms.{further_of, gave, Handler, has_ended, is_below, is_closed, is_last_place, is_shared, is_sync_unit, keep_of}
+use Terms.{KeepsMask, lets_of, LongBodies, Main, main_over, nat_lt, None, Notice, Option, or_owed, Origin, PENDING}
+use Terms.{plain_turns, Position, refl, releasing, request_looked, requested_by, Reservations, Rest, run_in, Running}
+use Terms.{Sent, sequence_word, serve_finds, serve_more, serve_move, serve_owes, serve_run, serve_takes, ServePlace}
 use Terms.{ServeStep, shares, Some, spi_basis, spi_owing, SpiRepresents, SpiState, SpiTable, spot_or, start_finds}
 use Terms.{start_found, start_looks, start_more, start_move, start_owes, start_takes, Started, StartPlace, suc}
-use Terms.{told_first, Transmit, true, TurnsMask, TurnsTo, unit_move, unit_over, unit_owes, unit_takes, UnitBody}
-use Terms.{UnitPlace, Units, Unmask, value_of, where_owed, with_holds, word_of, World, zero, ℕ}
+use Terms.{told_first, Transmit, true, TurnsMask, TurnsTo, unit_acts, unit_move, unit_over, unit_owes, unit_takes}
+use Terms.{UnitBody, UnitPlace, Units, Unmask, value_of, where_owed, with_holds, word_of, World, zero, ℕ}
 use Rattle.spi_driver.specs.laws.services.UnitFrames.{IsFor, RequestAt, Transmits, Handles, Mains, Rests, at, holds_by}
 use Rattle.spi_driver.specs.laws.services.UnitFrames.{serve_spot, unit_bodies, unit_windows, start_spot}
 use Rattle.spi_driver.specs.laws.services.UnitParts.{IsServing, IsStarting, ServeLess, Serving, StartLess, Starting}
@@ -158,7 +158,11 @@ module _ (a : Starting) (b : Serving) (d : SpiTable) (fits : FitsSpi d) (startin
   KeepsTo n r = KeepsMask true (is_closed (V.assertion r.0)) n (V.room r.0) r.1.event r.1.done
 
   over_keeps : (e : FrameRole) (u n : ℕ) (p q : UnitPlace) → 1 ≤ n → KeepsTo n (unit_over (at d e u p) q e u)
-  over_keeps Main zero n p q le = (refl, omega (arith, le))
+  over_keeps Main zero n p q le = by (is_sync_unit d 1)
+    where
+      by : (z : Bool) → KeepsTo n (main_over (at d Main 0 p) q z)
+      by true = le
+      by false = (refl, omega (arith, le))
   over_keeps Main (suc u) n p q le = le
   over_keeps Rest u n p q le = le
   over_keeps Handler u n p q le = le
@@ -208,7 +212,11 @@ module _ (a : Starting) (b : Serving) (d : SpiTable) (fits : FitsSpi d) (startin
       few Rest u _ Rests asked = absurd asked
   turns_at below chip w s e u (place.Request request.Accept) o t i h = (refl, omega arith)
   turns_at below chip w s e u (place.Request _) o t i h = absurd (cc)
-  turns_at below chip w s e u place.Act o t i h = (refl, omega arith)
+  turns_at below chip w s e u place.Act o t i h = by (is_sync_unit d u)
+    where
+      by : (z : Bool) → KeepsTo 1 (unit_acts (at d e u place.Act) z)
+      by true = omega arith
+      by false = (refl, omega arith)
   turns_at below chip w s e u (place.Opens after.Serve) o t i h = (refl, refl, refl, refl)
   turns_at below chip w s e u (place.Opens after.Start) o t i h = (refl, refl, refl, refl)
   turns_at below chip w s e u (place.Opens (after.Tell n)) o t i h = by n.job n.sequence

@@ -3,16 +3,18 @@
 -- Used by services.UnitBegins.
 use Rattle.std.proofs.Common.{◌≡◌, ◌+◌, ◌/◌, ◌%◌, ◌<◌, ◌==◌, ◌&&◌, [], ◌∷◌, ◌∙◌, if◌then◌else◌}
 use Rattle.spi_driver.specs.Terms
-use Terms.{after_request, after_serve, after_start, agrees_after, and_false, ap, arith, AssertedAt, AsyncTransmit}
-use Terms.{BodyTaken, Bool, by_two, Call, Called, Chip, chip_after, CommitsTo, Done, Either, Entered, false, find_gave}
-use Terms.{FitsSpi, FrameHistory, FrameRole, Front, front_move, gap_at, Handler, has_line, held_by, holds_at}
-use Terms.{is_left_waiting, is_owed, is_shared, Leaves, List, list_all, Main, Move, None, not, Nothing, Notice, Option}
-use Terms.{Origin, PendingWrites, place_at, ReceivedRight, refl, request_takes, Requested, requested_by, RequestPlace}
-use Terms.{Reservations, Rest, run_in, Running, same_number, Search, search_move, serve_finds, serve_owes, serve_run}
-use Terms.{serve_takes, ServePlace, ServeStep, Some, spi_bare, spi_basis, spi_machine, spi_owing, SpiRepresents}
-use Terms.{SpiState, SpiTable, spot_or, start_finds, start_move, start_owes, start_takes, Started, StartPlace, subst}
-use Terms.{suc, sym, Transmit, true, unit_over, unit_owes, unit_takes, unit_work, UnitBody, UnitPlace, Units, value_of}
-use Terms.{waits_none, where_owed, with_holds, World, zero, ℕ}
+use Terms.{Act, after_request, after_serve, after_start, agrees_after, and_false, ap, arith, AssertedAt, AsyncTransmit}
+use Terms.{BodyTaken, Bool, brought_by, by_two, Call, Called, Chip, chip_after, CommitsTo, Done, Either, Entered}
+use Terms.{false, find_gave, FitsSpi, FrameHistory, FrameRole, Front, front_move, gap_at, Handler, happening_at}
+use Terms.{has_line, held_by, holds_at, is_left_waiting, is_owed, is_shared, is_sync_unit, Leaves, LeavesNone, List}
+use Terms.{list_all, Load, Main, main_over, Move, no_answer, None, not, Nothing, Notice, Option, Origin, outcome_of}
+use Terms.{PendingWrites, place_at, polled_by, ReceivedRight, refl, request_takes, Requested, requested_by}
+use Terms.{RequestPlace, Reservations, Rest, run_in, Running, same_number, Search, search_move, serve_finds}
+use Terms.{serve_owes, serve_run, serve_takes, ServePlace, ServeStep, Some, spi_bare, spi_basis, spi_machine}
+use Terms.{spi_owing, SpiRepresents, SpiState, SpiTable, spot_or, start_finds, start_move, start_owes, start_takes}
+use Terms.{Started, StartPlace, STATE, state_by, subst, suc, sym, Transmit, true, unit_acts, unit_over, unit_owes}
+use Terms.{unit_takes, unit_work, UnitBody, UnitPlace, Units, value_of, waits_none, where_owed, with_holds, World}
+use Terms.{zero, ℕ}
 use Rattle.spi_driver.specs.laws.services.UnitFrames.{Frame, Handles, HasDone, IsFor, Mains, RequestAt, Rests}
 use Rattle.spi_driver.specs.laws.services.UnitFrames.{Transmits, ahead_holds, ahead_owing, at, holds_by, served_ahead}
 use Rattle.spi_driver.specs.laws.services.UnitFrames.{unit_bodies, unit_spot_at, unit_windows, with_cleared, with_debt}
@@ -82,13 +84,17 @@ module _ (a : Starting) (b : Serving) (d : SpiTable) (fits : FitsSpi d) where
     main_left t {x} is polled first second none = over_left o_main t is (subst (λ z. Leaves (spi_machine d) w s o_main t.polled t.served z) (sym none) (none_of (is_left_waiting (spi_machine d) w s t.served) t.polled polled first second))
 
     -- where it has cleared the unit
-    cleared_left : (x : SpiTable) (e : FrameRole) (u : ℕ) (k : UnitBody) (q : UnitPlace) (below : Reservations) (o : Origin Call) (t : FrameHistory) → Frame d x e u o → HasDone e u true [] t → SpiRepresents d (with_holds o t.acted (with_cleared e u) below) chip w s → Left o t (unit_over k q e u).1
+    cleared_left : (x : SpiTable) (e : FrameRole) (u : ℕ) (k : UnitBody) (q : UnitPlace) (below : Reservations) (o : Origin Call) (t : FrameHistory) → Frame d x e u o → HasDone d e u true [] t → SpiRepresents d (with_holds o t.acted (with_cleared e u) below) chip w s → Left o t (unit_over k q e u).1
     cleared_left x e u k q below o t frame done h is = by e u o frame.of frame.small done h is
       where
-        by : (e : FrameRole) (u : ℕ) (o : Origin Call) → IsFor u e o → u < 2 → HasDone e u true [] t → SpiRepresents d (with_holds o t.acted (with_cleared e u) below) chip w s → Left o t (unit_over k q e u).1
+        by : (e : FrameRole) (u : ℕ) (o : Origin Call) → IsFor u e o → u < 2 → HasDone d e u true [] t → SpiRepresents d (with_holds o t.acted (with_cleared e u) below) chip w s → Left o t (unit_over k q e u).1
         by (Transmit i) u _ (Transmits _) lt done h is = over_left (Called (calls.Sequence i AsyncTransmit)) t is (ap (list_all (λ l. not (is_left_waiting (spi_machine d) w s t.served l))) done.polled)
         by Handler u _ Handles lt done h is = over_left (Entered (26 + u)) t is (unit_left t.served (26 + u) (idle _ chip w s u h lt (ap (λ q. not q && is_owed u below) (same_number u))))
-        by Main zero _ Mains lt done h is = absurd (cc)
+        by Main zero _ Mains lt done h is = last (is_sync_unit k.table 1) is
+          where
+            last : (z : Bool) → (main_over k q z).1.done ≡ Some n → LeavesBy d w s o_main t made y (main_over k q z).1.event n
+            last true is = main_left t is done.polled (unit_left t.served 26 (idle _ chip w s 0 h (omega arith) refl)) (unserved_left t.served 27 done.progress.1) refl
+            last false is = absurd (cc)
         by Main (suc zero) _ Mains lt done h is = main_left t is done.polled (unserved_left t.served 26 done.progress.2) (unit_left t.served 27 (idle _ chip w s 1 h (omega arith) refl)) refl
         by Main (suc (suc u)) _ Mains lt done h is = absurd (omega (arith, lt))
         by Rest zero _ Rests lt done h is = absurd done.progress
@@ -96,13 +102,17 @@ module _ (a : Starting) (b : Serving) (d : SpiTable) (fits : FitsSpi d) where
         by Rest (suc (suc u)) _ Rests lt done h is = absurd (omega (arith, lt))
 
     -- where its line wasn't ready
-    missed_left : (x : SpiTable) (e : FrameRole) (u : ℕ) (k : UnitBody) (q : UnitPlace) (below : Reservations) (o : Origin Call) (t : FrameHistory) → Frame d x e u o → HasDone e u false [] t → SpiRepresents d (with_holds o t.acted (holds_by e) below) chip w s → Left o t (unit_over k q e u).1
+    missed_left : (x : SpiTable) (e : FrameRole) (u : ℕ) (k : UnitBody) (q : UnitPlace) (below : Reservations) (o : Origin Call) (t : FrameHistory) → Frame d x e u o → HasDone d e u false [] t → SpiRepresents d (with_holds o t.acted (holds_by e) below) chip w s → Left o t (unit_over k q e u).1
     missed_left x e u k q below o t frame done h is = by e u o frame.of frame.small done h is
       where
-        by : (e : FrameRole) (u : ℕ) (o : Origin Call) → IsFor u e o → u < 2 → HasDone e u false [] t → SpiRepresents d (with_holds o t.acted (holds_by e) below) chip w s → Left o t (unit_over k q e u).1
+        by : (e : FrameRole) (u : ℕ) (o : Origin Call) → IsFor u e o → u < 2 → HasDone d e u false [] t → SpiRepresents d (with_holds o t.acted (holds_by e) below) chip w s → Left o t (unit_over k q e u).1
         by (Transmit i) u _ (Transmits _) lt done h is = absurd done.progress
         by Handler u _ Handles lt done h is = over_left (Entered (26 + u)) t is (unserved_left t.served (26 + u) (ap (λ ls. has_line ls (26 + u)) done.progress))
-        by Main zero _ Mains lt done h is = absurd (cc)
+        by Main zero _ Mains lt done h is = last (is_sync_unit k.table 1) is
+          where
+            last : (z : Bool) → (main_over k q z).1.done ≡ Some n → LeavesBy d w s o_main t made y (main_over k q z).1.event n
+            last true is = main_left t is done.polled (unserved_left t.served 26 (ap (λ ls. has_line ls 26) done.progress.0)) (unserved_left t.served 27 (ap (λ ls. has_line ls 27) done.progress.0)) refl
+            last false is = absurd (cc)
         by Main (suc u) _ Mains lt done h is = main_left t is done.polled (unserved_left t.served 26 (ap (λ ls. has_line ls 26) done.progress.1)) (unserved_left t.served 27 (ap (λ ls. has_line ls 27) done.progress.1)) refl
         by Rest zero _ Rests lt done h is = absurd done.progress
         by Rest (suc u) _ Rests lt done h is = main_left t is done.polled (unit_left t.served 26 (idle _ chip w s 0 h (omega arith) refl)) (unserved_left t.served 27 done.progress.1) refl
@@ -145,7 +155,7 @@ module _ (a : Starting) (b : Serving) (d : SpiTable) (fits : FitsSpi d) where
         v = value_of chip (unit_work (at x e u (place.Serve r)))
 
         Here : Option (List Notice) → Type 0
-        Here k = HasDone e u true (ahead_owing (served_ahead k)) t × ((c : Chip) × SpiRepresents d (with_holds o t.acted (ahead_holds e u (served_ahead k)) below) c w s)
+        Here k = HasDone d e u true (ahead_owing (served_ahead k)) t × ((c : Chip) × SpiRepresents d (with_holds o t.acted (ahead_holds e u (served_ahead k)) below) c w s)
 
         here : Here (serve_ahead x r)
         here = (done, reached d m (Units (at x e u (place.Serve r))) chip (λ c. SpiRepresents d (with_holds o t.acted (ahead_holds e u (served_ahead (serve_ahead x r))) below) c w s) settles)
@@ -179,7 +189,7 @@ module _ (a : Starting) (b : Serving) (d : SpiTable) (fits : FitsSpi d) where
         by (r1, requested.Accepted) is = absurd (cc)
 
     -- a start that finds the unit busy, or no sequence that waits
-    start_left : (e : FrameRole) (u : ℕ) (p : StartPlace) → start_owes p ≡ false → is_shared (start_move d u p) ≡ false → ReceivedRight chip w (start_move d u p) 0 → Frame d d e u o → HasDone e u true [] t → SpiRepresents d (with_holds o t.acted (with_debt e u) below) chip w s → a.place d u p (foot d chip) s
+    start_left : (e : FrameRole) (u : ℕ) (p : StartPlace) → start_owes p ≡ false → is_shared (start_move d u p) ≡ false → ReceivedRight chip w (start_move d u p) 0 → Frame d d e u o → HasDone d e u true [] t → SpiRepresents d (with_holds o t.acted (with_debt e u) below) chip w s → a.place d u p (foot d chip) s
         → LeftAt (at d e u (place.Start p)) (unit_takes (at d e u (place.Start p)) (value_of chip (start_move d u p))).1
     start_left e u p free plain come frame done h here = by (start_takes d u p v) (starting.right u e held o t.acted chip w s p 0 free plain h here come)
       where
@@ -208,8 +218,8 @@ module _ (a : Starting) (b : Serving) (d : SpiTable) (fits : FitsSpi d) where
     LeftX x e u p = LeftAt (at x e u p) (unit_takes (at x e u p) (value_of chip (unit_work (at x e u p)))).1
 
     free_start : (x : SpiTable) (e : FrameRole) (u : ℕ) (p : StartPlace) → start_owes p ≡ false → StandBy (at x e u (place.Start p)) None → LeftX x e u (place.Start p)
-    free_start x e u start.Running i (h, (here, frame, done)) = subst (λ z. LeftX z e u (place.Start start.Running)) (sym frame.table) (start_left e u start.Running refl refl refl (record { table = refl; small = frame.small; of = frame.of }) done h here)
-    free_start x e u (start.Front v m f) i (h, (here, frame, done)) = subst (λ z. LeftX z e u (place.Start (start.Front v m f))) (sym frame.table) (start_left e u (start.Front v m f) refl (front_plain f) (front_received f) (record { table = refl; small = frame.small; of = frame.of }) done h here)
+    free_start x e u start.Running i (h, (here, frame, done)) = subst (λ z. LeftX z e u (place.Start start.Running)) (sym frame.table) (start_left e u start.Running refl refl refl (record { table = refl; small = frame.small; async = frame.async; of = frame.of }) done h here)
+    free_start x e u (start.Front v m f) i (h, (here, frame, done)) = subst (λ z. LeftX z e u (place.Start (start.Front v m f))) (sym frame.table) (start_left e u (start.Front v m f) refl (front_plain f) (front_received f) (record { table = refl; small = frame.small; async = frame.async; of = frame.of }) done h here)
     free_start x e u (start.Find c f) i h = by (find_gave f (value_of chip (start_move x u (start.Find c f))))
       where
         by : (q : Option ℕ) → LeftAt (at x e u (place.Start (start.Find c f))) (after_start (at x e u (place.Start (start.Find c f))) (start_finds c f (value_of chip (start_move x u (start.Find c f))) q)).1
@@ -243,7 +253,31 @@ module _ (a : Starting) (b : Serving) (d : SpiTable) (fits : FitsSpi d) where
     left_by x e u (place.Request r) false i h = request_left x e u r h.1.0.of h.1.1
     left_by x e u (place.Start p) false i h = free_start x e u p i h
     left_by x e u (place.Serve p) false i h = free_serve x e u p i h
-    left_by x e u place.Act false i h = λ is. absurd (cc)
+    left_by x e u place.Act false i (h, (table, for, main, first, now, polling)) = by (is_sync_unit x u)
+      where
+        by : (z : Bool) → LeftAt (at x e u place.Act) (unit_acts (at x e u place.Act) z).1
+        by true is = over_act is
+          where
+            served_none : t.served ≡ []
+            served_none = ap (λ (p : FrameHistory). p.served) now
+
+            over_act : LeftAt (at x e u place.Act) (unit_acts (at x e u place.Act) true).1
+            over_act is = subst (λ z. LeavesBy d w s o t (Load STATE) y (Some Act) z) (some_done chip w s (Load STATE) y n (record { answer = no_answer; owed = Nothing }) is) (by_served t.served served_none)
+              where
+                s1 : SpiState
+                s1 = state_by s (outcome_of (spi_machine d) w s (happening_at o (brought_by w t.committed (Load STATE) y) (Some Act)))
+
+                all_so : (ls : List ℕ) → list_all (λ l. not (is_left_waiting (spi_machine d) w s1 [] l)) ls ≡ true
+                all_so [] = refl
+                all_so (l ∷ ls) = all_so ls
+
+                none_served : (o : Origin Call) (ls : List ℕ) → LeavesNone (spi_machine d) w s1 o ls []
+                none_served (Called c) ls = all_so ls
+                none_served (Entered l) ls = refl
+
+                by_served : (ls : List ℕ) → ls ≡ [] → LeavesNone (spi_machine d) w s1 o (polled_by (spi_machine d) w s o t.polled (Some Act)) ls
+                by_served ls none = subst (λ zs. LeavesNone (spi_machine d) w s1 o (polled_by (spi_machine d) w s o t.polled (Some Act)) zs) (sym none) (none_served o (polled_by (spi_machine d) w s o t.polled (Some Act)))
+        by false is = absurd (cc)
     left_by x e u (place.Opens z) false i h = λ is. absurd (cc)
     left_by x e u (place.Tell z k) false i h = λ is. absurd (cc)
 

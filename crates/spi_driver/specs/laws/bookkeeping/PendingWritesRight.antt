@@ -1,24 +1,24 @@
 -- The moves that frames of units owe: after each one the frame owes the others, or goes on as it was to.
 -- From services.UnitFrames, services.UnitParts, bookkeeping.MainFunctionHold.
 -- Used by bookkeeping.NoneWaits, services.UnitBounds, services.UnitSteps.
-use Rattle.std.proofs.Common.{◌≡◌, ◌+◌, ◌-◌, ◌<◌, ◌≤◌, ◌&&◌, ◌||◌, [], ◌∷◌, ◌++◌, ◌∙◌, ◌⊎◌, if◌then◌else◌}
+use Rattle.std.proofs.Common.{◌≡◌, ◌+◌, ◌-◌, ◌&&◌, ◌||◌, [], ◌∷◌, ◌++◌, ◌∙◌, ◌⊎◌, if◌then◌else◌}
 use Rattle.spi_driver.specs.Terms
 use Terms.{add_gave, after_request, after_serve, after_start, again_gave, and_parts, ap, AreWindows, arith, Arrived}
-use Terms.{AssertedAt, AsyncTransmit, BodyTaken, Bool, Call, Called, channel_at_place, channel_number, Chip, clear_over}
-use Terms.{cleared_of, commit_by, commit_ends, commit_last, Continues, drop_gave, ends_of, Entered, false}
+use Terms.{AssertedAt, AsyncTransmit, BodyTaken, Bool, Call, Called, channel_at_place, channel_number, Chip}
+use Terms.{clear_over, cleared_of, commit_by, commit_ends, commit_last, Continues, drop_gave, ends_of, Entered, false}
 use Terms.{first_internal, first_pinned, FrameHistory, FrameRole, goes, goes_on, GoesFree, GoesOwing, Handler}
-use Terms.{has_ended, has_line, inl, inr, is_simple, job_note, job_notice, job_of, keep_ends, keep_of, Leaving, List}
-use Terms.{list_all, list_of, Main, may, MayStop, nat_le, nat_lt, next_gave, no_answer, None, Nothing, Notice}
-use Terms.{notifies_job, notifies_sequence, Option, Origin, owed_left, owed_move, PendingWrites, prepare_at, prepare_by}
-use Terms.{prepare_ends, prepared, refl, release_by, release_last, releasing, request_adds, request_owes, request_takes}
-use Terms.{Requested, requested_by, RequestPlace, Reservations, Rest, rest_after, Running, same_line, Sent}
-use Terms.{sequence_note, sequence_notice, sequence_of, SequenceNext, serve_again, serve_commits, serve_drops}
-use Terms.{serve_keeps, serve_keeps_last, serve_lets, serve_owes, serve_releases, serve_takes, Served, ServePlace}
-use Terms.{ServeStep, Some, some_is, spi_bare, spi_basis, spi_owing, SpiJobEndNotification, SpiRepresents}
+use Terms.{has_ended, has_line, inl, inr, is_simple, is_sync_unit, job_note, job_notice, job_of, keep_ends, keep_of}
+use Terms.{Leaving, List, list_all, list_of, Main, main_over, may, MayStop, nat_le, nat_lt, next_gave, no_answer, None}
+use Terms.{Nothing, Notice, notifies_job, notifies_sequence, Option, Origin, owed_left, owed_move, PendingWrites}
+use Terms.{prepare_at, prepare_by, prepare_ends, prepared, refl, release_by, release_last, releasing, request_adds}
+use Terms.{request_owes, request_takes, Requested, requested_by, RequestPlace, Reservations, Rest, rest_after, Running}
+use Terms.{same_line, Sent, sequence_note, sequence_notice, sequence_of, SequenceNext, serve_again, serve_commits}
+use Terms.{serve_drops, serve_keeps, serve_keeps_last, serve_lets, serve_owes, serve_releases, serve_takes, Served}
+use Terms.{ServePlace, ServeStep, Some, some_is, spi_bare, spi_basis, spi_owing, SpiJobEndNotification, SpiRepresents}
 use Terms.{SpiSeqEndNotification, SpiState, SpiTable, start_chooses, start_owes, start_prepares, start_releases}
 use Terms.{start_takes, Started, StartPlace, subst, suc, sym, take_gave, Transmit, true, unit_over, unit_owed}
-use Terms.{unit_owes, unit_takes, UnitBody, UnitPlace, Units, unless_done, where_owed, Windows, with_holds, World, zero}
-use Terms.{ℕ}
+use Terms.{unit_owes, unit_takes, UnitBody, UnitPlace, Units, unless_done, where_owed, Windows, with_holds, World}
+use Terms.{zero, ℕ}
 use Rattle.spi_driver.specs.laws.services.UnitFrames.{About, Ahead, Frame, Handles, HasDone, IsFor, Mains, OwedAt}
 use Rattle.spi_driver.specs.laws.services.UnitFrames.{Rests, ToPass, ToStart, Transmits, about_owed, about_unit}
 use Rattle.spi_driver.specs.laws.services.UnitFrames.{ahead_holds, ahead_of, ahead_owing, all_told, and_other, at}
@@ -262,7 +262,11 @@ module _ (a : Starting) (b : Serving) (d : SpiTable) where
 
   -- the frame is done with the unit
   passes_so : (x : SpiTable) (e : FrameRole) (u : ℕ) (p q : UnitPlace) → GoesSo (about x e u ToPass) (unit_over (at x e u p) q e u)
-  passes_so x Main zero p q = inr (refl, refl, (refl, refl, refl, (let last = unit_second (rest_after q) in omega (arith, last)), omega arith))
+  passes_so x Main zero p q = by (is_sync_unit x 1)
+    where
+      by : (z : Bool) → GoesSo (about x Main 0 ToPass) (main_over (at x Main 0 p) q z)
+      by true = inr (refl, refl, tt)
+      by false = inr (refl, refl, (refl, refl, refl, (let last = unit_second (rest_after q) in omega (arith, last)), omega arith))
   passes_so x Main (suc u) p q = inr (refl, refl, tt)
   passes_so x Rest u p q = inr (refl, refl, tt)
   passes_so x Handler u p q = inr (refl, refl, tt)
@@ -322,7 +326,7 @@ module _ (a : Starting) (b : Serving) (d : SpiTable) where
   }
 
   -- done with the unit, which it has cleared, it goes on with the next one, or may end
-  pub passes_on : (x : SpiTable) (e : FrameRole) (u : ℕ) (p q : UnitPlace) (below : Reservations) (chip : Chip) (w : World) (s : SpiState) (o : Origin Call) (t : FrameHistory) (m : ℕ → Bool) → rest_after q ≡ Rest → Frame d x e u o → HasDone e u true [] t → SpiRepresents d (with_holds o t.acted (with_cleared e u) below) chip w s
+  pub passes_on : (x : SpiTable) (e : FrameRole) (u : ℕ) (p q : UnitPlace) (below : Reservations) (chip : Chip) (w : World) (s : SpiState) (o : Origin Call) (t : FrameHistory) (m : ℕ → Bool) → rest_after q ≡ Rest → Frame d x e u o → HasDone d e u true [] t → SpiRepresents d (with_holds o t.acted (with_cleared e u) below) chip w s
       → Continue below chip w s o t m (unit_over (at x e u p) q e u)
   passes_on x e u p q below chip w s o t m rest frame done h = by e u o frame.of frame done h
     where
@@ -332,12 +336,16 @@ module _ (a : Starting) (b : Serving) (d : SpiTable) where
       over : (o : Origin Call) (u : ℕ) (held : Reservations) → SpiRepresents d (cleared_of u o t.acted ∷ held) chip w s → SpiRepresents d held chip w s
       over o u held h = clear_over d held chip w s u o t.acted h
 
-      by : (e : FrameRole) (u : ℕ) (o : Origin Call) → IsFor u e o → Frame d x e u o → HasDone e u true [] t → SpiRepresents d (with_holds o t.acted (with_cleared e u) below) chip w s → Continue below chip w s o t m (unit_over (at x e u p) q e u)
+      by : (e : FrameRole) (u : ℕ) (o : Origin Call) → IsFor u e o → Frame d x e u o → HasDone d e u true [] t → SpiRepresents d (with_holds o t.acted (with_cleared e u) below) chip w s → Continue below chip w s o t m (unit_over (at x e u p) q e u)
       by (Transmit n) u _ (Transmits _) frame done h = (over (Called (calls.Sequence n AsyncTransmit)) u below h, record { may = (done.acted, all_none (λ l. has_line t.served l) (λ l. m l || has_line t.missed l) t.polled done.polled); served = false; owed = done.owed; shown = λ i. absurd (cc); report = done.report })
       by Handler u _ Handles frame done h = (over (Entered (26 + u)) u below h, record { may = (ap (λ ls. has_line ls (26 + u) || m (26 + u)) done.progress ∙ ap (λ i. i || m (26 + u)) (same_line (26 + u)), refl); served = false; owed = done.owed; shown = λ i. absurd (cc); report = done.report })
-      by Main zero _ Mains frame done h =
-          subst (λ e1. AssertedAt (spi_basis d) (unit_bodies a b d) below chip w s (at x e1 1 (place.Opens after.Serve)) (Called calls.MainFunctionHandling) t) (sym rest)
-          (h, (record { table = frame.table; small = omega arith; of = Rests }, record { acted = done.acted; polled = done.polled; report = done.report; owed = done.owed; progress = done.progress }))
+      by Main zero _ Mains frame done h = next (is_sync_unit x 1) refl
+        where
+          next : (z : Bool) → is_sync_unit x 1 ≡ z → Continue below chip w s o_main t m (main_over (at x Main 0 p) q z)
+          next true sync = (handling_over d o_main t.acted below chip w s (over o_main 0 (handling_of o_main t.acted ∷ below) h), main_stops t m done.acted done.polled done.report done.owed done.progress.0 (done.progress.2 (ap (λ y. is_sync_unit y 1) (sym frame.table) ∙ sync)))
+          next false async =
+              subst (λ e1. AssertedAt (spi_basis d) (unit_bodies a b d) below chip w s (at x e1 1 (place.Opens after.Serve)) o_main t) (sym rest)
+              (h, (record { table = frame.table; small = omega arith; async = ap (λ y. is_sync_unit y 1) (sym frame.table) ∙ async; of = Rests }, record { acted = done.acted; polled = done.polled; report = done.report; owed = done.owed; progress = (done.progress.0, done.progress.1) }))
       by Main (suc u) _ Mains frame done h = (handling_over d o_main t.acted below chip w s (over o_main (suc u) (handling_of o_main t.acted ∷ below) h), main_stops t m done.acted done.polled done.report done.owed done.progress.0 done.progress.1)
       by Rest zero _ Rests frame done h = absurd done.progress
       by Rest (suc u) _ Rests frame done h = (
@@ -366,7 +374,7 @@ module _ (a : Starting) (b : Serving) (d : SpiTable) where
   stands_at x e u (place.Serve r) v below chip w s o t m i none (frame, done) h = by (serve_takes x u r v) (serve_on x u r v i) none
     where
       Here : Option (List Notice) → Type 0
-      Here n = HasDone e u true (ahead_owing (served_ahead n)) t × SpiRepresents d (with_holds o t.acted (ahead_holds e u (served_ahead n)) below) chip w s
+      Here n = HasDone d e u true (ahead_owing (served_ahead n)) t × SpiRepresents d (with_holds o t.acted (ahead_holds e u (served_ahead n)) below) chip w s
 
       by : (z : ServePlace × ServeStep) → ServeOn x (serve_ahead x r) z → let n = after_serve (at x e u (place.Serve r)) z in unless_done n.1.done (unit_owed n.0) ≡ None → Continue below chip w s o t m n
       by (r1, steps.Goes None) k f = absurd (goes_owed x e u (place.Serve r1) k.0 f)

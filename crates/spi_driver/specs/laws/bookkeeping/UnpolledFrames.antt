@@ -2,14 +2,14 @@
 -- Used by bookkeeping.Lawful, bookkeeping.NoneWaits.
 use Rattle.std.proofs.Common.{◌≡◌, ◌&&◌, [], ◌∙◌, if◌then◌else◌}
 use Rattle.spi_driver.specs.Terms
-use Terms.{Abort, Act, ap, AssertedAt, Bool, brought_by, Call, call_by, Called, cancel_bodies, CancelBody, Chip, Done}
-use Terms.{Error, Event, false, FrameHistory, happening_at, init_bodies, InitBody, InitPlace, is_left_waiting, is_off}
-use Terms.{is_some, Is_this_frame, IsInit, IsThisFrame, Leaves, LeavesNone, List, list_all, mode_later, Move, moved}
-use Terms.{next_at, next_by, next_on, None, not, Nothing, One, Option, Order, Origin, outcome_of, pending_later}
-use Terms.{polled_by, polls, query_bodies, QueryBody, read_bodies, ReadBody, ReadPlace, refl, Reservations, Run, run_at}
-use Terms.{runs_later, Serve, served_by, set_up_bodies, SetUpBody, Some, spi_basis, spi_machine, SpiState, SpiTable}
-use Terms.{Start, state_by, subst, sym, true, Two, unit_of, Whole, whole_bodies, WholeBody, World, world_after}
-use Terms.{write_bodies, WriteBody, ℕ}
+use Terms.{Abort, Act, ap, AssertedAt, Bool, brought_by, Call, call_by, Called, cancel_bodies, CancelBody}
+use Terms.{Chip, Done, Error, Event, false, FrameHistory, happening_at, init_bodies, InitBody, InitPlace}
+use Terms.{is_left_waiting, is_off, is_some, Is_this_frame, IsInit, IsThisFrame, Leaves, LeavesNone, List, list_all}
+use Terms.{mode_later, Move, moved, next_at, next_by, next_on, None, not, Nothing, One, Option, Order, Origin}
+use Terms.{outcome_of, pending_later, polled_by, polls, query_bodies, QueryBody, read_bodies, ReadBody, ReadPlace}
+use Terms.{refl, Reservations, Run, run_at, runs_later, Serve, served_by, set_up_bodies, SetUpBody, Some, spi_basis}
+use Terms.{spi_machine, SpiState, SpiTable, Start, state_by, subst, sym, true, Two, unit_of, Whole, whole_bodies}
+use Terms.{WholeBody, World, world_after, write_bodies, WriteBody, ℕ}
 use Rattle.service_outline.specs.declared.done.Epilogue as owing
 use Rattle.spi_sequences.specs.declared.service.cancel.CancelBody.TheVariants as cancel
 use Rattle.spi_sequences.specs.declared.service.init.InitPlace.TheVariants as init
@@ -55,12 +55,12 @@ module _ (d : SpiTable) (w : World) (s : SpiState) where
 
 -- ---- the bodies that start and serve no unit
 
-being_none : {c : Call} {p : FrameHistory} {o : Origin Call} {t : FrameHistory} → IsThisFrame (Called c) p o t → p.polled ≡ [] → ((s : SpiState) → polls s c ≡ []) → PollsNone o t.polled
+pub being_none : {c : Call} {p : FrameHistory} {o : Origin Call} {t : FrameHistory} → IsThisFrame (Called c) p o t → p.polled ≡ [] → ((s : SpiState) → polls s c ≡ []) → PollsNone o t.polled
 being_none {c} {p} Is_this_frame e none = subst (λ ls. PollsNone (Called c) ls) (sym e) (Polls_none c none)
 
 whole_polls : (x : Whole) (s : SpiState) → polls s (call_by x) ≡ []
 whole_polls wholes.DeInit s = refl
-whole_polls (wholes.Mode m) s = refl
+whole_polls (wholes.Mode m lines) s = refl
 whole_polls wholes.Status s = refl
 
 module _ (d : SpiTable) (below : Reservations) (chip : Chip) (w : World) (s : SpiState) (o : Origin Call) (t : FrameHistory) where

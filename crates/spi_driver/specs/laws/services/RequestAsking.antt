@@ -1,17 +1,18 @@
 -- A request up to its act: it looks at every sequence, and acts where one is in the way, or where none is.
 -- From services.UnitFrames, services.UnitParts.
 -- Used by services.UnitRight.
-use Rattle.std.proofs.Common.{◌≡◌, ◌+◌, ◌-◌, ◌<◌, ◌≤◌, ◌==◌, ◌&&◌, ◌||◌, ◌∷◌, ◌∙◌, if◌then◌else◌}
+use Rattle.std.proofs.Common.{◌≡◌, ◌+◌, ◌<◌, ◌==◌, ◌&&◌, ◌||◌, ◌∷◌, ◌∙◌, if◌then◌else◌}
 use Rattle.spi_driver.specs.Terms
-use Terms.{accepted, accepted_owes, acts, acts_by, after_request, and_parts, answers, any_in, any_some, ap, arith}
-use Terms.{AsyncTransmit, BodyTaken, Bool, Call, Called, Chip, chip_after, CommitsTo, Contains, Contains-get_or, ENotOk}
-use Terms.{EOk, error_by, error_told, false, FitsSpi, fresh_history, get_or_default, has_job, held_by, is_below}
-use Terms.{is_held, is_number, is_off, is_past, is_pending, is_some, JobList, jobs_list, jobs_of, length, List, listed}
-use Terms.{Load, Move, named, nat_lt, nat_tests, None, none_any, not, not_true, Option, owing, PENDING, Pending}
-use Terms.{place_found, place_in, place_missing, refl, request_looked, Reservations, same_number, Sequence, sequence_of}
-use Terms.{sequence_word, shares, shares_before, shares_job, slice_index_or, Some, spi_basis, spi_machine, spi_owing}
-use Terms.{SpiParamSeq, SpiRepresents, SpiSeqPending, SpiState, SpiTable, Store, subst, suc, sym, tells_error, Transmit}
-use Terms.{true, UnitBody, Units, Works, World, zero, ℕ}
+use Terms.{accepted, accepted_owes, acts, acts_by, after_request, all_of, all_pending, and_parts, answers}
+use Terms.{any_in, any_some, ap, arith, AsyncTransmit, BodyTaken, Bool, Call, Called, Chip, chip_after, CommitsTo}
+use Terms.{Contains, Contains-get_or, ENotOk, EOk, error_by, error_told, false, FitsSpi, fresh_history, get_or_default}
+use Terms.{has_job, held_by, is_below, is_held, is_number, is_off, is_past, is_pending, is_some, is_sync_sequence}
+use Terms.{is_sync_unit, is_wrong_sequence, JobList, jobs_list, jobs_of, length, List, listed, Load, Move, named}
+use Terms.{nat_lt, nat_tests, None, none_any, not, not_true, Option, owing, PENDING, Pending, pending_alone}
+use Terms.{place_found, place_in, place_missing, refl, request_looked, Reservations, same_number, Sequence}
+use Terms.{sequence_of, sequence_word, shares, shares_before, shares_job, shares_unit, slice_index_or, Some, spi_basis}
+use Terms.{spi_machine, spi_owing, SpiParamSeq, SpiRepresents, SpiSeqPending, SpiState, SpiTable, Store, subst, suc}
+use Terms.{sym, tells_error, Transmit, true, UnitBody, Units, view, Works, World, zero, ℕ}
 use Rattle.spi_machine.specs.Pending.{is_of}
 use Rattle.spi_driver.specs.laws.services.UnitFrames.{Frame, IsRequest, NoneHeld, at, unit_bodies}
 use Rattle.spi_driver.specs.laws.services.UnitParts.{Serving, Starting, debt_of}
@@ -97,6 +98,27 @@ none_there d q ps few none = none_any (λ p. is_of q p || shares_job d q p.seque
 
 -- ---- the steps
 
+-- a sequence that is in the way of one whose unit starts jobs of pending ones is under way where it is pending
+pub pending_beside : (d : SpiTable) (fits : FitsSpi d) (below : Reservations) (chip : Chip) (w : World) (s : SpiState) (h : SpiRepresents d below chip w s) (q k : ℕ) → is_sync_sequence d q ≡ false
+    → (is_pending k (all_of (view s)) && (k == q || shares d q k)) ≡ (is_pending k s.pending && (k == q || shares d q k))
+pending_beside d fits below chip w s h q k async = by (is_sync_sequence d k) refl
+  where
+    off : (z : Bool) → (z && false) ≡ false
+    off true = refl
+    off false = refl
+
+    not_it : is_sync_sequence d k ≡ true → (k == q) ≡ false
+    not_it sync = not_true (k == q) (λ e. let f = sym sync ∙ ap (is_sync_sequence d) (is_number k q e) ∙ async in cc)
+
+    not_shared : is_sync_sequence d k ≡ true → shares d q k ≡ false
+    not_shared sync = not_true (shares d q k) (λ e. let unit = shares_unit d fits q k (sym (shares_of d fits q k) ∙ e) in let f = sym async ∙ ap (is_sync_unit d) unit ∙ sync in cc)
+
+    by : (b : Bool) → is_sync_sequence d k ≡ b → (is_pending k (all_of (view s)) && (k == q || shares d q k)) ≡ (is_pending k s.pending && (k == q || shares d q k))
+    by false e = ap (λ z. z && (k == q || shares d q k)) (pending_alone d fits below chip w s h k e)
+    by true e =
+        let none : (k == q || shares d q k) ≡ false = ap (λ z. z || shares d q k) (not_it e) ∙ not_shared e in
+        ap (λ z. is_pending k (all_of (view s)) && z) none ∙ off (is_pending k (all_of (view s))) ∙ sym (off (is_pending k s.pending)) ∙ ap (λ z. is_pending k s.pending && z) (sym none)
+
 module _ (a : Starting) (b : Serving) (d : SpiTable) (fits : FitsSpi d) (below : Reservations) (chip : Chip) (w : World) (s : SpiState) (h : SpiRepresents d below chip w s) (q u : ℕ) (i : IsRequest d s q u) (frame : Frame d d (Transmit q) u (Called (calls.Sequence q AsyncTransmit))) (y : ℕ) (m : ℕ → Bool) where
   abbrev asks : Call
   asks = calls.Sequence q AsyncTransmit
@@ -106,11 +128,11 @@ module _ (a : Starting) (b : Serving) (d : SpiTable) (fits : FitsSpi d) (below :
 
   -- the error of a pending sequence is the one that is found
   held_error : is_held d q s.pending ≡ true → error_by d asks (is_off s.mode) (is_held d q s.pending) ≡ Some SpiSeqPending
-  held_error e = ap (λ off. error_by d asks off (is_held d q s.pending)) i.on ∙ ap (λ held. error_by d asks false held) e ∙ known (is_some (sequence_of d q)) (subst (λ off. error_by d asks off false ≡ None) i.on i.clear)
+  held_error e = ap (λ off. error_by d asks off (is_held d q s.pending)) i.on ∙ ap (λ held. error_by d asks false held) e ∙ known (is_wrong_sequence d q AsyncTransmit) (subst (λ off. error_by d asks off false ≡ None) i.on i.clear)
     where
-      known : (there : Bool) → (if not there then Some SpiParamSeq else None) ≡ None → (if not there then Some SpiParamSeq else Some SpiSeqPending) ≡ Some SpiSeqPending
-      known true e = refl
-      known false e = absurd (cc)
+      known : (wrong : Bool) → (if wrong then Some SpiParamSeq else None) ≡ None → (if wrong then Some SpiParamSeq else Some SpiSeqPending) ≡ Some SpiSeqPending
+      known true e = absurd (cc)
+      known false e = refl
 
   clear_error : is_held d q s.pending ≡ false → error_by d asks (is_off s.mode) (is_held d q s.pending) ≡ None
   clear_error e = ap (λ held. error_by d asks (is_off s.mode) held) e ∙ i.clear
@@ -156,18 +178,18 @@ module _ (a : Starting) (b : Serving) (d : SpiTable) (fits : FitsSpi d) (below :
       by : (b : Bool) → nat_lt k 7 ≡ b → RequestMakes (Load (sequence_word k)) chip true value (after_request (at d (Transmit q) u (place.Request (request.Look k))) (request_looked k false))
       by true f = subst (λ z. RequestMakes (Load (sequence_word k)) chip true value (after_request (at d (Transmit q) u (place.Request (request.Look k))) (if z then request.Look (k + 1) else request.Accept, requested.Goes None))) (sym f) (h, (frame, (i, refl, (let less = is_below k 7 f in omega (arith, less)), upto)))
       by false f = subst (λ z. RequestMakes (Load (sequence_word k)) chip true value (after_request (at d (Transmit q) u (place.Request (request.Look k))) (if z then request.Look (k + 1) else request.Accept, requested.Goes None))) (sym f)
-          (h, (frame, (i, refl, none_there d q s.pending (λ p there. (h.sound.entries p there).number) (λ n less. upto n (let past = is_past k 7 f in omega (arith, past, less))))))
+          (h, (frame, (i, refl, none_there d q s.pending (λ p there. (h.sound.entries p (all_pending (view s) p there)).number) (λ n less. upto n (let past = is_past k 7 f in omega (arith, past, less))))))
 
   -- the sequence is pending, and the frame owes the rest, and a start
   pub accepts : is_held d q s.pending ≡ false → RequestMakes (Store (sequence_word q) PENDING) (chip_after chip (Store (sequence_word q) PENDING) y) false 0 (at d (Transmit q) u (place.Request request.Nexts), acts)
   accepts free = by (sequence_of d q) refl
     where
       by : (o : Option Sequence) → sequence_of d q ≡ o → RequestMakes (Store (sequence_word q) PENDING) (chip_after chip (Store (sequence_word q) PENDING) y) false 0 (at d (Transmit q) u (place.Request request.Nexts), acts)
-      by None e = absurd (let f = sym (ap (λ o. error_by d asks false false) e) in let g = subst (λ off. error_by d asks off false ≡ None) i.on i.clear in unknown (is_some (sequence_of d q)) (ap (λ o. is_some o) e) g)
+      by None e = absurd (let f = sym (ap (λ o. error_by d asks false false) e) in let g = subst (λ off. error_by d asks off false ≡ None) i.on i.clear in unknown (is_some (sequence_of d q)) (is_sync_sequence d q) (ap (λ o. is_some o) e) g)
         where
-          unknown : (there : Bool) → there ≡ false → (if not there then Some SpiParamSeq else None) ≡ None → ⊥
-          unknown true e f = cc
-          unknown false e f = cc
+          unknown : (there sync : Bool) → there ≡ false → (if not there || sync then Some SpiParamSeq else None) ≡ None → ⊥
+          unknown true sync e f = cc
+          unknown false sync e f = cc
       by (Some x) e = record {
         may = refl;
         stands = tt;
@@ -180,7 +202,7 @@ module _ (a : Starting) (b : Serving) (d : SpiTable) (fits : FitsSpi d) (below :
         reset = refl;
         next = (
           subst (λ n. (k : ℕ) × CommitsTo (spi_owing d) k (Units (at d (Transmit q) n (place.Request request.Nexts))) (chip_after chip (Store (sequence_word q) PENDING) y) (λ c. SpiRepresents d (debt_of n (Called asks) (Some (named EOk)) ∷ below) c w (accepted d s q))) (sym i.unit)
-              (accepted_owes d fits below chip w s h i.on q i.small x e free (Called asks) (Some (named EOk))),
+              (accepted_owes d fits below chip w s h i.on q i.small x e free i.async (Called asks) (Some (named EOk))),
           (frame, record { acted = refl; polled = refl; report = refl; owed = refl; progress = tt }),
         );
       }

@@ -70,15 +70,15 @@ fewer_room d n (p, steps.JobOver x) lt = lt
 pub serving_right : (d : SpiTable) → FitsSpi d → IsServing d serve_window
 serving_right d fits = record {
   shut = omega arith;
-  begins = λ u f w s. tt;
+  begins = λ u async f w s. (async, tt);
   fuel_first = omega arith;
   room_first = omega arith;
-  right = λ u few e below chip w s p received owes shared h at came. let made = serve_move d u p in leaves d e below u chip (chip_after chip made received) w s made received (serve_takes d u p (value_of chip made)) (steps_right d fits e below chip w s h u few received p owes shared at);
-  may = λ u few below chip w s p owes h at. serve_may d fits below chip w s h u few p owes at;
-  later = λ u few below chip w s order p owes fill h at. serve_later d u few chip w s h.size order p fill at;
+  right = λ u few e below chip w s p received owes shared h at came. let made = serve_move d u p in leaves d e below u chip (chip_after chip made received) w s made received (serve_takes d u p (value_of chip made)) (steps_right d fits e below chip w s h u few at.0 received p owes shared at.1);
+  may = λ u few below chip w s p owes h at. serve_may d fits below chip w s h u few p owes at.1;
+  later = λ u few below chip w s order p owes fill h at. (at.0, serve_later d u few chip w s h.size order p fill at.1);
   less_fuel = λ any u p x owes. fewer_fuel any (serve_fuel p) (serve_takes any u p x) (less_fuel any u p x owes);
   less_room = λ u few below chip w s p owes shared h at. fewer_room d (serve_room p) (serve_takes d u p (value_of chip (serve_move d u p)))
-      (less_room d u p (value_of chip (serve_move d u p)) owes (place_fits d fits below chip w s h u few p at) (λ e. let f = sym shared ∙ ap (λ q. is_shared (serve_move d u q)) e in cc));
+      (less_room d u p (value_of chip (serve_move d u p)) owes (place_fits d fits below chip w s h u few p at.1) (λ e. let f = sym shared ∙ ap (λ q. is_shared (serve_move d u q)) e in cc));
   calm = λ u p x owes begun. serve_calm d u p owes (not_serving u p x begun);
 }
   where

@@ -1,18 +1,19 @@
 -- Frames of units have so many steps left, are clean where they have read nothing, and are right.
 -- From services.UnitFrames, services.UnitParts, services.UnitRight, bookkeeping.PendingWritesRight and 1 more.
 -- Used by services.UnitBegins.
-use Rattle.std.proofs.Common.{◌≡◌, ◌+◌, ◌-◌, ◌<◌, ◌≤◌, ◌==◌, ◌&&◌, ◌||◌, ◌∷◌, ◌∙◌, if◌then◌else◌}
+use Rattle.std.proofs.Common.{◌≡◌, ◌+◌, ◌-◌, ◌<◌, ◌≤◌, ◌==◌, ◌&&◌, ◌||◌, ◌∙◌, if◌then◌else◌}
 use Rattle.spi_driver.specs.Terms
 use Terms.{after_request, after_serve, after_start, ap, AreFree, AreLong, arith, AssertedAt, begins_word, BodyTaken}
 use Terms.{Bool, Call, Chip, false, FitsSpi, FrameHistory, FrameRole, Handler, happened, holds_at, is_below, is_closed}
-use Terms.{is_fill, is_masked, is_quiet, is_shared, IsFree, KeepsClean, Load, LongBodies, Main, may, MayCome, Move}
-use Terms.{moved, nat_lt, None, not_filled, Notice, Option, or_owed, Order, Origin, owed_right, PENDING, place_at, refl}
-use Terms.{request_looked, requested_by, Reservations, resets_chip, Rest, rest_after, same_chip, sequence_word}
-use Terms.{serve_more, serve_move, serve_owes, serve_takes, ServePlace, ServeStep, shares, ShortensTo, Some, spi_bare}
-use Terms.{spi_basis, spi_owing, spi_setting, SpiState, SpiTable, spot_or, start_more, start_move, start_owes}
-use Terms.{start_takes, Started, StartPlace, subst, suc, sym, told_first, Transmit, true, TurnsTo, unit_move, unit_over}
-use Terms.{unit_owed, unit_owes, unit_takes, unit_work, UnitBody, UnitPlace, Units, Unmask, value_of, where_owed}
-use Terms.{windows_right, with_holds, World, world_after, zero, ℕ}
+use Terms.{is_fill, is_masked, is_quiet, is_shared, is_sync_unit, IsFree, KeepsClean, Load, LongBodies, Main}
+use Terms.{main_over, may, MayCome, Move, moved, nat_lt, None, not_filled, Notice, Option, or_owed, Order, Origin}
+use Terms.{owed_right, PENDING, place_at, refl, request_looked, requested_by, Reservations, resets_chip, Rest}
+use Terms.{rest_after, same_chip, sequence_word, serve_more, serve_move, serve_owes, serve_takes, ServePlace}
+use Terms.{ServeStep, shares, ShortensTo, Some, spi_bare, spi_basis, spi_owing, spi_setting, SpiState, SpiTable}
+use Terms.{spot_or, start_more, start_move, start_owes, start_takes, Started, StartPlace, STATE, subst, suc, sym}
+use Terms.{told_first, Transmit, true, TurnsTo, unit_acts, unit_move, unit_over, unit_owed, unit_owes, unit_takes}
+use Terms.{unit_work, UnitBody, UnitPlace, Units, Unmask, value_of, where_owed, windows_right, with_holds, World}
+use Terms.{world_after, zero, ℕ}
 use Rattle.spi_driver.specs.laws.{services.UnitFrames.{Ahead, ToPass, ToStart, ToTell, about_owed, ahead_steps, at}}
 use Rattle.spi_driver.specs.laws.{services.UnitFrames.{owed_steps, served_ahead, unit_after, unit_bodies, unit_clean}}
 use Rattle.spi_driver.specs.laws.{services.UnitFrames.{unit_fuel_at, unit_spot_at, unit_windows}}
@@ -20,7 +21,7 @@ use Rattle.spi_driver.specs.laws.{bookkeeping.PendingWritesRight.{unit_second, u
 use Rattle.spi_driver.specs.laws.{services.UnitParts.{IsServing, IsStarting, ServeLess, Serving, StartLess, Starting}}
 use Rattle.spi_driver.specs.laws.{services.UnitParts.{foot, has_begun, has_served, serve_ahead, serve_fuel_at}}
 use Rattle.spi_driver.specs.laws.{services.UnitParts.{start_fuel_at}, bookkeeping.MaskDiscipline.{turns_at}}
-use Rattle.spi_driver.specs.laws.{services.UnitRight.{free_at, later_at, own_at, unit_frame, unit_steps}}
+use Rattle.spi_driver.specs.laws.{services.UnitRight.{free_at, later_at, own_at, unit_steps, unit_table}}
 use Rattle.word_shapes.specs.declared.search.Search.TheVariants as search
 use Rattle.spi_jobs.specs.declared.finding.Find.TheVariants as finds
 use Rattle.spi_machine.specs.declared.call.Call.TheVariants as calls
@@ -48,7 +49,11 @@ module _ (a : Starting) (b : Serving) (d : SpiTable) (fits : FitsSpi d) (startin
   ahead_few e u (ToTell ns) = omega arith
 
   over_short : (x : SpiTable) (e : FrameRole) (u n : ℕ) (p q : UnitPlace) → unit_after e u < n → ShortTo n (unit_over (at x e u p) q e u)
-  over_short x Main zero n p q lt = let last = unit_second a b d (rest_after q) in omega (arith, lt, last)
+  over_short x Main zero n p q lt = by (is_sync_unit x 1)
+    where
+      by : (z : Bool) → ShortTo n (main_over (at x Main 0 p) q z)
+      by true = omega (arith, lt)
+      by false = let last = unit_second a b d (rest_after q) in omega (arith, lt, last)
   over_short x Main (suc u) n p q lt = omega (arith, lt)
   over_short x Rest u n p q lt = omega (arith, lt)
   over_short x Handler u n p q lt = omega (arith, lt)
@@ -89,7 +94,11 @@ module _ (a : Starting) (b : Serving) (d : SpiTable) (fits : FitsSpi d) (startin
   short_at x e u (place.Request (request.Look k)) v i = looked_short x e u k (v == PENDING && (k == requested_by e || shares x (requested_by e) k))
   short_at x e u (place.Request request.Accept) v i = omega arith
   short_at x e u (place.Request _) v i = absurd (cc)
-  short_at x e u place.Act v i = omega arith
+  short_at x e u place.Act v i = by (is_sync_unit x u)
+    where
+      by : (z : Bool) → ShortTo (69 + unit_after e u) (unit_acts (at x e u place.Act) z)
+      by true = omega arith
+      by false = omega arith
   short_at x e u (place.Opens after.Serve) v i = let le = serving.shut in omega (arith, le)
   short_at x e u (place.Opens after.Start) v i = let le = starting.shut in omega (arith, le)
   short_at x e u (place.Opens (after.Tell n)) v i = by n.job n.sequence
@@ -117,7 +126,11 @@ module _ (a : Starting) (b : Serving) (d : SpiTable) (fits : FitsSpi d) (startin
   never was made k e f = absurd (let g = sym e ∙ f in cc)
 
   over_clean : (x : SpiTable) (e : FrameRole) (u : ℕ) (was : Bool) (made : Move) (p q : UnitPlace) → CleanTo was made (unit_over (at x e u p) q e u)
-  over_clean x Main zero was made p q = λ f. absurd (cc)
+  over_clean x Main zero was made p q = by (is_sync_unit x 1)
+    where
+      by : (z : Bool) → CleanTo was made (main_over (at x Main 0 p) q z)
+      by true = tt
+      by false = λ f. absurd (cc)
   over_clean x Main (suc u) was made p q = tt
   over_clean x Rest u was made p q = tt
   over_clean x Handler u was made p q = tt
@@ -144,7 +157,11 @@ module _ (a : Starting) (b : Serving) (d : SpiTable) (fits : FitsSpi d) (startin
   clean_at x e u (place.Request (request.Look k)) v i = looked_clean x e u k (v == PENDING && (k == requested_by e || shares x (requested_by e) k))
   clean_at x e u (place.Request request.Accept) v i = λ f. absurd (cc)
   clean_at x e u (place.Request _) v i = absurd (cc)
-  clean_at x e u place.Act v i = λ f. absurd (cc)
+  clean_at x e u place.Act v i = by (is_sync_unit x u)
+    where
+      by : (z : Bool) → CleanTo false (Load STATE) (unit_acts (at x e u place.Act) z)
+      by true = tt
+      by false = λ f. absurd (cc)
   clean_at x e u (place.Opens after.Serve) v i = λ f. absurd (cc)
   clean_at x e u (place.Opens after.Start) v i = λ f. absurd (cc)
   clean_at x e u (place.Opens (after.Tell n)) v i = by n.job n.sequence
@@ -199,7 +216,7 @@ module _ (a : Starting) (b : Serving) (d : SpiTable) (fits : FitsSpi d) (startin
   }
     where
       known : (below : Reservations) (chip : Chip) (w : World) (s : SpiState) (k : UnitBody) (o : Origin Call) (t : FrameHistory) → unit_owed k ≡ None → AssertedAt (spi_basis d) V below chip w s k o t → k.table ≡ d
-      known below chip w s k o t i h = (unit_frame a b d fits starting serving below chip w s k.table k.errand k.unit k.place o t (free_at k i) h).table
+      known below chip w s k o t i h = unit_table a b d fits starting serving below chip w s k.table k.errand k.unit k.place o t (free_at k i) h
 
       moved_to : (below : Reservations) (chip : Chip) (w : World) (s : SpiState) (k : UnitBody) (o : Origin Call) (t : FrameHistory) → k.table ≡ d → AssertedAt (spi_basis d) V below chip w s k o t → AssertedAt (spi_basis d) V below chip w s (at d k.errand k.unit k.place) o t
       moved_to below chip w s k o t is h = subst (λ z. AssertedAt (spi_basis d) V below chip w s (at z k.errand k.unit k.place) o t) is h

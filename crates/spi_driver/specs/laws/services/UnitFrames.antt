@@ -1,14 +1,15 @@
 -- The frames that start or serve units: what they hold at their places, and what stands there.
 -- From services.UnitParts.
 -- Used by bookkeeping.PendingWritesRight, services.UnitSteps, bookkeeping.NoneWaits, services.UnitBounds and 4 more.
-use Rattle.std.proofs.Common.{◌≡◌, ◌+◌, ◌-◌, ◌<◌, ◌≤◌, ◌==◌, ◌&&◌, ◌||◌, if◌then◌else◌, [], ◌∷◌}
+use Rattle.std.proofs.Common.{◌≡◌, ◌+◌, ◌-◌, ◌<◌, ◌==◌, ◌&&◌, ◌||◌, [], ◌∷◌}
 use Rattle.spi_driver.specs.Terms
 use Terms.{After, Answer, AsyncTransmit, Bool, Call, Called, Cancels, Cleared, Debt, Ended, Entered, EOk, error_by}
-use Terms.{false, FrameHistory, FrameRole, fresh_history, Handler, Handling, has_line, is_held, is_off, is_pending}
-use Terms.{is_polling, List, LongBodies, Looking, Main, named, no_answer, None, Notice, Option, Origin, Outside, Owing}
-use Terms.{owing, Pending, PendingWrites, PointAssertion, RequestPlace, Reservation, Rest, ServePlace, shares_job, Some}
-use Terms.{spi_bare, spi_basis, spi_owing, SpiState, SpiTable, StartPlace, suc, Transmit, true, Under, unit_of_sequence}
-use Terms.{unit_owed, unit_takes, unit_work, UnitBody, UnitPlace, Units, Wholes, Windows, windows, Within, zero, ℕ}
+use Terms.{false, first_served, FrameHistory, FrameRole, fresh_history, Handler, Handling, has_line, is_held, is_off}
+use Terms.{is_pending, is_polling, is_sync_sequence, is_sync_unit, List, LongBodies, Looking, Main, named, no_answer}
+use Terms.{None, Notice, Option, Origin, Outside, Owing, owing, Pending, PendingWrites, PointAssertion, RequestPlace}
+use Terms.{Reservation, Rest, Sends, ServePlace, shares_job, Some, spi_bare, spi_basis, spi_owing, SpiState, SpiTable}
+use Terms.{StartPlace, suc, Transmit, true, Under, unit_of_sequence, unit_owed, unit_takes, unit_work, UnitBody}
+use Terms.{UnitPlace, Units, Wholes, Windows, windows, Within, zero, ℕ}
 use Rattle.spi_driver.specs.laws.services.UnitParts.{Serving, Starting, serve_ahead}
 use Rattle.spi_machine.specs.declared.call.Call.TheVariants as calls
 use Rattle.spi_sequences.specs.declared.service.request.RequestPlace.TheVariants as request
@@ -26,10 +27,11 @@ pub data IsFor (u : ℕ) : FrameRole → Origin Call → Type 0 where
   Mains : IsFor u Main (Called calls.MainFunctionHandling)
   Rests : IsFor u Rest (Called calls.MainFunctionHandling)
 
--- it works on one of the two units, under the configuration's table
+-- it works on one of the two units, which starts jobs alone, under the configuration's table
 pub record Frame (d : SpiTable) (x : SpiTable) (e : FrameRole) (u : ℕ) (o : Origin Call) : Type 0 where
   pub table : x ≡ d
   pub small : u < 2
+  pub async : is_sync_unit d u ≡ false
   pub of : IsFor u e o
 
 -- the answer of its act, and the lines that it polled there
@@ -48,27 +50,31 @@ polled_by _ = []
 abbrev pub is_met : FrameHistory → (line : ℕ) → Bool
 is_met t l = has_line t.served l || has_line t.missed l
 
+-- where the second unit has nothing to serve, its line is met
+abbrev pub SecondMet : SpiTable → FrameHistory → Type 0
+SecondMet d t = is_sync_unit d 1 ≡ true → is_met t 27 ≡ true
+
 -- what it has served, before it is done with the unit and after that
-abbrev pub Progress : FrameRole → (number : ℕ) → (done : Bool) → FrameHistory → Type 0
-Progress (Transmit q) u false t = ⊥
-Progress (Transmit q) u true t = Unit {0}
-Progress Handler u false t = t.served ≡ []
-Progress Handler u true t = t.served ≡ (26 + u) ∷ []
-Progress Main zero false t = t.served ≡ []
-Progress Main zero true t = (is_met t 26 ≡ true) × (has_line t.served 27 ≡ false)
-Progress Main (suc u) false t = (is_met t 26 ≡ true) × (t.served ≡ [])
-Progress Main (suc u) true t = (is_met t 26 ≡ true) × (is_met t 27 ≡ true) × (has_line t.served 26 ≡ false)
-Progress Rest zero done t = ⊥
-Progress Rest (suc u) false t = (is_met t 26 ≡ true) × (has_line t.served 27 ≡ false)
-Progress Rest (suc u) true t = (is_met t 26 ≡ true) × (is_met t 27 ≡ true)
+abbrev pub Progress : SpiTable → FrameRole → (number : ℕ) → (done : Bool) → FrameHistory → Type 0
+Progress d (Transmit q) u false t = ⊥
+Progress d (Transmit q) u true t = Unit {0}
+Progress d Handler u false t = t.served ≡ []
+Progress d Handler u true t = t.served ≡ (26 + u) ∷ []
+Progress d Main zero false t = (t.served ≡ []) × SecondMet d t
+Progress d Main zero true t = (is_met t 26 ≡ true) × (has_line t.served 27 ≡ false) × SecondMet d t
+Progress d Main (suc u) false t = (is_met t 26 ≡ true) × (t.served ≡ [])
+Progress d Main (suc u) true t = (is_met t 26 ≡ true) × (is_met t 27 ≡ true) × (has_line t.served 26 ≡ false)
+Progress d Rest zero done t = ⊥
+Progress d Rest (suc u) false t = (is_met t 26 ≡ true) × (has_line t.served 27 ≡ false)
+Progress d Rest (suc u) true t = (is_met t 26 ≡ true) × (is_met t 27 ≡ true)
 
 -- the frame has acted, has come so far, and owes these notices
-pub record HasDone (e : FrameRole) (u : ℕ) (done : Bool) (left : List Owing) (t : FrameHistory) : Type 0 where
+pub record HasDone (d : SpiTable) (e : FrameRole) (u : ℕ) (done : Bool) (left : List Owing) (t : FrameHistory) : Type 0 where
   pub acted : t.acted ≡ acted_by e
   pub polled : t.polled ≡ polled_by e
   pub report : t.report ≡ None
   pub owed : t.owed ≡ left
-  pub progress : Progress e u done t
+  pub progress : Progress d e u done t
 
 -- a body with this table, errand and unit
 abbrev pub at : SpiTable → FrameRole → ℕ → UnitPlace → UnitBody
@@ -110,6 +116,7 @@ NoneHeld d q ps n = (k : ℕ) → k < n → is_pending k ps && (k == q || shares
 -- a request that finds no error but that of a pending sequence
 pub record IsRequest (d : SpiTable) (s : SpiState) (q : ℕ) (u : ℕ) : Type 0 where
   pub small : q < 8
+  pub async : is_sync_sequence d q ≡ false
   pub on : is_off s.mode ≡ false
   pub clear : error_by d (calls.Sequence q AsyncTransmit) (is_off s.mode) false ≡ None
   pub unit : u ≡ unit_of_sequence d q
@@ -125,10 +132,10 @@ opens_holds e u after.Serve = holds_by e
 opens_holds e u (after.Tell x) = with_debt e u
 opens_holds e u after.Start = with_debt e u
 
-abbrev pub OpensAt : FrameRole → (number : ℕ) → After → FrameHistory → Type 0
-OpensAt e u after.Serve t = HasDone e u false [] t
-OpensAt e u (after.Tell x) t = HasDone e u true (owing true (all_told x)) t
-OpensAt e u after.Start t = HasDone e u true [] t
+abbrev pub OpensAt : SpiTable → FrameRole → (number : ℕ) → After → FrameHistory → Type 0
+OpensAt d e u after.Serve t = HasDone d e u false [] t
+OpensAt d e u (after.Tell x) t = HasDone d e u true (owing true (all_told x)) t
+OpensAt d e u after.Start t = HasDone d e u true [] t
 
 -- ---- bounds
 
@@ -182,6 +189,7 @@ abbrev pub about_owed : PendingWrites → Option About
 about_owed (Units k) = Some (about_unit k)
 about_owed (Cancels k) = None
 about_owed (Wholes k) = None
+about_owed (Sends k) = None
 
 abbrev pub ahead_holds : FrameRole → (number : ℕ) → Ahead → List Reservation
 ahead_holds e u ToStart = with_debt e u
@@ -204,7 +212,7 @@ owed_holds (Some x) = ahead_holds x.errand x.unit x.ahead
 
 abbrev pub OwedAt : SpiTable → Option About → Origin Call → FrameHistory → Type 0
 OwedAt d None o t = ⊥
-OwedAt d (Some x) o t = Frame d x.table x.errand x.unit o × HasDone x.errand x.unit true (ahead_owing x.ahead) t
+OwedAt d (Some x) o t = Frame d x.table x.errand x.unit o × HasDone d x.errand x.unit true (ahead_owing x.ahead) t
 
 abbrev pub owed_steps : Option About → ℕ
 owed_steps None = 0
@@ -237,18 +245,18 @@ module _ (a : Starting) (b : Serving) where
   -- ---- how it stands
 
   abbrev pub serve_spot : (d x : SpiTable) → FrameRole → (number : ℕ) → ServePlace → PointAssertion (spi_basis d)
-  serve_spot d x e u serve.Shut = Outside (holds_by e) (λ below o t. Frame d x e u o × HasDone e u false [] t)
-  serve_spot d x e u p = Looking (Under tt) (holds_by e) (λ below f w s o t. b.place d u p f w s × Frame d x e u o × HasDone e u false [] t)
+  serve_spot d x e u serve.Shut = Outside (holds_by e) (λ below o t. Frame d x e u o × HasDone d e u false [] t)
+  serve_spot d x e u p = Looking (Under tt) (holds_by e) (λ below f w s o t. b.place d u p f w s × Frame d x e u o × HasDone d e u false [] t)
 
   abbrev pub start_spot : (d x : SpiTable) → FrameRole → (number : ℕ) → StartPlace → PointAssertion (spi_basis d)
-  start_spot d x e u start.Shut = Outside (with_debt e u) (λ below o t. Frame d x e u o × HasDone e u true [] t)
-  start_spot d x e u p = Within (Under tt) (with_debt e u) (λ below f w s o t. a.place d u p f s × Frame d x e u o × HasDone e u true [] t)
+  start_spot d x e u start.Shut = Outside (with_debt e u) (λ below o t. Frame d x e u o × HasDone d e u true [] t)
+  start_spot d x e u p = Within (Under tt) (with_debt e u) (λ below f w s o t. a.place d u p f s × Frame d x e u o × HasDone d e u true [] t)
 
   abbrev pub unit_spot_at : (d x : SpiTable) → FrameRole → (number : ℕ) → UnitPlace → PointAssertion (spi_basis d)
   unit_spot_at d x e u (place.Request p) = Within (Under tt) [] (λ below f w s o t. Frame d x e u o × RequestAt d e u p s t)
-  unit_spot_at d x e u place.Act = Within (Under tt) [] (λ below f w s o t. Frame d x e u o × (e ≡ Main) × (u ≡ 0) × (t ≡ fresh_history) × (is_polling s.mode ≡ true))
-  unit_spot_at d x e u (place.Opens y) = Within (Under tt) (opens_holds e u y) (λ below f w s o t. Frame d x e u o × OpensAt e u y t)
-  unit_spot_at d x e u (place.Tell n m) = Outside (with_debt e u) (λ below o t. Frame d x e u o × HasDone e u true (owing true (n ∷ and_other m)) t)
+  unit_spot_at d x e u place.Act = Looking (Under tt) [] (λ below f w s o t. (x ≡ d) × IsFor u e o × (e ≡ Main) × (u ≡ first_served d) × (t ≡ fresh_history) × (is_polling s.mode ≡ true))
+  unit_spot_at d x e u (place.Opens y) = Within (Under tt) (opens_holds e u y) (λ below f w s o t. Frame d x e u o × OpensAt d e u y t)
+  unit_spot_at d x e u (place.Tell n m) = Outside (with_debt e u) (λ below o t. Frame d x e u o × HasDone d e u true (owing true (n ∷ and_other m)) t)
   unit_spot_at d x e u (place.Serve p) = serve_spot d x e u p
   unit_spot_at d x e u (place.Start p) = start_spot d x e u p
 

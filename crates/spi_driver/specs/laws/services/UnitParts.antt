@@ -3,11 +3,11 @@
 use Rattle.std.proofs.Common.{◌≡◌, ◌+◌, ◌<◌, ◌≤◌, ◌||◌, if◌then◌else◌, [], ◌∷◌, ◌++◌}
 use Rattle.spi_driver.specs.Terms
 use Terms.{Answer, begins_word, Begun, Bool, Call, Chip, chip_after, cleared_of, CommitsTo, Debt, Event, false}
-use Terms.{FrameRole, happened, is_fill, is_shared, job_notice, List, may, Memory, Move, moved, None, notes, Notice}
-use Terms.{Option, Order, Origin, outcome_with, ready, ReceivedRight, Reservation, Reservations, ReservedBy}
-use Terms.{resets_chip, SendsRight, sequence_notice, SequenceNext, serve_more, serve_move, serve_owes, serve_takes}
-use Terms.{Served, ServePlace, Serves, ServeStep, Some, spi_bare, spi_machine, spi_owing, SpiRepresents, SpiState}
-use Terms.{SpiTable, StandsAt, start_more, start_move, start_owes, start_takes, Started, StartPlace, Starts}
+use Terms.{FrameRole, happened, is_fill, is_shared, is_sync_unit, job_notice, List, may, Memory, Move, moved, None}
+use Terms.{notes, Notice, Option, Order, Origin, outcome_with, ready, ReceivedRight, Reservation, Reservations}
+use Terms.{ReservedBy, resets_chip, SendsRight, sequence_notice, SequenceNext, serve_more, serve_move, serve_owes}
+use Terms.{serve_takes, Served, ServePlace, Serves, ServeStep, Some, spi_bare, spi_machine, spi_owing, SpiRepresents}
+use Terms.{SpiState, SpiTable, StandsAt, start_more, start_move, start_owes, start_takes, Started, StartPlace, Starts}
 use Terms.{tells_nothing, true, unit_named, Units, value_of, World, world_after, ℕ}
 use Rattle.mcal_base.specs.declared.moves.Event.TheVariants as events
 use Rattle.spi_sequences.specs.declared.service.serve.SequenceNext.TheVariants as courses
@@ -155,7 +155,7 @@ has_served (steps.JobOver x) = false
 -- what a serving window owes
 pub record IsServing (d : SpiTable) (v : Serving) : Type 0 where
   pub shut : v.fuel serves.Shut ≤ 33
-  pub begins : (u : ℕ) (f : Footprint) (w : World) (s : SpiState) → v.place d u serves.State f w s
+  pub begins : (u : ℕ) → is_sync_unit d u ≡ false → (f : Footprint) (w : World) (s : SpiState) → v.place d u serves.State f w s
   pub fuel_first : v.fuel serves.State < v.fuel serves.Shut
   pub room_first : v.room serves.State ≤ 30
   pub right : (u : ℕ) → u < 2 → (e : FrameRole) (below : Reservations) (chip : Chip) (w : World) (s : SpiState) (p : ServePlace) (received : ℕ) → serve_owes p ≡ false → is_shared (serve_move d u p) ≡ false

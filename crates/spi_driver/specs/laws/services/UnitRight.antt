@@ -1,33 +1,29 @@
 -- Frames of units are right: every place of them.
 -- From services.UnitFrames, services.UnitSteps, services.UnitParts, services.RequestAsking.
 -- Used by services.UnitBounds, bookkeeping.MaskDiscipline, bookkeeping.NoneWaits.
-use Rattle.std.proofs.Common.{◌≡◌, ◌+◌, ◌-◌, ◌<◌, ◌≤◌, ◌==◌, ◌&&◌, ◌||◌, ◌∷◌, ◌∙◌, if◌then◌else◌}
+use Rattle.std.proofs.Common.{◌≡◌, ◌<◌, ◌==◌, ◌&&◌, ◌||◌, ◌∙◌, if◌then◌else◌}
 use Rattle.spi_driver.specs.Terms
 use Terms.{after_request, ap, arith, asking, AssertedAt, AsyncTransmit, Bool, Call, Called, channel_served, Chip}
 use Terms.{chip_after, control_word, error_by, false, Find, find_move, FitsSpi, FrameHistory, FrameRole, fresh_history}
-use Terms.{Front, front_move, Handler, happened, held_word, is_closed, is_fill, is_held, is_off, is_pending, is_polling}
-use Terms.{is_shared, Load, Main, Mask, may, may_first, missed_after, mode_later, moved, None, Note, Order, Origin}
-use Terms.{PENDING, pending_later, pending_word, place_at, Placed, Received, ReceivedRight, refl, request_looked}
-use Terms.{request_owes, requested_by, RequestPlace, Reservations, Rest, Right, Search, search_move, sequence_word}
-use Terms.{shares, spi_basis, spi_machine, SpiRepresents, SpiState, SpiTable, STATE, Store, subst, sym, Transmit, true}
-use Terms.{unit_move, unit_owed, unit_owes, unit_work, UnitBody, UnitPlace, Units, Unmask, where_owed, with_holds}
-use Terms.{word_of, World, world_after, ℕ}
-use Rattle.spi_driver.specs.laws.services.RequestAsking.{RequestMakes, accepts, looks}
+use Terms.{Front, front_move, Handler, happened, held_word, is_closed, is_fill, is_held, is_off, is_pending}
+use Terms.{is_polling, is_shared, Load, Main, Mask, may, may_first, missed_after, mode_later, moved, None, not, Note}
+use Terms.{Order, Origin, PENDING, pending_later, pending_word, place_at, Placed, Received, ReceivedRight, refl}
+use Terms.{request_looked, request_owes, requested_by, RequestPlace, Reservations, Rest, Right, Search, search_move}
+use Terms.{sequence_word, shares, spi_basis, spi_machine, SpiRepresents, SpiState, SpiTable, STATE, Store, subst, sym}
+use Terms.{Transmit, true, unit_move, unit_owed, unit_owes, unit_work, UnitBody, UnitPlace, Units, Unmask, where_owed}
+use Terms.{with_holds, word_of, World, world_after, ℕ}
+use Rattle.spi_driver.specs.laws.services.RequestAsking.{RequestMakes, accepts, looks, pending_beside}
 use Rattle.spi_driver.specs.laws.services.UnitFrames.{Frame, IsFor, IsRequest, NoneHeld, RequestAt, Transmits, Handles}
 use Rattle.spi_driver.specs.laws.services.UnitFrames.{Mains, Rests, at, holds_by, unit_bodies, unit_spot_at}
 use Rattle.spi_driver.specs.laws.services.UnitParts.{IsServing, IsStarting, Serving, Starting, foot}
-use Rattle.spi_driver.specs.laws.services.UnitSteps.{acts_so, opens_so, serve_right_at, serve_stands, shared_agrees}
+use Rattle.spi_driver.specs.laws.services.UnitSteps.{acts_so, opens_so, or_true, serve_right_at, serve_stands, shared_agrees}
 use Rattle.spi_driver.specs.laws.services.UnitSteps.{start_right_at, start_stands, tells_so}
 use Rattle.word_shapes.specs.declared.search.Search.TheVariants as search
 use Rattle.spi_jobs.specs.declared.finding.Find.TheVariants as finds
 use Rattle.spi_machine.specs.declared.call.Call.TheVariants as calls
 use Rattle.spi_sequences.specs.declared.service.request.RequestPlace.TheVariants as request
-use Rattle.spi_sequences.specs.declared.service.request.Requested.TheVariants as requested
 use Rattle.spi_sequences.specs.declared.service.serve.ServePlace.TheVariants as serve
-use Rattle.spi_sequences.specs.declared.service.serve.ServeStep.TheVariants as steps
 use Rattle.spi_sequences.specs.declared.service.start.StartPlace.TheVariants as start
-use Rattle.spi_sequences.specs.declared.service.start.Started.TheVariants as started
-use Rattle.spi_sequences.specs.declared.service.unit.After.TheVariants as after
 use Rattle.spi_sequences.specs.declared.service.unit.UnitPlace.TheVariants as place
 
 -- ---- moves that name a register or a word
@@ -67,38 +63,38 @@ module _ (a : Starting) (b : Serving) (d : SpiTable) (fits : FitsSpi d) (startin
   abbrev pub StandX : Reservations → Chip → World → SpiState → SpiTable → FrameRole → ℕ → UnitPlace → Origin Call → FrameHistory → Type 0
   StandX below chip w s x e u p o t = AssertedAt (spi_basis d) (unit_bodies a b d) below chip w s (at x e u p) o t
 
-  -- ---- the frame
+  -- ---- the frame's table
 
-  pub unit_frame : (below : Reservations) (chip : Chip) (w : World) (s : SpiState) (x : SpiTable) (e : FrameRole) (u : ℕ) (p : UnitPlace) (o : Origin Call) (t : FrameHistory) → unit_owes p ≡ false → StandX below chip w s x e u p o t → Frame d x e u o
-  unit_frame below chip w s x e u (place.Request (request.Look k)) o t i h = h.1.0
-  unit_frame below chip w s x e u (place.Request request.Accept) o t i h = h.1.0
-  unit_frame below chip w s x e u (place.Request _) o t i h = absurd (cc)
-  unit_frame below chip w s x e u place.Act o t i h = h.1.0
-  unit_frame below chip w s x e u (place.Opens y) o t i h = h.1.0
-  unit_frame below chip w s x e u (place.Tell n m) o t i h = h.1.0
-  unit_frame below chip w s x e u (place.Serve serve.Shut) o t i h = h.1.0
-  unit_frame below chip w s x e u (place.Serve serve.State) o t i h = h.1.1
-  unit_frame below chip w s x e u (place.Serve (serve.Running q)) o t i h = h.1.1
-  unit_frame below chip w s x e u (place.Serve (serve.Position r q)) o t i h = h.1.1
-  unit_frame below chip w s x e u (place.Serve (serve.Taker r)) o t i h = h.1.1
-  unit_frame below chip w s x e u (place.Serve (serve.Receive r q)) o t i h = h.1.1
-  unit_frame below chip w s x e u (place.Serve (serve.Width r q)) o t i h = h.1.1
-  unit_frame below chip w s x e u (place.Serve (serve.Find r q f)) o t i h = h.1.1
-  unit_frame below chip w s x e u (place.Serve (serve.Begin r q v)) o t i h = h.1.1
-  unit_frame below chip w s x e u (place.Serve (serve.Marks r)) o t i h = h.1.1
-  unit_frame below chip w s x e u (place.Serve (serve.Nexts r q)) o t i h = h.1.1
-  unit_frame below chip w s x e u (place.Serve (serve.Acknowledge r q)) o t i h = h.1.1
-  unit_frame below chip w s x e u (place.Serve _) o t i h = absurd (cc)
-  unit_frame below chip w s x e u (place.Start start.Shut) o t i h = h.1.0
-  unit_frame below chip w s x e u (place.Start start.Running) o t i h = h.1.1
-  unit_frame below chip w s x e u (place.Start start.Nexts) o t i h = h.1.1
-  unit_frame below chip w s x e u (place.Start (start.Marks v)) o t i h = h.1.1
-  unit_frame below chip w s x e u (place.Start (start.Front v m1 f)) o t i h = h.1.1
-  unit_frame below chip w s x e u (place.Start (start.Find c f)) o t i h = h.1.1
-  unit_frame below chip w s x e u (place.Start (start.Select c v)) o t i h = h.1.1
-  unit_frame below chip w s x e u (place.Start (start.Width c v)) o t i h = h.1.1
-  unit_frame below chip w s x e u (place.Start (start.Begin c v)) o t i h = h.1.1
-  unit_frame below chip w s x e u (place.Start _) o t i h = absurd (cc)
+  pub unit_table : (below : Reservations) (chip : Chip) (w : World) (s : SpiState) (x : SpiTable) (e : FrameRole) (u : ℕ) (p : UnitPlace) (o : Origin Call) (t : FrameHistory) → unit_owes p ≡ false → StandX below chip w s x e u p o t → x ≡ d
+  unit_table below chip w s x e u (place.Request (request.Look k)) o t i h = h.1.0.table
+  unit_table below chip w s x e u (place.Request request.Accept) o t i h = h.1.0.table
+  unit_table below chip w s x e u (place.Request _) o t i h = absurd (cc)
+  unit_table below chip w s x e u place.Act o t i h = h.1.0
+  unit_table below chip w s x e u (place.Opens y) o t i h = h.1.0.table
+  unit_table below chip w s x e u (place.Tell n m) o t i h = h.1.0.table
+  unit_table below chip w s x e u (place.Serve serve.Shut) o t i h = h.1.0.table
+  unit_table below chip w s x e u (place.Serve serve.State) o t i h = h.1.1.table
+  unit_table below chip w s x e u (place.Serve (serve.Running q)) o t i h = h.1.1.table
+  unit_table below chip w s x e u (place.Serve (serve.Position r q)) o t i h = h.1.1.table
+  unit_table below chip w s x e u (place.Serve (serve.Taker r)) o t i h = h.1.1.table
+  unit_table below chip w s x e u (place.Serve (serve.Receive r q)) o t i h = h.1.1.table
+  unit_table below chip w s x e u (place.Serve (serve.Width r q)) o t i h = h.1.1.table
+  unit_table below chip w s x e u (place.Serve (serve.Find r q f)) o t i h = h.1.1.table
+  unit_table below chip w s x e u (place.Serve (serve.Begin r q v)) o t i h = h.1.1.table
+  unit_table below chip w s x e u (place.Serve (serve.Marks r)) o t i h = h.1.1.table
+  unit_table below chip w s x e u (place.Serve (serve.Nexts r q)) o t i h = h.1.1.table
+  unit_table below chip w s x e u (place.Serve (serve.Acknowledge r q)) o t i h = h.1.1.table
+  unit_table below chip w s x e u (place.Serve _) o t i h = absurd (cc)
+  unit_table below chip w s x e u (place.Start start.Shut) o t i h = h.1.0.table
+  unit_table below chip w s x e u (place.Start start.Running) o t i h = h.1.1.table
+  unit_table below chip w s x e u (place.Start start.Nexts) o t i h = h.1.1.table
+  unit_table below chip w s x e u (place.Start (start.Marks v)) o t i h = h.1.1.table
+  unit_table below chip w s x e u (place.Start (start.Front v m1 f)) o t i h = h.1.1.table
+  unit_table below chip w s x e u (place.Start (start.Find c f)) o t i h = h.1.1.table
+  unit_table below chip w s x e u (place.Start (start.Select c v)) o t i h = h.1.1.table
+  unit_table below chip w s x e u (place.Start (start.Width c v)) o t i h = h.1.1.table
+  unit_table below chip w s x e u (place.Start (start.Begin c v)) o t i h = h.1.1.table
+  unit_table below chip w s x e u (place.Start _) o t i h = absurd (cc)
 
   -- ---- the steps
 
@@ -112,7 +108,8 @@ module _ (a : Starting) (b : Serving) (d : SpiTable) (fits : FitsSpi d) (startin
       looked q u k t frame is now lt none =
           let value = word_of chip (sequence_word k) in
           subst (λ z. RightX below chip w s (Transmit q) u (place.Request (request.Look k)) (Called (calls.Sequence q AsyncTransmit)) y z m) (sym now)
-          (subst (λ z. RequestMakes a b d fits below chip w s h q u is frame y (missed_after (spi_machine d) w s m) (Load (sequence_word k)) chip true value (after_request (at d (Transmit q) u (place.Request (request.Look k))) (request_looked k (z && (k == q || shares d q k))))) (sym (pending_word d fits below chip w s h is.on k lt))
+          (subst (λ z. RequestMakes a b d fits below chip w s h q u is frame y (missed_after (spi_machine d) w s m) (Load (sequence_word k)) chip true value (after_request (at d (Transmit q) u (place.Request (request.Look k))) (request_looked k z)))
+          (sym (ap (λ z. z && (k == q || shares d q k)) (pending_word d fits below chip w s h is.on k lt) ∙ pending_beside d fits below chip w s h q k is.async))
           (looks a b d fits below chip w s h q u is frame y (missed_after (spi_machine d) w s m) k value lt none (is_pending k s.pending && (k == q || shares d q k)) refl))
 
       accepted_at : (q u : ℕ) (t : FrameHistory) → Frame d d (Transmit q) u (Called (calls.Sequence q AsyncTransmit)) → IsRequest d s q u → t ≡ fresh_history → is_held d q s.pending ≡ false → RightX below chip w s (Transmit q) u (place.Request request.Accept) (Called (calls.Sequence q AsyncTransmit)) y t m
@@ -133,10 +130,10 @@ module _ (a : Starting) (b : Serving) (d : SpiTable) (fits : FitsSpi d) (startin
   unit_right below chip w s e u (place.Request (request.Look k)) o y t m i come h = request_right below chip w s e u (request.Look k) o y t m refl h.1.0 h.1.1 h.0
   unit_right below chip w s e u (place.Request request.Accept) o y t m i come h = request_right below chip w s e u request.Accept o y t m refl h.1.0 h.1.1 h.0
   unit_right below chip w s e u (place.Request _) o y t m i come h = absurd (cc)
-  unit_right below chip w s e u place.Act o y t m i come (h, (frame, is, first, now, polling)) = subst (λ z. RightX below chip w s e u place.Act o y z m) (sym now) (acts_so a b d fits below chip w s y (missed_after (spi_machine d) w s m) e u o is first frame polling h)
+  unit_right below chip w s e u place.Act o y t m i come (h, (table, for, is, first, now, polling)) = subst (λ z. RightX below chip w s e u place.Act o y z m) (sym now) (acts_so a b d fits below chip w s y (missed_after (spi_machine d) w s m) e u o for is first polling (λ l none. or_true (m l) (ap not none)) h)
   unit_right below chip w s e u (place.Opens n) o y t m i come h = opens_so a b d fits below (chip_after chip Unmask y) w s y m e u n o t h.1.0 h.1.1 (shared_agrees a b d fits _ chip w s Unmask y refl h.0)
   unit_right below chip w s e u (place.Tell n n1) o y t m i come h = tells_so a b d fits below (chip_after chip (Note n) y) w s y m e u n n1 o t h.1.0 h.1.1 (shared_agrees a b d fits _ chip w s (Note n) y refl h.0)
-  unit_right below chip w s e u (place.Serve serve.Shut) o y t m i come h = serve_stands a b d fits e u serve.State below (chip_after chip Mask y) w s o t refl h.1.0 h.1.1 (shared_agrees a b d fits _ chip w s Mask y refl h.0) (serving.begins u (foot d (chip_after chip Mask y)) w s)
+  unit_right below chip w s e u (place.Serve serve.Shut) o y t m i come h = serve_stands a b d fits e u serve.State below (chip_after chip Mask y) w s o t refl h.1.0 h.1.1 (shared_agrees a b d fits _ chip w s Mask y refl h.0) (serving.begins u h.1.0.async (foot d (chip_after chip Mask y)) w s)
   unit_right below chip w s e u (place.Serve serve.State) o y t m i come h = serve_right_at a b d fits serving below chip w s e u serve.State o y t m refl come h.1.1 h.1.2 h.0 h.1.0 (refl)
   unit_right below chip w s e u (place.Serve (serve.Running q)) o y t m i come h = serve_right_at a b d fits serving below chip w s e u (serve.Running q) o y t m refl come h.1.1 h.1.2 h.0 h.1.0 (refl)
   unit_right below chip w s e u (place.Serve (serve.Position r q)) o y t m i come h = serve_right_at a b d fits serving below chip w s e u (serve.Position r q) o y t m refl come h.1.1 h.1.2 h.0 h.1.0 (refl)
@@ -164,7 +161,7 @@ module _ (a : Starting) (b : Serving) (d : SpiTable) (fits : FitsSpi d) (startin
   pub unit_steps : (below : Reservations) (chip : Chip) (w : World) (s : SpiState) (k : UnitBody) (o : Origin Call) (y : ℕ) (t : FrameHistory) (m : ℕ → Bool) → unit_owed k ≡ None → ReceivedRight chip w (unit_work k) y → AssertedAt (spi_basis d) (unit_bodies a b d) below chip w s k o t → Right (spi_basis d) (unit_bodies a b d) below chip w s k o y t m
   unit_steps below chip w s k o y t m i come h =
       let free = free_at k i in
-      let is = (unit_frame below chip w s k.table k.errand k.unit k.place o t free h).table in
+      let is = unit_table below chip w s k.table k.errand k.unit k.place o t free h in
       subst (λ z. Right (spi_basis d) (unit_bodies a b d) below chip w s (at z k.errand k.unit k.place) o y t m) (sym is)
       (unit_right below chip w s k.errand k.unit k.place o y t m free (subst (λ z. ReceivedRight chip w (unit_move (at z k.errand k.unit k.place) k.place) y) is come) (subst (λ z. StandX below chip w s z k.errand k.unit k.place o t) is h))
 
@@ -219,7 +216,7 @@ module _ (a : Starting) (b : Serving) (d : SpiTable) (fits : FitsSpi d) (startin
   asked_later w s order (Transmit q) u p _ t (Transmits _) asked = by p asked
     where
       still : IsRequest d s q u → IsRequest d (moved d w s order) q u
-      still i = record { small = i.small; on = ap is_off (mode_later d w s order) ∙ i.on; clear = ap (λ mode. error_by d (calls.Sequence q AsyncTransmit) (is_off mode) false) (mode_later d w s order) ∙ i.clear; unit = i.unit }
+      still i = record { small = i.small; async = i.async; on = ap is_off (mode_later d w s order) ∙ i.on; clear = ap (λ mode. error_by d (calls.Sequence q AsyncTransmit) (is_off mode) false) (mode_later d w s order) ∙ i.clear; unit = i.unit }
 
       by : (p : RequestPlace) → RequestAt d (Transmit q) u p s t → RequestAt d (Transmit q) u p (moved d w s order) t
       by (request.Look k) (i, now, lt, none) = (still i, now, lt, subst (λ ps. NoneHeld d q ps k) (sym (pending_later d w s order)) none)
@@ -234,7 +231,7 @@ module _ (a : Starting) (b : Serving) (d : SpiTable) (fits : FitsSpi d) (startin
   later_at below chip w s order e u (place.Request (request.Look k)) o t i none h = (h.1.0, asked_later w s order e u (request.Look k) o t h.1.0.of h.1.1)
   later_at below chip w s order e u (place.Request request.Accept) o t i none h = (h.1.0, asked_later w s order e u request.Accept o t h.1.0.of h.1.1)
   later_at below chip w s order e u (place.Request _) o t i none h = absurd (cc)
-  later_at below chip w s order e u place.Act o t i none (h, (frame, is, first, now, polling)) = (frame, is, first, now, ap is_polling (mode_later d w s order) ∙ polling)
+  later_at below chip w s order e u place.Act o t i none (h, (table, for, is, first, now, polling)) = (table, for, is, first, now, ap is_polling (mode_later d w s order) ∙ polling)
   later_at below chip w s order e u (place.Opens n) o t i none h = h.1
   later_at below chip w s order e u (place.Tell n n1) o t i none h = h.1
   later_at below chip w s order e u (place.Serve serve.Shut) o t i none h = h.1

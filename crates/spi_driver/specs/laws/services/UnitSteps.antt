@@ -1,20 +1,21 @@
 -- Frames of units: their steps where they owe nothing.
 -- From services.UnitFrames, services.UnitParts, bookkeeping.MainFunctionHold, bookkeeping.PendingWritesRight.
 -- Used by services.UnitRight.
-use Rattle.std.proofs.Common.{◌≡◌, ◌+◌, ◌<◌, ◌||◌, [], ◌∷◌, ◌++◌, ◌∙◌, ◌⊎◌, if◌then◌else◌}
+use Rattle.std.proofs.Common.{◌≡◌, ◌+◌, ◌<◌, ◌&&◌, ◌||◌, [], ◌∷◌, ◌++◌, ◌∙◌, ◌⊎◌, if◌then◌else◌}
 use Rattle.spi_driver.specs.Terms
 use Terms.{acts, ActsRight, After, after_serve, after_start, agrees_after, ap, arith, asks_reset, AssertedAt}
 use Terms.{basis_right, BodyTaken, Bool, Brought, brought_by, Call, Called, caller_of, Chip, chip_after, clear_over}
-use Terms.{CommitsTo, Continues, Done, Entered, Event, false, FitsSpi, FrameHistory, FrameRole, fresh_history, gap_at}
-use Terms.{Handler, happening_of, has_line, holds_at, inl, inr, is_polling, is_shared, IsNext, List, list_any, Load}
-use Terms.{Main, MakesTo, Mask, may, MayDo, missed_after, Move, no_answer, None, not, Note, Notes, notes, Notice}
-use Terms.{opened, Option, Origin, Outcome, outcome_of, outcome_with, Owing, owing, passes, past_after, past_wrote}
-use Terms.{PendingWrites, place_at, plain_makes, plain_move, polls, ready, ReceivedRight, refl, Report, Reservations}
-use Terms.{resets_chip, Rest, rest_after, same_number, serve_move, serve_owes, serve_takes, ServePlace, Serves}
-use Terms.{ServeStep, Some, spi_bare, spi_basis, spi_machine, spi_owing, spi_setting, SpiRepresents, SpiState, SpiTable}
-use Terms.{spot_or, StandsAt, start_move, start_owes, start_takes, Started, StartPlace, Starts, STATE, subst, suc, sym}
-use Terms.{tells_nothing, Told, told_first, told_next, Transmit, true, unit_named, unit_over, UnitBody, UnitPlace}
-use Terms.{Units, Unmask, value_of, where_owed, with_holds, word_of, Works, World, zero, ℕ}
+use Terms.{CommitsTo, Continues, Done, Entered, Event, false, first_served, FitsSpi, FrameHistory, FrameRole}
+use Terms.{fresh_history, gap_at, Handler, happening_of, has_line, holds_at, inl, inr, is_polling, is_shared}
+use Terms.{is_sync_unit, IsNext, List, list_all, list_any, Load, Main, main_over, MakesTo, Mask, may, MayDo}
+use Terms.{missed_after, Move, no_answer, None, none_served, not, Note, Notes, notes, Notice, opened, Option, Origin}
+use Terms.{Outcome, outcome_of, outcome_with, Owing, owing, passes, past_after, past_wrote, PendingWrites, place_at}
+use Terms.{plain_makes, plain_move, polls, ready, ReceivedRight, refl, Report, Reservations, resets_chip, Rest}
+use Terms.{rest_after, same_number, serve_move, serve_owes, serve_takes, ServePlace, Serves, ServeStep, Some, spi_bare}
+use Terms.{spi_basis, spi_machine, spi_owing, spi_setting, SpiRepresents, SpiState, SpiTable, spot_or, StandsAt}
+use Terms.{start_move, start_owes, start_takes, Started, StartPlace, Starts, STATE, subst, suc, sym, tells_nothing}
+use Terms.{Told, told_first, told_next, Transmit, true, unit_acts, unit_named, unit_over, UnitBody, UnitPlace, Units}
+use Terms.{Unmask, value_of, where_owed, with_holds, word_of, Works, World, zero, ℕ}
 use Rattle.spi_driver.specs.laws.services.UnitFrames.{Frame, Handles, HasDone, IsFor, Mains, OpensAt, OwedAt, Progress}
 use Rattle.spi_driver.specs.laws.services.UnitFrames.{Rests, Transmits, ahead_holds, and_other, at, holds_by, is_met}
 use Rattle.spi_driver.specs.laws.services.UnitFrames.{opens_holds, served_ahead, told_list, unit_bodies, unit_spot_at}
@@ -35,7 +36,7 @@ use Rattle.spi_sequences.specs.declared.service.unit.UnitPlace.TheVariants as pl
 
 -- ---- lines that were served
 
-or_true : (x : Bool) {y : Bool} → y ≡ true → x || y ≡ true
+pub or_true : (x : Bool) {y : Bool} → y ≡ true → x || y ≡ true
 or_true true e = refl
 or_true false e = e
 
@@ -47,15 +48,19 @@ met_too : (t t1 : FrameHistory) → t1.served ≡ 27 ∷ t.served → t1.missed 
 met_too t t1 s m h = ap (λ ls. has_line ls 26 || has_line t1.missed 26) s ∙ ap (λ ls. has_line t.served 26 || has_line ls 26) m ∙ h
 
 -- with its line served, the frame is done with the unit
-served_now : (e : FrameRole) (u : ℕ) → u < 2 → (t t1 : FrameHistory) → t1.served ≡ (26 + u) ∷ t.served → t1.missed ≡ t.missed → Progress e u false t → Progress e u true t1
-served_now (Transmit q) u lt t t1 s m h = absurd h
-served_now Handler u lt t t1 s m h = s ∙ ap (λ ls. (26 + u) ∷ ls) h
-served_now Main zero lt t t1 s m h = (ap (λ ls. has_line ls 26 || has_line t1.missed 26) s, ap (λ ls. has_line ls 27) (s ∙ ap (λ ls. 26 ∷ ls) h))
-served_now Main (suc zero) lt t t1 s m h = (met_too t t1 s m h.0, ap (λ ls. has_line ls 27 || has_line t1.missed 27) s, ap (λ ls. has_line ls 26) (s ∙ ap (λ ls. 27 ∷ ls) h.1))
-served_now Main (suc (suc u)) lt t t1 s m h = absurd (omega (arith, lt))
-served_now Rest zero lt t t1 s m h = absurd h
-served_now Rest (suc zero) lt t t1 s m h = (met_too t t1 s m h.0, ap (λ ls. has_line ls 27 || has_line t1.missed 27) s)
-served_now Rest (suc (suc u)) lt t t1 s m h = absurd (omega (arith, lt))
+served_now : (d : SpiTable) (e : FrameRole) (u : ℕ) → u < 2 → (t t1 : FrameHistory) → t1.served ≡ (26 + u) ∷ t.served → t1.missed ≡ t.missed → Progress d e u false t → Progress d e u true t1
+served_now d (Transmit q) u lt t t1 s m h = absurd h
+served_now d Handler u lt t t1 s m h = s ∙ ap (λ ls. (26 + u) ∷ ls) h
+served_now d Main zero lt t t1 s m h = (
+  ap (λ ls. has_line ls 26 || has_line t1.missed 26) s,
+  ap (λ ls. has_line ls 27) (s ∙ ap (λ ls. 26 ∷ ls) h.0),
+  λ sync. ap (λ ls. has_line ls 27 || has_line t1.missed 27) s ∙ ap (λ ls. has_line t.served 27 || has_line ls 27) m ∙ h.1 sync,
+)
+served_now d Main (suc zero) lt t t1 s m h = (met_too t t1 s m h.0, ap (λ ls. has_line ls 27 || has_line t1.missed 27) s, ap (λ ls. has_line ls 26) (s ∙ ap (λ ls. 27 ∷ ls) h.1))
+served_now d Main (suc (suc u)) lt t t1 s m h = absurd (omega (arith, lt))
+served_now d Rest zero lt t t1 s m h = absurd h
+served_now d Rest (suc zero) lt t t1 s m h = (met_too t t1 s m h.0, ap (λ ls. has_line ls 27 || has_line t1.missed 27) s)
+served_now d Rest (suc (suc u)) lt t t1 s m h = absurd (omega (arith, lt))
 
 -- a line is met that was missed now
 just_missed : (t : FrameHistory) (l : ℕ) → is_met (record t { missed = l ∷ t.missed }) l ≡ true
@@ -67,16 +72,16 @@ rest_missed (serve.Stand q) e = absurd (cc)
 rest_missed _ e = refl
 
 -- the main function may serve the unit's line
-next_line : (u : ℕ) → u < 2 → (s : SpiState) (t : FrameHistory) → is_polling s.mode ≡ true → Progress Main u false t → IsNext (polls s calls.MainFunctionHandling) t.served (26 + u)
-next_line zero lt s t e h = subst (λ (q : Bool). IsNext (if q then 26 ∷ 27 ∷ [] else []) t.served 26) (sym e) (refl, ap (λ ls. list_any (has_line ls) (26 ∷ 27 ∷ [])) h)
-next_line (suc zero) lt s t e h = subst (λ (q : Bool). IsNext (if q then 26 ∷ 27 ∷ [] else []) t.served 27) (sym e) (refl, ap (λ ls. list_any (has_line ls) (27 ∷ [])) h.1)
-next_line (suc (suc u)) lt s t e h = absurd (omega (arith, lt))
+next_line : (d : SpiTable) (u : ℕ) → u < 2 → (s : SpiState) (t : FrameHistory) → is_polling s.mode ≡ true → Progress d Main u false t → IsNext (polls s calls.MainFunctionHandling) t.served (26 + u)
+next_line d zero lt s t e h = subst (λ (q : Bool). IsNext (if q then 26 ∷ 27 ∷ [] else []) t.served 26) (sym e) (refl, ap (λ ls. list_any (has_line ls) (26 ∷ 27 ∷ [])) h.0)
+next_line d (suc zero) lt s t e h = subst (λ (q : Bool). IsNext (if q then 26 ∷ 27 ∷ [] else []) t.served 27) (sym e) (refl, ap (λ ls. list_any (has_line ls) (27 ∷ [])) h.1)
+next_line d (suc (suc u)) lt s t e h = absurd (omega (arith, lt))
 
 -- and that of the second unit after the first one's
-rest_line : (u : ℕ) → u < 2 → (s : SpiState) (t : FrameHistory) → is_polling s.mode ≡ true → Progress Rest u false t → IsNext (polls s calls.MainFunctionHandling) t.served (26 + u)
-rest_line zero lt s t e h = absurd h
-rest_line (suc zero) lt s t e h = subst (λ (q : Bool). IsNext (if q then 26 ∷ 27 ∷ [] else []) t.served 27) (sym e) (refl, ap (λ q. q || false) h.1)
-rest_line (suc (suc u)) lt s t e h = absurd (omega (arith, lt))
+rest_line : (d : SpiTable) (u : ℕ) → u < 2 → (s : SpiState) (t : FrameHistory) → is_polling s.mode ≡ true → Progress d Rest u false t → IsNext (polls s calls.MainFunctionHandling) t.served (26 + u)
+rest_line d zero lt s t e h = absurd h
+rest_line d (suc zero) lt s t e h = subst (λ (q : Bool). IsNext (if q then 26 ∷ 27 ∷ [] else []) t.served 27) (sym e) (refl, ap (λ q. q || false) h.1)
+rest_line d (suc (suc u)) lt s t e h = absurd (omega (arith, lt))
 
 -- ---- events of a unit, whatever the frame was begun for
 
@@ -118,22 +123,22 @@ module _ (d : SpiTable) (w : World) (s : SpiState) (t : FrameHistory) where
   past_served (Entered l) k told p = refl
 
 -- what was served and missed stays so where nothing is added
-same_progress : (e : FrameRole) (u : ℕ) (q : Bool) (t t1 : FrameHistory) → t1.served ≡ t.served → t1.missed ≡ t.missed → Progress e u q t → Progress e u q t1
-same_progress (Transmit n) u false t t1 s m h = absurd h
-same_progress (Transmit n) u true t t1 s m h = tt
-same_progress Handler u false t t1 s m h = s ∙ h
-same_progress Handler u true t t1 s m h = s ∙ h
-same_progress Main zero false t t1 s m h = s ∙ h
-same_progress Main zero true t t1 s m h = (met_still t t1 26 s m h.0, ap (λ ls. has_line ls 27) s ∙ h.1)
-same_progress Main (suc u) false t t1 s m h = (met_still t t1 26 s m h.0, s ∙ h.1)
-same_progress Main (suc u) true t t1 s m h = (met_still t t1 26 s m h.0, met_still t t1 27 s m h.1, ap (λ ls. has_line ls 26) s ∙ h.2)
-same_progress Rest zero q t t1 s m h = absurd h
-same_progress Rest (suc u) false t t1 s m h = (met_still t t1 26 s m h.0, ap (λ ls. has_line ls 27) s ∙ h.1)
-same_progress Rest (suc u) true t t1 s m h = (met_still t t1 26 s m h.0, met_still t t1 27 s m h.1)
+same_progress : (d : SpiTable) (e : FrameRole) (u : ℕ) (q : Bool) (t t1 : FrameHistory) → t1.served ≡ t.served → t1.missed ≡ t.missed → Progress d e u q t → Progress d e u q t1
+same_progress d (Transmit n) u false t t1 s m h = absurd h
+same_progress d (Transmit n) u true t t1 s m h = tt
+same_progress d Handler u false t t1 s m h = s ∙ h
+same_progress d Handler u true t t1 s m h = s ∙ h
+same_progress d Main zero false t t1 s m h = (s ∙ h.0, λ sync. met_still t t1 27 s m (h.1 sync))
+same_progress d Main zero true t t1 s m h = (met_still t t1 26 s m h.0, ap (λ ls. has_line ls 27) s ∙ h.1, λ sync. met_still t t1 27 s m (h.2 sync))
+same_progress d Main (suc u) false t t1 s m h = (met_still t t1 26 s m h.0, s ∙ h.1)
+same_progress d Main (suc u) true t t1 s m h = (met_still t t1 26 s m h.0, met_still t t1 27 s m h.1, ap (λ ls. has_line ls 26) s ∙ h.2)
+same_progress d Rest zero q t t1 s m h = absurd h
+same_progress d Rest (suc u) false t t1 s m h = (met_still t t1 26 s m h.0, ap (λ ls. has_line ls 27) s ∙ h.1)
+same_progress d Rest (suc u) true t t1 s m h = (met_still t t1 26 s m h.0, met_still t t1 27 s m h.1)
 
 -- so does what a frame has done, with other notices owed
-same_done : (e : FrameRole) (u : ℕ) (q : Bool) (t t1 : FrameHistory) (owed owed1 : List Owing) → t1.acted ≡ t.acted → t1.polled ≡ t.polled → t1.report ≡ t.report → t1.served ≡ t.served → t1.missed ≡ t.missed → t1.owed ≡ owed1 → HasDone e u q owed t → HasDone e u q owed1 t1
-same_done e u q t t1 owed owed1 acted polled report served missed told h = record { acted = acted ∙ h.acted; polled = polled ∙ h.polled; report = report ∙ h.report; owed = told; progress = same_progress e u q t t1 served missed h.progress }
+same_done : (d : SpiTable) (e : FrameRole) (u : ℕ) (q : Bool) (t t1 : FrameHistory) (owed owed1 : List Owing) → t1.acted ≡ t.acted → t1.polled ≡ t.polled → t1.report ≡ t.report → t1.served ≡ t.served → t1.missed ≡ t.missed → t1.owed ≡ owed1 → HasDone d e u q owed t → HasDone d e u q owed1 t1
+same_done d e u q t t1 owed owed1 acted polled report served missed told h = record { acted = acted ∙ h.acted; polled = polled ∙ h.polled; report = report ∙ h.report; owed = told; progress = same_progress d e u q t t1 served missed h.progress }
 
 module _ (a : Starting) (b : Serving) (d : SpiTable) (fits : FitsSpi d) where
   -- a move of the mask changes nothing
@@ -150,7 +155,7 @@ module _ (a : Starting) (b : Serving) (d : SpiTable) (fits : FitsSpi d) where
   StandAt below chip w s k o t = AssertedAt (spi_basis d) (unit_bodies a b d) below chip w s k o t
 
   -- at a place of its serving that owes nothing
-  pub serve_stands : (e : FrameRole) (u : ℕ) (p : ServePlace) (below : Reservations) (chip : Chip) (w : World) (s : SpiState) (o : Origin Call) (t : FrameHistory) → serve_owes p ≡ false → Frame d d e u o → HasDone e u false [] t → SpiRepresents d (with_holds o t.acted (holds_by e) below) chip w s → b.place d u p (foot d chip) w s
+  pub serve_stands : (e : FrameRole) (u : ℕ) (p : ServePlace) (below : Reservations) (chip : Chip) (w : World) (s : SpiState) (o : Origin Call) (t : FrameHistory) → serve_owes p ≡ false → Frame d d e u o → HasDone d e u false [] t → SpiRepresents d (with_holds o t.acted (holds_by e) below) chip w s → b.place d u p (foot d chip) w s
       → StandAt below chip w s (at d e u (place.Serve p)) o t
   serve_stands e u serve.Shut below chip w s o t i frame done h here = (h, (frame, done))
   serve_stands e u serve.State below chip w s o t i frame done h here = (h, (here, frame, done))
@@ -167,7 +172,7 @@ module _ (a : Starting) (b : Serving) (d : SpiTable) (fits : FitsSpi d) where
   serve_stands e u _ below chip w s o t i frame done h here = absurd (cc)
 
   -- and of its start
-  pub start_stands : (e : FrameRole) (u : ℕ) (p : StartPlace) (below : Reservations) (chip : Chip) (w : World) (s : SpiState) (o : Origin Call) (t : FrameHistory) → start_owes p ≡ false → Frame d d e u o → HasDone e u true [] t → SpiRepresents d (with_holds o t.acted (with_debt e u) below) chip w s → a.place d u p (foot d chip) s
+  pub start_stands : (e : FrameRole) (u : ℕ) (p : StartPlace) (below : Reservations) (chip : Chip) (w : World) (s : SpiState) (o : Origin Call) (t : FrameHistory) → start_owes p ≡ false → Frame d d e u o → HasDone d e u true [] t → SpiRepresents d (with_holds o t.acted (with_debt e u) below) chip w s → a.place d u p (foot d chip) s
       → StandAt below chip w s (at d e u (place.Start p)) o t
   start_stands e u start.Shut below chip w s o t i frame done h here = (h, (frame, done))
   start_stands e u start.Running below chip w s o t i frame done h here = (h, (here, frame, done))
@@ -192,14 +197,18 @@ module _ (a : Starting) (b : Serving) (d : SpiTable) (fits : FitsSpi d) where
 
     -- a window that is over goes on without an event
     over_works : (e : FrameRole) (u : ℕ) (p q : UnitPlace) (made : Move) (value : ℕ) (o : Origin Call) (t : FrameHistory) → let r = unit_over (at d e u p) q e u in Continues (spi_basis d) (unit_bodies a b d) below (chip_after chip made y) w s o (past_wrote w made t) m r.0 r.1.done → Work o t made value r
-    over_works Main zero p q made value o t h = h
+    over_works Main zero p q made value o t h = by (is_sync_unit d 1) h
+      where
+        by : (z : Bool) → let r = main_over (at d Main 0 p) q z in Continues (spi_basis d) (unit_bodies a b d) below (chip_after chip made y) w s o (past_wrote w made t) m r.0 r.1.done → Work o t made value r
+        by true h = h
+        by false h = h
     over_works Main (suc u) p q made value o t h = h
     over_works Rest u p q made value o t h = h
     over_works Handler u p q made value o t h = h
     over_works (Transmit k) u p q made value o t h = h
 
     -- the first word of a job begins
-    begins_so : (e : FrameRole) (u : ℕ) (q : StartPlace) (x : Event) (made : Move) (value : ℕ) (o : Origin Call) (t : FrameHistory) → Frame d d e u o → HasDone e u true [] t → resets_chip made ≡ false → StartBegins d e (with_holds o t.acted (with_cleared e u) below) u chip (chip_after chip made y) w s made value y q x
+    begins_so : (e : FrameRole) (u : ℕ) (q : StartPlace) (x : Event) (made : Move) (value : ℕ) (o : Origin Call) (t : FrameHistory) → Frame d d e u o → HasDone d e u true [] t → resets_chip made ≡ false → StartBegins d e (with_holds o t.acted (with_cleared e u) below) u chip (chip_after chip made y) w s made value y q x
         → Work o t made value (at d e u (place.Start q), passes (Some x))
     begins_so e u q x made value o t frame done still g =
         subst (λ z. Work o t made value (at d e u (place.Start q), passes (Some z))) (sym g.is_start) (record {
@@ -213,26 +222,26 @@ module _ (a : Starting) (b : Serving) (d : SpiTable) (fits : FitsSpi d) where
           acts = start_acts d w s t o (unit_named u) made tells_nothing None;
           reset = still ∙ sym (start_resets d w s t o (unit_named u) (Some (outcome_with g.state tells_nothing (Some g.begins))));
           next = subst (λ z. Continues (spi_basis d) (unit_bodies a b d) below (chip_after chip made y) w g.state o z m (at d e u (place.Start q)) None) (sym (past_started d w s t o (unit_named u) tells_nothing (past_wrote w made t)))
-              (subst (λ z. StandsBy (chip_after chip made y) g.state (at d e u (place.Start q)) o later (where_owed z (Units (at d e u (place.Start q))))) (sym g.owing) (g.owes, (frame, same_done e u true t later [] [] refl refl refl refl refl (ap (λ ns. ns ++ []) done.owed) done)));
+              (subst (λ z. StandsBy (chip_after chip made y) g.state (at d e u (place.Start q)) o later (where_owed z (Units (at d e u (place.Start q))))) (sym g.owing) (g.owes, (frame, same_done d e u true t later [] [] refl refl refl refl refl (ap (λ ns. ns ++ []) done.owed) done)));
         })
       where
         later : FrameHistory
         later = record (past_wrote w made t) { owed = t.owed ++ owing false [] }
 
-    start_works : (e : FrameRole) (u : ℕ) (p : StartPlace) (made : Move) (value : ℕ) (o : Origin Call) (t : FrameHistory) → Frame d d e u o → HasDone e u true [] t → resets_chip made ≡ false → (z : StartPlace × Started) → StartLeaves a d e (with_holds o t.acted (holds_by e) below) o t.acted u chip (chip_after chip made y) w s made value y z
+    start_works : (e : FrameRole) (u : ℕ) (p : StartPlace) (made : Move) (value : ℕ) (o : Origin Call) (t : FrameHistory) → Frame d d e u o → HasDone d e u true [] t → resets_chip made ≡ false → (z : StartPlace × Started) → StartLeaves a d e (with_holds o t.acted (holds_by e) below) o t.acted u chip (chip_after chip made y) w s made value y z
         → Work o t made value (after_start (at d e u (place.Start p)) z)
-    start_works e u p made value o t frame done still (r, started.Goes None) (h, here, free) = start_stands e u r below (chip_after chip made y) w s o (past_wrote w made t) free frame (same_done e u true t (past_wrote w made t) [] [] refl refl refl refl refl done.owed done) h here
-    start_works e u p made value o t frame done still (r, started.Over) h = over_works e u (place.Start p) (place.Start r) made value o t (passes_on a b d d e u (place.Start p) (place.Start r) below (chip_after chip made y) w s o (past_wrote w made t) m refl frame (same_done e u true t (past_wrote w made t) [] [] refl refl refl refl refl done.owed done) h)
+    start_works e u p made value o t frame done still (r, started.Goes None) (h, here, free) = start_stands e u r below (chip_after chip made y) w s o (past_wrote w made t) free frame (same_done d e u true t (past_wrote w made t) [] [] refl refl refl refl refl done.owed done) h here
+    start_works e u p made value o t frame done still (r, started.Over) h = over_works e u (place.Start p) (place.Start r) made value o t (passes_on a b d d e u (place.Start p) (place.Start r) below (chip_after chip made y) w s o (past_wrote w made t) m refl frame (same_done d e u true t (past_wrote w made t) [] [] refl refl refl refl refl done.owed done) h)
     start_works e u p made value o t frame done still (r, started.Goes (Some x)) g = begins_so e u r x made value o t frame done still g
 
     -- the word is served
-    may_serve : (e : FrameRole) (u : ℕ) (o : Origin Call) (t : FrameHistory) → u < 2 → IsFor u e o → Progress e u false t → t.owed ≡ [] → SpiRepresents d (with_holds o t.acted (holds_by e) below) chip w s → MayDo (spi_machine d) w s t (events.Serve (26 + u)) o
+    may_serve : (e : FrameRole) (u : ℕ) (o : Origin Call) (t : FrameHistory) → u < 2 → IsFor u e o → Progress d e u false t → t.owed ≡ [] → SpiRepresents d (with_holds o t.acted (holds_by e) below) chip w s → MayDo (spi_machine d) w s t (events.Serve (26 + u)) o
     may_serve (Transmit q) u _ t lt (Transmits _) done none h = absurd done
     may_serve Handler u _ t lt Handles done none h = (refl, done)
-    may_serve Main u _ t lt Mains done none h = (next_line u lt s t h.right.0 done, none)
-    may_serve Rest u _ t lt Rests done none h = (rest_line u lt s t h.right.1.0 done, none)
+    may_serve Main u _ t lt Mains done none h = (next_line d u lt s t h.right.0 done, none)
+    may_serve Rest u _ t lt Rests done none h = (rest_line d u lt s t h.right.1.0 done, none)
 
-    serves_so : (e : FrameRole) (u : ℕ) (q : ServePlace) (x : Event) (made : Move) (value : ℕ) (o : Origin Call) (t : FrameHistory) → Frame d d e u o → HasDone e u false [] t → SpiRepresents d (with_holds o t.acted (holds_by e) below) chip w s → resets_chip made ≡ false
+    serves_so : (e : FrameRole) (u : ℕ) (q : ServePlace) (x : Event) (made : Move) (value : ℕ) (o : Origin Call) (t : FrameHistory) → Frame d d e u o → HasDone d e u false [] t → SpiRepresents d (with_holds o t.acted (holds_by e) below) chip w s → resets_chip made ≡ false
         → ServeHappens d e (with_holds o t.acted (holds_by e) below) u chip (chip_after chip made y) w s made y q x → Work o t made value (at d e u (place.Serve q), passes (Some x))
     serves_so e u q x made value o t frame done h still g =
         subst (λ z. Work o t made value (at d e u (place.Serve q), passes (Some z))) (sym g.is_serve) (record {
@@ -252,19 +261,19 @@ module _ (a : Starting) (b : Serving) (d : SpiTable) (fits : FitsSpi d) where
         later : List Notice → FrameHistory
         later ns = record (past_wrote w made t) { served = (26 + u) ∷ t.served; owed = t.owed ++ owing true ns }
 
-        told : (ns : List Notice) → HasDone e u true (owing true ns) (later ns)
-        told ns = record { acted = done.acted; polled = done.polled; report = done.report; owed = ap (λ os. os ++ owing true ns) done.owed; progress = served_now e u frame.small t (later ns) refl refl done.progress }
+        told : (ns : List Notice) → HasDone d e u true (owing true ns) (later ns)
+        told ns = record { acted = done.acted; polled = done.polled; report = done.report; owed = ap (λ os. os ++ owing true ns) done.owed; progress = served_now d e u frame.small t (later ns) refl refl done.progress }
 
         owes : (n : Option (List Notice)) → ServeOwes d e (with_holds o t.acted (holds_by e) below) u (chip_after chip made y) w g.state g.notices q n
             → ((k : ℕ) × CommitsTo (spi_owing d) k (Units (at d e u (place.Serve q))) (chip_after chip made y) (λ c. SpiRepresents d (with_holds o t.acted (ahead_holds e u (served_ahead n)) below) c w g.state)) × OwedAt d (Some (record { table = d; errand = e; unit = u; ahead = served_ahead n })) o (later g.notices)
-        owes None (none, k) = (k o t.acted, (frame, subst (λ ns. HasDone e u true [] (later ns)) (sym none) (told [])))
-        owes (Some ns) (are, k) = (k o t.acted, (frame, subst (λ xs. HasDone e u true (owing true ns) (later xs)) (sym are) (told ns)))
+        owes None (none, k) = (k o t.acted, (frame, subst (λ ns. HasDone d e u true [] (later ns)) (sym none) (told [])))
+        owes (Some ns) (are, k) = (k o t.acted, (frame, subst (λ xs. HasDone d e u true (owing true ns) (later xs)) (sym are) (told ns)))
 
     -- nothing may be there to serve
-    serve_works : (e : FrameRole) (u : ℕ) (p : ServePlace) (made : Move) (value : ℕ) (o : Origin Call) (t : FrameHistory) → Frame d d e u o → HasDone e u false [] t → SpiRepresents d (with_holds o t.acted (holds_by e) below) chip w s → resets_chip made ≡ false → ((l : ℕ) → ready w s l ≡ false → m l ≡ true)
+    serve_works : (e : FrameRole) (u : ℕ) (p : ServePlace) (made : Move) (value : ℕ) (o : Origin Call) (t : FrameHistory) → Frame d d e u o → HasDone d e u false [] t → SpiRepresents d (with_holds o t.acted (holds_by e) below) chip w s → resets_chip made ≡ false → ((l : ℕ) → ready w s l ≡ false → m l ≡ true)
         → (z : ServePlace × ServeStep) → ServeLeaves b d e (with_holds o t.acted (holds_by e) below) u chip (chip_after chip made y) w s made y z
         → Work o t made value (after_serve (at d e u (place.Serve p)) z) ⊎ ((l : ℕ) × (ready w s l ≡ false) × Work o (record t { missed = l ∷ t.missed }) made value (after_serve (at d e u (place.Serve p)) z))
-    serve_works e u p made value o t frame done h still misses (r, steps.Goes None) (g, here, free) = inl (serve_stands e u r below (chip_after chip made y) w s o (past_wrote w made t) free frame (same_done e u false t (past_wrote w made t) [] [] refl refl refl refl refl done.owed done) g here)
+    serve_works e u p made value o t frame done h still misses (r, steps.Goes None) (g, here, free) = inl (serve_stands e u r below (chip_after chip made y) w s o (past_wrote w made t) free frame (same_done d e u false t (past_wrote w made t) [] [] refl refl refl refl refl done.owed done) g here)
     serve_works e u p made value o t frame done h still misses (r, steps.Goes (Some x)) g = inl (serves_so e u r x made value o t frame done h still g)
     serve_works e u p made value o t frame done h still misses (r, steps.JobOver x) g = absurd g
     serve_works e u p made value o t frame done h still misses (r, steps.Over) (g, none, free) = by e u o frame.of frame done g none
@@ -272,16 +281,20 @@ module _ (a : Starting) (b : Serving) (d : SpiTable) (fits : FitsSpi d) where
         o_main : Origin Call
         o_main = Called calls.MainFunctionHandling
 
-        by : (e : FrameRole) (u : ℕ) (o : Origin Call) → IsFor u e o → Frame d d e u o → HasDone e u false [] t → SpiRepresents d (with_holds o t.acted (holds_by e) below) (chip_after chip made y) w s → ready w s (26 + u) ≡ false
+        by : (e : FrameRole) (u : ℕ) (o : Origin Call) → IsFor u e o → Frame d d e u o → HasDone d e u false [] t → SpiRepresents d (with_holds o t.acted (holds_by e) below) (chip_after chip made y) w s → ready w s (26 + u) ≡ false
             → Work o t made value (unit_over (at d e u (place.Serve p)) (place.Serve r) e u) ⊎ ((l : ℕ) × (ready w s l ≡ false) × Work o (record t { missed = l ∷ t.missed }) made value (unit_over (at d e u (place.Serve p)) (place.Serve r) e u))
         by (Transmit q) u _ (Transmits _) frame done g none = absurd done.progress
         by Handler u _ Handles frame done g none = inl (g, record { may = (or_true (has_line t.served (26 + u)) (misses (26 + u) none), refl); served = false; owed = done.owed; shown = λ i. absurd (cc); report = done.report })
-        by Main zero _ Mains frame done g none = inr (
-          26,
-          none,
-          subst (λ e1. AssertedAt (spi_basis d) (unit_bodies a b d) below (chip_after chip made y) w s (at d e1 1 (place.Opens after.Serve)) o_main (past_wrote w made (record t { missed = 26 ∷ t.missed }))) (sym (rest_missed r free))
-              (g, (record { table = frame.table; small = omega arith; of = Mains }, record { acted = done.acted; polled = done.polled; report = done.report; owed = done.owed; progress = (just_missed t 26, done.progress) })),
-        )
+        by Main zero _ Mains frame done g none = inr (26, none, next (is_sync_unit d 1) refl)
+          where
+            missed : FrameHistory
+            missed = record t { missed = 26 ∷ t.missed }
+
+            next : (z : Bool) → is_sync_unit d 1 ≡ z → Work o_main missed made value (main_over (at d Main 0 (place.Serve p)) (place.Serve r) z)
+            next true sync = (handling_over d o_main t.acted below (chip_after chip made y) w s g, main_stops a b d (past_wrote w made missed) m done.acted done.polled done.report done.owed (just_missed t 26) (done.progress.1 sync))
+            next false async =
+                subst (λ e1. AssertedAt (spi_basis d) (unit_bodies a b d) below (chip_after chip made y) w s (at d e1 1 (place.Opens after.Serve)) o_main (past_wrote w made missed)) (sym (rest_missed r free))
+                (g, (record { table = frame.table; small = omega arith; async = async; of = Mains }, record { acted = done.acted; polled = done.polled; report = done.report; owed = done.owed; progress = (just_missed t 26, done.progress.0) }))
         by Main (suc zero) _ Mains frame done g none = inr (27, none, (handling_over d o_main t.acted below (chip_after chip made y) w s g, main_stops a b d (past_wrote w made (record t { missed = 27 ∷ t.missed })) m done.acted done.polled done.report done.owed done.progress.0 (just_missed t 27)))
         by Main (suc (suc u)) _ Mains frame done g none = absurd (let lt = frame.small in omega (arith, lt))
         by Rest zero _ Rests frame done g none = absurd done.progress
@@ -297,15 +310,29 @@ module _ (a : Starting) (b : Serving) (d : SpiTable) (fits : FitsSpi d) where
 
     -- ---- the main function acts, the mask is opened, and notices are told
 
-    pub acts_so : (e : FrameRole) (u : ℕ) (o : Origin Call) → e ≡ Main → u ≡ 0 → Frame d d e u o → is_polling s.mode ≡ true → SpiRepresents d below chip w s → Work o fresh_history (Load STATE) (word_of chip STATE) (at d e u (place.Opens after.Serve), acts)
-    acts_so e u o is first frame polling h = by e u o frame.of is first frame
+    -- it surely misses the line of a unit that has nothing to serve, and ends where no unit has anything
+    pub acts_so : (e : FrameRole) (u : ℕ) (o : Origin Call) → IsFor u e o → e ≡ Main → u ≡ first_served d → is_polling s.mode ≡ true → ((l : ℕ) → ready w s l ≡ false → m l ≡ true) → SpiRepresents d below chip w s
+        → let r = unit_acts (at d e u place.Act) (is_sync_unit d u) in Work o fresh_history (Load STATE) (word_of chip STATE) r ⊎ ((l : ℕ) × (ready w s l ≡ false) × Work o (record fresh_history { missed = l ∷ [] }) (Load STATE) (word_of chip STATE) r)
+    acts_so e u o for is first polling misses h = by e u o for is first
       where
-        by : (e : FrameRole) (u : ℕ) (o : Origin Call) → IsFor u e o → e ≡ Main → u ≡ 0 → Frame d d e u o → Work o fresh_history (Load STATE) (word_of chip STATE) (at d e u (place.Opens after.Serve), acts)
-        by (Transmit q) u o for is first frame = absurd (cc)
-        by Handler u o for is first frame = absurd (cc)
-        by Rest u o for is first frame = absurd (cc)
-        by Main (suc u) o for is first frame = absurd (cc)
-        by Main zero _ Mains is first frame = record {
+        o_main : Origin Call
+        o_main = Called calls.MainFunctionHandling
+
+        main_at : ℕ → UnitBody
+        main_at u = at d Main u place.Act
+
+        Acts : ℕ → Bool → FrameHistory → Type 0
+        Acts u z t = Work o_main t (Load STATE) (word_of chip STATE) (unit_acts (main_at u) z)
+
+        Either_acts : ℕ → Bool → Type 0
+        Either_acts u z = Acts u z fresh_history ⊎ ((l : ℕ) × (ready w s l ≡ false) × Acts u z (record fresh_history { missed = l ∷ [] }))
+
+        polled : polls s calls.MainFunctionHandling ≡ 26 ∷ 27 ∷ []
+        polled = ap (λ (q : Bool). if q then 26 ∷ 27 ∷ [] else []) polling
+
+        -- it acts, with these lines missed
+        goes_so : (ls : List ℕ) (u : ℕ) → u < 2 → is_sync_unit d u ≡ false → Progress d Main u false (record fresh_history { acted = Some no_answer; polled = polls s calls.MainFunctionHandling; missed = ls }) → Acts u false (record fresh_history { missed = ls })
+        goes_so ls u few async progress = record {
           may = refl;
           stands = tt;
           state = s;
@@ -315,21 +342,83 @@ module _ (a : Starting) (b : Serving) (d : SpiTable) (fits : FitsSpi d) where
           sends = tt;
           acts = tt;
           reset = refl;
-          next = (handling_begins d (Called calls.MainFunctionHandling) (Some no_answer) below (chip_after chip (Load STATE) y) w s polling h, (frame, record { acted = refl; polled = ap (λ (q : Bool). if q then 26 ∷ 27 ∷ [] else []) polling; report = refl; owed = refl; progress = refl }));
+          next = (
+            handling_begins d o_main (Some no_answer) below (chip_after chip (Load STATE) y) w s polling h,
+            (record { table = refl; small = few; async = async; of = Mains }, record { acted = refl; polled = polled; report = refl; owed = refl; progress = progress }),
+          );
         }
 
+        -- no unit has anything to serve
+        ends_so : (u : ℕ) → is_sync_unit d 0 ≡ true → is_sync_unit d 1 ≡ true → Acts u true fresh_history
+        ends_so u first second = record {
+          may = refl;
+          stands = tt;
+          state = s;
+          told = tells_nothing;
+          begins = None;
+          is = refl;
+          sends = tt;
+          acts = tt;
+          reset = refl;
+          next = (
+            h,
+            record {
+              may = (refl, ap (list_all (λ l. m l || false)) polled ∙ both_or (m 26) (m 27) (misses 26 (none_served d fits below chip w s h 0 first)) (misses 27 (none_served d fits below chip w s h 1 second)));
+              served = false;
+              owed = refl;
+              shown = λ i. absurd (cc);
+              report = refl;
+            },
+          );
+        }
+          where
+            both_or : (x y : Bool) → x ≡ true → y ≡ true → (x || false) && ((y || false) && true) ≡ true
+            both_or true true e f = refl
+            both_or false y e f = absurd (cc)
+            both_or true false e f = absurd (cc)
+
+        -- the first unit is served first where it starts jobs alone
+        first_async : (z : Bool) → is_sync_unit d 0 ≡ z → ◌≡◌ {A = ℕ} 0 (if z then 1 else 0) → is_sync_unit d 0 ≡ false
+        first_async true e f = absurd (cc)
+        first_async false e f = e
+
+        first_sync : (z : Bool) → is_sync_unit d 0 ≡ z → ◌≡◌ {A = ℕ} 1 (if z then 1 else 0) → is_sync_unit d 0 ≡ true
+        first_sync true e f = e
+        first_sync false e f = absurd (cc)
+
+        none_past : (z : Bool) (u : ℕ) → suc (suc u) ≡ (if z then 1 else 0) → ⊥
+        none_past true u e = cc
+        none_past false u e = cc
+
+        at_first : (z : Bool) → is_sync_unit d 1 ≡ z → is_sync_unit d 0 ≡ false → Either_acts 0 false
+        at_first true sync async = inr (27, none_served d fits below chip w s h 1 sync, goes_so (27 ∷ []) 0 (omega arith) async (refl, λ e. refl))
+        at_first false other async = inl (goes_so [] 0 (omega arith) async (refl, λ e. absurd (let f = sym other ∙ e in cc)))
+
+        at_second : (z : Bool) → is_sync_unit d 1 ≡ z → is_sync_unit d 0 ≡ true → Either_acts 1 z
+        at_second true sync first = inl (ends_so 1 first sync)
+        at_second false async first = inr (26, none_served d fits below chip w s h 0 first, goes_so (26 ∷ []) 1 (omega arith) async (refl, refl))
+
+        by : (e : FrameRole) (u : ℕ) (o : Origin Call) → IsFor u e o → e ≡ Main → u ≡ first_served d
+            → let r = unit_acts (at d e u place.Act) (is_sync_unit d u) in Work o fresh_history (Load STATE) (word_of chip STATE) r ⊎ ((l : ℕ) × (ready w s l ≡ false) × Work o (record fresh_history { missed = l ∷ [] }) (Load STATE) (word_of chip STATE) r)
+        by (Transmit q) u o for is first = absurd (cc)
+        by Handler u o for is first = absurd (cc)
+        by Rest u o for is first = absurd (cc)
+        by Main zero _ Mains is first = let async = first_async (is_sync_unit d 0) refl first in subst (λ z. Either_acts 0 z) (sym async) (at_first (is_sync_unit d 1) refl async)
+        by Main (suc zero) _ Mains is first = at_second (is_sync_unit d 1) refl (first_sync (is_sync_unit d 0) refl first)
+        by Main (suc (suc u)) _ Mains is first = absurd (none_past (is_sync_unit d 0) u first)
+
     -- after the opening it tells the notices, or starts
-    pub opens_so : (e : FrameRole) (u : ℕ) (x : After) (o : Origin Call) (t : FrameHistory) → Frame d d e u o → OpensAt e u x t → SpiRepresents d (with_holds o t.acted (opens_holds e u x) below) chip w s → StandAt below chip w s (at d e u (opened x)) o t
+    pub opens_so : (e : FrameRole) (u : ℕ) (x : After) (o : Origin Call) (t : FrameHistory) → Frame d d e u o → OpensAt d e u x t → SpiRepresents d (with_holds o t.acted (opens_holds e u x) below) chip w s → StandAt below chip w s (at d e u (opened x)) o t
     opens_so e u after.Serve o t frame done h = (h, (frame, done))
     opens_so e u after.Start o t frame done h = (h, (frame, done))
     opens_so e u (after.Tell x) o t frame done h = by x.job x.sequence done
       where
-        by : (i j : Option Notice) → HasDone e u true (owing true (told_list i j)) t → StandAt below chip w s (at d e u (told_first i j)) o t
+        by : (i j : Option Notice) → HasDone d e u true (owing true (told_list i j)) t → StandAt below chip w s (at d e u (told_first i j)) o t
         by (Some i) j done = (h, (frame, done))
         by None (Some j) done = (h, (frame, done))
         by None None done = (h, (frame, done))
 
-    pub tells_so : (e : FrameRole) (u : ℕ) (n : Notice) (other : Option Notice) (o : Origin Call) (t : FrameHistory) → Frame d d e u o → HasDone e u true (owing true (n ∷ and_other other)) t → SpiRepresents d (with_holds o t.acted (with_debt e u) below) chip w s → Notes (spi_basis d) (unit_bodies a b d) below chip w s o n (at d e u (told_next other)) t
+    pub tells_so : (e : FrameRole) (u : ℕ) (n : Notice) (other : Option Notice) (o : Origin Call) (t : FrameHistory) → Frame d d e u o → HasDone d e u true (owing true (n ∷ and_other other)) t → SpiRepresents d (with_holds o t.acted (with_debt e u) below) chip w s → Notes (spi_basis d) (unit_bodies a b d) below chip w s o n (at d e u (told_next other)) t
     tells_so e u n other o t frame done h = record {
       served = true;
       others = owing true (and_other other);
@@ -341,17 +430,17 @@ module _ (a : Starting) (b : Serving) (d : SpiTable) (fits : FitsSpi d) where
         later : FrameHistory
         later = record t { owed = owing true (and_other other) }
 
-        rest : HasDone e u true (owing true (and_other other)) later
-        rest = same_done e u true t later (owing true (n ∷ and_other other)) (owing true (and_other other)) refl refl refl refl refl refl done
+        rest : HasDone d e u true (owing true (and_other other)) later
+        rest = same_done d e u true t later (owing true (n ∷ and_other other)) (owing true (and_other other)) refl refl refl refl refl refl done
 
         by : (z : Option Notice) → z ≡ other → StandAt below chip w s (at d e u (told_next z)) o later
-        by None is = (h, (frame, subst (λ z. HasDone e u true (owing true (and_other z)) later) (sym is) rest))
-        by (Some i) is = (h, (frame, subst (λ z. HasDone e u true (owing true (and_other z)) later) (sym is) rest))
+        by None is = (h, (frame, subst (λ z. HasDone d e u true (owing true (and_other z)) later) (sym is) rest))
+        by (Some i) is = (h, (frame, subst (λ z. HasDone d e u true (owing true (and_other z)) later) (sym is) rest))
 
   -- ---- all of them
 
   -- a move of its serving window, and of its start window
-  pub serve_right_at : IsServing d b → (below : Reservations) (chip : Chip) (w : World) (s : SpiState) (e : FrameRole) (u : ℕ) (p : ServePlace) (o : Origin Call) (y : ℕ) (t : FrameHistory) (m : ℕ → Bool) → serve_owes p ≡ false → ReceivedRight chip w (serve_move d u p) y → Frame d d e u o → HasDone e u false [] t
+  pub serve_right_at : IsServing d b → (below : Reservations) (chip : Chip) (w : World) (s : SpiState) (e : FrameRole) (u : ℕ) (p : ServePlace) (o : Origin Call) (y : ℕ) (t : FrameHistory) (m : ℕ → Bool) → serve_owes p ≡ false → ReceivedRight chip w (serve_move d u p) y → Frame d d e u o → HasDone d e u false [] t
       → SpiRepresents d (with_holds o t.acted (holds_by e) below) chip w s → b.place d u p (foot d chip) w s → is_shared (serve_move d u p) ≡ false
       → (MakesTo (spi_basis d) (unit_bodies a b d) below chip (chip_after chip (serve_move d u p) y) w s o (serve_move d u p) false (value_of chip (serve_move d u p)) y t (missed_after (spi_machine d) w s m) (after_serve (at d e u (place.Serve p)) (serve_takes d u p (value_of chip (serve_move d u p)))))
       ⊎ ((l : ℕ) × (ready w s l ≡ false) × MakesTo (spi_basis d) (unit_bodies a b d) below chip (chip_after chip (serve_move d u p) y) w s o (serve_move d u p) false (value_of chip (serve_move d u p)) y (record t { missed = l ∷ t.missed }) (missed_after (spi_machine d) w s m) (after_serve (at d e u (place.Serve p)) (serve_takes d u p (value_of chip (serve_move d u p)))))
@@ -387,7 +476,7 @@ module _ (a : Starting) (b : Serving) (d : SpiTable) (fits : FitsSpi d) where
       by (inl works) = inl (makes t works)
       by (inr (l, none, works)) = inr (l, none, makes (record t { missed = l ∷ t.missed }) works)
 
-  pub start_right_at : IsStarting d a → (below : Reservations) (chip : Chip) (w : World) (s : SpiState) (e : FrameRole) (u : ℕ) (p : StartPlace) (o : Origin Call) (y : ℕ) (t : FrameHistory) (m : ℕ → Bool) → start_owes p ≡ false → ReceivedRight chip w (start_move d u p) y → Frame d d e u o → HasDone e u true [] t
+  pub start_right_at : IsStarting d a → (below : Reservations) (chip : Chip) (w : World) (s : SpiState) (e : FrameRole) (u : ℕ) (p : StartPlace) (o : Origin Call) (y : ℕ) (t : FrameHistory) (m : ℕ → Bool) → start_owes p ≡ false → ReceivedRight chip w (start_move d u p) y → Frame d d e u o → HasDone d e u true [] t
       → SpiRepresents d (with_holds o t.acted (with_debt e u) below) chip w s → a.place d u p (foot d chip) s → is_shared (start_move d u p) ≡ false
       → MakesTo (spi_basis d) (unit_bodies a b d) below chip (chip_after chip (start_move d u p) y) w s o (start_move d u p) false (value_of chip (start_move d u p)) y t (missed_after (spi_machine d) w s m) (after_start (at d e u (place.Start p)) (start_takes d u p (value_of chip (start_move d u p))))
   start_right_at starting below chip w s e u p o y t m free come frame done h here plain =

@@ -1,14 +1,14 @@
 -- What a driver that is made of a sound configuration is: the places of its channels' words, its jobs and its sequences.
 -- Used by board_promises: proofs/Kept, mcal_system: proofs/Resting, mcal_drivers: proofs/SoundSerial and 1 more.
-use Rattle.std.proofs.Common.{◌≡◌, ◌≢◌, ◌+◌, ◌*◌, ◌%◌, ◌<◌, ◌≤◌, ◌==◌, [], ◌∷◌, ◌∙◌, if◌then◌else◌}
+use Rattle.std.proofs.Common.{◌≡◌, ◌+◌, ◌*◌, ◌<◌, ◌≤◌, ◌==◌, [], ◌∷◌, ◌∙◌, if◌then◌else◌}
 use Rattle.spi_driver.specs.Terms
-use Terms.{after, All, ap, AreDifferent, arith, banked, before, block_of, blocks_of, Bool, byte_at, Channel, channel_in}
-use Terms.{channel_list, channel_of, channels_by, channels_by_number, channels_of, cond, Contains, count_by, false}
-use Terms.{FitsChannel, FitsJob, FitsSequence, FitsSpi, get_or_default, in_list, internal_by, is_some, Job, job_in}
-use Terms.{job_list, job_of, job_row, jobs_by, jobs_by_number, jobs_of, length, List, list_any, None, Option, refl}
-use Terms.{rows, Sequence, sequence_in, sequence_of, sequence_row, sequences_by_number, slice_index_or, so_at, Some}
-use Terms.{some_of, SpiChannel, SpiConfig, SpiJob, SpiSequence, SpiTable, subst, suc, sum_by, sum_by-cons, sym}
-use Terms.{table_of, take, taken_channel, taken_job, taken_sequence, true, uses_channel, words_of, zero, ℕ}
+use Terms.{after, All, ap, AreDifferent, arith, banked, before, block_of, blocks_of, Bool, byte_at, Channel}
+use Terms.{channel_in, channel_list, channel_of, channels_by, channels_by_number, channels_of, cond, Contains}
+use Terms.{count_by, false, FitsChannel, FitsJob, FitsSequence, FitsSpi, get_or_default, in_list, internal_by, is_some}
+use Terms.{Job, job_in, job_list, job_of, job_row, jobs_by, jobs_by_number, jobs_of, length, List, list_any, None}
+use Terms.{Option, refl, rows, Sequence, sequence_in, sequence_of, sequence_row, sequences_by_number, slice_index_or}
+use Terms.{so_at, Some, some_of, SpiChannel, SpiConfig, SpiJob, SpiSequence, SpiTable, subst, suc, sum_by, sum_by-cons}
+use Terms.{sym, table_of, take, taken_channel, taken_job, taken_sequence, true, uses_channel, words_of, zero, ℕ}
 
 -- ---- the words of channels
 

@@ -1,17 +1,20 @@
 -- What the words hold of channels, and which are in use, is the machine's.
 -- From spi_sequences: words.WordsToState.
 -- Used by bookkeeping.Joined, told/rt, proofs/driver/SpiDriver/internal/Answers.
-use Rattle.std.proofs.Common.{◌≡◌, ◌+◌, ◌*◌, ◌<◌, ◌≤◌, ◌%◌, ◌==◌, ◌&&◌, ◌||◌, [], ◌∷◌, ◌∙◌, if◌then◌else◌}
+use Rattle.std.proofs.Common.{◌≡◌, ◌+◌, ◌<◌, ◌≤◌, ◌%◌, ◌==◌, ◌&&◌, ◌||◌, [], ◌∷◌, ◌∙◌, ◌⊎◌, if◌then◌else◌}
 use Rattle.spi_driver.specs.Terms
-use Terms.{and_parts, any_in, ap, arith, bank_of, bank_word, Banks, BanksAgree, Bool, Channel, channel_at}
-use Terms.{channel_number, channel_of, ChannelList, channels_by, channels_of, Chip, Contains, control_word, false}
-use Terms.{first-at, FitsSpi, get_contained, has_channel, internal_word, Interrupt, is_in_use, is_off, Job, job_number}
-use Terms.{job_of, JobList, jobs_by, jobs_list, jobs_of, length, length-take-le, List, list_any, list_by, list_of}
-use Terms.{Memory, Mode, mode_word, nat_lt, nat_tests, None, not, number_there, of_sixteen, Off, Option, PENDING}
-use Terms.{Pending, Placed, placed_of, Polling, Received, refl, Reservations, Sent, Sequence, sequence_of}
-use Terms.{sequence_word, Side, slice_get, slice_index_or, Some, SpiRepresents, SpiState, SpiTable, STATE, subst, suc}
-use Terms.{sym, trio_fits, trio_of, true, uses_channel, view, word_of, WORDS, World, zero, ℕ}
+use Terms.{all_carried, all_cases, all_of, all_pending, and_parts, any_in, ap, arith, bank_of, bank_word, Banks}
+use Terms.{BanksAgree, Bool, carried_at, carries_channel, Carrying, Channel, channel_at, channel_number, channel_of}
+use Terms.{ChannelList, channels_by, channels_of, Chip, Contains, control_word, entry_carried, false, first-at}
+use Terms.{FitsSpi, get_contained, get_or_default, has_channel, inl, inr, internal_word, Interrupt, is_in_use, is_off}
+use Terms.{Job, job_number, job_of, JobList, jobs_by, jobs_list, jobs_of, length, length-take-le, List, list_any}
+use Terms.{list_by, list_of, Memory, Mode, mode_word, nat_lt, nat_tests, None, none_under_way, not, number_there}
+use Terms.{of_sixteen, Off, Option, PENDING, Pending, Placed, placed_of, Polling, Received, refl, Reservations, Sent}
+use Terms.{Sequence, sequence_of, sequence_word, Side, slice_get, slice_index_or, Some, some_is, SpiRepresents}
+use Terms.{SpiState, SpiTable, STATE, subst, suc, sym, trio_fits, trio_of, true, uses_channel, view, word_of, WORDS}
+use Terms.{World, zero, ℕ}
 use Rattle.word_shapes.specs.TripleBuffer as trio
+use Rattle.spi_machine.specs.State as machine
 use Rattle.spi_sequences.specs.laws.words.WordsToState as said
 
 -- ---- what is told
@@ -153,29 +156,75 @@ module _ (d : SpiTable) (fits : FitsSpi d) (c : ℕ) where
       by (j, (i, lt, own), is) = let few = jobs_few q in (i, omega (arith, lt, few), has_is (job_number (jobs_list d q) i) j (number_there d fits q i ∙ said.at_contained (jobs_of d q) i j lt own) ∙ is)
 
   module _ (held : Reservations) (chip : Chip) (w : World) (s : SpiState) (h : SpiRepresents d held chip w s) where
-    -- in an uninitialised module none is
-    off_none : is_off s.mode ≡ true → is_in_use d c s.pending ≡ false
-    off_none e = ap (is_in_use d c) (h.sound.off e).0
-
-    among_is : is_off s.mode ≡ false → among d (word_of chip) c 8 ≡ is_in_use d c s.pending
-    among_is on = upto_is (λ q. word_of chip (sequence_word q) == PENDING && has_in d (jobs_list d q) c 16) 8 (is_in_use d c s.pending)
-        (λ q lt e. there q (and_parts (word_of chip (sequence_word q) == PENDING) (has_in d (jobs_list d q) c 16) e) lt)
-        (λ e. back (said.any_some (λ p. list_any (uses_channel d c) (jobs_of d p.sequence)) s.pending e))
+    -- those under way are the pending ones, and those that units carry out
+    all_uses : is_in_use d c (all_of (view s)) ≡ machine.uses d s c
+    all_uses = both_so (is_in_use d c (all_of (view s))) (machine.uses d s c) (λ e. there (said.any_some in_one (all_of (view s)) e)) (λ e. back (is_in_use d c s.pending) refl e)
       where
-        there : (q : ℕ) → ((word_of chip (sequence_word q) == PENDING) ≡ true) × (has_in d (jobs_list d q) c 16 ≡ true) → q < 8 → is_in_use d c s.pending ≡ true
-        there q (e, f) lt =
-            let p = said.entry_of d fits held chip w s h q (sym (said.pending_word d fits held chip w s h on q lt) ∙ e) in
-            any_in (λ p. list_any (uses_channel d c) (jobs_of d p.sequence)) s.pending p.0 p.1 (ap (λ n. list_any (uses_channel d c) (jobs_of d n)) p.2 ∙ sym (sequence_has q) ∙ f)
+        in_one : Pending → Bool
+        in_one p = list_any (uses_channel d c) (jobs_of d p.sequence)
 
-        back : (p : Pending) × Contains s.pending p × (list_any (uses_channel d c) (jobs_of d p.sequence) ≡ true) → (i : ℕ) × (i < 8) × (word_of chip (sequence_word i) == PENDING && has_in d (jobs_list d i) c 16 ≡ true)
+        both_so : (a b : Bool) → (a ≡ true → b ≡ true) → (b ≡ true → a ≡ true) → a ≡ b
+        both_so true b f g = sym (f refl)
+        both_so false true f g = g refl
+        both_so false false f g = refl
+
+        right_true : (a : Bool) {b : Bool} → b ≡ true → a || b ≡ true
+        right_true true e = refl
+        right_true false e = e
+
+        carried_there : (u : ℕ) (p : Pending) (o : Option Carrying) → carried_at s u ≡ o → entry_carried o ≡ Some p → in_one p ≡ true → machine.uses d s c ≡ true
+        carried_there u p None e f is = absurd (cc)
+        carried_there u p (Some x) e f is = right_true (is_in_use d c s.pending) (any_in (carries_channel d c) s.carried (Some x) (u, some_there s.carried u x e, some_at s.carried u x e) (ap in_one (some_is x.entry p f) ∙ is))
+          where
+            some_there : (xs : List (Option Carrying)) (n : ℕ) (x : Carrying) → slice_index_or xs n None ≡ Some x → n < length xs
+            some_there [] n x e = absurd (cc)
+            some_there (y ∷ ys) zero x e = omega arith
+            some_there (y ∷ ys) (suc n) x e = let lt = some_there ys n x e in omega (arith, lt)
+
+            some_at : (xs : List (Option Carrying)) (n : ℕ) (x : Carrying) (e : slice_index_or xs n None ≡ Some x) → slice_index_or xs n (Some x) ≡ Some x
+            some_at xs n x e = get_or_default xs n (Some x) None (some_there xs n x e) ∙ e
+
+        there : (p : Pending) × Contains (all_of (view s)) p × (in_one p ≡ true) → machine.uses d s c ≡ true
+        there (p, own, is) = by (all_cases (view s) p own)
+          where
+            by : Contains s.pending p ⊎ ((u : ℕ) × ((view s).begun u ≡ Some p)) → machine.uses d s c ≡ true
+            by (inl pending) = ap (λ q. q || list_any (carries_channel d c) s.carried) (any_in in_one s.pending p pending is)
+            by (inr (u, e)) = carried_there u p (carried_at s u) refl e is
+
+        back : (q : Bool) → is_in_use d c s.pending ≡ q → q || list_any (carries_channel d c) s.carried ≡ true → is_in_use d c (all_of (view s)) ≡ true
+        back true e f = let r = said.any_some in_one s.pending e in any_in in_one (all_of (view s)) r.0 (all_pending (view s) r.0 r.1) r.2
+        back false e f = by (said.any_some (carries_channel d c) s.carried f)
+          where
+            entry : (o : Option Carrying) (u : ℕ) → carried_at s u ≡ o → carries_channel d c o ≡ true → is_in_use d c (all_of (view s)) ≡ true
+            entry None u e f = absurd (cc)
+            entry (Some x) u e f = let begun : (view s).begun u ≡ Some x.entry = ap entry_carried e in any_in in_one (all_of (view s)) x.entry (all_carried (view s) u x.entry (h.sound.carries.unit u x.entry begun).0 begun) f
+
+            by : (o : Option Carrying) × Contains s.carried o × (carries_channel d c o ≡ true) → is_in_use d c (all_of (view s)) ≡ true
+            by (o, (u, lt, at), is) = entry o u (sym (get_or_default s.carried u o None lt) ∙ at) is
+
+    -- in an uninitialised module none is
+    off_none : is_off s.mode ≡ true → is_in_use d c (all_of (view s)) ≡ false
+    off_none e = said.none_any (λ p. list_any (uses_channel d c) (jobs_of d p.sequence)) (all_of (view s)) (λ p own. absurd (none_under_way d (view s) h.sound e p own))
+
+    among_is : is_off s.mode ≡ false → among d (word_of chip) c 8 ≡ is_in_use d c (all_of (view s))
+    among_is on = upto_is (λ q. word_of chip (sequence_word q) == PENDING && has_in d (jobs_list d q) c 16) 8 (is_in_use d c (all_of (view s)))
+        (λ q lt e. there q (and_parts (word_of chip (sequence_word q) == PENDING) (has_in d (jobs_list d q) c 16) e) lt)
+        (λ e. back (said.any_some (λ p. list_any (uses_channel d c) (jobs_of d p.sequence)) (all_of (view s)) e))
+      where
+        there : (q : ℕ) → ((word_of chip (sequence_word q) == PENDING) ≡ true) × (has_in d (jobs_list d q) c 16 ≡ true) → q < 8 → is_in_use d c (all_of (view s)) ≡ true
+        there q (e, f) lt =
+            let p = said.entry_of d fits held chip w s h (all_of (view s)) q (sym (said.pending_word d fits held chip w s h on q lt) ∙ e) in
+            any_in (λ p. list_any (uses_channel d c) (jobs_of d p.sequence)) (all_of (view s)) p.0 p.1 (ap (λ n. list_any (uses_channel d c) (jobs_of d n)) p.2 ∙ sym (sequence_has q) ∙ f)
+
+        back : (p : Pending) × Contains (all_of (view s)) p × (list_any (uses_channel d c) (jobs_of d p.sequence) ≡ true) → (i : ℕ) × (i < 8) × (word_of chip (sequence_word i) == PENDING && has_in d (jobs_list d i) c 16 ≡ true)
         back (p, own, is) =
             let lt = (h.sound.entries p own).number in
-            (p.sequence, lt, ap (λ q. q && has_in d (jobs_list d p.sequence) c 16) (said.pending_word d fits held chip w s h on p.sequence lt ∙ said.is_there d fits held chip w s h p own) ∙ sequence_has p.sequence ∙ is)
+            (p.sequence, lt, ap (λ q. q && has_in d (jobs_list d p.sequence) c 16) (said.pending_word d fits held chip w s h on p.sequence lt ∙ said.is_there d fits held chip w s h (all_of (view s)) p own) ∙ sequence_has p.sequence ∙ is)
 
-    pub used_is : uses d (word_of chip) c ≡ is_in_use d c s.pending
-    used_is = by s.mode refl
+    pub used_is : uses d (word_of chip) c ≡ machine.uses d s c
+    used_is = by s.mode refl ∙ all_uses
       where
-        by : (m : Mode) → s.mode ≡ m → not (word_of chip STATE == 0) && among d (word_of chip) c 8 ≡ is_in_use d c s.pending
+        by : (m : Mode) → s.mode ≡ m → not (word_of chip STATE == 0) && among d (word_of chip) c 8 ≡ is_in_use d c (all_of (view s))
         by Off e = ap (λ v. not (v == 0) && among d (word_of chip) c 8) (h.words.state ∙ ap mode_word e) ∙ sym (off_none (ap is_off e))
         by Polling e = ap (λ v. not (v == 0) && among d (word_of chip) c 8) (h.words.state ∙ ap mode_word e) ∙ among_is (ap is_off e)
         by Interrupt e = ap (λ v. not (v == 0) && among d (word_of chip) c 8) (h.words.state ∙ ap mode_word e) ∙ among_is (ap is_off e)

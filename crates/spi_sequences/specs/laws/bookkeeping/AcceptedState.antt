@@ -3,20 +3,21 @@
 -- Used by services.RequestRight.
 use Rattle.std.proofs.Common.{◌≡◌, ◌≢◌, ◌+◌, ◌%◌, ◌<◌, ◌≤◌, ◌==◌, ◌&&◌, ◌||◌, [], ◌∷◌, ◌++◌, ◌∙◌, ◌⊎◌, if◌then◌else◌}
 use Rattle.spi_sequences.specs.Terms
-use Terms.{all_get, AnswerName, ap, append-nil, arith, Bool, cancelled_bit, Contains, Contains-get_or, Contains-push}
-use Terms.{Contains-push_cases, entries_of, Entry, false, filter, filter-append, FitsSpi, get_or_default, has_job}
-use Terms.{has_mark, inl, inr, is_for, is_held, is_left, is_of, is_off, is_pending, IsEntry, IsLast, IsOfSequence}
-use Terms.{IsSoundState, item-other, item-same, job_code, job_result, job_word, jobs_by, jobs_of, length, length-map}
-use Terms.{length-take-le, List, list_any, map, map-append, MARKS, Memory, next_in, NEXTS, not, option_map, or_parts}
-use Terms.{order_word, Pending, PendingAgrees, refl, requested, results-other, results-own, same_or_other, Sequence}
-use Terms.{sequence_code, sequence_of, sequence_result, sequence_word, SequencesAgree, shares_job, slice_get}
-use Terms.{slice_get-map, slice_index_or, Some, SpiJobOk, SpiJobPending, SpiJobQueued, SpiSeqOk, SpiSeqPending}
-use Terms.{SpiTable, started_bit, subst, suc, sym, true, unit_of_sequence, unmarked_in, View, with_item, with_next_in}
-use Terms.{zero, ℕ}
+use Terms.{all_get, all_of, AnswerName, ap, append-nil, arith, Bool, cancelled_bit, Contains, Contains-append_left}
+use Terms.{Contains-get_or, Contains-push, Contains-push_cases, entries_of, Entry, false, filter, filter-append}
+use Terms.{FitsSpi, get_or_default, has_job, has_mark, inl, inr, is_for, is_held, is_left, is_of, is_off, is_pending}
+use Terms.{is_sync_sequence, is_sync_unit, IsEntry, IsLast, IsOfSequence, IsSoundState, item-other, item-same}
+use Terms.{job_code, job_result, job_word, jobs_by, jobs_of, length, length-map, length-take-le, List, list_any, map}
+use Terms.{map-append, MARKS, Memory, next_in, NEXTS, not, option_map, or_parts, order_word, Pending, PendingAgrees}
+use Terms.{refl, requested, results-other, results-own, same_or_other, Sequence, sequence_code, sequence_of}
+use Terms.{sequence_result, sequence_word, SequencesAgree, shares_job, slice_get, slice_get-map, slice_index_or, Some}
+use Terms.{SpiJobOk, SpiJobPending, SpiJobQueued, SpiSeqOk, SpiSeqPending, SpiTable, started_bit, subst, suc, sym}
+use Terms.{true, unit_of_sequence, unmarked_in, View, with_item, with_next_in, zero, ℕ}
 use Rattle.spi_sequences.specs.laws.{words.SameWords.{job_small}, words.SequenceDigits.{first_other, first_same}}
 use Rattle.spi_sequences.specs.laws.{words.SequenceDigits.{unmarked_other, unmarked_same}}
 use Rattle.spi_sequences.specs.laws.{bookkeeping.SequenceEnded.{get_contained, jobs_once}}
-use Rattle.spi_sequences.specs.laws.{hardware.SourceFilled.{any_in}, words.JobPlaces.{LeftAt, at_left, job_unit}}
+use Rattle.spi_sequences.specs.laws.{words.ListTests.{any_in}, words.JobPlaces.{LeftAt, at_left, job_unit}}
+use Rattle.spi_sequences.specs.laws.words.AllSequences.{all_carried, all_cases, all_pending, shares_unit}
 use Rattle.spi_sequences.specs.laws.{words.WordsToState.{any_none, any_some, at_contained, is_number, none_any}}
 use Rattle.spi_sequences.specs.laws.{words.WordsToState.{not_true, one_unit, other_number, same_number}}
 use Rattle.word_shapes.specs.Order as order
@@ -34,18 +35,6 @@ get_push (x ∷ xs) y (suc i) z e = by (get_push xs y i z e)
     by (inl (f, lt)) = inl (f, omega (arith, lt))
     by (inr (f, g)) = inr (ap suc f, g)
 
-any_push : {A : Type 0} (p : A → Bool) (xs : List A) (y : A) → list_any p (xs ++ y ∷ []) ≡ list_any p xs || p y
-any_push p [] y = or_none (p y)
-  where
-    or_none : (b : Bool) → b || false ≡ b
-    or_none true = refl
-    or_none false = refl
-any_push p (x ∷ xs) y = ap (λ b. p x || b) (any_push p xs y) ∙ assoc (p x) (list_any p xs) (p y)
-  where
-    assoc : (a b c : Bool) → a || (b || c) ≡ (a || b) || c
-    assoc true b c = refl
-    assoc false b c = refl
-
 pub map_get : {A B : Type 0} (f : A → B) (xs : List A) (i : ℕ) (x : A) → slice_get xs i ≡ Some x → slice_get (map f xs) i ≡ Some (f x)
 map_get f xs i x e = slice_get-map f xs i ∙ ap (option_map f) e
 
@@ -56,7 +45,7 @@ map_at f (x ∷ xs) (suc i) lt = map_at f xs i (omega (arith, lt))
 
 -- ---- the state
 
-module _ (d : SpiTable) (fits : FitsSpi d) (v : View) (h : IsSoundState d v) (q : ℕ) (small : q < 8) (x : Sequence) (known : sequence_of d q ≡ Some x) (free : is_held d q v.pending ≡ false) (rests : v.running q ≡ false) (on : is_off v.mode ≡ false) where
+module _ (d : SpiTable) (fits : FitsSpi d) (v : View) (h : IsSoundState d v) (q : ℕ) (small : q < 8) (x : Sequence) (known : sequence_of d q ≡ Some x) (free : is_held d q v.pending ≡ false) (async : is_sync_sequence d q ≡ false) (rests : v.running q ≡ false) (on : is_off v.mode ≡ false) where
   abbrev jobs : List ℕ
   jobs = jobs_of d q
 
@@ -74,24 +63,33 @@ module _ (d : SpiTable) (fits : FitsSpi d) (v : View) (h : IsSoundState d v) (q 
       let same : length jobs ≡ length (jobs_by (Some x)) = ap (λ o. length (jobs_by o)) known in
       omega (arith, count, one, same)
 
-  -- no pending sequence is it, or has a job of it
-  pub apart_from : (p : Pending) → Contains v.pending p → (p.sequence ≢ q) × (shares_job d q p.sequence ≡ false)
-  apart_from p there =
-      let r = or_parts (is_of q p) (shares_job d q p.sequence) (any_none (λ p. is_of q p || shares_job d q p.sequence) v.pending free p there) in
-      (λ e. let f = sym r.0 ∙ ap (λ n. n == q) e ∙ same_number q in cc, r.1)
+  -- no sequence under way is it, or has a job of it
+  pub apart_from : (p : Pending) → Contains (all_of v) p → (p.sequence ≢ q) × (shares_job d q p.sequence ≡ false)
+  apart_from p there = by (all_cases v p there)
+    where
+      by : Contains v.pending p ⊎ ((u : ℕ) × (v.begun u ≡ Some p)) → (p.sequence ≢ q) × (shares_job d q p.sequence ≡ false)
+      by (inl is) =
+          let r = or_parts (is_of q p) (shares_job d q p.sequence) (any_none (λ p. is_of q p || shares_job d q p.sequence) v.pending free p is) in
+          (λ e. let f = sym r.0 ∙ ap (λ n. n == q) e ∙ same_number q in cc, r.1)
+      by (inr (u, e)) =
+          let r = h.carries.unit u p e in
+          let sync : is_sync_sequence d p.sequence ≡ true = ap (is_sync_unit d) r.2 ∙ r.1 in (
+            λ f. let g = sym async ∙ ap (is_sync_sequence d) (sym f) ∙ sync in cc,
+            not_true (shares_job d q p.sequence) (λ f. let g = sym async ∙ ap (is_sync_unit d) (shares_unit d fits q p.sequence f) ∙ sync in cc),
+          )
 
-  not_job : (p : Pending) (j : ℕ) → Contains v.pending p → Contains (jobs_of d p.sequence) j → list_any (λ k. k == j) jobs ≡ false
+  not_job : (p : Pending) (j : ℕ) → Contains (all_of v) p → Contains (jobs_of d p.sequence) j → list_any (λ k. k == j) jobs ≡ false
   not_job p j there has = not_true (list_any (λ k. k == j) jobs) (λ e. let f = sym (apart_from p there).1 ∙ any_in (has_job d q) (jobs_of d p.sequence) j has e in cc)
 
-  not_left : (j : ℕ) → Contains jobs j → list_any (is_left d j) v.pending ≡ false
-  not_left j has = none_any (is_left d j) v.pending (λ p there. not_true (is_left d j p) (λ e. by p there (at_left (jobs_of d p.sequence) p.next j e)))
+  not_left : (j : ℕ) → Contains jobs j → list_any (is_left d j) (all_of v) ≡ false
+  not_left j has = none_any (is_left d j) (all_of v) (λ p there. not_true (is_left d j p) (λ e. by p there (at_left (jobs_of d p.sequence) p.next j e)))
     where
-      by : (p : Pending) → Contains v.pending p → LeftAt (jobs_of d p.sequence) p.next j → ⊥
+      by : (p : Pending) → Contains (all_of v) p → LeftAt (jobs_of d p.sequence) p.next j → ⊥
       by p there l =
           let own : Contains (jobs_of d p.sequence) j = (l.place, l.within, get_or_default (jobs_of d p.sequence) l.place j 0 l.within ∙ l.is) in
           let f = sym (not_job p j there own) ∙ any_in (λ k. k == j) jobs j has (same_number j) in cc
 
-  not_shared : (p : Pending) → Contains v.pending p → shares_job d p.sequence q ≡ false
+  not_shared : (p : Pending) → Contains (all_of v) p → shares_job d p.sequence q ≡ false
   not_shared p there = none_any (has_job d p.sequence) jobs (λ j has. not_true (has_job d p.sequence j) (λ e. by j has (any_some (λ k. k == j) (jobs_of d p.sequence) e)))
     where
       by : (j : ℕ) → Contains jobs j → (k : ℕ) × Contains (jobs_of d p.sequence) k × ((k == j) ≡ true) → ⊥
@@ -121,25 +119,61 @@ module _ (d : SpiTable) (fits : FitsSpi d) (v : View) (h : IsSoundState d v) (q 
     cancelled = λ e. absurd (cc);
   }
 
-  entry_old : (p : Pending) → Contains v.pending p → IsEntry d accepted_view p
+  entry_old : (p : Pending) → Contains (all_of v) p → IsEntry d accepted_view p
   entry_old p there = let e = h.entries p there in record { number = e.number; next = e.next; had = e.had; last = e.last; cancelled = e.cancelled }
+
+  -- all sequences under way are those that were, and it
+  all_push : (p : Pending) → Contains (all_of accepted_view) p → Contains (all_of v) p ⊎ (new ≡ p)
+  all_push p there = by (all_cases accepted_view p there)
+    where
+      pushed : Contains v.pending p ⊎ (new ≡ p) → Contains (all_of v) p ⊎ (new ≡ p)
+      pushed (inl is) = inl (all_pending v p is)
+      pushed (inr e) = inr e
+
+      by : Contains (v.pending ++ new ∷ []) p ⊎ ((u : ℕ) × (v.begun u ≡ Some p)) → Contains (all_of v) p ⊎ (new ≡ p)
+      by (inl is) = pushed (Contains-push_cases v.pending new p is)
+      by (inr (u, e)) = inl (all_carried v u p (h.carries.unit u p e).0 e)
+
+  pub all_kept : (p : Pending) → Contains (all_of v) p → Contains (all_of accepted_view) p
+  all_kept p there = by (all_cases v p there)
+    where
+      by : Contains v.pending p ⊎ ((u : ℕ) × (v.begun u ≡ Some p)) → Contains (all_of accepted_view) p
+      by (inl is) = all_pending accepted_view p (Contains-append_left v.pending (new ∷ []) p is)
+      by (inr (u, e)) = all_carried accepted_view u p (h.carries.unit u p e).0 e
+
+  all_own : Contains (all_of accepted_view) new
+  all_own = all_pending accepted_view new (Contains-push v.pending new)
+
+  none_left : (j : ℕ) → list_any (is_left d j) (all_of accepted_view) ≡ false → (list_any (is_left d j) (all_of v) ≡ false) × (is_left d j new ≡ false)
+  none_left j none = (none_any (is_left d j) (all_of v) (λ p is. any_none (is_left d j) (all_of accepted_view) none p (all_kept p is)), any_none (is_left d j) (all_of accepted_view) none new all_own)
 
   pub accepted_sound : IsSoundState d accepted_view
   accepted_sound = record {
-    entries = λ p there. entries p (Contains-push_cases v.pending new p there);
+    entries = λ p there. entries p (all_push p there);
     apart = λ i j a b lt e f. apart i j a b lt (get_push v.pending new i a e) (get_push v.pending new j b f);
     requests = λ p there. requests p (Contains-push_cases v.pending new p there);
     results = record {
       queued = λ p i there le lt. queued p i (Contains-push_cases v.pending new p there) le lt;
-      last = λ j none. last j (or_parts (list_any (is_left d j) v.pending) (is_left d j new) (sym (any_push (is_left d j) v.pending new) ∙ none));
+      last = λ j none. last j (none_left j none);
       named = λ n lt. names n lt (same_or_other n q);
       sequences = λ n lt. represents n lt (same_or_other n q);
+    };
+    carries = record {
+      unit = h.carries.unit;
+      asked = λ p there. asked p (Contains-push_cases v.pending new p there);
+      idle = h.carries.idle;
+      queued = λ u p i e le lt. others_now (slice_index_or (jobs_of d p.sequence) i 0) (not_job p (slice_index_or (jobs_of d p.sequence) i 0) (all_carried v u p (h.carries.unit u p e).0 e) (Contains-get_or (jobs_of d p.sequence) i 0 lt)) ∙ h.carries.queued u p i e le lt;
+      off = λ e u. absurd (let f = sym on ∙ e in cc);
     };
     few = h.few;
     off = λ e. absurd (let f = sym on ∙ e in cc);
   }
     where
-      entries : (p : Pending) → Contains v.pending p ⊎ (new ≡ p) → IsEntry d accepted_view p
+      asked : (p : Pending) → Contains v.pending p ⊎ (new ≡ p) → is_sync_sequence d p.sequence ≡ false
+      asked p (inl there) = h.carries.asked p there
+      asked p (inr e) = subst (λ z. is_sync_sequence d z.sequence ≡ false) e async
+
+      entries : (p : Pending) → Contains (all_of v) p ⊎ (new ≡ p) → IsEntry d accepted_view p
       entries p (inl there) = entry_old p there
       entries p (inr e) = subst (λ z. IsEntry d accepted_view z) e entry_new
 
@@ -147,9 +181,10 @@ module _ (d : SpiTable) (fits : FitsSpi d) (v : View) (h : IsSoundState d v) (q 
       apart i j a b lt (inl (e, less)) (inl (f, below)) = h.apart i j a b lt e f
       apart i j a b lt (inl (e, less)) (inr (f, g)) =
           let there = get_contained v.pending i a e in
+          let all = all_pending v a there in
           let le = h.requests a there in
           let same : new.request ≡ b.request = ap (λ z. z.request) g in
-          (omega (arith, le, same), ap (shares_job d a.sequence) (ap (λ z. z.sequence) (sym g)) ∙ not_shared a there)
+          (omega (arith, le, same), ap (shares_job d a.sequence) (ap (λ z. z.sequence) (sym g)) ∙ not_shared a all)
       apart i j a b lt (inr (e, f)) (inl (g, below)) = absurd (omega (arith, lt, e, below))
       apart i j a b lt (inr (e, f)) (inr (g, k)) = absurd (omega (arith, lt, e, g))
 
@@ -159,7 +194,7 @@ module _ (d : SpiTable) (fits : FitsSpi d) (v : View) (h : IsSoundState d v) (q 
 
       queued : (p : Pending) (i : ℕ) → Contains v.pending p ⊎ (new ≡ p) → p.next ≤ i → i < length (jobs_of d p.sequence)
           → job_result (all_get SpiJobQueued jobs v.job_results) (slice_index_or (jobs_of d p.sequence) i 0) ≡ (if i == p.next && v.running p.sequence then SpiJobPending else SpiJobQueued)
-      queued p i (inl there) le lt = others_now (slice_index_or (jobs_of d p.sequence) i 0) (not_job p (slice_index_or (jobs_of d p.sequence) i 0) there (Contains-get_or (jobs_of d p.sequence) i 0 lt)) ∙ h.results.queued p i there le lt
+      queued p i (inl there) le lt = others_now (slice_index_or (jobs_of d p.sequence) i 0) (not_job p (slice_index_or (jobs_of d p.sequence) i 0) (all_pending v p there) (Contains-get_or (jobs_of d p.sequence) i 0 lt)) ∙ h.results.queued p i there le lt
       queued p i (inr e) le lt = subst (λ z. i < length (jobs_of d z.sequence) → job_result (all_get SpiJobQueued jobs v.job_results) (slice_index_or (jobs_of d z.sequence) i 0) ≡ (if i == z.next && v.running z.sequence then SpiJobPending else SpiJobQueued)) e
           (λ less. queued_now i less ∙ sym (ap (λ b. if i == 0 && b then SpiJobPending else SpiJobQueued) rests ∙ ap (λ b. if b then SpiJobPending else SpiJobQueued) (and_false (i == 0)))) lt
         where
@@ -167,27 +202,33 @@ module _ (d : SpiTable) (fits : FitsSpi d) (v : View) (h : IsSoundState d v) (q 
           and_false true = refl
           and_false false = refl
 
-      last : (j : ℕ) → (list_any (is_left d j) v.pending ≡ false) × (is_left d j new ≡ false) → IsLast (job_result (all_get SpiJobQueued jobs v.job_results) j)
+      last : (j : ℕ) → (list_any (is_left d j) (all_of v) ≡ false) × (is_left d j new ≡ false) → IsLast (job_result (all_get SpiJobQueued jobs v.job_results) j)
       last j (none, own) = subst (λ a. IsLast a) (sym (others_now j own)) (h.results.last j none)
 
       names : (n : ℕ) → n < 8 → (n ≡ q) ⊎ (n ≢ q) → IsOfSequence (sequence_result (with_item SpiSeqOk v.sequence_results q SpiSeqPending) n)
       names n lt (inl e) = subst (λ k. IsOfSequence (sequence_result (with_item SpiSeqOk v.sequence_results q SpiSeqPending) k)) (sym e) (subst (λ a. IsOfSequence a) (sym (item-same SpiSeqOk v.sequence_results q SpiSeqPending)) tt)
       names n lt (inr ne) = subst (λ a. IsOfSequence a) (sym (item-other SpiSeqOk v.sequence_results q n SpiSeqPending ne)) (h.results.named n lt)
 
-      represents : (n : ℕ) → n < 8 → (n ≡ q) ⊎ (n ≢ q) → (sequence_result (with_item SpiSeqOk v.sequence_results q SpiSeqPending) n ≡ SpiSeqPending → is_pending n (v.pending ++ new ∷ []) ≡ true) × (is_pending n (v.pending ++ new ∷ []) ≡ true → sequence_result (with_item SpiSeqOk v.sequence_results q SpiSeqPending) n ≡ SpiSeqPending)
+      represents : (n : ℕ) → n < 8 → (n ≡ q) ⊎ (n ≢ q) → (sequence_result (with_item SpiSeqOk v.sequence_results q SpiSeqPending) n ≡ SpiSeqPending → is_pending n (all_of accepted_view) ≡ true) × (is_pending n (all_of accepted_view) ≡ true → sequence_result (with_item SpiSeqOk v.sequence_results q SpiSeqPending) n ≡ SpiSeqPending)
       represents n lt (inl e) = (
-        λ f. subst (λ k. is_pending k (v.pending ++ new ∷ []) ≡ true) (sym e) (any_in (is_of q) (v.pending ++ new ∷ []) new (Contains-push v.pending new) (same_number q)),
+        λ f. subst (λ k. is_pending k (all_of accepted_view) ≡ true) (sym e) (any_in (is_of q) (all_of accepted_view) new all_own (same_number q)),
         λ f. ap (sequence_result (with_item SpiSeqOk v.sequence_results q SpiSeqPending)) e ∙ item-same SpiSeqOk v.sequence_results q SpiSeqPending,
       )
       represents n lt (inr ne) =
           let same = item-other SpiSeqOk v.sequence_results q n SpiSeqPending ne in
           let was = h.results.sequences n lt in
-          let still : is_pending n (v.pending ++ new ∷ []) ≡ is_pending n v.pending = any_push (is_of n) v.pending new ∙ ap (λ b. is_pending n v.pending || b) (other_number q n (λ e. ne (sym e))) ∙ or_none (is_pending n v.pending) in
           (λ f. still ∙ was.0 (sym same ∙ f), λ f. same ∙ was.1 (sym still ∙ f))
         where
-          or_none : (b : Bool) → b || false ≡ b
-          or_none true = refl
-          or_none false = refl
+          no_other : is_pending n (all_of v) ≡ false → (p : Pending) → Contains (all_of v) p ⊎ (new ≡ p) → is_of n p ≡ false
+          no_other e p (inl is) = any_none (is_of n) (all_of v) e p is
+          no_other e p (inr f) = subst (λ z. is_of n z ≡ false) f (other_number q n (λ i. ne (sym i)))
+
+          by : (b : Bool) → is_pending n (all_of v) ≡ b → is_pending n (all_of accepted_view) ≡ is_pending n (all_of v)
+          by true e = let r = any_some (is_of n) (all_of v) e in any_in (is_of n) (all_of accepted_view) r.0 (all_kept r.0 r.1) r.2 ∙ sym e
+          by false e = none_any (is_of n) (all_of accepted_view) (λ p is. no_other e p (all_push p is)) ∙ sym e
+
+          still : is_pending n (all_of accepted_view) ≡ is_pending n (all_of v)
+          still = by (is_pending n (all_of v)) refl
 
   -- ---- the order
 
@@ -209,15 +250,16 @@ module _ (d : SpiTable) (fits : FitsSpi d) (v : View) (h : IsSoundState d v) (q 
 
   module _ (m m1 : Memory) (a : SequencesAgree d m v) (others : (n : ℕ) → n < 8 → n ≢ q → m1 (sequence_word n) ≡ m (sequence_word n)) (told : m1 (sequence_word q) ≡ 1) (nexts : m1 NEXTS ≡ with_next_in (m NEXTS) q 0) (marks : m1 MARKS ≡ unmarked_in (m MARKS) q)
       (job_words : (j : ℕ) → j < 16 → m1 (job_word j) ≡ m (job_word j)) (orders : (u : ℕ) → u < 2 → ranked.Holds (record { at = order_word u }) m1 (entries_of d accepted_view u)) where
-    differ : (p : Pending) → Contains v.pending p → p.sequence % 8 ≢ q % 8
+    differ : (p : Pending) → Contains (all_of v) p → p.sequence % 8 ≢ q % 8
     differ p there e = let lt = (h.entries p there).number in (apart_from p there).0 (omega (arith, e, lt, small))
 
     pending_words : (p : Pending) → Contains v.pending p ⊎ (new ≡ p) → PendingAgrees m1 p
     pending_words p (inl there) =
         let w = a.pending p there in
-        let off = unmarked_other (m MARKS) q p.sequence (differ p there) in
+        let apart = differ p (all_pending v p there) in
+        let off = unmarked_other (m MARKS) q p.sequence apart in
         record {
-          next = ap (λ n. next_in n p.sequence) nexts ∙ first_other (m NEXTS) q p.sequence (differ p there) ∙ w.next;
+          next = ap (λ n. next_in n p.sequence) nexts ∙ first_other (m NEXTS) q p.sequence apart ∙ w.next;
           started = ap (λ n. has_mark n (started_bit p.sequence)) marks ∙ off.0 ∙ w.started;
           cancelled = ap (λ n. has_mark n (cancelled_bit p.sequence)) marks ∙ off.1 ∙ w.cancelled;
         }
@@ -227,7 +269,7 @@ module _ (d : SpiTable) (fits : FitsSpi d) (v : View) (h : IsSoundState d v) (q 
       cancelled = ap (λ n. has_mark n (cancelled_bit q)) marks ∙ (unmarked_same (m MARKS) q).1;
     })
 
-    had_words : (p : Pending) (i : ℕ) → Contains v.pending p ⊎ (new ≡ p) → p.next ≤ i → i < length (jobs_of d p.sequence) → m1 (job_word (slice_index_or (jobs_of d p.sequence) i 0)) ≡ job_code (slice_index_or p.had i SpiJobOk)
+    had_words : (p : Pending) (i : ℕ) → Contains (all_of v) p ⊎ (new ≡ p) → p.next ≤ i → i < length (jobs_of d p.sequence) → m1 (job_word (slice_index_or (jobs_of d p.sequence) i 0)) ≡ job_code (slice_index_or p.had i SpiJobOk)
     had_words p i (inl there) le lt = job_words (slice_index_or (jobs_of d p.sequence) i 0) (job_small d fits p.sequence i lt) ∙ a.had p i there le lt
     had_words p i (inr e) le lt = subst (λ z. i < length (jobs_of d z.sequence) → m1 (job_word (slice_index_or (jobs_of d z.sequence) i 0)) ≡ job_code (slice_index_or z.had i SpiJobOk)) e
         (λ less. job_words (slice_index_or jobs i 0) (job_small d fits q i less) ∙ a.jobs (slice_index_or jobs i 0) (job_small d fits q i less) (not_left (slice_index_or jobs i 0) (Contains-get_or jobs i 0 less)) ∙ ap job_code (sym (had_at i less))) lt
@@ -236,14 +278,15 @@ module _ (d : SpiTable) (fits : FitsSpi d) (v : View) (h : IsSoundState d v) (q 
     told_by n lt (inl e) = ap (λ k. m1 (sequence_word k)) e ∙ told ∙ ap sequence_code (sym (item-same SpiSeqOk v.sequence_results q SpiSeqPending)) ∙ ap (λ k. sequence_code (sequence_result (with_item SpiSeqOk v.sequence_results q SpiSeqPending) k)) (sym e)
     told_by n lt (inr ne) = others n lt ne ∙ a.sequences n lt ∙ ap sequence_code (sym (item-other SpiSeqOk v.sequence_results q n SpiSeqPending ne))
 
-    job_by : (j : ℕ) → j < 16 → (list_any (is_left d j) v.pending ≡ false) × (is_left d j new ≡ false) → m1 (job_word j) ≡ job_code (job_result (all_get SpiJobQueued jobs v.job_results) j)
+    job_by : (j : ℕ) → j < 16 → (list_any (is_left d j) (all_of v) ≡ false) × (is_left d j new ≡ false) → m1 (job_word j) ≡ job_code (job_result (all_get SpiJobQueued jobs v.job_results) j)
     job_by j lt (none, own) = job_words j lt ∙ a.jobs j lt none ∙ ap job_code (sym (others_now j own))
 
     pub accepted_words : SequencesAgree d m1 accepted_view
     accepted_words = record {
       sequences = λ n lt. told_by n lt (same_or_other n q);
       pending = λ p there. pending_words p (Contains-push_cases v.pending new p there);
-      had = λ p i there le lt. had_words p i (Contains-push_cases v.pending new p there) le lt;
-      jobs = λ j lt none. job_by j lt (or_parts (list_any (is_left d j) v.pending) (is_left d j new) (sym (any_push (is_left d j) v.pending new) ∙ none));
+      begun = λ u p e. ap (λ n. next_in n p.sequence) nexts ∙ first_other (m NEXTS) q p.sequence (differ p (all_carried v u p (h.carries.unit u p e).0 e)) ∙ a.begun u p e;
+      had = λ p i there le lt. had_words p i (all_push p there) le lt;
+      jobs = λ j lt none. job_by j lt (none_left j none);
       orders = orders;
     }

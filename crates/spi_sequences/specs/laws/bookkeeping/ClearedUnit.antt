@@ -3,8 +3,8 @@
 use Rattle.std.proofs.Common.{◌≡◌, ◌≢◌, ◌==◌, ◌&&◌, ◌∷◌, ◌∙◌, ◌⊎◌}
 use Rattle.spi_sequences.specs.Terms
 use Terms.{Answer, ap, AreOwed, Bool, Call, Chip, Cleared, Contains, false, FitsSpi, flat_map-cons, inl, inr, is_for}
-use Terms.{is_owed, None, not, Option, Origin, Pending, readied_by, refl, Reservation, Reservations, ReservedBy, run_at}
-use Terms.{same_or_other, SpiRepresents, SpiState, SpiTable, stored_by, subst, sym, true, World, ℕ}
+use Terms.{is_owed, None, not, Option, Origin, Pending, readied_by, refl, Reservation, Reservations, ReservedBy}
+use Terms.{run_at, same_or_other, SpiRepresents, SpiState, SpiTable, stored_by, subst, sym, true, World, ℕ}
 use Rattle.spi_sequences.specs.laws.words.PendingWords.{HoldsLike, holds_back, holds_changed}
 use Rattle.spi_sequences.specs.laws.words.WordsToState.{going_free, other_number}
 
@@ -25,7 +25,7 @@ like d u by acted held = record {
 module _ (d : SpiTable) (held : Reservations) (chip : Chip) (w : World) (s : SpiState) (u : ℕ) (by : Origin Call) (acted : Option Answer) where
   -- a unit is cleared that is busy, or for which no sequence waits
   pub clears : FitsSpi d → (h : SpiRepresents d held chip w s) → ((p : Pending) → run_at s u ≡ None → Contains s.pending p → is_for d u p ≡ true → ⊥) → SpiRepresents d (cleared_of u by acted ∷ held) chip w s
-  clears fits h none = holds_changed d held (cleared_of u by acted ∷ held) chip w s h (like d u by acted held) (tt, h.right) owed
+  clears fits h none = holds_changed d held (cleared_of u by acted ∷ held) chip w s h (like d u by acted held) (tt, h.right) (tt, h.sending) h.carriers owed
     where
       owed : AreOwed d (cleared_of u by acted ∷ held) h.going s
       owed n p lt free there for = split (same_or_other n u)
@@ -36,7 +36,7 @@ module _ (d : SpiTable) (held : Reservations) (chip : Chip) (w : World) (s : Spi
 
   -- a frame that ends, or goes on, holds it no more
   pub clear_over : SpiRepresents d (cleared_of u by acted ∷ held) chip w s → SpiRepresents d held chip w s
-  clear_over h = holds_changed d (cleared_of u by acted ∷ held) held chip w s h (holds_back d held (cleared_of u by acted ∷ held) (like d u by acted held)) h.right.1 (λ n p lt free there for. last (not (u == n)) (is_owed n held) (h.owed n p lt free there for))
+  clear_over h = holds_changed d (cleared_of u by acted ∷ held) held chip w s h (holds_back d held (cleared_of u by acted ∷ held) (like d u by acted held)) h.right.1 h.sending.1 h.carriers (λ n p lt free there for. last (not (u == n)) (is_owed n held) (h.owed n p lt free there for))
     where
       last : (a b : Bool) → a && b ≡ true → b ≡ true
       last true b e = e

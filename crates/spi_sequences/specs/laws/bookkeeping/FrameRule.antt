@@ -1,17 +1,20 @@
 -- One pending sequence is changed in its marks: what stays of the agreement.
 -- From words.SameWords, words.WordsOfModule, words.WordsToState.
 -- Used by bookkeeping.MarkedState.
-use Rattle.std.proofs.Common.{◌≡◌, ◌≢◌, ◌+◌, ◌<◌, ◌≤◌, ◌==◌, ◌&&◌, ◌||◌, [], ◌∷◌, ◌∙◌, if◌then◌else◌}
+use Rattle.std.proofs.Common.{◌≡◌, ◌≢◌, ◌+◌, ◌<◌, ◌≤◌, ◌==◌, ◌&&◌, ◌||◌, [], ◌∷◌, ◌++◌, ◌∙◌, ◌⊎◌, if◌then◌else◌}
 use Rattle.spi_sequences.specs.Terms
-use Terms.{ap, arith, Bool, cancelled_bit, changed, channels_of, Contains, drop, entries_of, Entry, false, filter}
-use Terms.{Going, has_mark, holds-agree, is_for, is_left, is_of, is_on_unit, is_pending, IsEntry, IsLast, IsSoundState}
-use Terms.{job_code, job_of, job_result, job_word, jobs_of, length, List, list_any, map, MARKS, Memory, nat_tests}
-use Terms.{next_in, next_job, NEXTS, None, not, Option, order_word, packed_run, Pending, PendingAgrees, refl, Run}
-use Terms.{RunAgrees, RunsNext, select_by, select_of, sequence_word, SequencesAgree, Serial, shares_job, slice_get}
+use Terms.{all_of, ap, arith, Bool, cancelled_bit, CarriesAgrees, changed, channels_of, Contains, drop, entries_begun}
+use Terms.{entries_of, Entry, false, filter, Going, has_mark, holds-agree, inl, inr, is_for, is_left, is_of}
+use Terms.{is_on_unit, is_pending, is_sync_sequence, is_sync_unit, IsEntry, IsLast, IsSoundState, job_code, job_of}
+use Terms.{job_result, job_word, jobs_of, length, List, list_any, map, MARKS, Memory, nat_tests, next_in, next_job}
+use Terms.{NEXTS, None, not, Option, order_word, packed_run, Pending, PendingAgrees, refl, Run, RunAgrees, RunsBy}
+use Terms.{RunsNext, select_by, select_of, sequence_word, SequencesAgree, Serial, shares_job, slice_get}
 use Terms.{slice_index_or, Some, SpiJobOk, SpiJobPending, SpiJobQueued, SpiTable, started_bit, STATE, subst, suc, sym}
 use Terms.{true, UnitAgrees, View, words_of, zero, ℕ}
 use Rattle.spi_sequences.specs.laws.{words.SameWords.{contains_map}, words.WordsOfModule.{in_order}}
 use Rattle.spi_sequences.specs.laws.{words.WordsToState.{at_contained}}
+use Rattle.spi_sequences.specs.laws.words.AllSequences.{all_carried, all_cases, all_pending, IsAside}
+use Rattle.std.proofs.lemmas.List.Folds.{list_any-append}
 use Rattle.word_shapes.specs.PriorityQueue as ranked
 
 -- ---- lists that are mapped
@@ -77,43 +80,74 @@ module _ (q : ℕ) (f : Pending → Pending) where
     item_left : (j : ℕ) (p : Pending) → is_left d j (item p) ≡ is_left d j p
     item_left j p = ap (λ n. list_any (λ k. k == j) (drop n (jobs_of d (item p).sequence))) (item_next p) ∙ ap (λ z. list_any (λ k. k == j) (drop p.next (jobs_of d z))) (item_sequence p)
 
-    pub still_pending : (n : ℕ) (ps : List Pending) → is_pending n (changed q f ps) ≡ is_pending n ps
-    still_pending n ps = any_mapped (is_of n) item ps (λ p. ap (λ z. z == n) (item_sequence p))
-
-    pub still_left : (j : ℕ) (ps : List Pending) → list_any (is_left d j) (changed q f ps) ≡ list_any (is_left d j) ps
-    still_left j ps = any_mapped (is_left d j) item ps (item_left j)
-
-    module _ (v : View) where
+    module _ (v : View) (aside : IsAside q v) where
       abbrev pub after : View
       after = record v { pending = changed q f v.pending }
 
-      entry_after : ((p : Pending) → Contains v.pending p → (item p).cancelled ≡ true → v.running p.sequence ≡ true) → (p : Pending) → Contains v.pending p → IsEntry d v p → IsEntry d after (item p)
-      entry_after marks p there e = record {
+      abbrev others : List Pending
+      others = entries_begun (v.begun 0) ++ entries_begun (v.begun 1)
+
+      -- what a unit carries out stays
+      item_begun : (u : ℕ) (p : Pending) → v.begun u ≡ Some p → item p ≡ p
+      item_begun u p e = ap (λ b. if b then f p else p) (aside u p e).1
+
+      all_back : (p : Pending) → Contains (all_of after) p → (x : Pending) × Contains (all_of v) x × (p ≡ item x)
+      all_back p there = by (all_cases after p there)
+        where
+          by : Contains (changed q f v.pending) p ⊎ ((u : ℕ) × (v.begun u ≡ Some p)) → (x : Pending) × Contains (all_of v) x × (p ≡ item x)
+          by (inl is) = let r = contains_back item v.pending p is in (r.0, all_pending v r.0 r.1, r.2)
+          by (inr (u, e)) = (p, all_carried v u p (aside u p e).0 e, sym (item_begun u p e))
+
+      all_mapped : (g : Pending → Bool) → ((p : Pending) → g (item p) ≡ g p) → list_any g (all_of after) ≡ list_any g (all_of v)
+      all_mapped g e = list_any-append g (changed q f v.pending) others ∙ ap (λ b. b || list_any g others) (any_mapped g item v.pending e) ∙ sym (list_any-append g v.pending others)
+
+      pub pending_now : (n : ℕ) → is_pending n (all_of after) ≡ is_pending n (all_of v)
+      pending_now n = all_mapped (is_of n) (λ p. ap (λ z. z == n) (item_sequence p))
+
+      left_now : (j : ℕ) → list_any (is_left d j) (all_of after) ≡ list_any (is_left d j) (all_of v)
+      left_now j = all_mapped (is_left d j) (item_left j)
+
+      entry_after : (p : Pending) → ((item p).cancelled ≡ true → v.running p.sequence ≡ true) → IsEntry d v p → IsEntry d after (item p)
+      entry_after p marks e = record {
         number = subst (λ n. n < 8) (sym (item_sequence p)) e.number;
         next = subst (λ n. n < length (jobs_of d (item p).sequence)) (sym (item_next p)) (subst (λ z. p.next < length (jobs_of d z)) (sym (item_sequence p)) e.next);
         had = ap length (item_had p) ∙ e.had ∙ ap (λ z. length (jobs_of d z)) (sym (item_sequence p));
         last = λ i lt. subst (λ xs. IsLast (slice_index_or xs i SpiJobOk)) (sym (item_had p)) (e.last i (subst (λ xs. i < length xs) (item_had p) lt));
-        cancelled = λ c. ap v.running (item_sequence p) ∙ marks p there c;
+        cancelled = λ c. ap v.running (item_sequence p) ∙ marks c;
       }
 
       -- the state is as sound as it was
       pub sound_changed : ((p : Pending) → Contains v.pending p → (item p).cancelled ≡ true → v.running p.sequence ≡ true) → IsSoundState d v → IsSoundState d after
       sound_changed marks h = record {
-        entries = λ p there. entries p (contains_back item v.pending p there);
+        entries = λ p there. entries p (all_back p there);
         apart = λ i j x y lt a b. apart i j x y lt (get_back item v.pending i x a) (get_back item v.pending j y b);
         requests = λ p there. requests p (contains_back item v.pending p there);
         results = record {
           queued = λ p i there le lt. queued p i (contains_back item v.pending p there) le lt;
-          last = λ j none. h.results.last j (sym (still_left j v.pending) ∙ none);
+          last = λ j none. h.results.last j (sym (left_now j) ∙ none);
           named = h.results.named;
-          sequences = λ n lt. let r = h.results.sequences n lt in (λ e. still_pending n v.pending ∙ r.0 e, λ e. r.1 (sym (still_pending n v.pending) ∙ e));
+          sequences = λ n lt. let r = h.results.sequences n lt in (λ e. pending_now n ∙ r.0 e, λ e. r.1 (sym (pending_now n) ∙ e));
+        };
+        carries = record {
+          unit = h.carries.unit;
+          asked = λ p there. asked p (contains_back item v.pending p there);
+          idle = h.carries.idle;
+          queued = h.carries.queued;
+          off = h.carries.off;
         };
         few = h.few;
         off = λ e. (ap (changed q f) (h.off e).0, (h.off e).1);
       }
         where
-          entries : (p : Pending) → (x : Pending) × Contains v.pending x × (p ≡ item x) → IsEntry d after p
-          entries p (x, there, is) = subst (λ z. IsEntry d after z) (sym is) (entry_after marks x there (h.entries x there))
+          entries : (p : Pending) → (x : Pending) × Contains (all_of v) x × (p ≡ item x) → IsEntry d after p
+          entries p (x, there, is) = subst (λ z. IsEntry d after z) (sym is) (entry_after x (marked (all_cases v x there)) (h.entries x there))
+            where
+              marked : Contains v.pending x ⊎ ((u : ℕ) × (v.begun u ≡ Some x)) → (item x).cancelled ≡ true → v.running x.sequence ≡ true
+              marked (inl one) c = marks x one c
+              marked (inr (u, e)) c = (h.entries x there).cancelled (ap (λ z. z.cancelled) (sym (item_begun u x e)) ∙ c)
+
+          asked : (p : Pending) → (x : Pending) × Contains v.pending x × (p ≡ item x) → is_sync_sequence d p.sequence ≡ false
+          asked p (x, there, is) = ap (is_sync_sequence d) (ap (λ z. z.sequence) is ∙ item_sequence x) ∙ h.carries.asked x there
 
           apart : (i j : ℕ) (x y : Pending) → i < j → (a : Pending) × (slice_get v.pending i ≡ Some a) × (x ≡ item a) → (b : Pending) × (slice_get v.pending j ≡ Some b) × (y ≡ item b) → (x.request < y.request) × (shares_job d x.sequence y.sequence ≡ false)
           apart i j x y lt (a, at, isa) (b, bt, isb) =
@@ -168,7 +202,7 @@ module _ (q : ℕ) (f : Pending → Pending) where
           pending_words : (p : Pending) → (x : Pending) × Contains v.pending x × (p ≡ item x) → PendingAgrees m1 p
           pending_words p (x, there, is) = subst (λ z. PendingAgrees m1 z) (sym is) (pending_after x (h.pending x there) (marks x there))
 
-          had_words : (p : Pending) (i : ℕ) → (x : Pending) × Contains v.pending x × (p ≡ item x) → p.next ≤ i → i < length (jobs_of d p.sequence) → m1 (job_word (slice_index_or (jobs_of d p.sequence) i 0)) ≡ job_code (slice_index_or p.had i SpiJobOk)
+          had_words : (p : Pending) (i : ℕ) → (x : Pending) × Contains (all_of v) x × (p ≡ item x) → p.next ≤ i → i < length (jobs_of d p.sequence) → m1 (job_word (slice_index_or (jobs_of d p.sequence) i 0)) ≡ job_code (slice_index_or p.had i SpiJobOk)
           had_words p i (x, there, is) le lt =
               let sq : p.sequence ≡ x.sequence = ap (λ z. z.sequence) is ∙ item_sequence x in
               let nx : p.next ≡ x.next = ap (λ z. z.next) is ∙ item_next x in
@@ -188,30 +222,43 @@ module _ (q : ℕ) (f : Pending → Pending) where
           sequences_after = record {
             sequences = λ n lt. words (sequence_word n) (omega arith) (omega (arith, lt)) (λ e. omega (arith, e)) ∙ h.sequences n lt;
             pending = λ p there. pending_words p (contains_back item v.pending p there);
-            had = λ p i there le lt. had_words p i (contains_back item v.pending p there) le lt;
-            jobs = λ j lt none. words (job_word j) (omega arith) (omega (arith, lt)) (λ e. omega (arith, e)) ∙ h.jobs j lt (sym (still_left j v.pending) ∙ none);
+            begun = λ u p e. ap (λ n. next_in n p.sequence) (words NEXTS (omega arith) (omega arith) (λ i. omega (arith, i))) ∙ h.begun u p e;
+            had = λ p i there le lt. had_words p i (all_back p there) le lt;
+            jobs = λ j lt none. words (job_word j) (omega arith) (omega (arith, lt)) (λ e. omega (arith, e)) ∙ h.jobs j lt (sym (left_now j) ∙ none);
             orders = λ u lt. subst (λ xs. ranked.Holds (record { at = order_word u }) m1 xs) (sym (entries_same u)) (holds-agree (record { at = order_word u }) m m1 (entries_of d v u) (λ j own. sym (order_apart u j lt own)) (h.orders u lt));
           }
 
       -- what runs is the next job of an entry as it was changed
       pub nexts_after : ((p : Pending) → p.started ≡ true → (f p).started ≡ true) → (u : ℕ) (g : Option Going) → RunsNext d v u g → RunsNext d after u (going_with g)
       nexts_after starts u None h = tt
-      nexts_after starts u (Some g) h = (there h.0, started, item_for u g.pending ∙ h.2)
+      nexts_after starts u (Some g) h = (all_there (all_cases v g.pending h.0), runs (is_sync_unit d u) h.1, item_for u g.pending ∙ h.2)
         where
           there : Contains v.pending g.pending → Contains (changed q f v.pending) (item g.pending)
           there (n, lt, e) = contains_map item v.pending n g.pending (at_contained v.pending n g.pending lt e)
 
-          started : (item g.pending).started ≡ true
-          started = by (is_of q g.pending)
+          all_there : Contains v.pending g.pending ⊎ ((n : ℕ) × (v.begun n ≡ Some g.pending)) → Contains (all_of after) (item g.pending)
+          all_there (inl is) = all_pending after (item g.pending) (there is)
+          all_there (inr (n, e)) = all_carried after n (item g.pending) (aside n g.pending e).0 (e ∙ ap (λ z. Some z) (sym (item_begun n g.pending e)))
+
+          started : g.pending.started ≡ true → (item g.pending).started ≡ true
+          started i = by (is_of q g.pending)
             where
               by : (b : Bool) → (if b then f g.pending else g.pending).started ≡ true
-              by true = starts g.pending h.1
-              by false = h.1
+              by true = starts g.pending i
+              by false = i
+
+          runs : (b : Bool) → RunsBy b v u g.pending → RunsBy b after u (item g.pending)
+          runs true r = r ∙ ap (λ z. Some z) (sym (item_begun u g.pending r))
+          runs false r = (there r.0, started r.1)
 
     -- a unit runs what it ran
     pub unit_with : (x : Serial) (r : Option Run) (g : Option Going) → UnitAgrees d x r g → UnitAgrees d x r (going_with g)
     unit_with x r None h = h
     unit_with x r (Some g) h = (h.0, h.1 ∙ ap (λ z. Some (record { sequence = z; words = words_of d g.parts; received = g.received; transfer = h.0 })) (sym (item_sequence g.pending)), h.2, h.3 ∙ ap (λ j. select_of (select_by (job_of d j))) (sym (item_job g.pending)))
+
+    pub carried_with : (x : Serial) (r : Option Run) (g : Option Going) → CarriesAgrees d x r g → CarriesAgrees d x r (going_with g)
+    carried_with x r None h = h
+    carried_with x r (Some g) h = (h.0, h.1 ∙ ap (λ z. Some (record { sequence = z; words = words_of d g.parts; received = g.received; transfer = h.0 })) (sym (item_sequence g.pending)), h.2)
 
     pub run_with : (m : Memory) (u : ℕ) (g : Option Going) → RunAgrees d m u g → RunAgrees d m u (going_with g)
     run_with m u None h = h

@@ -3,19 +3,21 @@
 -- Used by services.CancelRight.
 use Rattle.std.proofs.Common.{◌≡◌, ◌≢◌, ◌+◌, ◌*◌, ◌%◌, ◌^◌, ◌<◌, ◌≤◌, ◌==◌, ◌∙◌, if◌then◌else◌}
 use Rattle.spi_sequences.specs.Terms
-use Terms.{and_or_apart, and_or_self, ap, arith, BanksAgree, bit_or, Bool, cancelled_bit, cancels, changed, Channel}
-use Terms.{channel_of, Chip, chip_after, Contains, Destination, false, FitsSpi, Going, has_mark, held_word, is_for}
-use Terms.{is_of, is_off, is_owed, KeepsNone, KeepsWords, List, MARKS, Memory, None, not, Option, Pending, Pins}
-use Terms.{PinsNone, place_of, Placed, placed_of, position_word, pow_apart, PutRight, Putting, refl, Reservations}
-use Terms.{run_at, RunAgrees, running_word, set_up_word, Some, Source, source_word, SpiRepresents, SpiState, SpiTable}
-use Terms.{stands-move, started_bit, STATE, Store, stored_other, stored_same, subst, suc, sym, TakeRight, Taking, true}
-use Terms.{unit_at, View, view, word_of, World, zero, ℕ}
+use Terms.{and_or_apart, and_or_self, ap, arith, BanksAgree, bit_or, Bool, cancelled_bit, cancels, carried_at, changed}
+use Terms.{Channel, channel_of, Chip, chip_after, Contains, Destination, false, FitsSpi, Going, has_mark, held_word}
+use Terms.{is_for, is_of, is_off, is_owed, is_sync_unit, KeepsNone, KeepsWords, List, MARKS, Memory, None, not, Option}
+use Terms.{Pending, Pins, PinsNone, place_of, Placed, placed_of, position_word, pow_apart, PutRight, Putting, refl}
+use Terms.{Reservations, run_at, run_carried, RunAgrees, running_word, RunsBy, set_up_word, Some, Source, source_word}
+use Terms.{SpiRepresents, SpiState, SpiTable, stands-move, started_bit, STATE, Store, stored_other, stored_same, subst}
+use Terms.{suc, sym, TakeRight, Taking, true, unit_at, View, view, word_of, World, zero, ℕ}
 use Rattle.spi_sequences.specs.laws.{words.SameWords.{banks_words, going_words, job_small}}
-use Rattle.spi_sequences.specs.laws.{bookkeeping.FrameRule.{Keeps, contains_back, going_with, item, item_for}}
+use Rattle.spi_sequences.specs.laws.{bookkeeping.FrameRule.{carried_with, Keeps, contains_back, going_with, item, item_for}}
 use Rattle.spi_sequences.specs.laws.{bookkeeping.FrameRule.{nexts_after, run_with, sequences_after, sound_changed}}
 use Rattle.spi_sequences.specs.laws.{bookkeeping.FrameRule.{unit_with}, hardware.AfterReset.{none_in}}
 use Rattle.spi_sequences.specs.laws.{words.KeptWords.{banks_view}, words.WordsOfModule.{of_banks, of_held, of_set_up}}
 use Rattle.spi_sequences.specs.laws.{words.WordsOfModule.{past_the_first}, words.WordsToState.{going_next, is_number}}
+use Rattle.spi_sequences.specs.laws.words.AllSequences.{all_pending, IsAside}
+use Rattle.spi_sequences.specs.laws.words.SendsKept.{sends_as}
 use Rattle.spi_sequences.specs.laws.{words.WordsToState.{other_number, same_number}, services.SetUpRight.{none_stored}}
 
 -- ---- the marks in their word
@@ -76,7 +78,7 @@ module _ (q : ℕ) (f : Pending → Pending) where
 
 -- ---- the mark
 
-module _ (d : SpiTable) (fits : FitsSpi d) (below : Reservations) (chip : Chip) (w : World) (s : SpiState) (h : SpiRepresents d below chip w s) (on : is_off s.mode ≡ false) (q : ℕ) (f : Pending → Pending) (k : Keeps q f) (value : ℕ) where
+module _ (d : SpiTable) (fits : FitsSpi d) (below : Reservations) (chip : Chip) (w : World) (s : SpiState) (h : SpiRepresents d below chip w s) (on : is_off s.mode ≡ false) (q : ℕ) (aside : IsAside q (view s)) (f : Pending → Pending) (k : Keeps q f) (value : ℕ) where
   abbrev chip1 : Chip
   chip1 = chip_after chip (Store MARKS value) 0
 
@@ -109,14 +111,17 @@ module _ (d : SpiTable) (fits : FitsSpi d) (below : Reservations) (chip : Chip) 
     outside = stands-move chip w (Store MARKS value) 0 h.outside;
     wired = h.wired;
     size = h.size;
-    sound = sound_changed q f d k (view s) runs h.sound;
+    sound = sound_changed q f d k (view s) aside runs h.sound;
     going = going1;
-    nexts = λ u lt. nexts_after q f d k (view s) starts u (h.going u) (h.nexts u lt);
-    units = λ u lt. unit_with q f d k (unit_at chip.serials u) (run_at s u) (h.going u) (h.units u lt);
+    nexts = λ u lt. nexts_after q f d k (view s) aside starts u (h.going u) (h.nexts u lt);
+    units = λ u lt async. unit_with q f d k (unit_at chip.serials u) (run_at s u) (h.going u) (h.units u lt async);
+    sends = λ u lt sync. carried_with q f d k (unit_at chip.serials u) (run_carried (carried_at s u)) (h.going u) (h.sends u lt sync);
+    sending = sends_as d chip chip1 w w h.going going1 s (record s { pending = changed q f s.pending }) (λ u g lt sync is. going_same u (h.going u) refl lt sync) (λ u g lt sync is. refl) (λ u g n x c lt sync is there known. above (held_word (placed_of d x.channel)) (past_the_first d x.channel c _ (fits.channels x.channel c known) (of_held d fits x.channel c known))) (λ u o knows. knows) below h.sending;
+    carriers = h.carriers;
     words = record {
       state = other STATE (λ e. omega (arith, e)) ∙ h.words.state;
       on = λ still. record {
-        sequences = sequences_after q f d k (view s) (word_of chip) (word_of chip1) (λ j low high ne. other j ne) (h.words.on on).sequences (λ p there. subst (λ n. (has_mark n (started_bit p.sequence) ≡ (item q f p).started) × (has_mark n (cancelled_bit p.sequence) ≡ (item q f p).cancelled)) (sym here) (marks p there)) (λ n i lt. job_small d fits n i lt);
+        sequences = sequences_after q f d k (view s) aside (word_of chip) (word_of chip1) (λ j low high ne. other j ne) (h.words.on on).sequences (λ p there. subst (λ n. (has_mark n (started_bit p.sequence) ≡ (item q f p).started) × (has_mark n (cancelled_bit p.sequence) ≡ (item q f p).cancelled)) (sym here) (marks p there)) (λ n i lt. job_small d fits n i lt);
         runs = λ u lt. run_marked u lt (h.going u) refl ((h.words.on on).runs u lt);
       };
       banks = λ c x known internal. banks_view d below going1 (word_of chip1) (view s) (view (record s { pending = changed q f s.pending })) c x refl refl (λ r. refl) (banks_with q f d below h.going (word_of chip1) (view s) c x (banks_kept c x known internal));
@@ -129,6 +134,13 @@ module _ (d : SpiTable) (fits : FitsSpi d) (below : Reservations) (chip : Chip) 
     owed = λ u p lt free there for. owed u lt (free_before (h.going u) free) p (contains_back (item q f) s.pending p there) for;
   }
     where
+      -- a unit that carries out a sequence for a call runs what it ran
+      going_same : (u : ℕ) (g : Option Going) → h.going u ≡ g → u < 2 → is_sync_unit d u ≡ true → going_with q f g ≡ h.going u
+      going_same u None e lt sync = sym e
+      going_same u (Some g) e lt sync =
+          let begun = subst (λ b. RunsBy b (view s) u g.pending) sync (going_next d fits below chip w s h u g lt e).1 in
+          ap (λ z. Some (record g { pending = z })) (ap (λ b. if b then f g.pending else g.pending) (aside u g.pending begun).1) ∙ sym e
+
       owed : (u : ℕ) → u < 2 → h.going u ≡ None → (p : Pending) → (x : Pending) × Contains s.pending x × (p ≡ item q f x) → is_for d u p ≡ true → is_owed u below ≡ true
       owed u lt free p (x, there, is) for = h.owed u x lt free there (sym (item_for q f d k u x) ∙ sym (ap (is_for d u) is) ∙ for)
 
@@ -140,7 +152,7 @@ module _ (d : SpiTable) (fits : FitsSpi d) (below : Reservations) (chip : Chip) 
 cancel_keeps : (q : ℕ) → Keeps q cancels
 cancel_keeps q = record { sequence = λ p. refl; request = λ p. refl; next = λ p. refl; had = λ p. refl }
 
-module _ (d : SpiTable) (fits : FitsSpi d) (below : Reservations) (chip : Chip) (w : World) (s : SpiState) (h : SpiRepresents d below chip w s) (on : is_off s.mode ≡ false) (q : ℕ) (small : q < 8) (runs : (view s).running q ≡ true) where
+module _ (d : SpiTable) (fits : FitsSpi d) (below : Reservations) (chip : Chip) (w : World) (s : SpiState) (h : SpiRepresents d below chip w s) (on : is_off s.mode ≡ false) (q : ℕ) (aside : IsAside q (view s)) (small : q < 8) (runs : (view s).running q ≡ true) where
   abbrev mark : ℕ
   mark = bit_or (word_of chip MARKS) (cancelled_bit q)
 
@@ -148,14 +160,14 @@ module _ (d : SpiTable) (fits : FitsSpi d) (below : Reservations) (chip : Chip) 
   bits_apart p lt ne e = ne (omega (arith, lt, small, e))
 
   pub cancelled_now : SpiRepresents d below (chip_after chip (Store MARKS mark) 0) w (record s { pending = changed q cancels s.pending })
-  cancelled_now = marked d fits below chip w s h on q cancels (cancel_keeps q) mark running (λ p e. e) marks
+  cancelled_now = marked d fits below chip w s h on q aside cancels (cancel_keeps q) mark running (λ p e. e) marks
     where
       running : (p : Pending) → Contains s.pending p → (item q cancels p).cancelled ≡ true → (view s).running p.sequence ≡ true
       running p there = by (is_of q p) refl
         where
           by : (b : Bool) → is_of q p ≡ b → (if b then cancels p else p).cancelled ≡ true → (view s).running p.sequence ≡ true
           by true e c = ap (view s).running (is_number p.sequence q e) ∙ runs
-          by false e c = (h.sound.entries p there).cancelled c
+          by false e c = (h.sound.entries p (all_pending (view s) p there)).cancelled c
 
       marks : (p : Pending) → Contains s.pending p → (has_mark mark (started_bit p.sequence) ≡ (item q cancels p).started) × (has_mark mark (cancelled_bit p.sequence) ≡ (item q cancels p).cancelled)
       marks p there = by (is_of q p) refl
@@ -165,4 +177,4 @@ module _ (d : SpiTable) (fits : FitsSpi d) (below : Reservations) (chip : Chip) 
 
           by : (b : Bool) → is_of q p ≡ b → (has_mark mark (started_bit p.sequence) ≡ (if b then cancels p else p).started) × (has_mark mark (cancelled_bit p.sequence) ≡ (if b then cancels p else p).cancelled)
           by true e = (started, subst (λ n. has_mark mark (cancelled_bit n) ≡ true) (sym (is_number p.sequence q e)) (marked_same (word_of chip MARKS) (8 + q % 8)))
-          by false e = (started, marked_other (word_of chip MARKS) (8 + q % 8) (8 + p.sequence % 8) (bits_apart p (h.sound.entries p there).number (λ f. let g = sym e ∙ ap (λ n. n == q) f ∙ same_number q in cc)) ∙ ((h.words.on on).sequences.pending p there).cancelled)
+          by false e = (started, marked_other (word_of chip MARKS) (8 + q % 8) (8 + p.sequence % 8) (bits_apart p (h.sound.entries p (all_pending (view s) p there)).number (λ f. let g = sym e ∙ ap (λ n. n == q) f ∙ same_number q in cc)) ∙ ((h.words.on on).sequences.pending p there).cancelled)

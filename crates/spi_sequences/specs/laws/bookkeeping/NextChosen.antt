@@ -10,8 +10,8 @@ use Terms.{priority_by, rank, rank_in, ranks_in, refl, Reservations, sequence_of
 use Terms.{SpiState, SpiTable, subst, suc, sym, true, view, word_of, World, zero, ℕ}
 use Rattle.spi_sequences.specs.laws.{services.InitPrepared.{in_first, in_later}}
 use Rattle.spi_sequences.specs.laws.{bookkeeping.SequenceEnded.{filter_back}, words.JobPlaces.{job_place}}
-use Rattle.spi_sequences.specs.laws.{words.WordsToState.{RunsOn, at_contained, going_next, not_true, one_pending}}
-use Rattle.spi_sequences.specs.laws.{words.WordsToState.{one_unit, runs_on}}
+use Rattle.spi_sequences.specs.laws.{words.WordsToState.{RunsOn, at_contained, going_asked, not_true, one_pending}}
+use Rattle.spi_sequences.specs.laws.{words.WordsToState.{one_unit, runs_on}, words.AllSequences.{all_pending}}
 use Rattle.word_shapes.specs.Order as order
 
 -- an order of pending sequences that all wait
@@ -98,10 +98,10 @@ module _ (d : SpiTable) (fits : FitsSpi d) (below : Reservations) (chip : Chip) 
   -- the ranks that a frame reads are the machine's
   rank_agrees : (p : Pending) → Contains s.pending p → order.rank ranks p.sequence ≡ rank d p
   rank_agrees p there =
-      rank_there d (word_of chip NEXTS) (word_of chip MARKS) p.sequence (h.sound.entries p there).number
+      rank_there d (word_of chip NEXTS) (word_of chip MARKS) p.sequence (h.sound.entries p (all_pending (view s) p there)).number
       ∙ ap (λ q. if q && not (is_interruptible (sequence_of d p.sequence)) then 4 else priority_by (job_of d (job_at_place d p.sequence (next_in (word_of chip NEXTS) p.sequence)))) a.started
       ∙ ap (λ n. if keeps_unit d p then 4 else priority_by (job_of d (job_at_place d p.sequence n))) a.next
-      ∙ ap (λ j. if keeps_unit d p then 4 else priority_by (job_of d j)) (job_place d fits p.sequence p.next (h.sound.entries p there).next)
+      ∙ ap (λ j. if keeps_unit d p then 4 else priority_by (job_of d j)) (job_place d fits p.sequence p.next (h.sound.entries p (all_pending (view s) p there)).next)
     where
       a : PendingAgrees (word_of chip) p
       a = (h.words.on on).sequences.pending p there
@@ -113,8 +113,8 @@ module _ (d : SpiTable) (fits : FitsSpi d) (below : Reservations) (chip : Chip) 
       where
         by : RunsOn d fits below chip w s h p.sequence → ⊥
         by r =
-            let next = going_next d fits below chip w s h r.unit r.job r.few r.is in
-            let same : r.job.pending ≡ p = one_pending d fits below chip w s h r.job.pending p next.0 there r.of in
+            let next = going_asked d fits below chip w s h r.unit r.job r.few r.async r.is in
+            let same : r.job.pending ≡ p = one_pending d fits below chip w s h r.job.pending p (all_pending (view s) r.job.pending next.0) (all_pending (view s) p there) r.of in
             let unit : r.unit ≡ u = one_unit d r.unit u (next_job d p) (subst (λ x. is_for d r.unit x ≡ true) same next.2) for in
             let none : None ≡ Some r.job = sym free ∙ ap h.going (sym unit) ∙ r.is in
             cc
@@ -134,4 +134,4 @@ module _ (d : SpiTable) (fits : FitsSpi d) (below : Reservations) (chip : Chip) 
     choice_next =
         ap (choice ranks) waits_all
         ∙ chosen_best d ranks (filter (is_for d u) s.pending) (sorted_kept (is_for d u) s.pending (sorted_by s.pending (λ i j p q lt e f. (h.sound.apart i j p q lt e f).0)))
-        (λ p there. let at = filter_back (is_for d u) s.pending p there in ((h.sound.entries p at.0).number, rank_agrees p at.0))
+        (λ p there. let at = filter_back (is_for d u) s.pending p there in ((h.sound.entries p (all_pending (view s) p at.0)).number, rank_agrees p at.0))

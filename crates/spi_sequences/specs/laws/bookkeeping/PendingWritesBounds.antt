@@ -4,20 +4,20 @@
 -- Used by services.ReadRight, services.CancelRight, services.ModuleRight.
 use Rattle.std.proofs.Common.{◌≡◌, ◌+◌, ◌-◌, ◌*◌, ◌<◌, ◌≤◌, ◌==◌, ◌&&◌, if◌then◌else◌, [], ◌∷◌}
 use Rattle.spi_sequences.specs.Terms
-use Terms.{after_serve, after_start, All, and_parts, ap, arith, Bool, cancel_drops, cancel_owed_at, Cancels}
+use Terms.{after_serve, after_start, All, and_parts, ap, arith, BodyTaken, Bool, cancel_drops, cancel_owed_at, Cancels}
 use Terms.{channel_at_place, channel_number, choice_in, Commit, commit_at, commit_by, commit_ends, commit_last}
 use Terms.{commit_left, commit_more, commits_left, count_in, drop_after, drop_gave, drop_left, drop_more, Dropped}
 use Terms.{false, first_internal, first_pinned, FitsSpi, FrameRole, gives, goes_on, Handler, has_ended, is_pinned_at}
-use Terms.{is_simple, IsBasis, Keep, keep_ends, keep_left, keep_more, keep_of, keeping, Leaving, list_of, Main, may}
-use Terms.{meets_at, More, more_owed, nat_le, nat_lt, nat_tests, Next, next_after, next_gave, next_gives, next_left}
-use Terms.{next_more, None, none, Option, owed_left, owing_basis, PendingWrites, pinning, Placed, placed_of, Places}
-use Terms.{Prepare, prepare_at, prepare_by, prepare_ends, prepare_left, prepare_more, prepared, preparing, refl}
-use Terms.{release_by, release_last, releasing, RequestPlace, Rest, Running, same_chip, Search, search_more, Sent}
-use Terms.{SequenceNext, serve_commits, serve_drops, serve_keeps, serve_keeps_last, serve_lets, serve_releases, Served}
-use Terms.{ServePlace, ServeStep, simple_owed, Some, Sought, sought, spi_bare, spi_basis, spi_owing, SpiTable}
-use Terms.{start_chooses, start_prepares, start_releases, Started, StartPlace, subst, suc, Take, take_gave, take_left}
-use Terms.{take_more, Taker, tally_cleared, tally_less, Transmit, true, unit_more, unit_over, unit_owed, unit_owes}
-use Terms.{unit_took, UnitBody, UnitPlace, Units, unless_done, Wholes, zero, ℕ}
+use Terms.{is_simple, is_sync_unit, IsBasis, Keep, keep_ends, keep_left, keep_more, keep_of, keeping, Leaving, list_of}
+use Terms.{Main, may, meets_at, More, more_owed, nat_le, nat_lt, nat_tests, Next, next_after, next_gave, next_gives}
+use Terms.{next_left, next_more, None, none, Option, owed_left, owing_basis, PendingWrites, pinning, Placed, placed_of}
+use Terms.{Places, Prepare, prepare_at, prepare_by, prepare_ends, prepare_left, prepare_more, prepared, preparing}
+use Terms.{put_gave, put_more, refl, release_by, release_last, releasing, RequestPlace, Rest, Running, same_chip}
+use Terms.{Search, search_more, Sent, SequenceNext, serve_commits, serve_drops, serve_keeps, serve_keeps_last}
+use Terms.{serve_lets, serve_releases, Served, ServePlace, ServeStep, simple_owed, Some, Sought, sought, spi_bare}
+use Terms.{spi_basis, spi_owing, SpiTable, start_chooses, start_prepares, start_releases, Started, StartPlace, subst}
+use Terms.{suc, Take, take_gave, take_left, take_more, Taker, tally_cleared, tally_less, Transmit, true, unit_more}
+use Terms.{unit_over, unit_owed, unit_owes, unit_took, UnitBody, UnitPlace, Units, unless_done, Wholes, zero, ℕ}
 use Rattle.word_shapes.specs.Playing.{goes}
 use Rattle.service_outline.specs.DeferredWrites.{AreOwed}
 use Rattle.spi_sequences.specs.laws.bookkeeping.RefinementRight.{bare_right}
@@ -41,6 +41,16 @@ use Rattle.spi_sequences.specs.declared.service.start.Started.TheVariants as sta
 use Rattle.spi_sequences.specs.declared.service.serve.ServeStep.TheVariants as steps
 use Rattle.spi_sequences.specs.declared.service.unit.UnitPlace.TheVariants as units
 use Rattle.spi_sequences.specs.declared.service.whole.WholeBody.TheVariants as wholes
+use Rattle.spi_sequences.specs.declared.service.sync.SyncBody.{SyncBody}
+use Rattle.spi_sequences.specs.declared.service.sync.SyncPlace.{SyncPlace}
+use Rattle.spi_sequences.specs.declared.service.sync.SyncPlace.TheVariants as sends
+use Rattle.service_outline.specs.Done as outline
+use Rattle.spi_sequences.specs.PendingWrites.{Sends, sent_owes, serve_more, sync_more, sync_owed, sync_owes, where_owed}
+use Rattle.spi_sequences.specs.laws.services.SyncSteps.{begins_whole, channel_sent, run_sent, sync_at, sync_commits}
+use Rattle.spi_sequences.specs.laws.services.SyncSteps.{sync_committed, sync_keeps, sync_prepared, sync_prepares}
+use Rattle.spi_sequences.specs.laws.services.SyncSteps.{sync_prepares_at, sync_prepares_by, sync_serves, sync_took}
+use Rattle.spi_sequences.specs.laws.services.UnitSteps.{main_over}
+use Rattle.spi_sequences.specs.laws.services.ServeSteps.{serve_takes}
 
 -- ---- the routines
 
@@ -141,7 +151,11 @@ abbrev ServeLess : UnitBody → ℕ → ServePlace × ServeStep → Type 0
 ServeLess k n r = Less n (unless_done (after_serve k r).1.done (unit_owed (after_serve k r).0))
 
 over_less : (k : UnitBody) (p : UnitPlace) (n : ℕ) (e : FrameRole) (u : ℕ) → Less n (unless_done (unit_over k p e u).1.done (unit_owed (unit_over k p e u).0))
-over_less k p n Main zero = tt
+over_less k p n Main zero = by (is_sync_unit k.table 1)
+  where
+    by : (b : Bool) → Less n (unless_done (main_over k p b).1.done (unit_owed (main_over k p b).0))
+    by true = tt
+    by false = tt
 over_less k p n Main (suc u) = tt
 over_less k p n Rest u = tt
 over_less k p n Handler u = tt
@@ -319,6 +333,137 @@ module _ (k : UnitBody) where
   unit_less (units.Opens a) v = tt
   unit_less (units.Tell n o) v = tt
 
+-- ---- the places of a call that sends a sequence
+
+abbrev SyncLess : ℕ → SyncBody × BodyTaken → Type 0
+SyncLess n r = Less n (unless_done r.1.done (sync_owed r.0))
+
+module _ (k : SyncBody) where
+  -- the places of a further word's window, and of the last one, are those of a serving
+  abbrev serving : UnitBody
+  serving = record { table = k.table; errand = Handler; unit = k.unit; place = units.Serve serves.Shut }
+
+  as_served : (n : ℕ) (p : ServePlace) → ServeLess serving n (p, steps.Goes None) → SyncLess n (sync_at k (sends.Serve p), outline.goes)
+  as_served n p lt = by p lt
+    where
+      owes : (b : Bool) (p : ServePlace) → Less n (where_owed b (Units (record serving { place = units.Serve p }))) → Less n (where_owed b (Sends (sync_at k (sends.Serve p))))
+      owes true p lt = lt
+      owes false p lt = tt
+
+      by : (p : ServePlace) → ServeLess serving n (p, steps.Goes None) → Less n (where_owed (sent_owes p) (Sends (sync_at k (sends.Serve p))))
+      by (serves.Further r v) lt = tt
+      by (serves.Again r a) lt = tt
+      by (serves.Drop r p) lt = tt
+      by (serves.Let r p t) lt = lt
+      by (serves.Keep x p) lt = lt
+      by (serves.Stand p) lt = lt
+      by (serves.Free r c) lt = lt
+      by (serves.Release l i t) lt = lt
+      by (serves.KeepLast l x) lt = lt
+      by (serves.Commit l i c) lt = lt
+      by (serves.Result l) lt = lt
+      by (serves.End r x) lt = lt
+      by _ lt = tt
+
+  served_on : (n : ℕ) (z : ServePlace × ServeStep) → z.1 ≡ steps.Goes None → ServeLess serving n z → SyncLess n (sync_at k (sends.Serve z.0), outline.goes)
+  served_on n (p, q) e lt = as_served n p (subst (λ x. ServeLess serving n (p, x)) e lt)
+
+  made_ready : (i n : ℕ) → 3 < n → 5 + 2 * (3 - i) < n → SyncLess n (sync_at k (sync_prepares_at k i), outline.goes)
+  made_ready i n lt more = by (channel_number (list_of k.table (run_sent k).job) i)
+    where
+      by : (c : Option ℕ) → SyncLess n (sync_at k (sync_prepares_by c k.table i), outline.goes)
+      by None = lt
+      by (Some c) = let few = prepare_few (placed_of k.table c) in omega (arith, few, more)
+
+  first_ready : SyncLess 12 (sync_at k (sync_prepares k), outline.goes)
+  first_ready = by (begins_whole (channel_sent k 0))
+    where
+      by : (b : Bool) → SyncLess 12 (sync_at k (sync_prepares_at k (if b then 1 else 0)), outline.goes)
+      by true = made_ready 1 12 (omega arith) (omega arith)
+      by false = made_ready 0 12 (omega arith) (omega arith)
+
+  -- the first internal one of the last n channels comes after those before them
+  internal_from : (r : Served) (n i : ℕ) → first_internal k.table r n ≡ Some i → (4 - n ≤ i) × (i < 4)
+  internal_from r zero i e = absurd (cc)
+  internal_from r (suc n) i e = by (nat_lt 3 n) (meets_at k.table (λ x. x.channel.internal) (channel_number (list_of k.table r.run.job) (4 - suc n))) refl e (internal_from r n i)
+    where
+      by : (p q : Bool) → nat_lt 3 n ≡ p → (if p then None else if q then Some (4 - suc n) else first_internal k.table r n) ≡ Some i → (first_internal k.table r n ≡ Some i → (4 - n ≤ i) × (i < 4)) → (4 - suc n ≤ i) × (i < 4)
+      by true q f g rest = absurd (cc)
+      by false true f g rest = let at : 4 - suc n ≡ i = cc in (omega (arith, at), omega (arith, at))
+      by false false f g rest = let r = rest g in let low = r.0 in (omega (arith, low), r.1)
+
+  made_readable : (r : Served) (n m : ℕ) → 12 < m → ((i : ℕ) → 4 - n ≤ i → i < 4 → 14 + 2 * (3 - i) < m) → SyncLess m (sync_at k (sync_commits k r (first_internal k.table r n)), outline.goes)
+  made_readable r n m lt more = by (first_internal k.table r n) refl
+    where
+      by : (o : Option ℕ) → first_internal k.table r n ≡ o → SyncLess m (sync_at k (sync_commits k r o), outline.goes)
+      by None e = lt
+      by (Some i) e = let at = internal_from r n i e in let most = more i at.0 at.1 in omega (arith, most)
+
+  sync_less : (p : SyncPlace) (v : ℕ) → Less (sync_more k.table p) (if sync_owes p then unless_done (sync_took k p v).1.done (sync_owed (sync_took k p v).0) else None)
+  sync_less sends.Pend v = first_ready
+  sync_less (sends.Keep r p) v = by (keep_ends p) refl
+    where
+      by : (q : Bool) → keep_ends p ≡ q → SyncLess (21 + keep_more p) (sync_at k (sync_keeps k r p q), outline.goes)
+      by true e = made_readable r 4 _ (omega arith) (λ i low high. omega arith)
+      by false e = let lt = keep_less p e in omega (arith, lt)
+  sync_less (sends.Commit r i p) v = by (has_ended (put_gave p v)) refl
+    where
+      by : (q : Bool) → has_ended (put_gave p v) ≡ q → SyncLess (13 + 2 * (3 - i) + put_more p) (sync_at k (sync_committed k r i p v q), outline.goes)
+      by true e = made_readable r (3 - i) _ (omega arith) (λ j low high. omega (arith, low, high))
+      by false e = let lt = commit_less (commits.Put p) v e in omega (arith, lt)
+  sync_less (sends.Result r) v = first_ready
+  sync_less (sends.Prepare i p) v = by (prepare_ends p v) refl
+    where
+      onward : (q : Bool) → nat_lt i 3 ≡ q → SyncLess (4 + 2 * (3 - i) + prepare_more p) (sync_at k (if q then sync_prepares_at k (i + 1) else sends.Run), outline.goes)
+      onward true e = let lt : i < 3 = grind (arith, nat_tests) in made_ready (i + 1) _ (omega arith) (omega (arith, lt))
+      onward false e = omega arith
+
+      by : (q : Bool) → prepare_ends p v ≡ q → SyncLess (4 + 2 * (3 - i) + prepare_more p) (sync_at k (sync_prepared k i p v q), outline.goes)
+      by true e = onward (nat_lt i 3) refl
+      by false e = let lt = prepare_less p v e in omega (arith, lt)
+  sync_less sends.Run v = omega arith
+  sync_less sends.Stand v = omega arith
+  sync_less sends.Nexts v = omega arith
+  sync_less (sends.Next n) v = tt
+  sync_less (sends.Serve p) v = serve_step p
+    where
+      -- of each of them the step goes on
+      serve_step : (p : ServePlace) → Less (serve_more k.table p) (if sent_owes p then unless_done (sync_serves k p v).1.done (sync_owed (sync_serves k p v).0) else None)
+      serve_step (serves.Further r x) = tt
+      serve_step (serves.Again r a) = tt
+      serve_step (serves.Drop r x) = tt
+      serve_step (serves.End r x) = tt
+      serve_step (serves.Stand x) = tt
+      serve_step (serves.Let r x t) = served_on (serve_more k.table (serves.Let r x t)) (serve_takes k.table k.unit (serves.Let r x t) v) (on (has_ended (take_gave t v))) (serve_less serving (serves.Let r x t) v)
+        where
+          on : (q : Bool) → (serve_lets k.table r x t v q).1 ≡ steps.Goes None
+          on true = refl
+          on false = refl
+      serve_step (serves.Keep x y) = served_on (serve_more k.table (serves.Keep x y)) (serve_takes k.table k.unit (serves.Keep x y) v) (on (keep_ends x)) (serve_less serving (serves.Keep x y) v)
+        where
+          on : (q : Bool) → (serve_keeps x y q).1 ≡ steps.Goes None
+          on true = refl
+          on false = refl
+      serve_step (serves.Free r c) = as_served _ _ (serve_less serving (serves.Free r c) v)
+      serve_step (serves.Release l i t) = served_on (serve_more k.table (serves.Release l i t)) (serve_takes k.table k.unit (serves.Release l i t) v) (on (has_ended (take_gave t v))) (serve_less serving (serves.Release l i t) v)
+        where
+          on : (q : Bool) → (serve_releases k.table l i t v q).1 ≡ steps.Goes None
+          on true = refl
+          on false = refl
+      serve_step (serves.KeepLast l x) = served_on (serve_more k.table (serves.KeepLast l x)) (serve_takes k.table k.unit (serves.KeepLast l x) v) (on (keep_ends x)) (serve_less serving (serves.KeepLast l x) v)
+        where
+          on : (q : Bool) → (serve_keeps_last k.table l x q).1 ≡ steps.Goes None
+          on true = refl
+          on false = refl
+      serve_step (serves.Commit l i c) = served_on (serve_more k.table (serves.Commit l i c)) (serve_takes k.table k.unit (serves.Commit l i c) v) (on (commit_ends c v)) (serve_less serving (serves.Commit l i c) v)
+        where
+          on : (q : Bool) → (serve_commits k.table l i c v q).1 ≡ steps.Goes None
+          on true = refl
+          on false = refl
+      serve_step (serves.Result l) = as_served _ _ (serve_less serving (serves.Result l) v)
+      serve_step _ = tt
+  sync_less _ v = tt
+
 owed_less : (x : PendingWrites) (v : ℕ) → Less (more_owed x) (owed_left x v)
 owed_less (Units k) v = unit_less k k.place v
 owed_less (Cancels (cancels.Drop r p)) v = by (has_ended (drop_gave p v)) refl
@@ -334,6 +479,7 @@ owed_less (Cancels (cancels.Store r)) v = tt
 owed_less (Wholes (wholes.Look x q)) v = tt
 owed_less (Wholes (wholes.Store x)) v = tt
 owed_less (Wholes (wholes.Lines x)) v = tt
+owed_less (Sends k) v = sync_less k k.place v
 
 pub owed_right : (d : SpiTable) → AreOwed (spi_bare d) (spi_owing d) same_chip
 owed_right d = simple_owed (spi_bare d) (spi_owing d) (λ made e. (and_parts (is_simple made) (may d made) e).0) (λ x chip. tt) (λ x y v e. subst (Less (more_owed x)) e (owed_less x v))

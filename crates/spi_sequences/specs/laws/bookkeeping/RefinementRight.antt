@@ -1,43 +1,54 @@
 -- The basis keeps what it owes: at the start, in time, under moves elsewhere, over a reset and at rest.
 -- From hardware.SourceFilled, hardware.AfterReset, hardware.StableUnderHardware, words.WordsToState and 1 more.
 -- Used by services.WriteRight, services.ReadRight, services.InitWords, bookkeeping.PendingWritesBounds.
-use Rattle.std.proofs.Common.{◌≡◌, ◌≢◌, ◌+◌, ◌-◌, ◌*◌, ◌/◌, ◌%◌, ◌^◌, ◌<◌, ◌==◌, ◌&&◌, ◌||◌, [], ◌∷◌, ◌∙◌, ◌⊎◌}
+use Rattle.std.proofs.Common.{◌≡◌, ◌≢◌, ◌+◌, ◌-◌, ◌*◌, ◌/◌, ◌%◌, ◌^◌, ◌<◌, ◌≤◌, ◌==◌, ◌&&◌, ◌||◌, [], ◌∷◌, ◌∙◌, ◌⊎◌}
 use Rattle.std.proofs.Common.{if◌then◌else◌}
 use Rattle.spi_sequences.specs.Terms
-use Terms.{act-leaves, Adc0, Adc1, after_read, and_parts, ap, arith, best, Bool, Called, CaptureCountLow}
-use Terms.{CaptureTimeLow, channel_of, channels_by, channels_of, Chip, chip_after, clear_apart, ClockPll, ClockRate}
-use Terms.{Contains, ConverterAbort, due, EnableClear, EnableSet, false, Fill, fills_there, filter, first_state}
-use Terms.{FitsSpi, Going, happened, Hardware, has_bit, has_bit-or, has_bit-pow_other, has_bit-without, has_done}
-use Terms.{has_lines, Init, inl, inr, InTransfer, is_done, is_for, is_for_lines, is_in_use, is_interrupt, is_masked}
-use Terms.{is_off, is_on_unit, is_owed, is_shared, is_some, is_used, is_word_of, IsBasis, Job, job_of, jobs_of, Level}
-use Terms.{level_leaves, line-serial, List, list_any, Load, Made, may, may_name, may_write, MayCome, Move, move_there}
-use Terms.{moved, names_there, nat_lt, nat_tests, next_at, next_by, next_job, next_on, None, not, number_of, Option}
-use Terms.{Order, outcome, owns_written, Pending, PinFlip, PowerOn, rate-left, Read, reads_from, ready, refl, Reg}
-use Terms.{Reservations, ResetRequest, resets_chip, Run, run_at, RunsNext, Serial, SerialAck, SerialData, SerialSelect}
-use Terms.{SerialWidth, set_apart, sets_rate, Some, Spi0, Spi1, spi_bare, spi_owns, spi_setting, SpiFault}
-use Terms.{SpiRepresents, SpiState, SpiTable, stands-event, stands-move, StandsIn, Steady, Store, stores_in, subst, suc}
-use Terms.{sym, tells_nothing, TimerLow, true, unit_at, unit_of, UnitAgrees, uses_by, uses_channel, uses_unit, view}
-use Terms.{wiring-left, word-left, word_apart, word_of, World, world_after, Write, zero, ℕ}
+use Terms.{act-leaves, Adc0, Adc1, after_read, and_false, and_parts, ap, arith, best, Bool, Called, CaptureCountLow}
+use Terms.{CaptureTimeLow, carries_channel, Carrying, channel_of, channels_by, channels_of, Chip, chip_after}
+use Terms.{clear_apart, ClockPll, ClockRate, Contains, ConverterAbort, due, EnableClear, EnableSet, false, Fill}
+use Terms.{fills_there, filter, first_state, FitsSpi, Going, happened, Hardware, has_bit, has_bit-or}
+use Terms.{has_bit-pow_other, has_bit-without, has_done, has_handler, has_lines, Init, inl, inr, InTransfer, is_done}
+use Terms.{is_for, is_for_lines, is_in_use, is_interrupt, is_masked, is_off, is_on_unit, is_owed, is_shared, is_some}
+use Terms.{is_sync_unit, is_used, is_word_of, IsBasis, Job, job_of, jobs_of, Level, level_leaves, line-serial, List}
+use Terms.{list_any, Load, Made, may, may_name, may_write, MayCome, Move, move_there, moved, names_there, nat_lt}
+use Terms.{nat_tests, next_at, next_by, next_job, next_on, None, not, number_of, Option, Order, outcome, owns_written}
+use Terms.{Pending, PinFlip, PowerOn, rate-left, Read, reads_from, ready, refl, Reg, Reservations, ResetRequest}
+use Terms.{resets_chip, Run, run_at, RunsNext, Serial, SerialAck, SerialData, SerialSelect, SerialWidth, set_apart}
+use Terms.{sets_rate, Some, Spi0, Spi1, spi_bare, spi_owns, spi_setting, SpiFault, SpiRepresents, SpiState, SpiTable}
+use Terms.{stands-event, stands-move, StandsIn, Steady, Store, stores_in, subst, suc, sym, tells_nothing, TimerLow}
+use Terms.{true, unit_at, unit_of, UnitAgrees, uses, uses_by, uses_channel, uses_unit, view, wiring-left, word-left}
+use Terms.{word_apart, word_of, World, world_after, Write, zero, ℕ}
 use Rattle.chip_model.specs.Chip.{is_pending}
 use Rattle.spi_machine.specs.Machine.{run_of}
 use Rattle.spi_sequences.specs.laws.{hardware.SourceFilled.{fill_agrees, not_both, spared_by, spared_none}}
 use Rattle.spi_sequences.specs.laws.{hardware.AfterReset.{by_two, none_in, reset_agrees}}
 use Rattle.spi_sequences.specs.laws.{hardware.StableUnderHardware.{done_same, fault_agrees, same_agrees}}
-use Rattle.spi_sequences.specs.laws.{words.WordsOfModule.{some_at}, words.WordsToState.{any_some, is_number, not_true}}
+use Rattle.spi_sequences.specs.laws.{words.WordsOfModule.{some_at}, words.AllSequences.{asked_unit}}
+use Rattle.spi_sequences.specs.laws.{words.WordsToState.{any_some, is_number, none_any, not_true}}
 use Rattle.chip_units.specs.Serials as serials
 use Rattle.chip_units.specs.declared.serial.Word as chips
 use Rattle.mcal_base.specs.declared.moves.Unit as units
+use Rattle.mcal_base.specs.declared.directive.Order.TheVariants.{Tick}
 
 -- ---- in time
 
+time_later : (w : World) (rate : ℕ) (order : Order) → w.now ≤ (world_after w rate order).now
+time_later w rate (Tick n) = omega arith
+time_later w rate _ = omega arith
+
 same_orders : (d : SpiTable) → FitsSpi d → (held : Reservations) (chip : Chip) (w : World) (s : SpiState) (order : Order) → StandsIn (happened chip order) (world_after w chip.clock.rate order) → (happened chip order).serials.units ≡ chip.serials.units → ((k : ℕ) → word_of (happened chip order) k ≡ word_of chip k)
     → ((u : ℕ) → u < 2 → has_bit (happened chip order).control.enabled (26 + u) ≡ has_bit chip.control.enabled (26 + u)) → SpiRepresents d held chip w s → SpiRepresents d held (happened chip order) (world_after w chip.clock.rate order) s
-same_orders d fits held chip w s order stands units words enabled h = same_agrees d fits held chip (happened chip order) w (world_after w chip.clock.rate order) s stands (wiring-left chip (Hardware order)) units (λ k own. words k) enabled h
+same_orders d fits held chip w s order stands units words enabled h = same_agrees d fits held chip (happened chip order) w (world_after w chip.clock.rate order) s (time_later w chip.clock.rate order) stands (wiring-left chip (Hardware order)) units (λ k own. words k) enabled h
 
 -- no job uses a channel that isn't there
-unused_none : (d : SpiTable) → FitsSpi d → (c : ℕ) (ps : List Pending) → is_some (channel_of d c) ≡ false → is_in_use d c ps ≡ false
-unused_none d fits c ps none = not_true (is_in_use d c ps) (λ e. by_pending (any_some (λ p. list_any (uses_channel d c) (jobs_of d p.sequence)) ps e))
+unused_none : (d : SpiTable) → FitsSpi d → (c : ℕ) (s : SpiState) → is_some (channel_of d c) ≡ false → uses d s c ≡ false
+unused_none d fits c s none = or_none (is_in_use d c s.pending) (list_any (carries_channel d c) s.carried) (none_any (λ p. list_any (uses_channel d c) (jobs_of d p.sequence)) s.pending (λ p is. by_sequence p.sequence)) (none_any (carries_channel d c) s.carried (λ o is. by_carried o))
   where
+    or_none : (a b : Bool) → a ≡ false → b ≡ false → a || b ≡ false
+    or_none true b e f = e
+    or_none false b e f = f
+
     there : (j n : ℕ) → Contains (channels_of d j) n → (o : Option Job) → job_of d j ≡ o → is_some (channel_of d n) ≡ true
     there j n is None e = absurd (none_in n (subst (λ k. Contains (channels_by k) n) e is))
     there j n is (Some k) e = ap is_some ((fits.jobs j k e).there n is).2
@@ -48,8 +59,12 @@ unused_none d fits c ps none = not_true (is_in_use d c ps) (λ e. by_pending (an
     by_job : (q : ℕ) → (j : ℕ) × Contains (jobs_of d q) j × (uses_channel d c j ≡ true) → ⊥
     by_job q (j, is, uses) = by_channel j (any_some (λ k. k == c) (channels_of d j) uses)
 
-    by_pending : (p : Pending) × Contains ps p × (list_any (uses_channel d c) (jobs_of d p.sequence) ≡ true) → ⊥
-    by_pending (p, is, uses) = by_job p.sequence (any_some (uses_channel d c) (jobs_of d p.sequence) uses)
+    by_sequence : (q : ℕ) → list_any (uses_channel d c) (jobs_of d q) ≡ false
+    by_sequence q = not_true (list_any (uses_channel d c) (jobs_of d q)) (λ e. by_job q (any_some (uses_channel d c) (jobs_of d q) e))
+
+    by_carried : (o : Option Carrying) → carries_channel d c o ≡ false
+    by_carried None = refl
+    by_carried (Some x) = by_sequence x.entry.sequence
 
 later_agrees : (d : SpiTable) → FitsSpi d → (held : Reservations) (chip : Chip) (w : World) (s : SpiState) (order : Order) → MayCome (spi_setting d) held chip w s order → SpiRepresents d held chip w s → SpiRepresents d held (happened chip order) (world_after w chip.clock.rate order) (moved d w s order)
 later_agrees d fits held chip w s order come h = by order come (stands-event chip w order (fills_there (spi_setting d) (is_masked chip) w s come.frames order come.free) h.outside)
@@ -61,9 +76,9 @@ later_agrees d fits held chip w s order come h = by order come (stands-event chi
 
     fill : (c : ℕ) (ws : List ℕ) → MayCome (spi_setting d) held chip w s (Fill c ws) → (q : Bool) → is_some (channel_of d c) ≡ q → SpiRepresents d held (happened chip (Fill c ws)) (world_after w chip.clock.rate (Fill c ws)) (moved d w s (Fill c ws))
     fill c ws come true e =
-        let none = nor (is_masked chip) (is_in_use d c s.pending) (list_any (reads_from (spi_setting d) c) come.frames) (ap (λ q. is_masked chip || (q && (is_in_use d c s.pending || list_any (reads_from (spi_setting d) c) come.frames))) (sym e) ∙ come.free.0) in
+        let none = nor (is_masked chip) (uses d s c) (list_any (reads_from (spi_setting d) c) come.frames) (ap (λ q. is_masked chip || (q && (uses d s c || list_any (reads_from (spi_setting d) c) come.frames))) (sym e) ∙ come.free.0) in
         fill_agrees d fits held chip w s c ws come.free.1 none.0 h (spared_by d s.mode s.channels c held (come.among (reads_from (spi_setting d) c) none.1) h.right)
-    fill c ws come false e = fill_agrees d fits held chip w s c ws come.free.1 (unused_none d fits c s.pending e) h (spared_none d s.mode s.channels c held e h.right)
+    fill c ws come false e = fill_agrees d fits held chip w s c ws come.free.1 (unused_none d fits c s e) h (spared_none d s.mode s.channels c held e h.right)
 
     by : (order : Order) → MayCome (spi_setting d) held chip w s order → StandsIn (happened chip order) (world_after w chip.clock.rate order) → SpiRepresents d held (happened chip order) (world_after w chip.clock.rate order) (moved d w s order)
     by (SpiFault u) come stands = fault_agrees d held chip w s u h
@@ -131,7 +146,7 @@ unstored d _ e = refl
 
 pub apart_agrees : (d : SpiTable) → FitsSpi d → (held : Reservations) (chip : Chip) (w : World) (s : SpiState) (made : Move) (received : ℕ) → spi_owns d made ≡ false → SpiRepresents d held chip w s → SpiRepresents d held (chip_after chip made received) w s
 apart_agrees d fits held chip w s made received e h =
-    same_agrees d fits held chip (chip_after chip made received) w w s (stands-move chip w made received h.outside) (wiring-left chip (Made made received)) (ap (λ b. b.units) (serials_apart d chip made received e)) (λ k own. word_apart (is_word_of d) chip made received k (unstored d made e) own)
+    same_agrees d fits held chip (chip_after chip made received) w w s (omega arith) (stands-move chip w made received h.outside) (wiring-left chip (Made made received)) (ap (λ b. b.units) (serials_apart d chip made received e)) (λ k own. word_apart (is_word_of d) chip made received k (unstored d made e) own)
     (λ u lt. enabled_apart d chip made received u e lt) h
 
 -- ---- what a frame may do
@@ -245,17 +260,25 @@ module _ (d : SpiTable) (fits : FitsSpi d) (held : Reservations) (chip : Chip) (
       none None i = refl
       none (Some r) i = absurd (cc)
 
+  -- a unit that carries out sequences for calls runs no job of a pending one
+  idle_sync : (u : ℕ) → is_sync_unit d u ≡ true → run_at s u ≡ None
+  idle_sync u e = none (run_at s u) (h.sound.carries.idle u e)
+    where
+      none : (r : Option Run) → not (is_some r) ≡ true → r ≡ None
+      none None i = refl
+      none (Some r) i = absurd (cc)
+
   due_unit : (u line : ℕ) → u < 2 → line ≡ 26 + u → unit_of line ≡ Some u → is_pending chip line ≡ due w s line
-  due_unit u line lt at is =
-      line-serial chip line (omega (arith, at)) (omega (arith, at, lt))
-      ∙ ap (λ n. serials.is_done (unit_at chip.serials n) chip.serials.time && has_bit chip.control.enabled line) back
-      ∙ ap (λ q. q && has_bit chip.control.enabled line) (unit_done d (unit_at chip.serials u) (run_at s u) chip.serials.time (h.going u) (h.units u lt) ∙ ap (λ t. has_done t (run_at s u)) time)
-      ∙ ap (λ q. has_done w.now (run_at s u) && q) (ap (λ n. has_bit chip.control.enabled n) at ∙ h.lines u lt)
-      ∙ ap (λ q. q && is_interrupt s.mode) on
-      ∙ sym (ap (λ o. (not (is_off s.mode) && has_done w.now (run_of s o)) && is_interrupt s.mode) is)
+  due_unit u line lt at is = wired ∙ by (is_sync_unit d u) refl ∙ sym (ap (λ o. (not (is_off s.mode) && has_done w.now (run_of s o)) && is_interrupt s.mode) is)
     where
       back : line - 26 ≡ u
       back = omega (arith, at)
+
+      wired : is_pending chip line ≡ serials.is_done (unit_at chip.serials u) chip.serials.time && (is_interrupt s.mode && not (is_sync_unit d u))
+      wired =
+          line-serial chip line (omega (arith, at)) (omega (arith, at, lt))
+          ∙ ap (λ n. serials.is_done (unit_at chip.serials n) chip.serials.time && has_bit chip.control.enabled line) back
+          ∙ ap (λ q. serials.is_done (unit_at chip.serials u) chip.serials.time && q) (ap (λ n. has_bit chip.control.enabled n) at ∙ h.lines u lt)
 
       time : chip.serials.time ≡ w.now
       time = h.outside.together.serials ∙ h.outside.now
@@ -267,6 +290,27 @@ module _ (d : SpiTable) (fits : FitsSpi d) (held : Reservations) (chip : Chip) (
           by true e = ap (λ r. has_done w.now r) (off_none u e)
           by false e = refl
 
+      never : (a b : Bool) → a && (b && false) ≡ false
+      never true true = refl
+      never true false = refl
+      never false b = refl
+
+      no_run : (a b : Bool) → (a && false) && b ≡ false
+      no_run true b = refl
+      no_run false b = refl
+
+      always : (a : Bool) → a && true ≡ a
+      always true = refl
+      always false = refl
+
+      by : (q : Bool) → is_sync_unit d u ≡ q → serials.is_done (unit_at chip.serials u) chip.serials.time && (is_interrupt s.mode && not (is_sync_unit d u)) ≡ (not (is_off s.mode) && has_done w.now (run_at s u)) && is_interrupt s.mode
+      by true e = ap (λ q. serials.is_done (unit_at chip.serials u) chip.serials.time && (is_interrupt s.mode && not q)) e ∙ never (serials.is_done (unit_at chip.serials u) chip.serials.time) (is_interrupt s.mode)
+          ∙ sym (ap (λ r. (not (is_off s.mode) && has_done w.now r) && is_interrupt s.mode) (idle_sync u e) ∙ no_run (not (is_off s.mode)) (is_interrupt s.mode))
+      by false e = ap (λ q. serials.is_done (unit_at chip.serials u) chip.serials.time && (is_interrupt s.mode && not q)) e
+          ∙ ap (λ q. q && (is_interrupt s.mode && true)) (unit_done d (unit_at chip.serials u) (run_at s u) chip.serials.time (h.going u) (h.units u lt e) ∙ ap (λ t. has_done t (run_at s u)) time)
+          ∙ ap (λ q. has_done w.now (run_at s u) && q) (always (is_interrupt s.mode))
+          ∙ ap (λ q. q && is_interrupt s.mode) on
+
   pub due_line : (line : ℕ) → (line == 26 || line == 27) ≡ true → is_pending chip line ≡ due w s line
   due_line line e = by (line == 26) refl e
     where
@@ -277,10 +321,17 @@ module _ (d : SpiTable) (fits : FitsSpi d) (held : Reservations) (chip : Chip) (
       by true i f = due_unit 0 line (omega arith) (equal 26 i) (ap unit_of (equal 26 i))
       by false i f = due_unit 1 line (omega arith) (equal 27 f) (ap unit_of (equal 27 f))
 
-  -- a unit that runs a job is used
-  runs_used : (u : ℕ) → u < 2 → is_some (run_at s u) ≡ true → uses_unit d u ≡ true
-  runs_used u lt e = by (h.going u) refl (h.units u lt) (h.nexts u lt)
+  -- a handler serves a unit that runs a job
+  runs_used : (u : ℕ) → u < 2 → is_some (run_at s u) ≡ true → has_handler d u ≡ true
+  runs_used u lt e = ap (λ q. uses_unit d u && not q) async ∙ ap (λ q. q && true) (by (h.going u) refl (h.units u lt async) (h.nexts u lt))
     where
+      started : (q : Bool) → is_sync_unit d u ≡ q → is_sync_unit d u ≡ false
+      started true i = absurd (let f = sym e ∙ ap is_some (idle_sync u i) in cc)
+      started false i = i
+
+      async : is_sync_unit d u ≡ false
+      async = started (is_sync_unit d u) refl
+
       by : (g : Option Going) → h.going u ≡ g → UnitAgrees d (unit_at chip.serials u) (run_at s u) g → RunsNext d (view s) u g → uses_unit d u ≡ true
       by None i a n = absurd (let f = sym e ∙ ap is_some a.1 in cc)
       by (Some g) i a n = some_at (is_on_unit u) d.jobs (next_job d g.pending) refl n.2
@@ -296,6 +347,24 @@ module _ (d : SpiTable) (fits : FitsSpi d) (held : Reservations) (chip : Chip) (
       by true q i j f = let at : unit_of line ≡ Some 0 = ap (λ b. if b then Some 0 else if line == 27 then Some 1 else None) i in ap (uses_by d) at ∙ runs_used 0 (omega arith) (done_some w.now (run_at s 0) (sym (ap (λ o. has_done w.now (run_of s o)) at) ∙ f))
       by false true i j f = let at : unit_of line ≡ Some 1 = ap (λ b. if b then Some 0 else if line == 27 then Some 1 else None) i ∙ ap (λ b. if b then Some 1 else None) j in ap (uses_by d) at ∙ runs_used 1 (omega arith) (done_some w.now (run_at s 1) (sym (ap (λ o. has_done w.now (run_of s o)) at) ∙ f))
       by false false i j f = let at : unit_of line ≡ None = ap (λ b. if b then Some 0 else if line == 27 then Some 1 else None) i ∙ ap (λ b. if b then Some 1 else None) j in absurd (let g = sym f ∙ ap (λ o. has_done w.now (run_of s o)) at in cc)
+
+  -- one that carries out sequences for calls has nothing to serve
+  pub none_served : (u : ℕ) → is_sync_unit d u ≡ true → ready w s (26 + u) ≡ false
+  none_served u sync = by u sync
+    where
+      at : (v : ℕ) → is_sync_unit d v ≡ true → not (is_off s.mode) && has_done w.now (run_at s v) ≡ false
+      at v e = ap (λ r. not (is_off s.mode) && has_done w.now r) (idle_sync v e) ∙ and_false (not (is_off s.mode))
+
+      not_line : (n v : ℕ) → n < 28 → (26 + suc (suc v) == n) ≡ false
+      not_line n v lt = grind (arith, nat_tests)
+
+      beyond : (v : ℕ) → unit_of (26 + suc (suc v)) ≡ None
+      beyond v = ap (λ q. if q then Some 0 else if 26 + suc (suc v) == 27 then Some 1 else None) (not_line 26 v (omega arith)) ∙ ap (λ q. if q then Some 1 else None) (not_line 27 v (omega arith))
+
+      by : (v : ℕ) → is_sync_unit d v ≡ true → ready w s (26 + v) ≡ false
+      by zero e = at 0 e
+      by (suc zero) e = at 1 e
+      by (suc (suc v)) e = ap (λ o. not (is_off s.mode) && has_done w.now (run_of s o)) (beyond v) ∙ and_false (not (is_off s.mode))
 
   pub unused_line : (line : ℕ) → is_used d line ≡ false → due w s line ≡ false
   unused_line line e = by (due w s line) refl
@@ -329,14 +398,18 @@ used_line d line e = by (line == 26) (line == 27) refl refl
 pub waits_none : (d : SpiTable) → FitsSpi d → (held : Reservations) (chip : Chip) (w : World) (s : SpiState) (u : ℕ) → u < 2 → is_owed u held ≡ false → SpiRepresents d held chip w s → is_some (next_at d s (Some u)) ≡ false
 waits_none d fits held chip w s u lt free h = by (is_off s.mode) (run_at s u) refl
   where
-    by : (q : Bool) (r : Option Run) → run_at s u ≡ r → is_some (if q then None else next_by d s u r) ≡ false
-    by true r e = refl
-    by false (Some r) e = refl
-    by false None e = ap is_some (none_for d fits held chip w s h u (λ p there for. let owed = sym free ∙ h.owed u p lt (idle (h.going u) refl) there for in cc))
+    none : run_at s u ≡ None → (sync : Bool) → is_sync_unit d u ≡ sync → (p : Pending) → Contains s.pending p → is_for d u p ≡ true → ⊥
+    none e true i p there for = let f = sym (asked_unit d fits (view s) h.sound u p there for) ∙ i in cc
+    none e false i p there for = let owed = sym free ∙ h.owed u p lt (idle (h.going u) refl) there for in cc
       where
         idle : (g : Option Going) → h.going u ≡ g → h.going u ≡ None
         idle None i = i
-        idle (Some g) i = absurd (let a = subst (λ o. UnitAgrees d (unit_at chip.serials u) (run_at s u) o) i (h.units u lt) in let f = sym e ∙ a.1 in cc)
+        idle (Some g) j = absurd (let a = subst (λ o. UnitAgrees d (unit_at chip.serials u) (run_at s u) o) j (h.units u lt i) in let f = sym e ∙ a.1 in cc)
+
+    by : (q : Bool) (r : Option Run) → run_at s u ≡ r → is_some (if q then None else next_by d s u r) ≡ false
+    by true r e = refl
+    by false (Some r) e = refl
+    by false None e = ap is_some (none_for d fits held chip w s h u (none e (is_sync_unit d u) refl))
 
 waits : (d : SpiTable) → FitsSpi d → (chip : Chip) (w : World) (s : SpiState) (u : units.Unit) → SpiRepresents d [] chip w s → is_some (next_at d s (number_of u)) ≡ false
 waits d fits chip w s Adc0 h = refl

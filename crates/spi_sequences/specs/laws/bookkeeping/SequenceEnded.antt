@@ -1,21 +1,22 @@
 -- A pending sequence ends, and its jobs that never ran have the results that they had: the state is sound, and the
 -- words stand for it.
--- From words.WordsToState, words.JobPlaces, words.SameWords, hardware.SourceFilled.
+-- From words.WordsToState, words.JobPlaces, words.SameWords, words.AllSequences.
 -- Used by services.CancelRight, services.RequestRight, bookkeeping.AcceptedState, bookkeeping.NextChosen.
-use Rattle.std.proofs.Common.{◌≡◌, ◌≢◌, ◌+◌, ◌-◌, ◌<◌, ◌≤◌, ◌==◌, ◌&&◌, ◌||◌, [], ◌∷◌, ◌∙◌, ◌⊎◌, if◌then◌else◌}
+use Rattle.std.proofs.Common.{◌≡◌, ◌≢◌, ◌+◌, ◌-◌, ◌<◌, ◌≤◌, ◌==◌, ◌&&◌, ◌||◌, [], ◌∷◌, ◌++◌, ◌∙◌, ◌⊎◌, if◌then◌else◌}
 use Rattle.spi_sequences.specs.Terms
-use Terms.{AnswerName, ap, AreDifferent, arith, Bool, cancelled_bit, Contains, Contains-get_or, drop, entries_of, Entry}
-use Terms.{false, filter, FitsSpi, get_or-drop, get_or_default, given_back, has_job, has_mark, inl, inr, is_for}
-use Terms.{is_left, is_of, is_off, is_pending, is_there, IsLast, IsOfSequence, IsOnce, IsSoundState, item-other}
-use Terms.{item-same, job_code, job_result, job_word, jobs_by, jobs_of, length, length-drop, List, list_any, map, MARKS}
-use Terms.{Memory, nat_lt, next_in, NEXTS, None, not, Option, order_word, Pending, refl, repeats, repeats-drop}
-use Terms.{results-other, results-own, same_or_other, Sequence, sequence_code, sequence_of, sequence_result}
-use Terms.{sequence_word, SequencesAgree, shares_job, slice_get, slice_index_or, Some, SpiJobOk, SpiJobPending}
-use Terms.{SpiJobQueued, SpiSeqOk, SpiSeqPending, SpiTable, started_bit, subst, suc, sym, true, View, with_item}
-use Terms.{without, zero, ℕ}
-use Rattle.spi_sequences.specs.laws.{words.SameWords.{job_small}, hardware.SourceFilled.{any_in}}
+use Terms.{all_of, AnswerName, ap, AreDifferent, arith, Bool, cancelled_bit, Contains, Contains-get_or, drop}
+use Terms.{entries_begun, entries_of, Entry, false, filter, FitsSpi, get_or-drop, get_or_default, given_back, has_job}
+use Terms.{has_mark, inl, inr, is_for, is_left, is_of, is_off, is_pending, is_sync_sequence, is_sync_unit, is_there}
+use Terms.{IsLast, IsOfSequence, IsOnce, IsSoundState, item-other, item-same, job_code, job_result, job_word, jobs_by}
+use Terms.{jobs_of, length, length-drop, List, list_any, map, MARKS, Memory, next_in, NEXTS, None, not, Option}
+use Terms.{order_word, Pending, refl, repeats, repeats-drop, results-other, results-own, same_or_other, Sequence}
+use Terms.{sequence_code, sequence_of, sequence_result, sequence_word, SequencesAgree, shares_job, slice_get}
+use Terms.{slice_index_or, Some, some_is, SpiJobOk, SpiJobPending, SpiJobQueued, SpiSeqOk, SpiSeqPending, SpiTable}
+use Terms.{started_bit, subst, suc, sym, true, unit_of_sequence, View, with_item, without, zero, ℕ}
+use Rattle.spi_sequences.specs.laws.{words.SameWords.{job_small}, words.ListTests.{any_in}}
+use Rattle.spi_sequences.specs.laws.words.AllSequences.{all_carried, all_cases, all_pending, aside_pending, one_of_all}
 use Rattle.spi_sequences.specs.laws.{words.JobPlaces.{LeftAt, at_left, left_at}, words.WordsToState.{any_none}}
-use Rattle.spi_sequences.specs.laws.{words.WordsToState.{any_some, at_contained, is_below, is_number, is_past}}
+use Rattle.spi_sequences.specs.laws.{words.WordsToState.{any_some, at_contained, is_number}}
 use Rattle.spi_sequences.specs.laws.{words.WordsToState.{none_any, not_true, other_number, same_number}}
 use Rattle.word_shapes.specs.Order as order
 use Rattle.word_shapes.specs.PriorityQueue as ranked
@@ -64,15 +65,6 @@ filter_keeps t (z ∷ zs) y (suc k, lt, e) f = by (t z) (filter_keeps t zs y (k,
     by : (q : Bool) → Contains (filter t zs) y → Contains (if q then z ∷ filter t zs else filter t zs) y
     by true r = (suc r.0, let less = r.1 in omega (arith, less), r.2)
     by false r = r
-
--- without another sequence it is pending as before
-pub pending-other : (q k : ℕ) (ps : List Pending) → q ≢ k → is_pending q (without k ps) ≡ is_pending q ps
-pending-other q k [] ne = refl
-pending-other q k (p ∷ ps) ne = by (is_of k p) refl (pending-other q k ps ne)
-  where
-    by : (b : Bool) → is_of k p ≡ b → is_pending q (without k ps) ≡ is_pending q ps → is_pending q (if not b then p ∷ without k ps else without k ps) ≡ is_of q p || is_pending q ps
-    by true e rest = rest ∙ sym (ap (λ b. b || is_pending q ps) (other_number p.sequence q (λ f. ne (sym f ∙ is_number p.sequence k e))))
-    by false e rest = ap (λ b. is_of q p || b) rest
 
 -- ---- the jobs of a sequence stand in it once
 
@@ -156,7 +148,60 @@ there_by running (p ∷ ps) x (suc k, lt, e) = or_true (p.sequence == x.sequence
 
 -- ---- the state
 
-module _ (d : SpiTable) (fits : FitsSpi d) (v : View) (h : IsSoundState d v) (p : Pending) (there : Contains v.pending p) (from : ℕ) (from_next : p.next ≤ from) (rs : List AnswerName)
+-- a sequence under way leaves: these are pending then, and these the units carry out
+pub record Leaves (v : View) (p : Pending) (ps : List Pending) (begun : ℕ → Option Pending) : Type 0 where
+  pub kept : (x : Pending) → Contains ps x → Contains v.pending x × (x.sequence ≢ p.sequence)
+  pub order : (i j : ℕ) (x y : Pending) → i < j → slice_get ps i ≡ Some x → slice_get ps j ≡ Some y → (a : ℕ) × (b : ℕ) × (a < b) × (slice_get v.pending a ≡ Some x) × (slice_get v.pending b ≡ Some y)
+  pub carried : (u : ℕ) (x : Pending) → begun u ≡ Some x → (v.begun u ≡ Some x) × (x.sequence ≢ p.sequence)
+  pub stays : (x : Pending) → Contains (all_of v) x → x.sequence ≢ p.sequence → Contains (ps ++ (entries_begun (begun 0) ++ entries_begun (begun 1))) x
+
+-- as a pending one does
+abbrev without_entry : View → Pending → View
+without_entry v p = record v { pending = without p.sequence v.pending }
+
+pub leaves_pending : (d : SpiTable) (v : View) (h : IsSoundState d v) (p : Pending) → Contains v.pending p → Leaves v p (without p.sequence v.pending) v.begun
+leaves_pending d v h p there = record {
+  kept = λ x is. let r = filter_back (λ z. not (is_of p.sequence z)) v.pending x is in (r.0, unlike x r.1);
+  order = λ i j x y lt a b. kept_order (λ z. not (is_of p.sequence z)) v.pending i j x y lt a b;
+  carried = λ u x e. (e, λ same. let f = sym ((aside_pending d v h p there) u x e).1 ∙ ap (λ n. n == p.sequence) same ∙ same_number p.sequence in cc);
+  stays = λ x is ne. by x ne (all_cases v x is);
+}
+  where
+    unlike : (x : Pending) → not (is_of p.sequence x) ≡ true → x.sequence ≢ p.sequence
+    unlike x r e = let f = sym r ∙ ap (λ n. not (n == p.sequence)) e ∙ ap not (same_number p.sequence) in cc
+
+    by : (x : Pending) → x.sequence ≢ p.sequence → Contains v.pending x ⊎ ((u : ℕ) × (v.begun u ≡ Some x)) → Contains (all_of (without_entry v p)) x
+    by x ne (inl is) = all_pending (without_entry v p) x (filter_keeps (λ z. not (is_of p.sequence z)) v.pending x is (ap not (other_number x.sequence p.sequence ne)))
+    by x ne (inr (u, e)) = all_carried (without_entry v p) u x (h.carries.unit u x e).0 e
+
+-- and as one that a unit carries out does
+abbrev with_begun : View → (ℕ → Option Pending) → View
+with_begun v begun = record v { begun = begun }
+
+pub leaves_begun : (d : SpiTable) (v : View) (h : IsSoundState d v) (u : ℕ) (p : Pending) → v.begun u ≡ Some p → (begun : ℕ → Option Pending) → begun u ≡ None → ((n : ℕ) → n ≢ u → begun n ≡ v.begun n) → Leaves v p v.pending begun
+leaves_begun d v h u p is begun own other = record {
+  kept = λ x there. (there, unlike x there);
+  order = λ i j x y lt a b. (i, j, lt, a, b);
+  carried = λ n x e. stands n x e (same_or_other n u);
+  stays = λ x there ne. by x ne (all_cases v x there);
+}
+  where
+    unlike : (x : Pending) → Contains v.pending x → x.sequence ≢ p.sequence
+    unlike x there e = let r = h.carries.unit u p is in let f = sym (h.carries.asked x there) ∙ ap (is_sync_sequence d) e ∙ ap (is_sync_unit d) r.2 ∙ r.1 in cc
+
+    stands : (n : ℕ) (x : Pending) → begun n ≡ Some x → (n ≡ u) ⊎ (n ≢ u) → (v.begun n ≡ Some x) × (x.sequence ≢ p.sequence)
+    stands n x e (inl same) = absurd (let f = sym own ∙ ap begun (sym same) ∙ e in cc)
+    stands n x e (inr ne) = let still = sym (other n ne) ∙ e in (still, λ same. ne (sym (h.carries.unit n x still).2 ∙ ap (unit_of_sequence d) same ∙ (h.carries.unit u p is).2))
+
+    here : (n : ℕ) (x : Pending) → x.sequence ≢ p.sequence → v.begun n ≡ Some x → (n ≡ u) ⊎ (n ≢ u) → Contains (all_of (with_begun v begun)) x
+    here n x ne e (inl same) = absurd (ne (ap (λ z. z.sequence) (some_is x p (sym e ∙ ap v.begun same ∙ is))))
+    here n x ne e (inr far) = all_carried (with_begun v begun) n x (h.carries.unit n x e).0 (other n far ∙ e)
+
+    by : (x : Pending) → x.sequence ≢ p.sequence → Contains v.pending x ⊎ ((n : ℕ) × (v.begun n ≡ Some x)) → Contains (all_of (with_begun v begun)) x
+    by x ne (inl there) = all_pending (with_begun v begun) x there
+    by x ne (inr (n, e)) = here n x ne e (same_or_other n u)
+
+module _ (d : SpiTable) (fits : FitsSpi d) (v : View) (h : IsSoundState d v) (p : Pending) (there : Contains (all_of v) p) (from : ℕ) (from_next : p.next ≤ from) (rs : List AnswerName)
     (ran : (j : ℕ) → is_left d j p ≡ true → list_any (λ k. k == j) (drop from (jobs_of d p.sequence)) ≡ false → IsLast (job_result rs j))
     (unrun : (j : ℕ) → is_left d j p ≡ false → job_result rs j ≡ job_result v.job_results j) where
   abbrev jobs : List ℕ
@@ -188,68 +233,52 @@ module _ (d : SpiTable) (fits : FitsSpi d) (v : View) (h : IsSoundState d v) (p 
   given_other : (j : ℕ) → rest j ≡ false → job_result given j ≡ job_result rs j
   given_other j e = results-other (drop from jobs) (drop from p.had) rs j e
 
-  -- two that share a job are one
-  one_of_two : (a b : Pending) → Contains v.pending a → Contains v.pending b → shares_job d a.sequence b.sequence ≡ true → shares_job d b.sequence a.sequence ≡ true → a ≡ b
-  one_of_two a b (i, lt, e) (n, less, f) ab ba = by (nat_lt i n) refl (nat_lt n i) refl
-    where
-      ga : slice_get v.pending i ≡ Some a
-      ga = at_contained v.pending i a lt e
-
-      gb : slice_get v.pending n ≡ Some b
-      gb = at_contained v.pending n b less f
-
-      by : (c : Bool) → nat_lt i n ≡ c → (e : Bool) → nat_lt n i ≡ e → a ≡ b
-      by true x q y = absurd (let z = sym ab ∙ (h.apart i n a b (is_below i n x) ga gb).1 in cc)
-      by false x true y = absurd (let z = sym ba ∙ (h.apart n i b a (is_below n i y) gb ga).1 in cc)
-      by false x false y =
-          let le = is_past i n x in
-          let ge = is_past n i y in
-          let same : i ≡ n = omega (arith, le, ge) in
-          let one : Some a ≡ Some b = sym ga ∙ ap (slice_get v.pending) same ∙ gb in
-          cc
-
   pair : (a b j : ℕ) → Contains (jobs_of d a) j → Contains (jobs_of d b) j → shares_job d a b ≡ true
   pair a b j at bt = any_in (has_job d a) (jobs_of d b) j bt (any_in (λ k. k == j) (jobs_of d a) j at (same_number j))
 
   next_in_jobs : Contains jobs (slice_index_or jobs p.next 0)
   next_in_jobs = Contains-get_or jobs p.next 0 (h.entries p there).next
 
-  one_entry : (x : Pending) → Contains v.pending x → x.sequence ≡ p.sequence → x ≡ p
-  one_entry x also e = one_of_two x p also there (subst (λ n. shares_job d n p.sequence ≡ true) (sym e) (pair p.sequence p.sequence _ next_in_jobs next_in_jobs)) (subst (λ n. shares_job d p.sequence n ≡ true) (sym e) (pair p.sequence p.sequence _ next_in_jobs next_in_jobs))
+  one_entry : (x : Pending) → Contains (all_of v) x → x.sequence ≡ p.sequence → x ≡ p
+  one_entry x also e = one_of_all d fits v h x p also there (subst (λ n. shares_job d n p.sequence ≡ true) (sym e) (pair p.sequence p.sequence _ next_in_jobs next_in_jobs)) (subst (λ n. shares_job d p.sequence n ≡ true) (sym e) (pair p.sequence p.sequence _ next_in_jobs next_in_jobs))
 
   -- a job of another pending sequence is none of them
-  not_left : (x : Pending) (j : ℕ) → Contains v.pending x → x.sequence ≢ p.sequence → Contains (jobs_of d x.sequence) j → is_left d j p ≡ false
+  not_left : (x : Pending) (j : ℕ) → Contains (all_of v) x → x.sequence ≢ p.sequence → Contains (jobs_of d x.sequence) j → is_left d j p ≡ false
   not_left x j also ne has = not_true (is_left d j p) (λ e. shared (at_left jobs p.next j e))
     where
       shared : LeftAt jobs p.next j → ⊥
       shared l =
           let own : Contains jobs j = (l.place, l.within, get_or_default jobs l.place j 0 l.within ∙ l.is) in
-          ne (ap (λ z. z.sequence) (one_of_two x p also there (pair x.sequence p.sequence j has own) (pair p.sequence x.sequence j own has)))
+          ne (ap (λ z. z.sequence) (one_of_all d fits v h x p also there (pair x.sequence p.sequence j has own) (pair p.sequence x.sequence j own has)))
 
   left_rest : (j : ℕ) → rest j ≡ true → is_left d j p ≡ true
   left_rest j e = let l = at_left jobs from j e in left_at jobs p.next l.place j l.within (let le = l.from in omega (arith, le, from_next)) l.is
 
-  other_result : (x : Pending) (j : ℕ) → Contains v.pending x → x.sequence ≢ p.sequence → Contains (jobs_of d x.sequence) j → job_result given j ≡ job_result v.job_results j
+  other_result : (x : Pending) (j : ℕ) → Contains (all_of v) x → x.sequence ≢ p.sequence → Contains (jobs_of d x.sequence) j → job_result given j ≡ job_result v.job_results j
   other_result x j also ne has =
       let no = not_left x j also ne has in
       given_other j (not_true (rest j) (λ e. let f = sym no ∙ left_rest j e in cc)) ∙ unrun j no
 
-  module _ (running : ℕ → Bool) (idle : ℕ → Bool) (result : AnswerName) (named : IsOfSequence result) (over : result ≡ SpiSeqPending → ⊥) (others : (n : ℕ) → n ≢ p.sequence → running n ≡ v.running n) (few : (u : ℕ) → 2 ≤ u → idle u ≡ true) (off : is_off v.mode ≡ true → (u : ℕ) → idle u ≡ true) where
+  module _ (ps : List Pending) (begun : ℕ → Option Pending) (leaves : Leaves v p ps begun) (running : ℕ → Bool) (idle : ℕ → Bool) (result : AnswerName) (named : IsOfSequence result) (over : result ≡ SpiSeqPending → ⊥) (others : (n : ℕ) → n ≢ p.sequence → running n ≡ v.running n) (few : (u : ℕ) → 2 ≤ u → idle u ≡ true) (calm : (u : ℕ) → is_sync_unit d u ≡ true → idle u ≡ true) (off : is_off v.mode ≡ true → (u : ℕ) → idle u ≡ true) where
     abbrev pub ended_view : View
-    ended_view = record v { pending = without p.sequence v.pending; sequence_results = with_item SpiSeqOk v.sequence_results p.sequence result; job_results = given; running = running; idle = idle }
+    ended_view = record v { pending = ps; begun = begun; sequence_results = with_item SpiSeqOk v.sequence_results p.sequence result; job_results = given; running = running; idle = idle }
 
-    kept : (x : Pending) → Contains (without p.sequence v.pending) x → Contains v.pending x × (x.sequence ≢ p.sequence)
-    kept x is = let r = filter_back (λ z. not (is_of p.sequence z)) v.pending x is in (r.0, λ e. let f = sym r.1 ∙ ap (λ n. not (n == p.sequence)) e ∙ ap not (same_number p.sequence) in cc)
-
-    none_left : (j : ℕ) → list_any (is_left d j) (without p.sequence v.pending) ≡ false → is_left d j p ≡ false → list_any (is_left d j) v.pending ≡ false
-    none_left j none own = none_any (is_left d j) v.pending (λ x also. by x also (same_or_other x.sequence p.sequence))
+    kept : (x : Pending) → Contains (all_of ended_view) x → Contains (all_of v) x × (x.sequence ≢ p.sequence)
+    kept x is = by (all_cases ended_view x is)
       where
-        by : (x : Pending) → Contains v.pending x → (x.sequence ≡ p.sequence) ⊎ (x.sequence ≢ p.sequence) → is_left d j x ≡ false
+        by : Contains ps x ⊎ ((u : ℕ) × (begun u ≡ Some x)) → Contains (all_of v) x × (x.sequence ≢ p.sequence)
+        by (inl one) = let r = leaves.kept x one in (all_pending v x r.0, r.1)
+        by (inr (u, e)) = let r = leaves.carried u x e in (all_carried v u x (h.carries.unit u x r.0).0 r.0, r.1)
+
+    none_left : (j : ℕ) → list_any (is_left d j) (all_of ended_view) ≡ false → is_left d j p ≡ false → list_any (is_left d j) (all_of v) ≡ false
+    none_left j none own = none_any (is_left d j) (all_of v) (λ x also. by x also (same_or_other x.sequence p.sequence))
+      where
+        by : (x : Pending) → Contains (all_of v) x → (x.sequence ≡ p.sequence) ⊎ (x.sequence ≢ p.sequence) → is_left d j x ≡ false
         by x also (inl e) = subst (λ z. is_left d j z ≡ false) (sym (one_entry x also e)) own
-        by x also (inr ne) = any_none (is_left d j) (without p.sequence v.pending) none x (filter_keeps (λ z. not (is_of p.sequence z)) v.pending x also (ap not (other_number x.sequence p.sequence ne)))
+        by x also (inr ne) = any_none (is_left d j) (all_of ended_view) none x (leaves.stays x also ne)
 
     -- a job that no other one has left
-    last_by : (j : ℕ) → list_any (is_left d j) (without p.sequence v.pending) ≡ false → (a : Bool) → rest j ≡ a → (b : Bool) → is_left d j p ≡ b → IsLast (job_result given j)
+    last_by : (j : ℕ) → list_any (is_left d j) (all_of ended_view) ≡ false → (a : Bool) → rest j ≡ a → (b : Bool) → is_left d j p ≡ b → IsLast (job_result given j)
     last_by j none true e b f = let l = at_left jobs from j e in subst (λ x. IsLast x) (sym (given_had j l)) ((h.entries p there).last l.place (let lt = l.within in let count = (h.entries p there).had in omega (arith, lt, count)))
     last_by j none false e true f = subst (λ x. IsLast x) (sym (given_other j e)) (ran j f e)
     last_by j none false e false f = subst (λ x. IsLast x) (sym (given_other j e ∙ unrun j f)) (h.results.last j (none_left j none f))
@@ -257,32 +286,57 @@ module _ (d : SpiTable) (fits : FitsSpi d) (v : View) (h : IsSoundState d v) (p 
     pub ended_sound : IsSoundState d ended_view
     ended_sound = record {
       entries = λ x is. let k = kept x is in let e = h.entries x k.0 in record { number = e.number; next = e.next; had = e.had; last = e.last; cancelled = λ c. others x.sequence k.1 ∙ e.cancelled c };
-      apart = λ i j x y lt a b. let r = kept_order (λ z. not (is_of p.sequence z)) v.pending i j x y lt a b in h.apart r.0 r.1 x y r.2 r.3 r.4;
-      requests = λ x is. h.requests x (kept x is).0;
+      apart = λ i j x y lt a b. let r = leaves.order i j x y lt a b in h.apart r.0 r.1 x y r.2 r.3 r.4;
+      requests = λ x is. h.requests x (leaves.kept x is).0;
       results = record {
-        queued = λ x i is le lt. let k = kept x is in other_result x (slice_index_or (jobs_of d x.sequence) i 0) k.0 k.1 (Contains-get_or (jobs_of d x.sequence) i 0 lt) ∙ h.results.queued x i k.0 le lt ∙ ap (λ b. if i == x.next && b then SpiJobPending else SpiJobQueued) (sym (others x.sequence k.1));
+        queued = λ x i is le lt. let k = leaves.kept x is in other_result x (slice_index_or (jobs_of d x.sequence) i 0) (all_pending v x k.0) k.1 (Contains-get_or (jobs_of d x.sequence) i 0 lt) ∙ h.results.queued x i k.0 le lt ∙ ap (λ b. if i == x.next && b then SpiJobPending else SpiJobQueued) (sym (others x.sequence k.1));
         last = λ j none. last_by j none (rest j) refl (is_left d j p) refl;
         named = λ n lt. names n lt (same_or_other n p.sequence);
         sequences = λ n lt. represents n lt (same_or_other n p.sequence);
       };
+      carries = record {
+        unit = λ u x e. h.carries.unit u x (leaves.carried u x e).0;
+        asked = λ x is. h.carries.asked x (leaves.kept x is).0;
+        idle = calm;
+        queued = λ u x i e le lt. let k = leaves.carried u x e in other_result x (slice_index_or (jobs_of d x.sequence) i 0) (all_carried v u x (h.carries.unit u x k.0).0 k.0) k.1 (Contains-get_or (jobs_of d x.sequence) i 0 lt) ∙ h.carries.queued u x i k.0 le lt;
+        off = λ e u. none_begun (begun u) (λ x i. let f = sym (leaves.carried u x i).0 ∙ h.carries.off e u in cc);
+      };
       few = few;
-      off = λ e. (ap (without p.sequence) (h.off e).0, off e);
+      off = λ e. (none_pending ps (λ x is. none_in x (subst (λ xs. Contains xs x) (h.off e).0 (leaves.kept x is).0)), off e);
     }
       where
+        none_begun : (o : Option Pending) → ((x : Pending) → o ≡ Some x → ⊥) → o ≡ None
+        none_begun None never = refl
+        none_begun (Some x) never = absurd (never x refl)
+
+        none_in : (x : Pending) → Contains [] x → ⊥
+        none_in x (k, lt, e) = omega (arith, lt)
+
+        none_pending : (xs : List Pending) → ((x : Pending) → Contains xs x → ⊥) → xs ≡ []
+        none_pending [] never = refl
+        none_pending (x ∷ xs) never = absurd (never x (0, omega arith, refl))
+
         names : (n : ℕ) → n < 8 → (n ≡ p.sequence) ⊎ (n ≢ p.sequence) → IsOfSequence (sequence_result (with_item SpiSeqOk v.sequence_results p.sequence result) n)
         names n lt (inl e) = subst (λ k. IsOfSequence (sequence_result (with_item SpiSeqOk v.sequence_results p.sequence result) k)) (sym e) (subst (λ x. IsOfSequence x) (sym (item-same SpiSeqOk v.sequence_results p.sequence result)) named)
         names n lt (inr ne) = subst (λ x. IsOfSequence x) (sym (item-other SpiSeqOk v.sequence_results p.sequence n result ne)) (h.results.named n lt)
 
-        gone : is_pending p.sequence (without p.sequence v.pending) ≡ false
-        gone = none_any (is_of p.sequence) (without p.sequence v.pending) (λ x is. other_number x.sequence p.sequence (kept x is).1)
+        gone : is_pending p.sequence (all_of ended_view) ≡ false
+        gone = none_any (is_of p.sequence) (all_of ended_view) (λ x is. other_number x.sequence p.sequence (kept x is).1)
 
-        represents : (n : ℕ) → n < 8 → (n ≡ p.sequence) ⊎ (n ≢ p.sequence) → (sequence_result (with_item SpiSeqOk v.sequence_results p.sequence result) n ≡ SpiSeqPending → is_pending n (without p.sequence v.pending) ≡ true) × (is_pending n (without p.sequence v.pending) ≡ true → sequence_result (with_item SpiSeqOk v.sequence_results p.sequence result) n ≡ SpiSeqPending)
-        represents n lt (inl e) = subst (λ k. (sequence_result (with_item SpiSeqOk v.sequence_results p.sequence result) k ≡ SpiSeqPending → is_pending k (without p.sequence v.pending) ≡ true) × (is_pending k (without p.sequence v.pending) ≡ true → sequence_result (with_item SpiSeqOk v.sequence_results p.sequence result) k ≡ SpiSeqPending)) (sym e)
+        stays : (n : ℕ) → n ≢ p.sequence → is_pending n (all_of ended_view) ≡ is_pending n (all_of v)
+        stays n ne = by (is_pending n (all_of v)) refl
+          where
+            by : (b : Bool) → is_pending n (all_of v) ≡ b → is_pending n (all_of ended_view) ≡ is_pending n (all_of v)
+            by true e = let r = any_some (is_of n) (all_of v) e in any_in (is_of n) (all_of ended_view) r.0 (leaves.stays r.0 r.1 (λ f. ne (sym (is_number r.0.sequence n r.2) ∙ f))) r.2 ∙ sym e
+            by false e = none_any (is_of n) (all_of ended_view) (λ x is. any_none (is_of n) (all_of v) e x (kept x is).0) ∙ sym e
+
+        represents : (n : ℕ) → n < 8 → (n ≡ p.sequence) ⊎ (n ≢ p.sequence) → (sequence_result (with_item SpiSeqOk v.sequence_results p.sequence result) n ≡ SpiSeqPending → is_pending n (all_of ended_view) ≡ true) × (is_pending n (all_of ended_view) ≡ true → sequence_result (with_item SpiSeqOk v.sequence_results p.sequence result) n ≡ SpiSeqPending)
+        represents n lt (inl e) = subst (λ k. (sequence_result (with_item SpiSeqOk v.sequence_results p.sequence result) k ≡ SpiSeqPending → is_pending k (all_of ended_view) ≡ true) × (is_pending k (all_of ended_view) ≡ true → sequence_result (with_item SpiSeqOk v.sequence_results p.sequence result) k ≡ SpiSeqPending)) (sym e)
             (λ f. absurd (over (sym (item-same SpiSeqOk v.sequence_results p.sequence result) ∙ f)), λ f. absurd (let g = sym gone ∙ f in cc))
         represents n lt (inr ne) =
             let same = item-other SpiSeqOk v.sequence_results p.sequence n result ne in
             let was = h.results.sequences n lt in
-            let still = pending-other n p.sequence v.pending ne in
+            let still = stays n ne in
             (λ f. still ∙ was.0 (sym same ∙ f), λ f. same ∙ was.1 (sym still ∙ f))
 
     -- ---- the words
@@ -301,7 +355,7 @@ module _ (d : SpiTable) (fits : FitsSpi d) (v : View) (h : IsSoundState d v) (p 
           and_false true = refl
           and_false false = refl
 
-      job_by : (j : ℕ) → j < 16 → list_any (is_left d j) (without p.sequence v.pending) ≡ false → (b : Bool) → rest j ≡ b → (c : Bool) → is_left d j p ≡ c → m1 (job_word j) ≡ job_code (job_result given j)
+      job_by : (j : ℕ) → j < 16 → list_any (is_left d j) (all_of ended_view) ≡ false → (b : Bool) → rest j ≡ b → (c : Bool) → is_left d j p ≡ c → m1 (job_word j) ≡ job_code (job_result given j)
       job_by j lt none true e c f =
           let l = at_left jobs from j e in
           let le = l.from in
@@ -312,7 +366,8 @@ module _ (d : SpiTable) (fits : FitsSpi d) (v : View) (h : IsSoundState d v) (p 
       pub ended_words : SequencesAgree d m1 ended_view
       ended_words = record {
         sequences = λ n lt. told_by n lt (same_or_other n p.sequence);
-        pending = λ x is. let k = kept x is in let w = a.pending x k.0 in record { next = ap (λ n. next_in n x.sequence) nexts ∙ w.next; started = ap (λ n. has_mark n (started_bit x.sequence)) marks ∙ w.started; cancelled = ap (λ n. has_mark n (cancelled_bit x.sequence)) marks ∙ w.cancelled };
+        pending = λ x is. let k = leaves.kept x is in let w = a.pending x k.0 in record { next = ap (λ n. next_in n x.sequence) nexts ∙ w.next; started = ap (λ n. has_mark n (started_bit x.sequence)) marks ∙ w.started; cancelled = ap (λ n. has_mark n (cancelled_bit x.sequence)) marks ∙ w.cancelled };
+        begun = λ u x e. ap (λ n. next_in n x.sequence) nexts ∙ a.begun u x (leaves.carried u x e).0;
         had = λ x i is le lt. let k = kept x is in job_words (slice_index_or (jobs_of d x.sequence) i 0) (job_small d fits x.sequence i lt) (unless_left (slice_index_or (jobs_of d x.sequence) i 0) (not_left x (slice_index_or (jobs_of d x.sequence) i 0) k.0 k.1 (Contains-get_or (jobs_of d x.sequence) i 0 lt))) ∙ a.had x i k.0 le lt;
         jobs = λ j lt none. job_by j lt none (rest j) refl (is_left d j p) refl;
         orders = orders;

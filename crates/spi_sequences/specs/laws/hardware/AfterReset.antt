@@ -79,6 +79,7 @@ fresh_sound d = record {
   entries = λ p i. absurd (none_in p i);
   apart = λ i j p q lt e f. absurd (cc);
   requests = λ p i. absurd (none_in p i);
+  carries = record { unit = λ u p e. absurd (cc); asked = λ p i. absurd (none_in p i); idle = λ u e. refl; queued = λ u p i e le lt. absurd (cc); off = λ e u. refl };
   results = record { queued = λ p i there le lt. absurd (none_in p there); last = λ j none. tt; named = λ q lt. tt; sequences = λ q lt. (λ e. absurd (cc), λ e. absurd (cc)) };
   few = λ u le. refl;
   off = λ e. (refl, λ u. refl);
@@ -93,7 +94,10 @@ reset_agrees d fits chip w reason stands wired = record {
   sound = fresh_sound d;
   going = λ u. None;
   nexts = λ u lt. tt;
-  units = λ u lt. (by_two (λ n. (unit_at (fresh chip.serials.time) n).word ≡ None) refl refl u lt, refl);
+  units = λ u lt async. (by_two (λ n. (unit_at (fresh chip.serials.time) n).word ≡ None) refl refl u lt, refl);
+  sends = λ u lt sync. (by_two (λ n. (unit_at (fresh chip.serials.time) n).word ≡ None) refl refl u lt, refl);
+  sending = tt;
+  carriers = λ u p e. absurd (cc);
   words = fresh_words d fits (word_of (reset_chip chip reason)) (λ k. slice_index-blank k);
   set_ups = λ on. absurd (cc);
   sizes = λ on. absurd (cc);

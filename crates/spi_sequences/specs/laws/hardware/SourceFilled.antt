@@ -1,23 +1,26 @@
 -- A source array is filled on the chip and in the machine alike, and nothing else is.
 -- From words.KeptWords, words.SameWords, words.WordsOfModule, hardware.StableUnderHardware.
 -- Used by bookkeeping.RefinementRight, words.SideWords, mcal_drivers: proofs/SoundConverters and 11 more.
-use Rattle.std.proofs.Common.{◌≡◌, ◌≢◌, ◌+◌, ◌-◌, ◌*◌, ◌<◌, ◌≤◌, ◌==◌, ◌&&◌, ◌||◌, [], ◌∷◌, ◌++◌, ◌∙◌, ◌⊎◌}
+use Rattle.std.proofs.Common.{◌≡◌, ◌≢◌, ◌+◌, ◌-◌, ◌*◌, ◌<◌, ◌≤◌, ◌==◌, ◌&&◌, [], ◌∷◌, ◌++◌, ◌∙◌, ◌⊎◌}
 use Rattle.std.proofs.Common.{if◌then◌else◌}
 use Rattle.spi_sequences.specs.Terms
-use Terms.{AllRight, ap, arith, Bool, Call, Channel, channel-seen, channel_at, channel_of, channels_of, ChannelState}
-use Terms.{Chip, Cleared, Contains, Contains-get_or, count_by-le-length, Debt, drop, eq_isnt, false, Fill, filled}
-use Terms.{FitsSpi, get_or-append-add, get_or-drop, get_or-take, get_or_append_left, Going, Handling, happened}
-use Terms.{HeldRight, HoldsArrays, inl, inr, internal_by, is_in_use, is_off, is_own_word, is_some, IsReady}
-use Terms.{IsSoundState, item-other, item-same, jobs_of, length, length-append, length-take, length_by, List, list_any}
-use Terms.{Mode, moved, nat_lt, nat_tests, next_job, None, not, Option, or_parts, or_rest, overwritten, own_words}
-use Terms.{owners, Part, place_of, placed_of, Preparing, put_by, put_held, Putting, Reading, reads_from, refl}
-use Terms.{Reservation, Reservations, ReservedBy, RunAgrees, RunsNext, same_or_other, set_up_code, SetUpFits, slice_get}
-use Terms.{slice_index, slice_index_or, Some, Source, source_length, source_word, SOURCES, spi_setting, SpiRepresents}
-use Terms.{SpiState, SpiTable, stands-event, subst, suc, sum_by, sum_by-cons, sym, take, to_write, true, untouched}
-use Terms.{uses_channel, view, word_at, word_of, WordsAgree, World, Writing, zero, ℕ}
+use Terms.{AllRight, ap, AreCarried, arith, Bool, Call, carried_at, carries_channel, Carrying, Channel, channel-seen}
+use Terms.{channel_at, channel_of, channels_of, ChannelState, Chip, Cleared, Contains, Contains-get_or}
+use Terms.{count_by-le-length, Debt, drop, entry_carried, eq_isnt, false, Fill, filled, FitsSpi, get_or-append-add}
+use Terms.{get_or-drop, get_or-take, get_or_append_left, Going, Handling, happened, HeldRight, HoldsArrays, inl, inr}
+use Terms.{internal_by, is_in_use, is_off, is_own_word, is_some, IsReady, IsSoundState, item-other, item-same, jobs_of}
+use Terms.{length, length-append, length-take, length_by, List, list_any, Mode, moved, nat_lt, nat_tests, next_job}
+use Terms.{None, not, Option, or_parts, or_rest, overwritten, own_words, owners, Part, place_of, placed_of, Preparing}
+use Terms.{put_by, put_held, Putting, Reading, reads_from, refl, Reservation, Reservations, ReservedBy, RunAgrees}
+use Terms.{RunsNext, same_or_other, same_Some, Sending, set_up_code, SetUpFits, slice_get, slice_index, slice_index_or}
+use Terms.{Some, Source, source_length, source_word, SOURCES, spi_setting, SpiRepresents, SpiState, SpiTable}
+use Terms.{stands-event, subst, suc, sum_by, sum_by-cons, sym, take, to_write, true, untouched, uses, uses_channel}
+use Terms.{view, word_at, word_of, WordsAgree, World, Writing, zero, ℕ}
 use Rattle.spi_sequences.specs.laws.{words.SameWords.{contains_map, words_alike}, words.KeptWords.{banks_view}}
 use Rattle.spi_sequences.specs.laws.{words.KeptWords.{next_view, sequences_as, sound_as}}
-use Rattle.spi_sequences.specs.laws.{words.WordsOfModule.{own_set_up}, hardware.StableUnderHardware.{pointwise}}
+use Rattle.spi_sequences.specs.laws.{words.SendsKept.{sends_as}, words.AllSequences.{all_cases, none_under_way}}
+pub use Rattle.spi_sequences.specs.laws.words.ListTests.{any_in}
+use Rattle.spi_sequences.specs.laws.{words.WordsOfModule.{own_held, own_set_up, some_at}, hardware.StableUnderHardware.{pointwise}}
 
 -- ---- how many words the module has
 
@@ -100,16 +103,6 @@ array_filled n ws old i lt false e =
 
 -- ---- a fill
 
--- what is so of an item is so of some
-pub any_in : {A : Type 0} (p : A → Bool) (xs : List A) (x : A) → Contains xs x → p x ≡ true → list_any p xs ≡ true
-any_in p [] x h e = absurd (let lt = h.1 in omega (arith, lt))
-any_in p (y ∷ ys) x (zero, lt, at) e = ap (λ q. q || list_any p ys) (ap p at ∙ e)
-any_in p (y ∷ ys) x (suc k, lt, at) e = ap (λ q. p y || q) (any_in p ys x (k, omega (arith, lt), at) e) ∙ or_true (p y)
-  where
-    or_true : (q : Bool) → q || true ≡ true
-    or_true true = refl
-    or_true false = refl
-
 pub not_both : {A : Type 0} (q : Bool) → q ≡ true → q ≡ false → A
 not_both q e f = absurd (let g = sym e ∙ f in cc)
 
@@ -140,6 +133,7 @@ spared_by d mode cs c (x ∷ xs) none r = let parts = or_parts (reads_from (spi_
     one x Handling f r = tt
     one x (Writing n p b i y) f r = eq_isnt n c (subst (λ o. reads_from (spi_setting d) c o ≡ false) r.0 f)
     one x (Reading n b) f r = tt
+    one x (Sending u q n at banks failed device) f r = tt
     one x (Preparing stored readied y) f r = tt
 
 pub spared_none : (d : SpiTable) (mode : Mode) (cs : List ChannelState) (c : ℕ) (hs : Reservations) → is_some (channel_of d c) ≡ false → AllRight d mode cs hs → AllSpared c hs
@@ -152,9 +146,10 @@ spared_none d mode cs c (x ∷ xs) none r = (one x x.what r.0, spared_none d mod
     one x Handling r = tt
     one x (Writing n p b i y) r = λ same. let f = sym (ap (λ m. is_some (channel_of d m)) same) ∙ r.3 in not_both (is_some (channel_of d c)) f none
     one x (Reading n b) r = tt
+    one x (Sending u q n at banks failed device) r = tt
     one x (Preparing stored readied y) r = tt
 
-module _ (d : SpiTable) (fits : FitsSpi d) (held : Reservations) (chip : Chip) (w : World) (s : SpiState) (c : ℕ) (ws : List ℕ) (lt : c < 16) (free : is_in_use d c s.pending ≡ false) (h : SpiRepresents d held chip w s) where
+module _ (d : SpiTable) (fits : FitsSpi d) (held : Reservations) (chip : Chip) (w : World) (s : SpiState) (c : ℕ) (ws : List ℕ) (lt : c < 16) (free : uses d s c ≡ false) (h : SpiRepresents d held chip w s) where
   abbrev after : Chip
   after = happened chip (Fill c ws)
 
@@ -242,8 +237,21 @@ module _ (d : SpiTable) (fits : FitsSpi d) (held : Reservations) (chip : Chip) (
   unused u g n x small is e same =
       let next = subst (λ o. RunsNext d (view s) u o) is (h.nexts u small) in
       let entry = h.sound.entries g.pending next.0 in
-      not_both (is_in_use d c s.pending) (any_in (λ p. list_any (uses_channel d c) (jobs_of d p.sequence)) s.pending g.pending next.0 (any_in (uses_channel d c) (jobs_of d g.pending.sequence) (next_job d g.pending) (Contains-get_or (jobs_of d g.pending.sequence) g.pending.next 0 entry.next) (in_job x.channel same contained))) free
+      by (all_cases (view s) g.pending next.0) (any_in (uses_channel d c) (jobs_of d g.pending.sequence) (next_job d g.pending) (Contains-get_or (jobs_of d g.pending.sequence) g.pending.next 0 entry.next) (in_job x.channel same contained))
     where
+      neither : (is_in_use d c s.pending ≡ false) × (list_any (carries_channel d c) s.carried ≡ false)
+      neither = or_parts (is_in_use d c s.pending) (list_any (carries_channel d c) s.carried) free
+
+      carried : (k : ℕ) (o : Option Carrying) → carried_at s k ≡ o → entry_carried o ≡ Some g.pending → list_any (uses_channel d c) (jobs_of d g.pending.sequence) ≡ true → ⊥
+      carried k None i j uses = cc
+      carried k (Some y) i j uses =
+          let same : y.entry ≡ g.pending = same_Some y.entry g.pending j in
+          not_both (list_any (carries_channel d c) s.carried) (some_at (carries_channel d c) s.carried k refl (ap (carries_channel d c) i ∙ ap (λ p. list_any (uses_channel d c) (jobs_of d p.sequence)) same ∙ uses)) neither.1
+
+      by : Contains s.pending g.pending ⊎ ((k : ℕ) × ((view s).begun k ≡ Some g.pending)) → list_any (uses_channel d c) (jobs_of d g.pending.sequence) ≡ true → ⊥
+      by (inl there) uses = not_both (is_in_use d c s.pending) (any_in (λ p. list_any (uses_channel d c) (jobs_of d p.sequence)) s.pending g.pending there uses) neither.0
+      by (inr (k, i)) uses = carried k (carried_at s k) refl i uses
+
       equal : (a b : ℕ) → a ≡ b → (a == b) ≡ true
       equal a b f = grind (arith, nat_tests)
 
@@ -254,7 +262,7 @@ module _ (d : SpiTable) (fits : FitsSpi d) (held : Reservations) (chip : Chip) (
       contained = by_mode (is_off s.mode) refl
         where
           by_mode : (q : Bool) → is_off s.mode ≡ q → Contains (channels_of d (next_job d g.pending)) x.channel
-          by_mode true f = absurd (let none = subst (λ ps. Contains ps g.pending) (h.sound.off f).0 (subst (λ o. RunsNext d (view s) u o) is (h.nexts u small)).0 in let lt = none.1 in omega (arith, lt))
+          by_mode true f = absurd (none_under_way d (view s) h.sound f g.pending (subst (λ o. RunsNext d (view s) u o) is (h.nexts u small)).0)
           by_mode false f = let g1 = subst (λ o. RunAgrees d (word_of chip) u o) is ((h.words.on f).runs u small) in subst (λ cs. Contains cs x.channel) g1.channels (contains_map (λ y. y.channel) g.parts n x e)
 
   right_filled : (hs : Reservations) → AllSpared c hs → AllRight d s.mode s.channels hs → AllRight d later.mode later.channels hs
@@ -267,6 +275,7 @@ module _ (d : SpiTable) (fits : FitsSpi d) (held : Reservations) (chip : Chip) (
       one x Handling ne r = r
       one x (Writing n p b i y) ne r = (r.0, subst (λ z. IsReady (to_write (channel_of d n) p z.source) i y) (sym (item-other untouched s.channels c n (filled ws (channel_of d c) (channel_at s c)) ne)) r.1, r.2, r.3)
       one x (Reading n b) ne r = r
+      one x (Sending u q n at banks failed device) ne r = r
       one x (Preparing stored readied y) ne r = r
 
   -- no frame takes its words from there
@@ -285,6 +294,7 @@ module _ (d : SpiTable) (fits : FitsSpi d) (held : Reservations) (chip : Chip) (
           by true false e = refl
           by false q e = refl
       one (Reading m b) ne = refl
+      one (Sending u q m at banks failed device) ne = refl
       one (Preparing stored readied None) ne = refl
       one (Preparing stored readied (Some z)) ne = refl
 
@@ -294,10 +304,13 @@ module _ (d : SpiTable) (fits : FitsSpi d) (held : Reservations) (chip : Chip) (
     outside = stands-event chip w (Fill c ws) lt h.outside;
     wired = h.wired;
     size = h.size;
-    sound = subst (λ v. IsSoundState d v) (sym same_view) (sound_as d (view s) s.mode (view s).written (view s).received (view later).sources h.sound.off h.sound);
+    sound = subst (λ v. IsSoundState d v) (sym same_view) (sound_as d (view s) s.mode (view s).written (view s).received (view later).sources h.sound.off h.sound.carries.off h.sound);
     going = h.going;
-    nexts = λ u few. next_view d (view s) (view later) u (h.going u) refl (h.nexts u few);
+    nexts = λ u few. next_view d (view s) (view later) u (h.going u) refl refl (h.nexts u few);
     units = h.units;
+    sends = h.sends;
+    sending = sends_as d chip after w w h.going h.going s later (λ u g few sync is. refl) (λ u g few sync is. refl) (λ u g n x k few sync is there known. own_word _ (own_held d fits x.channel k known)) (λ u o knows. knows) held h.sending;
+    carriers = subst (λ v. AreCarried v held) (sym same_view) h.carriers;
     words = subst (λ v. WordsAgree d held h.going (word_of after) v) (sym same_view) words_filled;
     set_ups = λ on n k e external. own_word _ (own_set_up d fits n k e) ∙ h.set_ups on n k e external ∙ ap (λ o. set_up_code o) (sym (channel-seen (λ x. x.set_up) s c n (filled ws (channel_of d c) (channel_at s c)) refl));
     sizes = λ on n k e. let was = h.sizes on n k e in record { written = λ i. ap length (channel-seen (λ x. x.written) s c n (filled ws (channel_of d c) (channel_at s c)) refl) ∙ was.written i; set_up = λ i. subst (λ o. SetUpFits k o) (sym (channel-seen (λ x. x.set_up) s c n (filled ws (channel_of d c) (channel_at s c)) refl)) (was.set_up i) };

@@ -1,18 +1,21 @@
 -- The agreement stays while nothing of the module's changes, and as the hardware moves.
--- From words.WordsOfModule, words.SameWords.
+-- From words.WordsOfModule, words.SameWords, words.SendsKept.
 -- Used by services.CancelRight, services.QueryRight, bookkeeping.RefinementRight, services.WriteRight and 6 more.
-use Rattle.std.proofs.Common.{◌≡◌, ◌≢◌, ◌+◌, ◌-◌, ◌<◌, ◌||◌, [], ◌∷◌, ◌∙◌, ◌⊎◌, if◌then◌else◌}
+use Rattle.std.proofs.Common.{◌≡◌, ◌≢◌, ◌+◌, ◌-◌, ◌<◌, ◌≤◌, ◌||◌, [], ◌∷◌, ◌++◌, ◌∙◌, ◌⊎◌, if◌then◌else◌}
 use Rattle.spi_sequences.specs.Terms
-use Terms.{ap, arith, Bool, Channel, channel_of, Chip, Destination, false, faulted, faulted_run, Fill, FitsSpi}
-use Terms.{get_or-set_other, get_or-set_same, Going, happened, has_bit, HoldsArrays, idle, inl, inr, InTransfer}
-use Terms.{is_done, is_done_at, is_running, is_some, is_word_of, IsSoundState, item-other, item-same, length}
-use Terms.{length-set, length_by, List, list_any, moved, nat_le, nat_tests, None, not, Option, Order, Part, place_of}
-use Terms.{placed_of, refl, Reservations, Run, run_at, runs_sequence, RunsNext, same_or_other, Serial, slice_get}
-use Terms.{slice_index, slice_index_or, Some, Source, source_word, SpiFault, SpiRepresents, SpiState, SpiTable}
-use Terms.{stands-event, StandsIn, subst, suc, sym, Transfer, true, unit_at, UnitAgrees, view, with_item, with_run}
-use Terms.{word_of, WordAgrees, WordsAgree, World, zero, ℕ}
+use Terms.{all_of, ap, AreCarried, arith, Bool, carried_at, CarriesAgrees, Carrying, Channel, channel_of, Chip}
+use Terms.{Destination, entries_begun, entry_carried, false, faulted, faulted_carrying, faulted_run, Fill, FitsSpi}
+use Terms.{get_or-set_other, get_or-set_same, Going, happened, has_bit, held_word, HoldsArrays, idle, inl, inr}
+use Terms.{InTransfer, is_done, is_done_at, is_running, is_some, is_sync_unit, is_word_of, IsSoundState, item-other}
+use Terms.{item-same, KnowsEnd, length, length-set, length_by, List, list_any, moved, nat_le, nat_tests, None, not}
+use Terms.{Option, Order, Part, place_of, placed_of, refl, Reservations, Run, run_at, run_carried, runs_sequence}
+use Terms.{RunsNext, same_or_other, Serial, slice_get, slice_index, slice_index_or, Some, Source, source_word}
+use Terms.{SpiFault, SpiRepresents, SpiState, SpiTable, stands-event, StandsIn, subst, suc, sym, Transfer, true}
+use Terms.{unit_at, UnitAgrees, view, with_carried, with_item, with_run, word_of, WordAgrees, WordsAgree, World, zero}
+use Terms.{ℕ}
 use Rattle.spi_sequences.specs.laws.words.SameWords.{words_alike}
-use Rattle.spi_sequences.specs.laws.words.WordsOfModule.{word_of_own, own_set_up, source_own, destination_own}
+use Rattle.spi_sequences.specs.laws.words.SendsKept.{end_later, sends_as}
+use Rattle.spi_sequences.specs.laws.words.WordsOfModule.{word_of_own, own_held, own_set_up, source_own, destination_own}
 use Rattle.chip_units.specs.Serials as serials
 use Rattle.chip_units.specs.declared.serial.Word as chips
 
@@ -23,10 +26,10 @@ arrays_alike d fits m m1 s c same h = record {
   destination = λ i lt. same (place_of (Destination c) i) (destination_own d fits c i lt) ∙ h.destination i lt;
 }
 
--- a chip with the same words of the module, units and enable bits
-pub same_agrees : (d : SpiTable) → FitsSpi d → (held : Reservations) (chip chip1 : Chip) (w w1 : World) (s : SpiState) → StandsIn chip1 w1 → chip1.wiring ≡ chip.wiring → chip1.serials.units ≡ chip.serials.units
+-- a chip with the same words of the module, units and enable bits, at the same time or later
+pub same_agrees : (d : SpiTable) → FitsSpi d → (held : Reservations) (chip chip1 : Chip) (w w1 : World) (s : SpiState) → w.now ≤ w1.now → StandsIn chip1 w1 → chip1.wiring ≡ chip.wiring → chip1.serials.units ≡ chip.serials.units
     → ((k : ℕ) → is_word_of d k ≡ true → word_of chip1 k ≡ word_of chip k) → ((u : ℕ) → u < 2 → has_bit chip1.control.enabled (26 + u) ≡ has_bit chip.control.enabled (26 + u)) → SpiRepresents d held chip w s → SpiRepresents d held chip1 w1 s
-same_agrees d fits held chip chip1 w w1 s outside wiring units words enabled h = record {
+same_agrees d fits held chip chip1 w w1 s later outside wiring units words enabled h = record {
   right = h.right;
   outside = outside;
   wired = λ c lt. ap (λ x. slice_index x.sources c) wiring ∙ h.wired c lt;
@@ -34,7 +37,10 @@ same_agrees d fits held chip chip1 w w1 s outside wiring units words enabled h =
   sound = h.sound;
   going = h.going;
   nexts = h.nexts;
-  units = λ u lt. subst (λ xs. UnitAgrees d (slice_index_or xs u idle) (run_at s u) (h.going u)) (sym units) (h.units u lt);
+  units = λ u lt async. subst (λ xs. UnitAgrees d (slice_index_or xs u idle) (run_at s u) (h.going u)) (sym units) (h.units u lt async);
+  sends = λ u lt sync. subst (λ xs. CarriesAgrees d (slice_index_or xs u idle) (run_carried (carried_at s u)) (h.going u)) (sym units) (h.sends u lt sync);
+  sending = sends_as d chip chip1 w w1 h.going h.going s s (λ u g lt sync is. refl) (λ u g lt sync is. ap (λ xs. (slice_index_or xs u idle).select) units) (λ u g n x k lt sync is there known. words (held_word (placed_of d x.channel)) (word_of_own d _ (own_held d fits x.channel k known))) (λ u o knows. end_later w.now w1.now later (run_carried (carried_at s u)) o knows) held h.sending;
+  carriers = h.carriers;
   words = words_alike d fits h.going (word_of chip) (word_of chip1) (view s) (λ k own. words k (word_of_own d k own)) sources h.nexts held h.words;
   set_ups = λ on c k e external. words _ (word_of_own d _ (own_set_up d fits c k e)) ∙ h.set_ups on c k e external;
   sizes = h.sizes;
@@ -69,7 +75,7 @@ module _ (now : ℕ) where
 
   module _ (s : SpiState) (u : ℕ) where
     abbrev faulted_state : SpiState
-    faulted_state = with_run s u (faulted_run now (run_at s u))
+    faulted_state = with_carried (with_run s u (faulted_run now (run_at s u))) u (faulted_carrying now (carried_at s u))
 
     pub running_same : is_running faulted_state ≡ is_running s
     running_same = pointwise (is_running faulted_state) (is_running s) (λ q. any_changed (runs_sequence q) None s.units u (faulted_run now (run_at s u)) refl (runs_same q (run_at s u)))
@@ -84,8 +90,31 @@ module _ (now : ℕ) where
     free_same : (view faulted_state).idle ≡ (view s).idle
     free_same = pointwise (view faulted_state).idle (view s).idle (λ n. ap not (runs_alike n))
 
+    -- and a unit carries out what it did
+    carried_alike : (n : ℕ) → entry_carried (carried_at faulted_state n) ≡ entry_carried (carried_at s n)
+    carried_alike n = by n (same_or_other n u)
+      where
+        entry : (o : Option Carrying) → entry_carried (faulted_carrying now o) ≡ entry_carried o
+        entry None = refl
+        entry (Some x) = refl
+
+        by : (n : ℕ) → (n ≡ u) ⊎ (n ≢ u) → entry_carried (carried_at faulted_state n) ≡ entry_carried (carried_at s n)
+        by n (inl e) = subst (λ k. entry_carried (carried_at faulted_state k) ≡ entry_carried (carried_at s k)) (sym e) (ap entry_carried (item-same None s.carried u (faulted_carrying now (carried_at s u))) ∙ entry (carried_at s u))
+        by n (inr ne) = ap entry_carried (item-other None s.carried u n (faulted_carrying now (carried_at s u)) ne)
+
+    begun_same : (view faulted_state).begun ≡ (view s).begun
+    begun_same = pointwise (view faulted_state).begun (view s).begun carried_alike
+
     view_same : view faulted_state ≡ view s
-    view_same = ap (λ f. record (view faulted_state) { running = f }) running_same ∙ ap (λ f. record (view s) { idle = f }) free_same
+    view_same = ap (λ f. record (view faulted_state) { running = f }) running_same ∙ ap (λ f. record (view faulted_state) { running = is_running s; idle = f }) free_same ∙ ap (λ f. record (view s) { begun = f }) begun_same
+
+    -- the run that it carries out fails too, unless its word is done
+    carried_run : run_carried (carried_at faulted_state u) ≡ faulted_run now (run_carried (carried_at s u))
+    carried_run = ap run_carried (item-same None s.carried u (faulted_carrying now (carried_at s u))) ∙ by (carried_at s u)
+      where
+        by : (o : Option Carrying) → run_carried (faulted_carrying now o) ≡ faulted_run now (run_carried o)
+        by None = refl
+        by (Some x) = refl
 
 -- a word in transfer fails on the chip and in the machine
 pub done_same : (w : chips.Word) (t : Transfer) (now : ℕ) → w.start ≡ t.began → is_done_at w now ≡ is_done now t
@@ -119,6 +148,18 @@ fault_unit : (d : SpiTable) (x : Serial) (r : Option Run) (now : ℕ) (g : Optio
 fault_unit d x r now None h = (free_word x now h.0, ap (faulted_run now) h.1)
 fault_unit d x r now (Some g) h = (faulted now h.0, ap (faulted_run now) h.1, fails_alike d x h.0 now h.2, same_select x (serials.failing x.word) (serials.is_busy x now) ∙ h.3)
 
+fault_carried : (d : SpiTable) (x : Serial) (r : Option Run) (now : ℕ) (g : Option Going) → CarriesAgrees d x r g → CarriesAgrees d (serials.faulted now x) (faulted_run now r) g
+fault_carried d x r now None h = (free_word x now h.0, ap (faulted_run now) h.1)
+fault_carried d x r now (Some g) h = (faulted now h.0, ap (faulted_run now) h.1, fails_alike d x h.0 now h.2)
+
+-- a word that is done stays as it is
+fault_end : (now : ℕ) (r : Option Run) (o : Option Bool) → KnowsEnd now r o → KnowsEnd now (faulted_run now r) o
+fault_end now r None h = tt
+fault_end now None (Some failed) h = h
+fault_end now (Some x) (Some failed) h =
+    let same : faulted now x.transfer ≡ x.transfer = ap (λ b. if b then x.transfer else record x.transfer { failed = true }) h.0 in
+    subst (λ t. KnowsEnd now (Some (record x { transfer = t })) (Some failed)) (sym same) h
+
 pub fault_agrees : (d : SpiTable) (held : Reservations) (chip : Chip) (w : World) (s : SpiState) (u : ℕ) → SpiRepresents d held chip w s → SpiRepresents d held (happened chip (SpiFault u)) w (moved d w s (SpiFault u))
 fault_agrees d held chip w s u h = record {
   right = h.right;
@@ -128,7 +169,10 @@ fault_agrees d held chip w s u h = record {
   sound = subst (λ v. IsSoundState d v) (sym same) h.sound;
   going = h.going;
   nexts = λ n lt. subst (λ v. RunsNext d v n (h.going n)) (sym same) (h.nexts n lt);
-  units = λ n lt. unit_by n lt (same_or_other n u);
+  units = λ n lt async. unit_by n lt async (same_or_other n u);
+  sends = λ n lt sync. carried_by n lt sync (same_or_other n u);
+  sending = sends_as d chip (happened chip (SpiFault u)) w w h.going h.going s (moved d w s (SpiFault u)) (λ n g lt sync is. refl) (λ n g lt sync is. select_by n lt (same_or_other n u)) (λ n g i x k lt sync is there known. refl) (λ n o knows. end_by n o (same_or_other n u) knows) held h.sending;
+  carriers = subst (λ v. AreCarried v held) (sym same) h.carriers;
   words = subst (λ v. WordsAgree d held h.going (word_of chip) v) (sym same) h.words;
   set_ups = h.set_ups;
   sizes = h.sizes;
@@ -143,15 +187,36 @@ fault_agrees d held chip w s u h = record {
     time : chip.serials.time ≡ w.now
     time = h.outside.together.serials ∙ h.outside.now
 
-    unit_by : (n : ℕ) → n < 2 → (n ≡ u) ⊎ (n ≢ u) → UnitAgrees d (unit_at (serials.after_fault chip.serials u) n) (run_at (moved d w s (SpiFault u)) n) (h.going n)
-    unit_by n lt (inl e) =
+    unit_by : (n : ℕ) → n < 2 → is_sync_unit d n ≡ false → (n ≡ u) ⊎ (n ≢ u) → UnitAgrees d (unit_at (serials.after_fault chip.serials u) n) (run_at (moved d w s (SpiFault u)) n) (h.going n)
+    unit_by n lt async (inl e) =
         subst (λ k. UnitAgrees d (unit_at (serials.after_fault chip.serials k) n) (run_at (moved d w s (SpiFault k)) n) (h.going n)) e
         (subst (λ x. UnitAgrees d x (run_at (moved d w s (SpiFault n)) n) (h.going n)) (sym (get_or-set_same chip.serials.units n _ idle (subst (λ k. n < k) (sym h.size) lt)))
         (subst (λ r. UnitAgrees d (serials.faulted chip.serials.time (unit_at chip.serials n)) r (h.going n)) (sym (item-same None s.units n (faulted_run w.now (run_at s n))))
-        (subst (λ t. UnitAgrees d (serials.faulted t (unit_at chip.serials n)) (faulted_run w.now (run_at s n)) (h.going n)) (sym time) (fault_unit d (unit_at chip.serials n) (run_at s n) w.now (h.going n) (h.units n lt)))))
-    unit_by n lt (inr ne) =
+        (subst (λ t. UnitAgrees d (serials.faulted t (unit_at chip.serials n)) (faulted_run w.now (run_at s n)) (h.going n)) (sym time) (fault_unit d (unit_at chip.serials n) (run_at s n) w.now (h.going n) (h.units n lt async)))))
+    unit_by n lt async (inr ne) =
         subst (λ x. UnitAgrees d x (run_at (moved d w s (SpiFault u)) n) (h.going n)) (sym (get_or-set_other chip.serials.units u n _ idle ne))
-        (subst (λ r. UnitAgrees d (unit_at chip.serials n) r (h.going n)) (sym (item-other None s.units u n (faulted_run w.now (run_at s u)) ne)) (h.units n lt))
+        (subst (λ r. UnitAgrees d (unit_at chip.serials n) r (h.going n)) (sym (item-other None s.units u n (faulted_run w.now (run_at s u)) ne)) (h.units n lt async))
+
+    unit_after : (n : ℕ) → n < 2 → n ≡ u → unit_at (serials.after_fault chip.serials u) n ≡ serials.faulted w.now (unit_at chip.serials n)
+    unit_after n lt e = subst (λ k. unit_at (serials.after_fault chip.serials k) n ≡ serials.faulted w.now (unit_at chip.serials n)) e
+        (get_or-set_same chip.serials.units n (serials.faulted chip.serials.time (unit_at chip.serials n)) idle (subst (λ k. n < k) (sym h.size) lt) ∙ ap (λ t. serials.faulted t (unit_at chip.serials n)) time)
+
+    carried_by : (n : ℕ) → n < 2 → is_sync_unit d n ≡ true → (n ≡ u) ⊎ (n ≢ u) → CarriesAgrees d (unit_at (serials.after_fault chip.serials u) n) (run_carried (carried_at (moved d w s (SpiFault u)) n)) (h.going n)
+    carried_by n lt sync (inl e) =
+        subst (λ x. CarriesAgrees d x (run_carried (carried_at (moved d w s (SpiFault u)) n)) (h.going n)) (sym (unit_after n lt e))
+        (subst (λ k. CarriesAgrees d (serials.faulted w.now (unit_at chip.serials n)) (run_carried (carried_at (moved d w s (SpiFault k)) n)) (h.going n)) e
+        (subst (λ r. CarriesAgrees d (serials.faulted w.now (unit_at chip.serials n)) r (h.going n)) (sym (carried_run w.now s n)) (fault_carried d (unit_at chip.serials n) (run_carried (carried_at s n)) w.now (h.going n) (h.sends n lt sync))))
+    carried_by n lt sync (inr ne) =
+        subst (λ x. CarriesAgrees d x (run_carried (carried_at (moved d w s (SpiFault u)) n)) (h.going n)) (sym (get_or-set_other chip.serials.units u n _ idle ne))
+        (subst (λ o. CarriesAgrees d (unit_at chip.serials n) (run_carried o) (h.going n)) (sym (item-other None s.carried u n (faulted_carrying w.now (carried_at s u)) ne)) (h.sends n lt sync))
+
+    select_by : (n : ℕ) → n < 2 → (n ≡ u) ⊎ (n ≢ u) → (unit_at (serials.after_fault chip.serials u) n).select ≡ (unit_at chip.serials n).select
+    select_by n lt (inl e) = ap (λ x. x.select) (unit_after n lt e) ∙ same_select (unit_at chip.serials n) (serials.failing (unit_at chip.serials n).word) (serials.is_busy (unit_at chip.serials n) w.now)
+    select_by n lt (inr ne) = ap (λ x. x.select) (get_or-set_other chip.serials.units u n _ idle ne)
+
+    end_by : (n : ℕ) (o : Option Bool) → (n ≡ u) ⊎ (n ≢ u) → KnowsEnd w.now (run_carried (carried_at s n)) o → KnowsEnd w.now (run_carried (carried_at (moved d w s (SpiFault u)) n)) o
+    end_by n o (inl e) knows = subst (λ k. KnowsEnd w.now (run_carried (carried_at (moved d w s (SpiFault k)) n)) o) e (subst (λ r. KnowsEnd w.now r o) (sym (carried_run w.now s n)) (fault_end w.now (run_carried (carried_at s n)) o knows))
+    end_by n o (inr ne) knows = subst (λ x. KnowsEnd w.now (run_carried x) o) (sym (item-other None s.carried u n (faulted_carrying w.now (carried_at s u)) ne)) knows
 
 -- ---- what the hardware leaves of the state
 
@@ -169,6 +234,16 @@ pub pending_later : (d : SpiTable) (w : World) (s : SpiState) (order : Order) �
 pending_later d w s (Fill c ws) = refl
 pending_later d w s (SpiFault u) = refl
 pending_later d w s order = refl
+
+pub begun_later : (d : SpiTable) (w : World) (s : SpiState) (order : Order) → (view (moved d w s order)).begun ≡ (view s).begun
+begun_later d w s (Fill c ws) = refl
+begun_later d w s (SpiFault u) = begun_same w.now s u
+begun_later d w s order = refl
+
+pub all_later : (d : SpiTable) (w : World) (s : SpiState) (order : Order) → all_of (view (moved d w s order)) ≡ all_of (view s)
+all_later d w s order =
+    ap (λ ps. ps ++ (entries_begun ((view (moved d w s order)).begun 0) ++ entries_begun ((view (moved d w s order)).begun 1))) (pending_later d w s order)
+    ∙ ap (λ b. s.pending ++ (entries_begun (b 0) ++ entries_begun (b 1))) (begun_later d w s order)
 
 pub mode_later : (d : SpiTable) (w : World) (s : SpiState) (order : Order) → (moved d w s order).mode ≡ s.mode
 mode_later d w s (Fill c ws) = refl

@@ -4,11 +4,12 @@
 use Rattle.spi_sequences.specs.Terms
 use Terms.{Answer, CancelBody, First, InitBody, None, Option, Or, QueryBody, ReadBody, Second, SetUpBody, UnitBody}
 use Terms.{WholeBody, WriteBody}
+use Rattle.spi_sequences.specs.declared.service.sync.SyncBody.{SyncBody}
 use Rattle.spi_sequences.specs.laws.services.ReadSteps.{read_ends}
 
 -- a place in any body of the driver
 abbrev pub SpiBody : Type 0
-SpiBody = Or (Or (Or InitBody WholeBody) QueryBody) (Or (Or SetUpBody (Or WriteBody ReadBody)) (Or UnitBody CancelBody))
+SpiBody = Or (Or (Or InitBody WholeBody) QueryBody) (Or (Or SetUpBody (Or WriteBody ReadBody)) (Or UnitBody (Or CancelBody SyncBody)))
 
 abbrev pub init_body : InitBody → SpiBody
 init_body k = First (First (First k))
@@ -40,4 +41,7 @@ abbrev pub unit_body : UnitBody → SpiBody
 unit_body k = Second (Second (First k))
 
 abbrev pub cancel_body : CancelBody → SpiBody
-cancel_body k = Second (Second (Second k))
+cancel_body k = Second (Second (Second (First k)))
+
+abbrev pub sync_body : SyncBody → SpiBody
+sync_body k = Second (Second (Second (Second k)))

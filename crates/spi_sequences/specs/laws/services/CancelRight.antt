@@ -5,27 +5,29 @@ use Rattle.std.proofs.Common.{◌≡◌, ◌≢◌, ◌+◌, ◌<◌, ◌≤◌,
 use Rattle.spi_sequences.specs.Terms
 use Terms.{Act, acts, acts_by, and_parts, Answer, ap, AreFree, AreLong, AreThere, AreWindows, arith, AssertedAt}
 use Terms.{begins_word, bit_or, BodyTaken, Bool, Call, Called, Cancel, cancel_drops, cancel_owed, cancel_owed_at}
-use Terms.{cancel_takes, cancel_work, CancelBody, CANCELLED, Cancelled, cancelled, cancelled_bit, cancelled_by, Cancels}
-use Terms.{cancels, changed, Chip, chip_after, Cleans, CommitsTo, Contains, Continues, DiffersIn, drop, drop-ends}
-use Terms.{drop_gave, drop_left, Dropped, dropping, ended, ends, entries_of, error_by, error_in, false, filter, find}
-use Terms.{FitsSpi, FrameHistory, fresh_history, goes, GoesFree, GoesOwing, Going, happened, has_ended, holds-agree}
-use Terms.{inl, inr, is_for, is_left, is_of, is_off, is_own_word, is_pending, is_running, is_running_sequence}
-use Terms.{is_shared, is_simple, is_some, Is_this_frame, IsPart, IsSoundState, IsThisFrame, job_word, jobs_of, List}
-use Terms.{list_any, Load, LongBodies, MARKS, may, Memory, missed_after, Move, moved, NamesOwn, next_job, NEXTS}
-use Terms.{no_answer, None, not, notes, Nothing, notices_in, notifies_sequence, One, Option, Order, order_word, Origin}
-use Terms.{outcome, owed_left, owed_move, owing, PartTo, PENDING, Pending, PendingWrites, place_at, PointAssertion}
-use Terms.{position_word, PriorityQueue, refl, Reservations, resets_chip, Right, run_in, running_word, RunsNext}
-use Terms.{same_chip, same_or_other, same_Some, search_of, sequence_notice, sequence_of, sequence_word, SequencesAgree}
-use Terms.{settles_part, Shortens, Some, spi_bare, spi_basis, spi_machine, spi_owing, SpiRepresents, SpiSeqCanceled}
-use Terms.{SpiSeqEndNotification, SpiState, SpiTable, stands-move, StandsIn, STATE, Store, stored_other, stored_same}
-use Terms.{subst, suc, sym, tells_nothing, true, TurnsTo, Under, unit_of_sequence, unless_done, value_of, view, Windows}
-use Terms.{windows, windows_right, Within, word_later, word_of, Works, World, world_after, ℕ}
+use Terms.{cancel_takes, cancel_work, CancelBody, CANCELLED, Cancelled, cancelled, cancelled_bit, cancelled_by}
+use Terms.{Cancels, cancels, changed, Chip, chip_after, Cleans, CommitsTo, Contains, Continues, DiffersIn, drop}
+use Terms.{drop-ends, drop_gave, drop_left, Dropped, dropping, ended, ends, entries_of, error_by, error_in, false}
+use Terms.{filter, find, FitsSpi, FrameHistory, fresh_history, goes, GoesFree, GoesOwing, Going, happened, has_ended}
+use Terms.{holds-agree, inl, inr, is_for, is_left, is_of, is_off, is_own_word, is_pending, is_running}
+use Terms.{is_running_sequence, is_shared, is_simple, is_some, is_sync_sequence, is_sync_unit, Is_this_frame, IsPart}
+use Terms.{IsSoundState, IsThisFrame, job_word, jobs_of, List, list_any, Load, LongBodies, MARKS, may, Memory}
+use Terms.{missed_after, Move, moved, NamesOwn, next_job, NEXTS, no_answer, None, not, notes, Nothing, notices_in}
+use Terms.{notifies_sequence, One, Option, Order, order_word, Origin, outcome, owed_left, owed_move, owing, PartTo}
+use Terms.{PENDING, Pending, PendingWrites, place_at, PointAssertion, position_word, PriorityQueue, refl, Reservations}
+use Terms.{resets_chip, Right, run_in, running_word, RunsBy, RunsNext, same_chip, same_or_other, same_Some, search_of}
+use Terms.{sequence_notice, sequence_of, sequence_word, SequencesAgree, settles_part, Shortens, Some, spi_bare}
+use Terms.{spi_basis, spi_machine, spi_owing, SpiRepresents, SpiSeqCanceled, SpiSeqEndNotification, SpiState, SpiTable}
+use Terms.{stands-move, StandsIn, STATE, Store, stored_other, stored_same, subst, suc, sym, tells_nothing, true}
+use Terms.{TurnsTo, Under, unit_of_sequence, unless_done, value_of, view, Windows, windows, windows_right, Within}
+use Terms.{word_later, word_of, Works, World, world_after, ℕ}
 use Rattle.spi_sequences.specs.laws.{words.NumbersApart.{before_sequences, high_enough, high_order, job_at, low_enough}}
 use Rattle.spi_sequences.specs.laws.{words.NumbersApart.{low_order, marks_at, nexts_at, one_sequence, order_at}}
 use Rattle.spi_sequences.specs.laws.{words.NumbersApart.{other_order, past_sequences, position_at, position_order}}
 use Rattle.spi_sequences.specs.laws.{words.NumbersApart.{running_at, running_order, sequence_at, state_at}}
-use Rattle.spi_sequences.specs.laws.{bookkeeping.SequenceEnded.{ended_sound, ended_words, left_order, stay, there_back}}
-use Rattle.spi_sequences.specs.laws.{bookkeeping.SequenceEnded.{there_by, filter_back, filter_keeps}}
+use Rattle.spi_sequences.specs.laws.{bookkeeping.SequenceEnded.{ended_sound, ended_words, Leaves, leaves_pending, left_order}}
+use Rattle.spi_sequences.specs.laws.{bookkeeping.SequenceEnded.{stay, there_back, there_by, filter_back, filter_keeps}}
+use Rattle.spi_sequences.specs.laws.words.AllSequences.{all_pending, aside_pending, IsAside}
 use Rattle.spi_sequences.specs.laws.{words.PendingWords.{firsts_changed, holds_same, stands_owed}}
 use Rattle.spi_sequences.specs.laws.{hardware.StableUnderHardware.{mode_later, pending_later, running_later}}
 use Rattle.spi_sequences.specs.laws.{bookkeeping.MarkedState.{cancelled_now}}
@@ -33,8 +35,8 @@ use Rattle.spi_sequences.specs.laws.{bookkeeping.PendingWritesBounds.{owed_right
 use Rattle.spi_sequences.specs.laws.{words.WordsOfModule.{own_first}, words.JobPlaces.{job_unit, unit_few}}
 use Rattle.spi_sequences.specs.laws.{services.QueryRight.{may_first}, words.WordsToState.{RunsOn, going_next}}
 use Rattle.spi_sequences.specs.laws.{words.WordsToState.{going_runs, is_number, not_true, one_pending, one_unit}}
-use Rattle.spi_sequences.specs.laws.{words.WordsToState.{other_number, pending_word, running_by, running_says, runs_on}}
-use Rattle.spi_sequences.specs.laws.{words.WordsToState.{same_number}, services.SetUpRight.{may_store}}
+use Rattle.spi_sequences.specs.laws.{words.WordsToState.{other_number, pending_alone, pending_word, running_by, running_says}}
+use Rattle.spi_sequences.specs.laws.{words.WordsToState.{runs_on, same_number}, services.SetUpRight.{may_store}}
 use Rattle.word_shapes.specs.Order as order
 use Rattle.word_shapes.specs.PriorityQueue as ranked
 use Rattle.word_shapes.specs.declared.dropped.Dropped.TheVariants as drops
@@ -44,7 +46,7 @@ pub use Rattle.spi_sequences.specs.laws.words.NumbersApart.{from_order, not_orde
 
 -- ---- the entry of a sequence
 
-found_none : (q : ℕ) (ps : List Pending) → is_pending q ps ≡ false → find (is_of q) ps ≡ None
+pub found_none : (q : ℕ) (ps : List Pending) → is_pending q ps ≡ false → find (is_of q) ps ≡ None
 found_none q [] e = refl
 found_none q (p ∷ ps) e = by (is_of q p) refl e (found_none q ps)
   where
@@ -78,8 +80,9 @@ asks q = calls.Sequence q Cancel
 abbrev pub IsCancel : SpiTable → (off : Bool) → ℕ → Origin Call → FrameHistory → Type 0
 IsCancel d off q o t = IsThisFrame (Called (asks q)) fresh_history o t × (q < 8) × (error_by d (asks q) off false ≡ None) × (off ≡ false)
 
--- the frame cancels this sequence
+-- the frame cancels this sequence, whose unit starts jobs of pending ones
 pub record IsOf (d : SpiTable) (r : Cancelled) (q : ℕ) : Type 0 where
+  pub async : is_sync_sequence d q ≡ false
   pub sequence : r.sequence ≡ q
   pub unit : r.unit ≡ unit_of_sequence d q
   pub notes : r.notification ≡ notifies_sequence (sequence_of d q)
@@ -168,7 +171,7 @@ module _ (d : SpiTable) (fits : FitsSpi d) (below : Reservations) (chip : Chip) 
   few = unit_few d fits p.sequence
 
   number : p.sequence < 8
-  number = (h.sound.entries p there).number
+  number = (h.sound.entries p (all_pending (view s) p there)).number
 
   abbrev chip1 : Chip
   chip1 = chip_after chip (Store (sequence_word p.sequence) CANCELLED) 0
@@ -177,7 +180,7 @@ module _ (d : SpiTable) (fits : FitsSpi d) (below : Reservations) (chip : Chip) 
   after = ended d s p p.next SpiSeqCanceled
 
   for_unit : is_for d unit p ≡ true
-  for_unit = job_unit d fits p.sequence p.next (h.sound.entries p there).next
+  for_unit = job_unit d fits p.sequence p.next (h.sound.entries p (all_pending (view s) p there)).next
 
   -- it is in the order of its unit, and in no other
   in_own : order.is_there p.sequence (entries_of d (view s) unit) ≡ true
@@ -189,7 +192,7 @@ module _ (d : SpiTable) (fits : FitsSpi d) (below : Reservations) (chip : Chip) 
       by : (x : Pending) × Contains (filter (is_for d u) s.pending) x × (x.sequence ≡ p.sequence) → ⊥
       by (x, is, same) =
           let k = filter_back (is_for d u) s.pending x is in
-          let one : x ≡ p = one_pending d fits below chip w s h x p k.0 there same in
+          let one : x ≡ p = one_pending d fits below chip w s h x p (all_pending (view s) x k.0) (all_pending (view s) p there) same in
           ne (one_unit d u unit (next_job d p) (subst (λ z. is_for d u z ≡ true) one k.1) for_unit)
 
   module _ (c : Chip) (differs : DiffersIn (ranked.own_of (ordered unit)) chip1 c) (holds : ranked.Holds (ordered unit) (word_of c) (order.without p.sequence (entries_of d (view s) unit))) where
@@ -237,21 +240,32 @@ module _ (d : SpiTable) (fits : FitsSpi d) (below : Reservations) (chip : Chip) 
     none_ran : (j : ℕ) → is_left d j p ≡ true → list_any (λ k. k == j) (drop p.next (jobs_of d p.sequence)) ≡ false → ⊥
     none_ran j a b = let f = sym a ∙ b in cc
 
+    leaves : Leaves (view s) p after.pending (view s).begun
+    leaves = leaves_pending d (view s) h.sound p there
+
     soundly : IsSoundState d (view after)
-    soundly = ended_sound d fits (view s) h.sound p there p.next (omega arith) s.job_results (λ j a b. absurd (none_ran j a b)) (λ j e. refl) (view s).running (view s).idle SpiSeqCanceled tt (λ e. absurd (cc)) (λ n ne. refl) h.sound.few (λ e. (h.sound.off e).1)
+    soundly = ended_sound d fits (view s) h.sound p (all_pending (view s) p there) p.next (omega arith) s.job_results (λ j a b. absurd (none_ran j a b)) (λ j e. refl) after.pending (view s).begun leaves (view s).running (view s).idle SpiSeqCanceled tt (λ e. absurd (cc)) (λ n ne. refl) h.sound.few h.sound.carries.idle (λ e. (h.sound.off e).1)
 
     wordly : SequencesAgree d (word_of c) (view after)
-    wordly = ended_words d fits (view s) h.sound p there p.next (omega arith) s.job_results (λ j a b. absurd (none_ran j a b)) (λ j e. refl) (view s).running (view s).idle SpiSeqCanceled tt (λ e. absurd (cc)) (λ n ne. refl) h.sound.few (λ e. (h.sound.off e).1) (word_of chip) (word_of c) (h.words.on on).sequences
+    wordly = ended_words d fits (view s) h.sound p (all_pending (view s) p there) p.next (omega arith) s.job_results (λ j a b. absurd (none_ran j a b)) (λ j e. refl) after.pending (view s).begun leaves (view s).running (view s).idle SpiSeqCanceled tt (λ e. absurd (cc)) (λ n ne. refl) h.sound.few h.sound.carries.idle (λ e. (h.sound.off e).1) (word_of chip) (word_of c) (h.words.on on).sequences
         others_same told (below_orders NEXTS nexts_at.0 nexts_at.1) (below_orders MARKS marks_at.0 marks_at.1) (λ j lt e. jobs_same j lt) (λ j lt a b. absurd (none_ran j a b)) orders
 
     -- what runs is of another sequence
     nexts_kept : (u : ℕ) → u < 2 → (g : Option Going) → h.going u ≡ g → RunsNext d (view s) u g → RunsNext d (view after) u g
     nexts_kept u lt None e n = tt
-    nexts_kept u lt (Some g) e n = (filter_keeps (λ z. not (is_of p.sequence z)) s.pending g.pending n.0 (ap not (other_number g.pending.sequence p.sequence (λ f. let r = going_runs d fits below chip w s h u g lt e in let no = sym waits ∙ ap (is_running s) (sym f) ∙ r in cc))), n.1, n.2)
+    nexts_kept u lt (Some g) e n = (leaves.stays g.pending n.0 (unlike (is_sync_unit d u) refl n.1), runs (is_sync_unit d u) refl n.1, n.2)
+      where
+        unlike : (b : Bool) → is_sync_unit d u ≡ b → RunsBy b (view s) u g.pending → g.pending.sequence ≢ p.sequence
+        unlike true i r f = let no = sym ((aside_pending d (view s) h.sound p there) u g.pending r).1 ∙ ap (λ n. n == p.sequence) f ∙ same_number p.sequence in cc
+        unlike false i r f = let runs = going_runs d fits below chip w s h u g lt i e in let no = sym waits ∙ ap (is_running s) (sym f) ∙ runs in cc
+
+        runs : (b : Bool) → is_sync_unit d u ≡ b → RunsBy b (view s) u g.pending → RunsBy b (view after) u g.pending
+        runs true i r = r
+        runs false i r = (filter_keeps (λ z. not (is_of p.sequence z)) s.pending g.pending r.0 (ap not (other_number g.pending.sequence p.sequence (unlike false i r))), r.1)
 
     ended_now : StandsIn c w → SpiRepresents d below c w after
     ended_now outside = firsts_changed d fits below below chip c w s h on (holds_same d below) outside (ap (λ x. x.wiring) differs.rest) (ap (λ x. x.serials.units) differs.rest) (ap (λ x. x.control) differs.rest) above (below_orders STATE state_at.0 state_at.1) runs_same
-        after.pending after.requests after.sequence_results after.job_results h.right soundly (λ u lt. nexts_kept u lt (h.going u) refl (h.nexts u lt)) wordly (λ u x lt free is for. h.owed u x lt free (filter_back (λ z. not (is_of p.sequence z)) s.pending x is).0 for)
+        after.pending after.requests after.sequence_results after.job_results h.right h.sending h.carriers soundly (λ u lt. nexts_kept u lt (h.going u) refl (h.nexts u lt)) wordly (λ u x lt free is for. h.owed u x lt free (filter_back (λ z. not (is_of p.sequence z)) s.pending x is).0 for)
 
 -- ---- the steps
 
@@ -303,7 +317,7 @@ module _ (d : SpiTable) (fits : FitsSpi d) (below : Reservations) (chip : Chip) 
   }
 
   -- whether its unit runs the sequence
-  runs_here : (q : ℕ) → is_pending q s.pending ≡ true → (g : Option Going) → h.going (unit_of_sequence d q) ≡ g → is_running_sequence q (running_by d g) ≡ is_running s q
+  runs_here : (q : ℕ) → is_sync_sequence d q ≡ false → (g : Option Going) → h.going (unit_of_sequence d q) ≡ g → is_running_sequence q (running_by d g) ≡ is_running s q
   runs_here q there None e = sym (not_true (is_running s q) (λ f. absurd (elsewhere (runs_on d fits below chip w s h q f))))
     where
       elsewhere : RunsOn d fits below chip w s h q → ⊥
@@ -316,7 +330,7 @@ module _ (d : SpiTable) (fits : FitsSpi d) (below : Reservations) (chip : Chip) 
   runs_here q there (Some g) e = by (g.pending.sequence == q) refl
     where
       by : (b : Bool) → (g.pending.sequence == q) ≡ b → (g.pending.sequence == q) ≡ is_running s q
-      by true f = f ∙ sym (ap (is_running s) (sym (is_number g.pending.sequence q f)) ∙ going_runs d fits below chip w s h (unit_of_sequence d q) g (unit_few d fits q) e)
+      by true f = f ∙ sym (ap (is_running s) (sym (is_number g.pending.sequence q f)) ∙ going_runs d fits below chip w s h (unit_of_sequence d q) g (unit_few d fits q) there e)
       by false f = f ∙ sym (not_true (is_running s q) (λ i. elsewhere (runs_on d fits below chip w s h q i)))
         where
           elsewhere : RunsOn d fits below chip w s h q → ⊥
@@ -350,7 +364,7 @@ module _ (d : SpiTable) (fits : FitsSpi d) (below : Reservations) (chip : Chip) 
         sends = tt;
         acts = tt;
         reset = refl;
-        next = (subst (λ n. SpiRepresents d below (chip_after chip (Store MARKS n) y) w (record s { pending = changed q cancels s.pending })) (sym is) (cancelled_now d fits below chip w s h on q lt runs), record { may = (refl, refl); served = false; owed = refl; shown = λ e. absurd (cc); report = refl });
+        next = (subst (λ n. SpiRepresents d below (chip_after chip (Store MARKS n) y) w (record s { pending = changed q cancels s.pending })) (sym is) (cancelled_now d fits below chip w s h on q (subst (λ n. IsAside n (view s)) f.of (aside_pending d (view s) h.sound f.entry f.there)) lt runs), record { may = (refl, refl); served = false; owed = refl; shown = λ e. absurd (cc); report = refl });
       }
 
   stores : (r : Cancelled) (q : ℕ) → q < 8 → error_by d (asks q) (is_off s.mode) false ≡ None → IsOf d r q → is_pending q s.pending ≡ true → is_running s q ≡ false
@@ -376,12 +390,12 @@ module _ (d : SpiTable) (fits : FitsSpi d) (below : Reservations) (chip : Chip) 
 module _ (d : SpiTable) (fits : FitsSpi d) where
   cancel_steps : (below : Reservations) (chip : Chip) (w : World) (s : SpiState) (k : CancelBody) (o : Origin Call) (y : ℕ) (t : FrameHistory) (m : ℕ → Bool) → cancel_owed_at k ≡ None → AssertedAt (spi_basis d) (cancel_bodies d) below chip w s k o t → Right (spi_basis d) (cancel_bodies d) below chip w s k o y t m
   cancel_steps below chip w s (cancel.Result r) o y t m e (h, (q, (Is_this_frame, lt, clear, on), of)) =
-      let says = ap (λ n. word_of chip (sequence_word n) == PENDING) of.sequence ∙ pending_word d fits below chip w s h on q lt in
+      let says = ap (λ n. word_of chip (sequence_word n) == PENDING) of.sequence ∙ pending_word d fits below chip w s h on q lt ∙ pending_alone d fits below chip w s h q of.async in
       subst (λ b. CancelMakes d fits below chip w s h on y (missed_after (spi_machine d) w s m) q (cancel.Result r) (Load (sequence_word r.sequence)) chip (word_of chip (sequence_word r.sequence)) (if b then (cancel.Running r, goes) else (cancel.Result r, ends (Some Act) no_answer Nothing))) (sym says)
       (result d fits below chip w s h on y (missed_after (spi_machine d) w s m) r q (sequence_word r.sequence) (word_of chip (sequence_word r.sequence)) lt clear of (is_pending q s.pending) refl)
   cancel_steps below chip w s (cancel.Running r) o y t m e (h, (q, (Is_this_frame, lt, clear, on), of, there)) =
       let says = ap (λ u. run_in (word_of chip (running_word u))) of.unit ∙ running_says d fits below chip w s h on (unit_of_sequence d q) (unit_few d fits q) (h.going (unit_of_sequence d q)) refl in
-      let here = ap (is_running_sequence r.sequence) says ∙ ap (λ n. is_running_sequence n (running_by d (h.going (unit_of_sequence d q)))) of.sequence ∙ runs_here d fits below chip w s h on y m q there (h.going (unit_of_sequence d q)) refl in
+      let here = ap (is_running_sequence r.sequence) says ∙ ap (λ n. is_running_sequence n (running_by d (h.going (unit_of_sequence d q)))) of.sequence ∙ runs_here d fits below chip w s h on y m q of.async (h.going (unit_of_sequence d q)) refl in
       subst (λ b. CancelMakes d fits below chip w s h on y (missed_after (spi_machine d) w s m) q (cancel.Running r) (Load (running_word r.unit)) chip (word_of chip (running_word r.unit)) (if b then cancel.Marks r else cancel.Store r, goes)) (sym here)
       (running d fits below chip w s h on y (missed_after (spi_machine d) w s m) r q (running_word r.unit) (word_of chip (running_word r.unit)) lt clear of there (is_running s q) refl)
   cancel_steps below chip w s (cancel.Marks r) o y t m e (h, (q, (Is_this_frame, lt, clear, on), of, there, runs)) = (h, (q, (Is_this_frame, lt, clear, on), there, runs, ap (λ n. bit_or (word_of chip MARKS) (cancelled_bit n)) of.sequence))

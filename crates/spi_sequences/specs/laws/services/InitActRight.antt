@@ -1,15 +1,15 @@
 -- Spi_Init acts: words that are cleared and sides that are readied stand for an initialised module.
 -- From words.WordsOfModule, services.InitPrepared, words.SideWords, hardware.AfterReset.
 -- Used by services.InitClearing, services.InitWords.
-use Rattle.std.proofs.Common.{◌≡◌, ◌≢◌, ◌+◌, ◌<◌, [], ◌∷◌, ◌∙◌, if◌then◌else◌}
+use Rattle.std.proofs.Common.{◌≡◌, ◌≢◌, ◌+◌, ◌<◌, ◌&&◌, [], ◌∷◌, ◌∙◌, if◌then◌else◌}
 use Rattle.spi_sequences.specs.Terms
 use Terms.{ap, arith, BanksAgree, Bool, Channel, channel_at, channel_of, ChannelState, Chip, chip_after, Contains}
 use Terms.{enumerate_from, false, first_items, FitsSpi, Going, HoldsArrays, initial, initialised, Interrupt}
-use Terms.{is_interrupt, is_off, IsSoundState, job_word, length, length_by, List, map, Mode, None, Off, Option}
-use Terms.{order_word, placed_of, Polling, PutRight, ranked_of, Received, refl, replicate, running_word, Sent}
-use Terms.{sequence_word, SequencesAgree, set_up_code, set_up_word, SetUpFits, Side, slice_index_or, Some}
-use Terms.{SpiRepresents, SpiState, SpiTable, stands-agree, stands-move, STATE, Store, stored_other, stored_same, subst}
-use Terms.{suc, sym, TakeRight, trio_of, true, untouched, view, word_at, word_of, World, zero, ℕ}
+use Terms.{is_interrupt, is_off, is_sync_unit, IsSoundState, job_word, length, length_by, List, map, Mode, None, not}
+use Terms.{Off, Option, order_word, placed_of, Polling, PutRight, ranked_of, Received, refl, replicate, running_word}
+use Terms.{Sent, sequence_word, SequencesAgree, set_up_code, set_up_word, SetUpFits, Side, slice_index_or, Some}
+use Terms.{SpiRepresents, SpiState, SpiTable, stands-agree, stands-move, STATE, Store, stored_other, stored_same}
+use Terms.{subst, suc, sym, TakeRight, trio_of, true, untouched, view, word_at, word_of, World, zero, ℕ}
 use Rattle.spi_sequences.specs.laws.{words.SideWords.{mine, not_first}, hardware.AfterReset.{none_in}}
 use Rattle.spi_sequences.specs.laws.{words.WordsOfModule.{of_set_up, of_sixteen, past_the_first}}
 use Rattle.spi_sequences.specs.laws.{services.InitPrepared.{Prepared, SidePrepared, is_in}}
@@ -99,6 +99,7 @@ module _ (d : SpiTable) (fits : FitsSpi d) (st : List (ℕ × ℕ)) (rd : List (
     apart = λ i j q r lt e f. absurd (cc);
     requests = λ q i. absurd (none_in q i);
     results = record { queued = λ q i there le lt. absurd (none_in q there); last = λ j none. tt; named = λ q lt. tt; sequences = λ q lt. (λ e. absurd (cc), λ e. absurd (cc)) };
+    carries = record { unit = λ u q e. absurd (cc); asked = λ q i. absurd (none_in q i); idle = λ u e. refl; queued = λ u q i e le lt. absurd (cc); off = λ e. absurd (cc) };
     few = λ u le. refl;
     off = λ e. absurd (cc);
   }
@@ -137,6 +138,7 @@ module _ (d : SpiTable) (fits : FitsSpi d) (st : List (ℕ × ℕ)) (rd : List (
   sequences_now = record {
     sequences = λ q lt. zero_at (sequence_word q) (omega arith) (all.sequences q lt);
     pending = λ q there. absurd (none_in q there);
+    begun = λ u q e. absurd (cc);
     had = λ q i there le lt. absurd (none_in q there);
     jobs = λ j lt none. zero_at (job_word j) (omega arith) (all.jobs j lt);
     orders = λ u lt. record { is = ap (λ v. ranked_of (word_of last (order_word u)) (word_of last (order_word u + 1)) v) (zero_at (order_word u + 2) (omega arith) (all.orders u lt)); once = tt };
@@ -170,7 +172,10 @@ module _ (d : SpiTable) (fits : FitsSpi d) (st : List (ℕ × ℕ)) (rd : List (
     sound = sound_now;
     going = none_going;
     nexts = λ u lt. tt;
-    units = λ u lt. ((p.units u lt).0, refl);
+    units = λ u lt async. (p.units u lt, refl);
+    sends = λ u lt sync. (p.units u lt, refl);
+    sending = tt;
+    carriers = λ u q e. absurd (cc);
     words = record {
       state = stored_same chip STATE 1 0 (omega arith) p.outside.all.words;
       on = λ on. record { sequences = sequences_now; runs = λ u lt. zero_at (running_word u) (omega arith) (all.running u lt) };
@@ -183,6 +188,6 @@ module _ (d : SpiTable) (fits : FitsSpi d) (st : List (ℕ × ℕ)) (rd : List (
       set_up = λ external. subst (λ o. SetUpFits k o) (sym (set_up_none d s c k e lt external)) tt;
     };
     arrays = array_now;
-    lines = λ u lt. p.lines u lt ∙ not_interrupt s.mode p.off;
+    lines = λ u lt. p.lines u lt ∙ ap (λ b. b && not (is_sync_unit d u)) (not_interrupt s.mode p.off);
     owed = λ u q lt free there for. absurd (none_in q there);
   }

@@ -3,15 +3,15 @@
 -- Used by services.InitWords, services.InitClearing, services.InitActRight, bookkeeping.NextChosen.
 use Rattle.std.proofs.Common.{◌≡◌, ◌≢◌, ◌+◌, ◌*◌, ◌%◌, ◌/◌, ◌<◌, ◌==◌, ◌&&◌, [], ◌∷◌, ◌∙◌, ◌⊎◌, ◌++◌, if◌then◌else◌}
 use Rattle.spi_sequences.specs.Terms
-use Terms.{ap, arith, Banks, BanksAgree, Bool, Call, Called, Channel, channel_of, Chip, chip_after, chooses, choosing}
-use Terms.{commits, committing, Contains, false, filling, fills, FitsSpi, flat_map-cons, Going, HoldsArrays, Init, inl}
-use Terms.{inr, is_off, is_own_word, is_some, IsSoundState, Keeps, length, LinesAgree, List, Memory, mode_word, None}
-use Terms.{not, Option, or_rest, own-control, own-word, Pins, placed_of, Preparing, put_held, PutRight, Putting}
-use Terms.{readied_by, readied_in, Received, refl, replicate, Reservation, Reservations, ReservedBy, run_at}
-use Terms.{same_or_other, Sent, Side, Some, some_is, SOURCES, SpiRepresents, SpiState, SpiTable, stands-agree}
-use Terms.{stands-move, StandsIn, STATE, Store, stored_by, stored_in, stored_other, stored_same, subst, suc, sym}
-use Terms.{take_held, TakeRight, Taking, trio_of, TripleBuffer, true, unit_at, UnitAgrees, view, WiredAs, word_of}
-use Terms.{World, zero, ℕ}
+use Terms.{ap, arith, Banks, BanksAgree, Bool, Call, Called, carried_at, CarriesAgrees, Carrying, Channel, channel_of}
+use Terms.{Chip, chip_after, chooses, choosing, commits, committing, Contains, entry_carried, false, filling, fills}
+use Terms.{FitsSpi, flat_map-cons, Going, HoldsArrays, Init, inl, inr, is_off, is_own_word, is_some, is_sync_unit}
+use Terms.{IsSoundState, Keeps, length, LinesAgree, List, Memory, mode_word, None, not, Option, or_rest, own-control}
+use Terms.{own-word, Pins, placed_of, Preparing, put_held, PutRight, Putting, readied_by, readied_in, Received, refl}
+use Terms.{replicate, Reservation, Reservations, ReservedBy, Run, run_at, run_carried, same_or_other, Sent, Side, Some}
+use Terms.{some_is, SOURCES, SpiRepresents, SpiState, SpiTable, stands-agree, stands-move, StandsIn, STATE, Store}
+use Terms.{stored_by, stored_in, stored_other, stored_same, subst, suc, sym, take_held, TakeRight, Taking, trio_of}
+use Terms.{TripleBuffer, true, unit_at, UnitAgrees, view, WiredAs, word_of, World, zero, ℕ}
 use Rattle.spi_sequences.specs.laws.{words.SideWords.{mine, not_first, not_of_other, sides_apart, stands_by_store}}
 use Rattle.spi_sequences.specs.laws.{words.SideWords.{trio_fits}, hardware.SourceFilled.{own_low}}
 use Rattle.spi_sequences.specs.laws.{hardware.AfterReset.{none_in}, words.WordsOfModule.{has_channel, of_banks}}
@@ -82,24 +82,45 @@ pub record Prepared (d : SpiTable) (st : List (ℕ × ℕ)) (rd : List (ℕ × B
   pub size : length chip.serials.units ≡ 2
   pub sound : IsSoundState d (view s)
   pub off : is_off s.mode ≡ true
-  pub units : (u : ℕ) → u < 2 → UnitAgrees d (unit_at chip.serials u) (run_at s u) None
+  pub units : (u : ℕ) → u < 2 → (unit_at chip.serials u).word ≡ None
   pub state : word_of chip STATE ≡ mode_word s.mode
   pub sides : (c : ℕ) (k : Channel) → channel_of d c ≡ Some k → k.internal ≡ true → (side : Side) → SidePrepared d (word_of chip) rd x c k side
   pub stored : (j n : ℕ) → Contains st (j, n) → (is_own_word d j ≡ true) × (word_of chip j ≡ n)
   pub arrays : (c : ℕ) → HoldsArrays (word_of chip) d s c
-  pub lines : LinesAgree s.mode chip.control.enabled
+  pub lines : LinesAgree d s.mode chip.control.enabled
+
+-- an uninitialised module runs no job
+no_run : (r : Option Run) → not (is_some r) ≡ true → r ≡ None
+no_run None e = refl
+no_run (Some r) e = absurd (cc)
+
+no_run_carried : (o : Option Carrying) → entry_carried o ≡ None → run_carried o ≡ None
+no_run_carried None e = refl
+no_run_carried (Some x) e = absurd (cc)
 
 -- the agreement says so
 module _ (d : SpiTable) (held : Reservations) (chip : Chip) (w : World) (s : SpiState) (h : SpiRepresents d held chip w s) (off : is_off s.mode ≡ true) where
   free : (u : ℕ) → u < 2 → h.going u ≡ None
-  free u lt = by (h.going u) (h.units u lt)
+  free u lt = split (is_sync_unit d u) refl
     where
-      rests : not (is_some (run_at s u)) ≡ true
-      rests = (h.sound.off off).1 u
-
       by : (g : Option Going) → UnitAgrees d (unit_at chip.serials u) (run_at s u) g → g ≡ None
       by None a = refl
-      by (Some g) a = absurd (let e = sym rests ∙ ap (λ r. not (is_some r)) a.1 in cc)
+      by (Some g) a = absurd (let e = sym (no_run (run_at s u) ((h.sound.off off).1 u)) ∙ a.1 in cc)
+
+      by_carried : (g : Option Going) → CarriesAgrees d (unit_at chip.serials u) (run_carried (carried_at s u)) g → g ≡ None
+      by_carried None a = refl
+      by_carried (Some g) a = absurd (let e = sym (no_run_carried (carried_at s u) (h.sound.carries.off off u)) ∙ a.1 in cc)
+
+      split : (q : Bool) → is_sync_unit d u ≡ q → h.going u ≡ None
+      split true sync = by_carried (h.going u) (h.sends u lt sync)
+      split false async = by (h.going u) (h.units u lt async)
+
+  word_free : (u : ℕ) → u < 2 → (unit_at chip.serials u).word ≡ None
+  word_free u lt = split (is_sync_unit d u) refl
+    where
+      split : (q : Bool) → is_sync_unit d u ≡ q → (unit_at chip.serials u).word ≡ None
+      split true sync = (subst (λ g. CarriesAgrees d (unit_at chip.serials u) (run_carried (carried_at s u)) g) (free u lt) (h.sends u lt sync)).0
+      split false async = (subst (λ g. UnitAgrees d (unit_at chip.serials u) (run_at s u) g) (free u lt) (h.units u lt async)).0
 
   no_take : (c : ℕ) (o : Option Taking) → TakeRight h.going c o → o ≡ None
   no_take c None t = refl
@@ -124,7 +145,7 @@ module _ (d : SpiTable) (held : Reservations) (chip : Chip) (w : World) (s : Spi
       size = h.size;
       sound = h.sound;
       off = off;
-      units = λ u lt. subst (λ g. UnitAgrees d (unit_at chip.serials u) (run_at s u) g) (free u lt) (h.units u lt);
+      units = word_free;
       state = h.words.state;
       sides = λ c k e internal side. side_of c k side (h.words.banks c k e internal);
       stored = λ j n is. h.words.stored j n (stored (j, n) is);
@@ -173,7 +194,10 @@ module _ (d : SpiTable) (st : List (ℕ × ℕ)) (rd : List (ℕ × Bool)) (x : 
     sound = p.sound;
     going = none_going;
     nexts = λ u lt. tt;
-    units = p.units;
+    units = λ u lt async. (p.units u lt, no_run (run_at s u) ((p.sound.off p.off).1 u));
+    sends = λ u lt sync. (p.units u lt, no_run_carried (carried_at s u) (p.sound.carries.off p.off u));
+    sending = (tt, tt);
+    carriers = λ u y e. absurd (let no = sym e ∙ p.sound.carries.off p.off u in cc);
     words = record {
       state = p.state;
       on = λ on. absurd (let e = sym on ∙ p.off in cc);

@@ -1,7 +1,7 @@
 -- What the load of the state word decides for a call.
 -- From services.Bodies.
 -- Used by asked/rt, mcal_drivers: Laws.
-use Rattle.std.proofs.Common.{◌%◌, ◌==◌, []}
+use Rattle.std.proofs.Common.{◌%◌, ◌==◌, if◌then◌else◌, []}
 use Rattle.spi_sequences.specs.Terms
 use Terms.{Answer, answer_refused, Asked, AsyncTransmit, Bool, Call, Cancel, ChannelCall, DeInit, Done, error_by}
 use Terms.{ErrorName, false, Get, Goes, HwUnitStatus, Init, is_users, job_of, JobResult, Looked, Main}
@@ -11,7 +11,11 @@ use Terms.{service_of, SetAsyncMode, SetupEb, Some, SpiTable, SpiUninit, Status,
 use Terms.{unit_of_sequence, Whole, WriteIb, ℕ}
 use Rattle.spi_machine.specs.declared.call.Call.TheVariants.{Channel, Sequence}
 use Rattle.spi_sequences.specs.laws.services.Bodies.{SpiBody, init_body, whole_body, query_body, set_up_body}
-use Rattle.spi_sequences.specs.laws.services.Bodies.{write_body, read_body, unit_body, cancel_body}
+use Rattle.spi_sequences.specs.laws.services.Bodies.{write_body, read_body, unit_body, cancel_body, sync_body}
+use Rattle.spi_sequences.specs.laws.services.SyncSteps.{sync_begins}
+use Rattle.spi_machine.specs.Table.{is_sync_unit}
+use Rattle.spi_machine.specs.Wiring.{served_lines, is_sync_sequence}
+use Rattle.spi_machine.specs.declared.call.SequenceCall.TheVariants.{SyncTransmit}
 use Rattle.spi_sequences.specs.declared.service.cancel.CancelBody.TheVariants as cancel
 use Rattle.spi_sequences.specs.declared.service.init.InitPlace.TheVariants as init
 use Rattle.spi_sequences.specs.declared.service.query.JobPlace.TheVariants as job
@@ -30,9 +34,12 @@ done_with a = Refused (record { answer = a; owed = Nothing })
 abbrev pub looks : Whole → Looked SpiBody
 looks x = Goes (whole_body (whole.Look x 0))
 
--- the main function serves in polling mode alone
-abbrev pub main_begun : SpiTable → (polling : Bool) → Looked SpiBody
-main_begun d true = Goes (unit_body (record { table = d; errand = Main; unit = 0; place = place.Act }))
+-- the main function serves in polling mode alone, and begins with the second unit where the first one sends by Spi_SyncTransmit
+abbrev pub first_served : SpiTable → ℕ
+first_served d = if is_sync_unit d 0 then 1 else 0
+
+abbrev pub main_begun : SpiTable → (serves : Bool) → Looked SpiBody
+main_begun d true = Goes (unit_body (record { table = d; errand = Main; unit = first_served d; place = place.Act }))
 main_begun d false = done_with no_answer
 
 abbrev pub channel_begun : SpiTable → ℕ → ChannelCall → Looked SpiBody
@@ -40,9 +47,15 @@ channel_begun d c (WriteIb p) = Goes (write_body (write.Choose (record { placed 
 channel_begun d c ReadIb = Goes (read_body (record { placed = placed_of d c; bank = 0; words = []; place = read.Pin (pinning (placed_of d c) Received) }))
 channel_begun d c (SetupEb p q n) = Goes (set_up_body (set_up.Store (placed_of d c) (record { source = is_users p; destination = is_users q; length = n % 256 })))
 
+-- one that is sent at once isn't cancelled
+abbrev pub cancel_begun : SpiTable → ℕ → (at_once : Bool) → Looked SpiBody
+cancel_begun d q true = done_with no_answer
+cancel_begun d q false = Goes (cancel_body (cancel.Result (record { sequence = q; unit = unit_of_sequence d q; notification = notifies_sequence (sequence_of d q) })))
+
 abbrev pub sequence_begun : SpiTable → ℕ → SequenceCall → Looked SpiBody
 sequence_begun d q AsyncTransmit = Goes (unit_body (record { table = d; errand = Transmit q; unit = unit_of_sequence d q; place = place.Request (request.Look 0) }))
-sequence_begun d q Cancel = Goes (cancel_body (cancel.Result (record { sequence = q; unit = unit_of_sequence d q; notification = notifies_sequence (sequence_of d q) })))
+sequence_begun d q SyncTransmit = Goes (sync_body (sync_begins d q (unit_of_sequence d q)))
+sequence_begun d q Cancel = cancel_begun d q (is_sync_sequence d q)
 
 abbrev pub status_begun : (off : Bool) → Looked SpiBody
 status_begun true = done_with (named SpiUninit)
@@ -58,7 +71,7 @@ query_begun d v (HwUnitStatus u) = Goes (query_body (query.Unit (u % 256)))
 abbrev pub begins : SpiTable → Call → (state : ℕ) → Looked SpiBody
 begins d Init v = Goes (init_body (record { table = d; place = init.Opens }))
 begins d DeInit v = looks wholes.DeInit
-begins d (SetAsyncMode m) v = looks (wholes.Mode m)
+begins d (SetAsyncMode m) v = looks (wholes.Mode m (served_lines d))
 begins d MainFunctionHandling v = main_begun d (v == 1)
 begins d (Channel c call) v = channel_begun d (c % 256) call
 begins d (Sequence q call) v = sequence_begun d (q % 256) call

@@ -1,47 +1,91 @@
 -- Spi_DeInit, Spi_SetAsyncMode and Spi_GetStatus: that they are right.
 -- From words.WordsToState, services.ModuleSteps, words.KeptWords, words.WordsOfModule, words.SameWords and 4 more.
-use Rattle.std.proofs.Common.{◌≡◌, ◌≢◌, ◌+◌, ◌-◌, ◌<◌, ◌≤◌, ◌==◌, ◌&&◌, ◌||◌, [], ◌∷◌, ◌∙◌, if◌then◌else◌}
+use Rattle.std.proofs.Common.{◌≡◌, ◌≢◌, ◌+◌, ◌-◌, ◌<◌, ◌≤◌, ◌==◌, ◌&&◌, ◌||◌, ◌^◌, [], ◌∷◌, ◌∙◌, ◌⊎◌, if◌then◌else◌}
 use Rattle.spi_sequences.specs.Terms
-use Terms.{Act, acts_by, all_looked, and_parts, answers, ap, AreFree, AreLong, AreWindows, arith, AssertedAt}
-use Terms.{begins_word, BodyTaken, Bool, busy_answer, Call, Called, Channel, channel_of, Chip, chip_after, Cleans}
-use Terms.{CommitsTo, Contains, Continues, EnableClear, EnableSet, ends, ENotOk, EOk, error_by, false, FitsSpi}
-use Terms.{FrameHistory, fresh_history, Get, goes, GoesFree, Going, happened, has_bit, has_bit-or, has_bit-without}
-use Terms.{held_word, idle, Interrupt, is_busy, is_off, is_pending, is_shared, is_simple, is_some, Is_this_frame}
-use Terms.{IsThisFrame, length, length_by, LINES, LinesAgree, List, Load, LongBodies, looked_at, may, missed_after}
-use Terms.{Mode, mode_of, mode_word, Modes, moved, named, nat_eq, nat_lt, nat_tests, None, not, Nothing, Off, Option}
-use Terms.{Order, Origin, owed_left, owed_move, Part, PENDING, Pending, PendingWrites, place_at, placed_of}
-use Terms.{PointAssertion, Polling, refl, Reg, Reservations, resets_chip, Right, run_at, same_chip, same_Some}
-use Terms.{sequence_word, SetAsyncMode, Shortens, slice_get, slice_index, slice_index_or, Some, source_word, spi_bare}
-use Terms.{spi_basis, spi_machine, spi_owing, SpiBusy, SpiIdle, SpiRepresents, SpiState, SpiTable, stands-move}
-use Terms.{StandsIn, STATE, state_word_after, status_by, Store, stored_other, stored_same, subst, suc, sym, true}
-use Terms.{TurnsTo, Under, UnitAgrees, unless_busy, value_of, view, Whole, whole_owed, whole_takes, whole_work}
-use Terms.{WholeBody, Wholes, Windows, windows, windows_right, Within, word_of, Works, World, world_after, Write, ℕ}
+use Terms.{Act, acts_by, all_looked, all_of, and_parts, answers, ap, AreFree, AreLong, AreWindows, arith, AssertedAt}
+use Terms.{begins_word, BodyTaken, Bool, busy_answer, Call, Called, carried_at, CarriesAgrees, Carrying, Channel}
+use Terms.{channel_of, Chip, chip_after, Cleans, CommitsTo, Contains, Continues, EnableClear, EnableSet, ends, ENotOk}
+use Terms.{entry_carried, EOk, error_by, false, FitsSpi, FrameHistory, fresh_history, Get, get_or_default, goes}
+use Terms.{GoesFree, Going, happened, has_bit, has_bit-or, has_bit-without, held_word, idle, inl, inr, Interrupt}
+use Terms.{is_busy, is_interrupt, is_off, is_pending, is_shared, is_simple, is_some, is_sync_unit, Is_this_frame}
+use Terms.{IsSoundState, IsThisFrame, length, length_by, LINES, LinesAgree, List, list_any, Load, LongBodies}
+use Terms.{looked_at, may, missed_after, Mode, mode_of, mode_word, Modes, moved, named, nat_eq, nat_lt, nat_tests}
+use Terms.{None, not, Nothing, Off, Option, Order, Origin, owed_left, owed_move, Part, PENDING, Pending, PendingWrites}
+use Terms.{place_at, placed_of, PointAssertion, Polling, refl, Reg, Reservations, resets_chip, Right, run_at}
+use Terms.{run_carried, same_chip, same_Some, sequence_word, served_lines, SetAsyncMode, Shortens, slice_get}
+use Terms.{slice_index, slice_index_or, Some, source_word, spi_bare, spi_basis, spi_machine, spi_owing, SpiBusy}
+use Terms.{SpiIdle, SpiRepresents, SpiState, SpiTable, stands-move, StandsIn, STATE, state_word_after, status_by}
+use Terms.{Store, stored_other, stored_same, subst, suc, sym, true, TurnsTo, Under, UnitAgrees, unless_busy, value_of}
+use Terms.{View, view, Whole, whole_owed, whole_takes, whole_work, WholeBody, Wholes, Windows, windows, windows_right}
+use Terms.{Within, word_of, Works, World, world_after, Write, ℕ}
 use Rattle.spi_sequences.specs.declared.service.whole.Whole.TheVariants.{DeInit, Status}
 use Rattle.spi_sequences.specs.laws.words.SameWords.{sequences_alike, run_alike, banks_alike}
 use Rattle.spi_sequences.specs.laws.hardware.AfterReset.{by_two, none_in}
 use Rattle.spi_sequences.specs.laws.words.KeptWords.{banks_view, next_view, sequences_as, sound_as}
-use Rattle.spi_sequences.specs.laws.hardware.StableUnderHardware.{mode_later, pending_later}
+use Rattle.spi_sequences.specs.laws.hardware.StableUnderHardware.{all_later, mode_later}
 use Rattle.spi_sequences.specs.laws.bookkeeping.PendingWritesBounds.{owed_right}
-use Rattle.spi_sequences.specs.laws.words.WordsOfModule.{past_the_first, of_held, of_set_up, of_banks}
+use Rattle.spi_sequences.specs.laws.words.WordsOfModule.{past_the_first, of_held, of_set_up, of_banks, some_at}
 use Rattle.spi_sequences.specs.laws.services.QueryRight.{answers_now, may_first}
 use Rattle.spi_sequences.specs.laws.words.WordsToState.{entry_of, going_free, going_next, is_below, is_past, is_there}
-use Rattle.spi_sequences.specs.laws.words.WordsToState.{other_number, pending_word}
+use Rattle.spi_sequences.specs.laws.words.WordsToState.{none_any, other_number, pending_word}
+use Rattle.spi_sequences.specs.laws.words.AllSequences.{all_carried, all_cases, all_pending}
 use Rattle.spi_machine.specs.declared.call.AsyncMode.TheVariants as modes
 use Rattle.spi_machine.specs.declared.call.Call.TheVariants as calls
 use Rattle.spi_machine.specs.declared.call.Query.TheVariants as queries
 use Rattle.spi_sequences.specs.declared.service.whole.WholeBody.TheVariants as whole
 
--- ---- another mode, while nothing is pending and nothing is held
+-- ---- a module in which a sequence is under way, and one in which none is
 
-busy_some : (ps : List Pending) (p : Pending) → Contains ps p → not (nat_eq (length ps) 0) ≡ true
-busy_some [] p (k, lt, e) = absurd (omega (arith, lt))
-busy_some (x ∷ xs) p there = ap not (other_number (suc (length xs)) 0 (λ e. omega (arith, e)))
+pending_some : (ps : List Pending) (p : Pending) → Contains ps p → not (nat_eq (length ps) 0) ≡ true
+pending_some [] p (k, lt, e) = absurd (omega (arith, lt))
+pending_some (x ∷ xs) p there = ap not (other_number (suc (length xs)) 0 (λ e. omega (arith, e)))
 
-module _ (d : SpiTable) (fits : FitsSpi d) (chip : Chip) (w : World) (s : SpiState) (h : SpiRepresents d [] chip w s) (none : s.pending ≡ []) (on : is_off s.mode ≡ false) (mode : Mode) where
+busy_some : (s : SpiState) (p : Pending) → Contains (all_of (view s)) p → is_busy s ≡ true
+busy_some s p there = by (all_cases (view s) p there)
+  where
+    either : (b : Bool) → b || true ≡ true
+    either true = refl
+    either false = refl
+
+    some : (u : ℕ) (o : Option Carrying) → carried_at s u ≡ o → entry_carried o ≡ Some p → list_any is_some s.carried ≡ true
+    some u None i e = absurd (cc)
+    some u (Some x) i e = some_at is_some s.carried u refl (ap is_some i)
+
+    by : Contains s.pending p ⊎ ((u : ℕ) × ((view s).begun u ≡ Some p)) → is_busy s ≡ true
+    by (inl is) = ap (λ b. b || list_any is_some s.carried) (pending_some s.pending p is)
+    by (inr (u, e)) = ap (λ b. not (nat_eq (length s.pending) 0) || b) (some u (carried_at s u) refl e) ∙ either (not (nat_eq (length s.pending) 0))
+
+none_pending : (v : View) → all_of v ≡ [] → v.pending ≡ []
+none_pending v none = by v.pending (λ p there. none_in p (subst (λ ps. Contains ps p) none (all_pending v p there)))
+  where
+    by : (ps : List Pending) → ((p : Pending) → Contains ps p → ⊥) → ps ≡ []
+    by [] never = refl
+    by (p ∷ ps) never = absurd (never p (0, omega arith, refl))
+
+none_begun : (d : SpiTable) (v : View) → IsSoundState d v → all_of v ≡ [] → (u : ℕ) → v.begun u ≡ None
+none_begun d v h none u = by (v.begun u) refl
+  where
+    by : (o : Option Pending) → v.begun u ≡ o → v.begun u ≡ None
+    by None e = e
+    by (Some p) e = absurd (none_in p (subst (λ ps. Contains ps p) none (all_carried v u p (h.carries.unit u p e).0 e)))
+
+busy_none : (d : SpiTable) (s : SpiState) → IsSoundState d (view s) → all_of (view s) ≡ [] → is_busy s ≡ false
+busy_none d s h none = ap (λ ps. not (nat_eq (length ps) 0) || list_any is_some s.carried) (none_pending (view s) none) ∙ none_any is_some s.carried (λ o there. by o there)
+  where
+    no_entry : (o : Option Carrying) → entry_carried o ≡ None → is_some o ≡ false
+    no_entry None e = refl
+    no_entry (Some x) e = absurd (cc)
+
+    by : (o : Option Carrying) → Contains s.carried o → is_some o ≡ false
+    by o (u, lt, at) = ap is_some (sym at ∙ get_or_default s.carried u o None lt) ∙ no_entry (carried_at s u) (none_begun d (view s) h none u)
+
+-- ---- another mode, while nothing is under way and nothing is held
+
+module _ (d : SpiTable) (fits : FitsSpi d) (chip : Chip) (w : World) (s : SpiState) (h : SpiRepresents d [] chip w s) (none : all_of (view s) ≡ []) (on : is_off s.mode ≡ false) (mode : Mode) where
   abbrev stored : Chip
   stored = chip_after chip (Store STATE (mode_word mode)) 0
 
-  no_entry : (p : Pending) → Contains s.pending p → ⊥
+  no_entry : (p : Pending) → Contains (all_of (view s)) p → ⊥
   no_entry p there = none_in p (subst (λ ps. Contains ps p) none there)
 
   free : (u : ℕ) → u < 2 → run_at s u ≡ None
@@ -58,7 +102,7 @@ module _ (d : SpiTable) (fits : FitsSpi d) (chip : Chip) (w : World) (s : SpiSta
       by true e = ap (λ r. not (is_some r)) (free u (is_below u 2 e))
       by false e = h.sound.few u (is_past u 2 e)
 
-  module _ (last : Chip) (outside : StandsIn last w) (wiring : last.wiring ≡ chip.wiring) (units : last.serials.units ≡ chip.serials.units) (words : (k : ℕ) → word_of last k ≡ word_of stored k) (lines : LinesAgree mode last.control.enabled) where
+  module _ (last : Chip) (outside : StandsIn last w) (wiring : last.wiring ≡ chip.wiring) (units : last.serials.units ≡ chip.serials.units) (words : (k : ℕ) → word_of last k ≡ word_of stored k) (lines : LinesAgree d mode last.control.enabled) where
     other : (k : ℕ) → k ≢ STATE → word_of last k ≡ word_of chip k
     other k ne = words k ∙ stored_other chip STATE (mode_word mode) 0 k ne
 
@@ -80,10 +124,13 @@ module _ (d : SpiTable) (fits : FitsSpi d) (chip : Chip) (w : World) (s : SpiSta
       outside = outside;
       wired = λ c lt. ap (λ x. slice_index x.sources c) wiring ∙ h.wired c lt;
       size = ap length units ∙ h.size;
-      sound = sound_as d (view s) mode (view s).written (view s).received (view s).sources (λ e. (none, all_idle)) h.sound;
+      sound = sound_as d (view s) mode (view s).written (view s).received (view s).sources (λ e. (none_pending (view s) none, all_idle)) (λ e u. none_begun d (view s) h.sound none u) h.sound;
       going = h.going;
-      nexts = λ u lt. next_view d (view s) (view (record s { mode = mode })) u (h.going u) refl (h.nexts u lt);
-      units = λ u lt. subst (λ xs. UnitAgrees d (slice_index_or xs u idle) (run_at s u) (h.going u)) (sym units) (h.units u lt);
+      nexts = λ u lt. next_view d (view s) (view (record s { mode = mode })) u (h.going u) refl refl (h.nexts u lt);
+      units = λ u lt async. subst (λ xs. UnitAgrees d (slice_index_or xs u idle) (run_at s u) (h.going u)) (sym units) (h.units u lt async);
+      sends = λ u lt sync. subst (λ xs. CarriesAgrees d (slice_index_or xs u idle) (run_carried (carried_at s u)) (h.going u)) (sym units) (h.sends u lt sync);
+      sending = tt;
+      carriers = λ u p e. absurd (let no = sym e ∙ none_begun d (view s) h.sound none u in cc);
       words = record {
         state = words STATE ∙ stored_same chip STATE (mode_word mode) 0 (omega arith) h.outside.all.words;
         on = λ still. let was = h.words.on on in record {
@@ -97,42 +144,47 @@ module _ (d : SpiTable) (fits : FitsSpi d) (chip : Chip) (w : World) (s : SpiSta
       sizes = λ still. h.sizes on;
       arrays = λ c. record { source = λ i lt. other _ (λ f. omega (arith, f)) ∙ (h.arrays c).source i lt; destination = λ i lt. other _ (λ f. omega (arith, f)) ∙ (h.arrays c).destination i lt };
       lines = lines;
-      owed = λ u p lt going there for. absurd (no_entry p there);
+      owed = λ u p lt going there for. absurd (no_entry p (all_pending (view s) p there));
     }
 
 -- ---- the steps
 
 abbrev pub call_by : Whole → Call
 call_by DeInit = calls.DeInit
-call_by (Modes m) = SetAsyncMode m
+call_by (Modes m n) = SetAsyncMode m
 call_by Status = Get queries.Status
 
 -- only a query may begin above what others hold
 abbrev pub IsAbove : Whole → Reservations → Type 0
 IsAbove DeInit below = below ≡ []
-IsAbove (Modes m) below = below ≡ []
+IsAbove (Modes m n) below = below ≡ []
 IsAbove Status below = Unit {0}
 
 abbrev pub changes : Whole → Type 0
 changes DeInit = Unit {0}
-changes (Modes m) = Unit {0}
+changes (Modes m n) = Unit {0}
 changes Status = ⊥
 
 abbrev pub mode_after : Whole → Mode
 mode_after DeInit = Off
-mode_after (Modes m) = mode_of m
+mode_after (Modes m n) = mode_of m
 mode_after Status = Polling
+
+-- it has the lines that handlers serve
+abbrev pub HasLines : SpiTable → Whole → Type 0
+HasLines d (Modes m n) = n ≡ served_lines d
+HasLines d _ = Unit {0}
 
 -- the call finds no error, and the module is initialised
 abbrev pub IsWhole : SpiTable → (off : Bool) → Whole → Reservations → Origin Call → FrameHistory → Type 0
-IsWhole d off x below o t = IsThisFrame (Called (call_by x)) fresh_history o t × (error_by d (call_by x) off false ≡ None) × (off ≡ false) × IsAbove x below
+IsWhole d off x below o t = IsThisFrame (Called (call_by x)) fresh_history o t × (error_by d (call_by x) off false ≡ None) × (off ≡ false) × IsAbove x below × HasLines d x
 
 abbrev pub NoneBefore : List Pending → ℕ → Type 0
 NoneBefore ps q = (k : ℕ) → k < q → is_pending k ps ≡ false
 
 abbrev pub whole_place : SpiTable → WholeBody → Reservations → SpiState → Origin Call → FrameHistory → Type 0
-whole_place d (whole.Look x q) below s o t = IsWhole d (is_off s.mode) x below o t × (q < 8) × NoneBefore s.pending q
-whole_place d (whole.Store x) below s o t = IsWhole d (is_off s.mode) x below o t × changes x × (s.pending ≡ [])
+whole_place d (whole.Look x q) below s o t = IsWhole d (is_off s.mode) x below o t × (q < 8) × NoneBefore (all_of (view s)) q
+whole_place d (whole.Store x) below s o t = IsWhole d (is_off s.mode) x below o t × changes x × (all_of (view s) ≡ [])
 whole_place d (whole.Lines x) below s o t = ⊥
 
 abbrev pub whole_spot : (d : SpiTable) → WholeBody → PointAssertion (spi_basis d)
@@ -173,7 +225,7 @@ whole_bodies d = windows (whole_windows d)
 module _ (d : SpiTable) (fits : FitsSpi d) where
   alone_of : (x : Whole) (below : Reservations) → changes x → IsAbove x below → below ≡ []
   alone_of DeInit below c a = a
-  alone_of (Modes m) below c a = a
+  alone_of (Modes m n) below c a = a
   alone_of Status below c a = absurd c
 
   cleared : (chip : Chip) (v u : ℕ) → u < 2 → has_bit (chip_after (chip_after chip (Store STATE v) 0) (Write EnableClear LINES) 0).control.enabled (26 + u) ≡ false
@@ -183,36 +235,56 @@ module _ (d : SpiTable) (fits : FitsSpi d) where
       none true = refl
       none false = refl
 
-  set_up_lines : (chip : Chip) (v u : ℕ) → u < 2 → has_bit (chip_after (chip_after chip (Store STATE v) 0) (Write EnableSet LINES) 0).control.enabled (26 + u) ≡ true
-  set_up_lines chip v u lt = has_bit-or chip.control.enabled LINES (26 + u) ∙ by_two (λ n. has_bit chip.control.enabled (26 + n) || has_bit LINES (26 + n) ≡ true) (all (has_bit chip.control.enabled 26)) (all (has_bit chip.control.enabled 27)) u lt
-    where
-      all : (b : Bool) → b || true ≡ true
-      all true = refl
-      all false = refl
+  -- the lines that are enabled in interrupt mode are those of the units that handlers serve
+  enabled : (chip : Chip) (v n u : ℕ) → has_bit (chip_after (chip_after chip (Store STATE v) 0) (Write EnableSet n) 0).control.enabled (26 + u) ≡ has_bit chip.control.enabled (26 + u) || has_bit n (26 + u)
+  enabled chip v n u = has_bit-or chip.control.enabled n (26 + u)
 
   -- what the machine makes of it
-  module _ (chip : Chip) (w : World) (s : SpiState) (h : SpiRepresents d [] chip w s) (none : s.pending ≡ []) (on : is_off s.mode ≡ false) where
-    outside_after : (x : Whole) (r : Reg) → StandsIn (chip_after (chip_after chip (Store STATE (state_word_after x)) 0) (Write r LINES) 0) w
-    outside_after x r = stands-move (chip_after chip (Store STATE (state_word_after x)) 0) w (Write r LINES) 0 (stands-move chip w (Store STATE (state_word_after x)) 0 h.outside)
+  module _ (chip : Chip) (w : World) (s : SpiState) (h : SpiRepresents d [] chip w s) (none : all_of (view s) ≡ []) (on : is_off s.mode ≡ false) where
+    outside_after : (x : Whole) (r : Reg) (n : ℕ) → StandsIn (chip_after (chip_after chip (Store STATE (state_word_after x)) 0) (Write r n) 0) w
+    outside_after x r n = stands-move (chip_after chip (Store STATE (state_word_after x)) 0) w (Write r n) 0 (stands-move chip w (Store STATE (state_word_after x)) 0 h.outside)
 
-    owes_rest : (x : Whole) → changes x → (n : ℕ) × CommitsTo (spi_owing d) n (Wholes (whole.Lines x)) (chip_after chip (Store STATE (state_word_after x)) 0) (λ c. SpiRepresents d [] c w (record s { mode = mode_after x }))
-    owes_rest DeInit c = (1, (refl, tt, mode_kept d fits chip w s h none on Off _ (outside_after DeInit EnableClear) refl refl (λ k. refl) (λ u lt. cleared chip 0 u lt)))
-    owes_rest (Modes modes.Polling) c = (1, (refl, tt, mode_kept d fits chip w s h none on Polling _ (outside_after (Modes modes.Polling) EnableClear) refl refl (λ k. refl) (λ u lt. cleared chip 1 u lt)))
-    owes_rest (Modes modes.Interrupt) c = (1, (refl, tt, mode_kept d fits chip w s h none on Interrupt _ (outside_after (Modes modes.Interrupt) EnableSet) refl refl (λ k. refl) (λ u lt. set_up_lines chip 2 u lt)))
-    owes_rest Status c = absurd c
+    abbrev Rest : Whole → Type 0
+    Rest x = (n : ℕ) × CommitsTo (spi_owing d) n (Wholes (whole.Lines x)) (chip_after chip (Store STATE (state_word_after x)) 0) (λ c. SpiRepresents d [] c w (record s { mode = mode_after x }))
+
+    -- a unit that carries out sequences for calls has had no line enabled, and any other has its line enabled then
+    lines_now : (n : ℕ) → ((u : ℕ) → u < 2 → has_bit n (26 + u) ≡ not (is_sync_unit d u)) → LinesAgree d Interrupt (chip_after (chip_after chip (Store STATE 2) 0) (Write EnableSet n) 0).control.enabled
+    lines_now n bits u lt = enabled chip 2 n u ∙ ap (λ q. has_bit chip.control.enabled (26 + u) || q) (bits u lt) ∙ ap (λ q. q || not (is_sync_unit d u)) (h.lines u lt) ∙ by (is_interrupt s.mode) (is_sync_unit d u)
+      where
+        by : (a b : Bool) → (a && not b) || not b ≡ not b
+        by true true = refl
+        by true false = refl
+        by false true = refl
+        by false false = refl
+
+    interrupt : (n : ℕ) (a b : Bool) → is_sync_unit d 0 ≡ a → is_sync_unit d 1 ≡ b → n ≡ (if a then 0 else 2 ^ 26) + (if b then 0 else 2 ^ 27) → Rest (Modes modes.Interrupt n)
+    interrupt n true true e f is = subst (λ k. Rest (Modes modes.Interrupt k)) (sym is)
+        (1, (refl, tt, mode_kept d fits chip w s h none on Interrupt _ (outside_after (Modes modes.Interrupt 0) EnableClear LINES) refl refl (λ k. refl) (λ u lt. cleared chip 2 u lt ∙ sym (by_two (λ k. not (is_sync_unit d k) ≡ false) (ap not e) (ap not f) u lt))))
+    interrupt n true false e f is = subst (λ k. Rest (Modes modes.Interrupt k)) (sym is)
+        (1, (refl, tt, mode_kept d fits chip w s h none on Interrupt _ (outside_after (Modes modes.Interrupt 134217728) EnableSet 134217728) refl refl (λ k. refl) (lines_now 134217728 (λ u lt. by_two (λ k. has_bit 134217728 (26 + k) ≡ not (is_sync_unit d k)) (sym (ap not e)) (sym (ap not f)) u lt))))
+    interrupt n false true e f is = subst (λ k. Rest (Modes modes.Interrupt k)) (sym is)
+        (1, (refl, tt, mode_kept d fits chip w s h none on Interrupt _ (outside_after (Modes modes.Interrupt 67108864) EnableSet 67108864) refl refl (λ k. refl) (lines_now 67108864 (λ u lt. by_two (λ k. has_bit 67108864 (26 + k) ≡ not (is_sync_unit d k)) (sym (ap not e)) (sym (ap not f)) u lt))))
+    interrupt n false false e f is = subst (λ k. Rest (Modes modes.Interrupt k)) (sym is)
+        (1, (refl, tt, mode_kept d fits chip w s h none on Interrupt _ (outside_after (Modes modes.Interrupt LINES) EnableSet LINES) refl refl (λ k. refl) (lines_now LINES (λ u lt. by_two (λ k. has_bit LINES (26 + k) ≡ not (is_sync_unit d k)) (sym (ap not e)) (sym (ap not f)) u lt))))
+
+    owes_rest : (x : Whole) → changes x → HasLines d x → Rest x
+    owes_rest DeInit c l = (1, (refl, tt, mode_kept d fits chip w s h none on Off _ (outside_after DeInit EnableClear LINES) refl refl (λ k. refl) (λ u lt. cleared chip 0 u lt)))
+    owes_rest (Modes modes.Polling n) c l = (1, (refl, tt, mode_kept d fits chip w s h none on Polling _ (outside_after (Modes modes.Polling n) EnableClear LINES) refl refl (λ k. refl) (λ u lt. cleared chip 1 u lt)))
+    owes_rest (Modes modes.Interrupt n) c l = interrupt n (is_sync_unit d 0) (is_sync_unit d 1) refl refl l
+    owes_rest Status c l = absurd c
 
     -- the act
-    stores : (x : Whole) (y : ℕ) (m : ℕ → Bool) → changes x → error_by d (call_by x) (is_off s.mode) false ≡ None
+    stores : (x : Whole) (y : ℕ) (m : ℕ → Bool) → changes x → HasLines d x → error_by d (call_by x) (is_off s.mode) false ≡ None
         → Works (spi_basis d) (whole_bodies d) [] chip (chip_after chip (Store STATE (state_word_after x)) y) w s (Called (call_by x)) (Store STATE (state_word_after x)) false 0 y fresh_history m (whole.Lines x) (Some Act) None
-    stores DeInit y m c clear = record { may = refl; stands = tt; state = record s { mode = Off }; told = answers (named EOk); begins = None; is = ap (λ e. Some (acts_by d s calls.DeInit e)) clear ∙ ap (λ b. Some (unless_busy b s (record s { mode = Off }))) idle_now; sends = tt; acts = tt; reset = refl; next = (owes_rest DeInit tt, (Is_this_frame, tt)) }
+    stores DeInit y m c l clear = record { may = refl; stands = tt; state = record s { mode = Off }; told = answers (named EOk); begins = None; is = ap (λ e. Some (acts_by d s calls.DeInit e)) clear ∙ ap (λ b. Some (unless_busy b s (record s { mode = Off }))) idle_now; sends = tt; acts = tt; reset = refl; next = (owes_rest DeInit tt tt, (Is_this_frame, tt)) }
       where
         idle_now : is_busy s ≡ false
-        idle_now = ap (λ ps. not (nat_eq (length ps) 0)) none
-    stores (Modes a) y m c clear = record { may = refl; stands = tt; state = record s { mode = mode_of a }; told = answers (named EOk); begins = None; is = ap (λ e. Some (acts_by d s (SetAsyncMode a) e)) clear ∙ ap (λ b. Some (unless_busy b s (record s { mode = mode_of a }))) idle_now; sends = tt; acts = tt; reset = refl; next = (owes_rest (Modes a) tt, (Is_this_frame, tt)) }
+        idle_now = busy_none d s h.sound none
+    stores (Modes a n) y m c l clear = record { may = refl; stands = tt; state = record s { mode = mode_of a }; told = answers (named EOk); begins = None; is = ap (λ e. Some (acts_by d s (SetAsyncMode a) e)) clear ∙ ap (λ b. Some (unless_busy b s (record s { mode = mode_of a }))) idle_now; sends = tt; acts = tt; reset = refl; next = (owes_rest (Modes a n) tt l, (Is_this_frame, tt)) }
       where
         idle_now : is_busy s ≡ false
-        idle_now = ap (λ ps. not (nat_eq (length ps) 0)) none
-    stores Status y m c clear = absurd c
+        idle_now = busy_none d s h.sound none
+    stores Status y m c l clear = absurd c
 
   -- a look at a sequence
   module _ (below : Reservations) (chip : Chip) (w : World) (s : SpiState) (h : SpiRepresents d below chip w s) (on : is_off s.mode ≡ false) (y : ℕ) (m : ℕ → Bool) where
@@ -221,49 +293,46 @@ module _ (d : SpiTable) (fits : FitsSpi d) where
 
     busy : (x : Whole) (n value q : ℕ) → error_by d (call_by x) (is_off s.mode) false ≡ None → is_busy s ≡ true → LookMakes x n value (whole.Look x q, ends (Some Act) (named (busy_answer x)) Nothing)
     busy DeInit n value q clear some = record { may = refl; stands = tt; state = s; told = answers (named ENotOk); begins = None; is = ap (λ e. Some (acts_by d s calls.DeInit e)) clear ∙ ap (λ b. Some (unless_busy b s (record s { mode = Off }))) some; sends = tt; acts = tt; reset = refl; next = (h, record { may = (refl, refl); served = false; owed = refl; shown = λ e. absurd (cc); report = refl }) }
-    busy (Modes a) n value q clear some = record { may = refl; stands = tt; state = s; told = answers (named ENotOk); begins = None; is = ap (λ e. Some (acts_by d s (SetAsyncMode a) e)) clear ∙ ap (λ b. Some (unless_busy b s (record s { mode = mode_of a }))) some; sends = tt; acts = tt; reset = refl; next = (h, record { may = (refl, refl); served = false; owed = refl; shown = λ e. absurd (cc); report = refl }) }
+    busy (Modes a z) n value q clear some = record { may = refl; stands = tt; state = s; told = answers (named ENotOk); begins = None; is = ap (λ e. Some (acts_by d s (SetAsyncMode a) e)) clear ∙ ap (λ b. Some (unless_busy b s (record s { mode = mode_of a }))) some; sends = tt; acts = tt; reset = refl; next = (h, record { may = (refl, refl); served = false; owed = refl; shown = λ e. absurd (cc); report = refl }) }
     busy Status n value q clear some = answers_now d (whole_bodies d) below chip w s queries.Status n value y m false (whole.Look Status q) SpiBusy clear (sym (ap (λ b. status_by b (is_busy s)) on ∙ ap (λ b. status_by false b) some)) h
 
-    pending_gone : NoneBefore s.pending 8 → s.pending ≡ []
-    pending_gone none = by s.pending refl
+    all_gone : NoneBefore (all_of (view s)) 8 → all_of (view s) ≡ []
+    all_gone none = by (all_of (view s)) (λ p there. let f = sym (is_there d fits below chip w s h (all_of (view s)) p there) ∙ none p.sequence (h.sound.entries p there).number in cc)
       where
-        by : (ps : List Pending) → s.pending ≡ ps → s.pending ≡ []
-        by [] e = e
-        by (p ∷ ps) e =
-            let there : Contains s.pending p = subst (λ xs. Contains xs p) (sym e) (0, omega arith, refl) in
-            let f = sym (is_there d fits below chip w s h p there) ∙ none p.sequence (h.sound.entries p there).number in
-            absurd (cc)
+        by : (ps : List Pending) → ((p : Pending) → Contains ps p → ⊥) → ps ≡ []
+        by [] never = refl
+        by (p ∷ ps) never = absurd (never p (0, omega arith, refl))
 
-    all_seen : (x : Whole) (n value q : ℕ) → error_by d (call_by x) (is_off s.mode) false ≡ None → IsAbove x below → s.pending ≡ [] → LookMakes x n value (all_looked x q)
-    all_seen DeInit n value q clear above none = (h, ((Is_this_frame, clear, on, above), tt, none))
-    all_seen (Modes a) n value q clear above none = (h, ((Is_this_frame, clear, on, above), tt, none))
-    all_seen Status n value q clear above none = answers_now d (whole_bodies d) below chip w s queries.Status n value y m false (whole.Look Status q) SpiIdle clear (sym (ap (λ b. status_by b (is_busy s)) on ∙ ap (λ ps. status_by false (not (nat_eq (length ps) 0))) none)) h
+    all_seen : (x : Whole) (n value q : ℕ) → error_by d (call_by x) (is_off s.mode) false ≡ None → IsAbove x below → HasLines d x → all_of (view s) ≡ [] → LookMakes x n value (all_looked x q)
+    all_seen DeInit n value q clear above l none = (h, ((Is_this_frame, clear, on, above, l), tt, none))
+    all_seen (Modes a z) n value q clear above l none = (h, ((Is_this_frame, clear, on, above, l), tt, none))
+    all_seen Status n value q clear above l none = answers_now d (whole_bodies d) below chip w s queries.Status n value y m false (whole.Look Status q) SpiIdle clear (sym (ap (λ b. status_by b (is_busy s)) on ∙ ap (λ b. status_by false b) (busy_none d s h.sound none))) h
 
-    looks : (x : Whole) (n value q : ℕ) → error_by d (call_by x) (is_off s.mode) false ≡ None → IsAbove x below → q < 8 → NoneBefore s.pending q → (b : Bool) → is_pending q s.pending ≡ b → LookMakes x n value (looked_at x q b)
-    looks x n value q clear above lt none true e = let p = entry_of d fits below chip w s h q e in busy x n value q clear (busy_some s.pending p.0 p.1)
-    looks x n value q clear above lt none false e = by (nat_lt q 7) refl
+    looks : (x : Whole) (n value q : ℕ) → error_by d (call_by x) (is_off s.mode) false ≡ None → IsAbove x below → HasLines d x → q < 8 → NoneBefore (all_of (view s)) q → (b : Bool) → is_pending q (all_of (view s)) ≡ b → LookMakes x n value (looked_at x q b)
+    looks x n value q clear above l lt none true e = let p = entry_of d fits below chip w s h (all_of (view s)) q e in busy x n value q clear (busy_some s p.0 p.1)
+    looks x n value q clear above l lt none false e = by (nat_lt q 7) refl
       where
         split : (a b : ℕ) → a < b + 1 → nat_lt a b ≡ false → a ≡ b
         split a b l f = grind (arith, nat_tests)
 
-        upto : NoneBefore s.pending (q + 1)
+        upto : NoneBefore (all_of (view s)) (q + 1)
         upto k less = by_order (nat_lt k q) refl
           where
-            by_order : (b : Bool) → nat_lt k q ≡ b → is_pending k s.pending ≡ false
+            by_order : (b : Bool) → nat_lt k q ≡ b → is_pending k (all_of (view s)) ≡ false
             by_order true f = none k (is_below k q f)
-            by_order false f = ap (λ i. is_pending i s.pending) (split k q less f) ∙ e
+            by_order false f = ap (λ i. is_pending i (all_of (view s))) (split k q less f) ∙ e
 
         by : (b : Bool) → nat_lt q 7 ≡ b → LookMakes x n value (if nat_lt q 7 then (whole.Look x (q + 1), goes) else all_looked x q)
-        by true f = subst (λ b. LookMakes x n value (if b then (whole.Look x (q + 1), goes) else all_looked x q)) (sym f) (h, ((Is_this_frame, clear, on, above), let less = is_below q 7 f in omega (arith, less), upto))
-        by false f = subst (λ b. LookMakes x n value (if b then (whole.Look x (q + 1), goes) else all_looked x q)) (sym f) (all_seen x n value q clear above (pending_gone (λ k less. upto k (let past = is_past q 7 f in omega (arith, past, less)))))
+        by true f = subst (λ b. LookMakes x n value (if b then (whole.Look x (q + 1), goes) else all_looked x q)) (sym f) (h, ((Is_this_frame, clear, on, above, l), let less = is_below q 7 f in omega (arith, less), upto))
+        by false f = subst (λ b. LookMakes x n value (if b then (whole.Look x (q + 1), goes) else all_looked x q)) (sym f) (all_seen x n value q clear above l (all_gone (λ k less. upto k (let past = is_past q 7 f in omega (arith, past, less)))))
 
   whole_steps : (below : Reservations) (chip : Chip) (w : World) (s : SpiState) (k : WholeBody) (o : Origin Call) (y : ℕ) (t : FrameHistory) (m : ℕ → Bool) → whole_owed k ≡ None → AssertedAt (spi_basis d) (whole_bodies d) below chip w s k o t → Right (spi_basis d) (whole_bodies d) below chip w s k o y t m
-  whole_steps below chip w s (whole.Look x q) o y t m e (h, ((Is_this_frame, clear, on, above), lt, none)) =
-      subst (λ b. LookMakes below chip w s h on y (missed_after (spi_machine d) w s m) x (sequence_word q) (word_of chip (sequence_word q)) (looked_at x q b)) (sym (pending_word d fits below chip w s h on q lt)) (looks below chip w s h on y (missed_after (spi_machine d) w s m) x (sequence_word q) (word_of chip (sequence_word q)) q clear above lt none (is_pending q s.pending) refl)
-  whole_steps below chip w s (whole.Store x) o y t m e (h, ((Is_this_frame, clear, on, above), c, none)) =
+  whole_steps below chip w s (whole.Look x q) o y t m e (h, ((Is_this_frame, clear, on, above, l), lt, none)) =
+      subst (λ b. LookMakes below chip w s h on y (missed_after (spi_machine d) w s m) x (sequence_word q) (word_of chip (sequence_word q)) (looked_at x q b)) (sym (pending_word d fits below chip w s h on q lt)) (looks below chip w s h on y (missed_after (spi_machine d) w s m) x (sequence_word q) (word_of chip (sequence_word q)) q clear above l lt none (is_pending q (all_of (view s))) refl)
+  whole_steps below chip w s (whole.Store x) o y t m e (h, ((Is_this_frame, clear, on, above, l), c, none)) =
       let alone = alone_of x below c above in
       subst (λ held. Works (spi_basis d) (whole_bodies d) held chip (chip_after chip (Store STATE (state_word_after x)) y) w s (Called (call_by x)) (Store STATE (state_word_after x)) false 0 y fresh_history (missed_after (spi_machine d) w s m) (whole.Lines x) (Some Act) None) (sym alone)
-      (stores chip w s (subst (λ held. SpiRepresents d held chip w s) alone h) none on x y (missed_after (spi_machine d) w s m) c clear)
+      (stores chip w s (subst (λ held. SpiRepresents d held chip w s) alone h) none on x y (missed_after (spi_machine d) w s m) c l clear)
   whole_steps below chip w s (whole.Lines x) o y t m e h = absurd (cc)
 
   -- ---- the bodies
@@ -312,7 +381,7 @@ module _ (d : SpiTable) (fits : FitsSpi d) where
     where
       last : (x : Whole) → TurnsTo (whole_bodies d) 32 (whole.Look x q) (all_looked x q)
       last DeInit = (refl, omega arith)
-      last (Modes m) = (refl, omega arith)
+      last (Modes m n) = (refl, omega arith)
       last Status = omega arith
 
       by : (b : Bool) → nat_lt q 7 ≡ b → TurnsTo (whole_bodies d) 32 (whole.Look x q) (if b then (whole.Look x (q + 1), goes) else all_looked x q)
@@ -344,7 +413,7 @@ module _ (d : SpiTable) (fits : FitsSpi d) where
             where
               last : (x : Whole) → Shortens (whole_bodies d).fuel (whole.Look x q) (all_looked x q)
               last DeInit = omega arith
-              last (Modes m) = omega arith
+              last (Modes m n) = omega arith
               last Status = omega arith
 
               by : (b : Bool) → nat_lt q 7 ≡ b → Shortens (whole_bodies d).fuel (whole.Look x q) (if b then (whole.Look x (q + 1), goes) else all_looked x q)
@@ -357,8 +426,8 @@ module _ (d : SpiTable) (fits : FitsSpi d) where
       place_later w s order x below o t h = subst (λ mode. IsWhole d (is_off mode) x below o t) (sym (mode_later d w s order)) h
 
       later : (below : Reservations) (chip : Chip) (w : World) (s : SpiState) (order : Order) (k : WholeBody) (o : Origin Call) (t : FrameHistory) → whole_owed k ≡ None → AssertedAt (spi_basis d) (whole_bodies d) below chip w s k o t → place_at ((whole_bodies d).assertion k) below ((spi_basis d).foot (happened chip order)) (world_after w chip.clock.rate order) (moved d w s order) o t
-      later below chip w s order (whole.Look x q) o t e (h, (asks, lt, none)) = (place_later w s order x below o t asks, lt, subst (λ ps. NoneBefore ps q) (sym (pending_later d w s order)) none)
-      later below chip w s order (whole.Store x) o t e (h, (asks, c, none)) = (place_later w s order x below o t asks, c, pending_later d w s order ∙ none)
+      later below chip w s order (whole.Look x q) o t e (h, (asks, lt, none)) = (place_later w s order x below o t asks, lt, subst (λ ps. NoneBefore ps q) (sym (all_later d w s order)) none)
+      later below chip w s order (whole.Store x) o t e (h, (asks, c, none)) = (place_later w s order x below o t asks, c, all_later d w s order ∙ none)
       later below chip w s order (whole.Lines x) o t e h = absurd (cc)
 
       calm : (k : WholeBody) → whole_owed k ≡ None → (resets_chip (whole_work k) ≡ false) × (begins_word (whole_work k) ≡ false)
@@ -375,7 +444,7 @@ module _ (d : SpiTable) (fits : FitsSpi d) where
             where
               last : (x : Whole) → Cleans (whole_bodies d).clean (Load (sequence_word q)) (whole.Look x q) (all_looked x q)
               last DeInit = λ f. absurd (cc)
-              last (Modes m) = λ f. absurd (cc)
+              last (Modes m n) = λ f. absurd (cc)
               last Status = tt
 
               by : (b : Bool) → Cleans (whole_bodies d).clean (Load (sequence_word q)) (whole.Look x q) (if b then (whole.Look x (q + 1), goes) else all_looked x q)

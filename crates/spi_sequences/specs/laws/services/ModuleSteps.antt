@@ -6,7 +6,6 @@ use Rattle.mcal_base.specs.declared.answer_name.AnswerName.TheVariants.{EOk, ENo
 use Rattle.mcal_base.specs.declared.moves.Event.TheVariants.{Act}
 use Rattle.mcal_base.specs.declared.moves.Move.{Move}
 use Rattle.mcal_base.specs.declared.moves.Move.TheVariants.{Write, Load, Store}
-use Rattle.mcal_base.specs.declared.register.Reg.{Reg}
 use Rattle.mcal_base.specs.declared.register.Reg.TheVariants.{EnableSet, EnableClear}
 use Rattle.service_outline.specs.Done.{goes, acts, ends, named}
 use Rattle.service_outline.specs.declared.done.BodyTaken.{BodyTaken}
@@ -19,33 +18,37 @@ use Rattle.spi_sequences.specs.declared.service.whole.WholeBody.{WholeBody}
 use Rattle.spi_sequences.specs.declared.service.whole.WholeBody.TheVariants as whole
 use Rattle.spi_sequences.specs.declared.words.TheConstants.{STATE, LINES, PENDING}
 
--- the state word afterwards, what enables the lines or disables them, and the answer while a sequence is pending
+-- the state word afterwards, what enables the lines or disables them, and the answer while a sequence is pending; no line
+-- is named where there is none to enable
 abbrev pub state_word_after : Whole → ℕ
 state_word_after DeInit = 0
-state_word_after (Mode Polling) = 1
-state_word_after (Mode Interrupt) = 2
+state_word_after (Mode Polling n) = 1
+state_word_after (Mode Interrupt n) = 2
 state_word_after Status = 1
 
-abbrev pub lines_register : Whole → Reg
-lines_register DeInit = EnableClear
-lines_register (Mode Polling) = EnableClear
-lines_register (Mode Interrupt) = EnableSet
-lines_register Status = EnableClear
+abbrev pub lines_enabled : (lines : ℕ) → Move
+lines_enabled n = if n == 0 then Write EnableClear LINES else Write EnableSet n
+
+abbrev pub lines_move : Whole → Move
+lines_move DeInit = Write EnableClear LINES
+lines_move (Mode Polling n) = Write EnableClear LINES
+lines_move (Mode Interrupt n) = lines_enabled n
+lines_move Status = Write EnableClear LINES
 
 abbrev pub busy_answer : Whole → AnswerName
 busy_answer DeInit = ENotOk
-busy_answer (Mode m) = ENotOk
+busy_answer (Mode m n) = ENotOk
 busy_answer Status = SpiBusy
 
 abbrev pub whole_work : WholeBody → Move
 whole_work (whole.Look x q) = Load (sequence_word q)
 whole_work (whole.Store x) = Store STATE (state_word_after x)
-whole_work (whole.Lines x) = Write (lines_register x) LINES
+whole_work (whole.Lines x) = lines_move x
 
 -- after the last sequence
 abbrev pub all_looked : Whole → ℕ → WholeBody × BodyTaken
 all_looked DeInit q = (whole.Store DeInit, goes)
-all_looked (Mode m) q = (whole.Store (Mode m), goes)
+all_looked (Mode m n) q = (whole.Store (Mode m n), goes)
 all_looked Status q = (whole.Look Status q, ends (Some Act) (named SpiIdle) Nothing)
 
 abbrev pub looked_at : Whole → ℕ → (pending : Bool) → WholeBody × BodyTaken

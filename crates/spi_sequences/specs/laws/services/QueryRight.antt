@@ -1,31 +1,36 @@
 -- Spi_GetJobResult, Spi_GetSequenceResult and Spi_GetHWUnitStatus: that they are right.
 -- From words.WordsToState, services.QuerySteps, words.JobPlaces, hardware.StableUnderHardware and 3 more.
 -- Used by services.ModuleRight, services.CancelRight, services.RequestRight.
-use Rattle.std.proofs.Common.{◌≡◌, ◌+◌, ◌-◌, ◌<◌, ◌≤◌, ◌==◌, ◌&&◌, ◌||◌, [], ◌∙◌, if◌then◌else◌}
+use Rattle.std.proofs.Common.{◌≡◌, ◌+◌, ◌-◌, ◌<◌, ◌≤◌, ◌==◌, ◌&&◌, ◌||◌, [], ◌++◌, ◌∙◌, ◌⊎◌, if◌then◌else◌}
 use Rattle.spi_sequences.specs.Terms
-use Terms.{Act, acts_by, AnswerName, answers, ap, AreLong, arith, asks_no, AssertedAt, AsyncTransmit, begins_word, Bool}
-use Terms.{Call, Called, Cancel, Chip, chip_after, Contains, DeInit, error_by, false, FitsSpi, FrameHistory}
-use Terms.{fresh_history, Get, get_or_default, Going, has_job, HwUnitStatus, Init, is_for, is_left, is_off, is_on_unit}
-use Terms.{is_pending, is_reset_service, is_running, is_shared, Is_this_frame, IsThisFrame, Job, job_of, job_result}
-use Terms.{job_result_in, job_word, JobPlace, JobQuery, JobResult, jobs_list, jobs_of, length, List, list_any, Load}
-use Terms.{LongBodies, MainFunctionHandling, MakesTo, may, missed_after, moved, named, nat_le, nat_lt, nat_tests}
-use Terms.{never_clean, next_in, next_job, NEXTS, None, Nothing, Option, Order, Origin, outcome, PENDING, Pending}
+use Terms.{Act, acts_by, all_of, AnswerName, answers, ap, AreLong, arith, asks_no, AssertedAt, AsyncTransmit}
+use Terms.{begins_word, Bool, Call, Called, Cancel, Chip, chip_after, Contains, Contains-append_cases, DeInit}
+use Terms.{entries_begun, error_by, false, FitsSpi, FrameHistory, fresh_history, Get, get_or_default, Going, has_job}
+use Terms.{HwUnitStatus, Init, inl, inr, is_left, is_of, is_off, is_on_unit, is_pending, is_reset_service, is_running}
+use Terms.{is_shared, is_sync_unit, Is_this_frame, IsEntry, IsThisFrame, Job, job_of, job_result, job_result_in}
+use Terms.{job_word, JobPlace, JobQuery, JobResult, jobs_list, jobs_of, length, List, list_any, Load, LongBodies}
+use Terms.{MainFunctionHandling, MakesTo, may, missed_after, moved, named, nat_le, nat_lt, nat_tests, never_clean}
+use Terms.{next_in, next_job, NEXTS, None, Nothing, Option, or_parts, Order, Origin, outcome, PENDING, Pending}
 use Terms.{place_in, PointAssertion, Query, query_answer, QueryBody, ReadIb, refl, Reservations, resets_chip, Right}
-use Terms.{run_in, running_word, sequence_result_in, sequence_word, SequenceResult, service_of, SetAsyncMode, SetupEb}
-use Terms.{shares_job, Shortens, ShortensTo, slice_index_or, Some, spi_basis, spi_machine, SpiBusy, SpiIdle}
-use Terms.{SpiJobPending, SpiJobQueued, SpiRepresents, SpiState, SpiTable, STATE, Status, subst, sym, true, TurnsMask}
-use Terms.{TurnsTo, Under, value_of, Within, word_of, Works, World, WriteIb, ℕ}
+use Terms.{run_in, running_word, RunsBy, RunsNext, sequence_result_in, sequence_word, SequenceResult, service_of}
+use Terms.{SetAsyncMode, SetupEb, shares_job, Shortens, ShortensTo, slice_index_or, Some, spi_basis, spi_machine}
+use Terms.{SpiBusy, SpiIdle, SpiJobPending, SpiJobQueued, SpiRepresents, SpiState, SpiTable, STATE, Status, subst, suc}
+use Terms.{sym, SyncTransmit, true, TurnsMask, TurnsTo, Under, value_of, view, Within, word_of, Works, World, WriteIb}
+use Terms.{zero, ℕ}
 use Rattle.spi_machine.specs.declared.call.Call.TheVariants.{Channel, Sequence}
-use Rattle.spi_sequences.specs.laws.hardware.StableUnderHardware.{mode_later, pending_later, running_later}
+use Rattle.spi_sequences.specs.laws.hardware.StableUnderHardware.{begun_later, mode_later, pending_later}
+use Rattle.spi_sequences.specs.laws.hardware.StableUnderHardware.{running_later}
 use Rattle.spi_sequences.specs.laws.words.WordsOfModule.{in_list, own_first}
 use Rattle.spi_sequences.specs.laws.words.JobPlaces.{at_left, place_found, place_missing, one_place}
 use Rattle.spi_sequences.specs.laws.services.QuerySteps.{job_move, job_took, job_looked, by_place, after_look}
 use Rattle.spi_sequences.specs.laws.services.QuerySteps.{is_running_job, answers_by, query_work, query_takes}
-use Rattle.spi_sequences.specs.laws.hardware.SourceFilled.{any_in}
-use Rattle.spi_sequences.specs.laws.words.WordsToState.{RunsOn, is_below, is_number, is_past, is_there, entry_of}
+use Rattle.spi_sequences.specs.laws.words.ListTests.{any_in, any_some}
+use Rattle.spi_sequences.specs.laws.words.AllSequences.{all_carried, all_cases}
+use Rattle.spi_sequences.specs.laws.words.WordsToState.{is_below, is_number, is_past, is_there, entry_of}
 use Rattle.spi_sequences.specs.laws.words.WordsToState.{job_said, none_any, not_true, one_by_job, one_pending, one_unit}
 use Rattle.spi_sequences.specs.laws.words.WordsToState.{pending_word, running_by, running_says, runs_on, same_number}
-use Rattle.spi_sequences.specs.laws.words.WordsToState.{sequence_word_says, unit_word_says, going_next, going_runs}
+use Rattle.spi_sequences.specs.laws.words.WordsToState.{carried_going, going_asked, going_next, going_runs, next_says}
+use Rattle.spi_sequences.specs.laws.words.WordsToState.{sequence_word_says, unit_word_says}
 use Rattle.spi_sequences.specs.laws.services.SetUpRight.{may_store}
 use Rattle.spi_sequences.specs.declared.service.query.JobPlace.TheVariants as place
 use Rattle.spi_sequences.specs.declared.service.query.QueryBody.TheVariants as query
@@ -43,6 +48,7 @@ asks_none (Channel c ReadIb) = refl
 asks_none (Channel c (SetupEb p q n)) = refl
 asks_none (Sequence q AsyncTransmit) = refl
 asks_none (Sequence q Cancel) = refl
+asks_none (Sequence q SyncTransmit) = refl
 asks_none (Get Status) = refl
 asks_none (Get (JobResult j)) = refl
 asks_none (Get (SequenceResult q)) = refl
@@ -79,14 +85,18 @@ pub record IsJobQuery (d : SpiTable) (r : JobQuery) (j : ℕ) : Type 0 where
   pub number : r.job ≡ j
   pub unit : r.unit ≡ job.unit
 
--- no sequence runs it, and no pending one of these has it left
+-- a sequence runs a job, of those that are pending and of those that units carry out
+abbrev pub works_by : (running : ℕ → Bool) → (begun : ℕ → Option Pending) → (sequence : ℕ) → Bool
+works_by running begun q = running q || list_any (is_of q) (entries_begun (begun 0) ++ entries_begun (begun 1))
+
+-- no sequence runs it, and none of these has it left
 abbrev pub RunsNone : SpiTable → List Pending → (running : ℕ → Bool) → (job : ℕ) → Type 0
 RunsNone d ps running j = (p : Pending) → Contains ps p → next_job d p ≡ j → running p.sequence ≡ false
 
 abbrev pub LeftNone : SpiTable → List Pending → (job sequence : ℕ) → Type 0
 LeftNone d ps j q = (p : Pending) → Contains ps p → p.sequence < q → is_left d j p ≡ false
 
--- a pending sequence has the job at this place
+-- one of them has the job at this place
 abbrev pub HasPlace : SpiTable → List Pending → (job sequence place : ℕ) → Type 0
 HasPlace d ps j q i = (p : Pending) × Contains ps p × (p.sequence ≡ q) × (i < length (jobs_of d q)) × (slice_index_or (jobs_of d q) i 0 ≡ j)
 
@@ -96,8 +106,11 @@ JobAt d ps running j (place.Look q) = (q < 8) × RunsNone d ps running j × Left
 JobAt d ps running j (place.Next q i) = (q < 8) × RunsNone d ps running j × HasPlace d ps j q i
 JobAt d ps running j place.Result = list_any (is_left d j) ps ≡ false
 
+abbrev pub JobStands : SpiTable → (pending : List Pending) → (begun : ℕ → Option Pending) → (running : ℕ → Bool) → (job : ℕ) → JobPlace → Type 0
+JobStands d ps begun running j p = JobAt d (ps ++ (entries_begun (begun 0) ++ entries_begun (begun 1))) (works_by running begun) j p
+
 abbrev pub query_place : SpiTable → QueryBody → SpiState → Origin Call → FrameHistory → Type 0
-query_place d (query.Job r) s o t = (j : ℕ) × IsAsking d (is_off s.mode) (JobResult j) o t × IsJobQuery d r j × JobAt d s.pending (is_running s) j r.place
+query_place d (query.Job r) s o t = (j : ℕ) × IsAsking d (is_off s.mode) (JobResult j) o t × IsJobQuery d r j × JobStands d s.pending (view s).begun (is_running s) j r.place
 query_place d (query.Sequence q) s o t = (n : ℕ) × IsAsking d (is_off s.mode) (SequenceResult n) o t × (n < 8) × (q ≡ n)
 query_place d (query.Unit u) s o t = (n : ℕ) × IsAsking d (is_off s.mode) (HwUnitStatus n) o t × (n < 2) × (u ≡ n)
 
@@ -127,25 +140,72 @@ module _ (d : SpiTable) (fits : FitsSpi d) (below : Reservations) (chip : Chip) 
   on_unit : is_on_unit k.unit (job_of d j) ≡ true
   on_unit = ap (is_on_unit k.unit) known ∙ same_number k.unit
 
+  abbrev under_way : List Pending
+  under_way = all_of (view s)
+
+  abbrev works : ℕ → Bool
+  works = works_by (is_running s) (view s).begun
+
+  abbrev carried : List Pending
+  carried = entries_begun ((view s).begun 0) ++ entries_begun ((view s).begun 1)
+
   -- where its unit runs another job or none, no sequence runs it
-  runs_none : ((g : Going) → h.going k.unit ≡ Some g → next_job d g.pending ≡ j → ⊥) → RunsNone d s.pending (is_running s) j
-  runs_none other p there e = not_true (is_running s p.sequence) (λ f. by (runs_on d fits below chip w s h p.sequence f))
+  runs_none : ((g : Going) → h.going k.unit ≡ Some g → next_job d g.pending ≡ j → ⊥) → RunsNone d under_way works j
+  runs_none other p there e = not_true (works p.sequence) (λ f. split (is_running s p.sequence) refl f)
     where
-      by : RunsOn d fits below chip w s h p.sequence → ⊥
-      by r =
-          let next = going_next d fits below chip w s h r.unit r.job r.few r.is in
-          let same : r.job.pending ≡ p = one_pending d fits below chip w s h r.job.pending p next.0 there r.of in
-          let job : next_job d r.job.pending ≡ j = ap (next_job d) same ∙ e in
-          let unit : r.unit ≡ k.unit = one_unit d r.unit k.unit j (sym (ap (λ n. is_on_unit r.unit (job_of d n)) job) ∙ next.2) on_unit in
-          other r.job (ap h.going (sym unit) ∙ r.is) job
+      -- the sequence's job on a unit is it
+      on_unit_of : (u : ℕ) (g : Going) → u < 2 → h.going u ≡ Some g → g.pending.sequence ≡ p.sequence → ⊥
+      on_unit_of u g few is of =
+          let next = going_next d fits below chip w s h u g few is in
+          let same : g.pending ≡ p = one_pending d fits below chip w s h g.pending p next.0 there of in
+          let job : next_job d g.pending ≡ j = ap (next_job d) same ∙ e in
+          let unit : u ≡ k.unit = one_unit d u k.unit j (sym (ap (λ n. is_on_unit u (job_of d n)) job) ∙ next.2) on_unit in
+          other g (ap h.going (sym unit) ∙ is) job
+
+      by_unit : (u : ℕ) (x : Pending) → (view s).begun u ≡ Some x → x.sequence ≡ p.sequence → ⊥
+      by_unit u x begun of =
+          let c = carried_going d fits below chip w s h u x begun in
+          on_unit_of u c.0 (h.sound.carries.unit u x begun).0 c.1 (ap (λ z. z.sequence) c.2 ∙ of)
+
+      entry : (u : ℕ) (o : Option Pending) → (view s).begun u ≡ o → (x : Pending) → Contains (entries_begun o) x → x.sequence ≡ p.sequence → ⊥
+      entry u None i x (n, lt, at) of = omega (arith, lt)
+      entry u (Some y) i x (zero, lt, at) of = by_unit u x (i ∙ ap (λ z. Some z) at) of
+      entry u (Some y) i x (suc n, lt, at) of = omega (arith, lt)
+
+      either : (x : Pending) → Contains (entries_begun ((view s).begun 0)) x ⊎ Contains (entries_begun ((view s).begun 1)) x → x.sequence ≡ p.sequence → ⊥
+      either x (inl is) of = entry 0 ((view s).begun 0) refl x is of
+      either x (inr is) of = entry 1 ((view s).begun 1) refl x is of
+
+      begun_one : (x : Pending) × Contains carried x × (is_of p.sequence x ≡ true) → ⊥
+      begun_one (x, is, of) = either x (Contains-append_cases (entries_begun ((view s).begun 0)) (entries_begun ((view s).begun 1)) x is) (is_number x.sequence p.sequence of)
+
+      split : (b : Bool) → is_running s p.sequence ≡ b → is_running s p.sequence || list_any (is_of p.sequence) carried ≡ true → ⊥
+      split true i f = let r = runs_on d fits below chip w s h p.sequence i in on_unit_of r.unit r.job r.few r.is r.of
+      split false i f = begun_one (any_some (is_of p.sequence) carried (ap (λ b. b || list_any (is_of p.sequence) carried) (sym i) ∙ f))
 
   -- it waits at a place that is left
-  queued : (p : Pending) (i : ℕ) → Contains s.pending p → RunsNone d s.pending (is_running s) j → p.next ≤ i → i < length (jobs_of d p.sequence) → slice_index_or (jobs_of d p.sequence) i 0 ≡ j → job_result s.job_results j ≡ SpiJobQueued
-  queued p i there none le lt at = ap (job_result s.job_results) (sym at) ∙ h.sound.results.queued p i there le lt ∙ by (i == p.next) refl
+  queued : (p : Pending) (i : ℕ) → Contains under_way p → RunsNone d under_way works j → p.next ≤ i → i < length (jobs_of d p.sequence) → slice_index_or (jobs_of d p.sequence) i 0 ≡ j → job_result s.job_results j ≡ SpiJobQueued
+  queued p i there none le lt at = ap (job_result s.job_results) (sym at) ∙ result (all_cases (view s) p there)
     where
+      -- a sequence whose next job it is doesn't run it
+      rests : (i == p.next) ≡ true → works p.sequence ≡ false
+      rests e = none p there (ap (λ n. slice_index_or (jobs_of d p.sequence) n 0) (sym (is_number i p.next e)) ∙ at)
+
       by : (q : Bool) → (i == p.next) ≡ q → (if i == p.next && is_running s p.sequence then SpiJobPending else SpiJobQueued) ≡ SpiJobQueued
-      by true e = ap (λ b. if b && is_running s p.sequence then SpiJobPending else SpiJobQueued) e ∙ ap (λ b. if b then SpiJobPending else SpiJobQueued) (none p there (ap (λ n. slice_index_or (jobs_of d p.sequence) n 0) (sym (is_number i p.next e)) ∙ at))
+      by true e = ap (λ b. if b && is_running s p.sequence then SpiJobPending else SpiJobQueued) e ∙ ap (λ b. if b then SpiJobPending else SpiJobQueued) (or_parts (is_running s p.sequence) (list_any (is_of p.sequence) carried) (rests e)).0
       by false e = ap (λ b. if b && is_running s p.sequence then SpiJobPending else SpiJobQueued) e
+
+      -- and one that a unit carries out runs its next job
+      begun_in : (u : ℕ) → u < 2 → (view s).begun u ≡ Some p → list_any (is_of p.sequence) carried ≡ true
+      begun_in u few e = any_in (is_of p.sequence) carried p (all_carried (record (view s) { pending = [] }) u p few e) (same_number p.sequence)
+
+      by_begun : (u : ℕ) → (view s).begun u ≡ Some p → (q : Bool) → (i == p.next) ≡ q → (if i == p.next then SpiJobPending else SpiJobQueued) ≡ SpiJobQueued
+      by_begun u b true e = absurd (let f = sym (or_parts (is_running s p.sequence) (list_any (is_of p.sequence) carried) (rests e)).1 ∙ begun_in u (h.sound.carries.unit u p b).0 b in cc)
+      by_begun u b false e = ap (λ b. if b then SpiJobPending else SpiJobQueued) e
+
+      result : Contains s.pending p ⊎ ((u : ℕ) × ((view s).begun u ≡ Some p)) → job_result s.job_results (slice_index_or (jobs_of d p.sequence) i 0) ≡ SpiJobQueued
+      result (inl is) = h.sound.results.queued p i is le lt ∙ by (i == p.next) refl
+      result (inr (u, b)) = h.sound.carries.queued u p i b le lt ∙ by_begun u b (i == p.next) refl
 
   -- two that have it are one
   shares_it : (a b : Pending) → Contains (jobs_of d a.sequence) j → Contains (jobs_of d b.sequence) j → shares_job d a.sequence b.sequence ≡ true
@@ -158,10 +218,10 @@ module _ (d : SpiTable) (fits : FitsSpi d) (below : Reservations) (chip : Chip) 
   left_has p e = let l = at_left (jobs_of d p.sequence) p.next j e in has_it p.sequence l.place l.within l.is
 
   -- a sequence that has it no longer, and so no other one has it
-  left_none : (p : Pending) (i : ℕ) → Contains s.pending p → i < p.next → i < length (jobs_of d p.sequence) → slice_index_or (jobs_of d p.sequence) i 0 ≡ j → list_any (is_left d j) s.pending ≡ false
-  left_none p i there past lt at = none_any (is_left d j) s.pending (λ x also. not_true (is_left d j x) (λ e. by x also e))
+  left_none : (p : Pending) (i : ℕ) → Contains under_way p → i < p.next → i < length (jobs_of d p.sequence) → slice_index_or (jobs_of d p.sequence) i 0 ≡ j → list_any (is_left d j) under_way ≡ false
+  left_none p i there past lt at = none_any (is_left d j) under_way (λ x also. not_true (is_left d j x) (λ e. by x also e))
     where
-      by : (x : Pending) → Contains s.pending x → is_left d j x ≡ true → ⊥
+      by : (x : Pending) → Contains under_way x → is_left d j x ≡ true → ⊥
       by x also e =
           let same : x ≡ p = one_by_job d fits below chip w s h x p also there (shares_it x p (left_has x e) (has_it p.sequence i lt at)) (shares_it p x (has_it p.sequence i lt at) (left_has x e)) in
           let l = at_left (jobs_of d p.sequence) p.next j (subst (λ z. is_left d j z ≡ true) same e) in
@@ -174,7 +234,7 @@ module _ (d : SpiTable) (fits : FitsSpi d) (below : Reservations) (chip : Chip) 
     abbrev JobMakes : (n value : ℕ) → JobPlace × Option AnswerName → Type 0
     JobMakes n value p = Works (spi_basis d) (query_bodies d) below chip chip w s (Called (Get (JobResult j))) (Load n) false value y fresh_history m (query.Job (record r { place = p.0 })) (answers_by p.1).event (answers_by p.1).done
 
-    goes_to : (n value : ℕ) (p : JobPlace) → JobAt d s.pending (is_running s) j p → JobMakes n value (p, None)
+    goes_to : (n value : ℕ) (p : JobPlace) → JobAt d under_way works j p → JobMakes n value (p, None)
     goes_to n value p at = (h, (j, (Is_this_frame, clear, on), record { job = is.job; known = is.known; table = is.table; number = is.number; unit = is.unit }, at))
 
     tells : (n value : ℕ) (p : JobPlace) (name : AnswerName) → name ≡ job_result s.job_results j → JobMakes n value (p, Some name)
@@ -188,8 +248,11 @@ module _ (d : SpiTable) (fits : FitsSpi d) (below : Reservations) (chip : Chip) 
     runs_by n value None e = goes_to n value (place.Look 0) (omega arith, runs_none (λ g f i. let c = sym e ∙ f in cc), λ p there lt. absurd (omega (arith, lt)))
     runs_by n value (Some g) e = by (next_job d g.pending == r.job) refl
       where
-        next : Contains s.pending g.pending × (g.pending.started ≡ true) × (is_for d k.unit g.pending ≡ true)
-        next = going_next d fits below chip w s h k.unit g ((fits.jobs j k known).unit) e
+        few : k.unit < 2
+        few = (fits.jobs j k known).unit
+
+        next : RunsNext d (view s) k.unit (Some g)
+        next = going_next d fits below chip w s h k.unit g few e
 
         by : (q : Bool) → (next_job d g.pending == r.job) ≡ q → JobMakes n value (if next_job d g.pending == r.job then (place.Running, Some SpiJobPending) else (place.Look 0, None))
         by true f = subst (λ b. JobMakes n value (if b then (place.Running, Some SpiJobPending) else (place.Look 0, None))) (sym f) (tells n value place.Running SpiJobPending (sym runs))
@@ -197,12 +260,20 @@ module _ (d : SpiTable) (fits : FitsSpi d) (below : Reservations) (chip : Chip) 
             job : next_job d g.pending ≡ j
             job = is_number (next_job d g.pending) r.job f ∙ is.number
 
-            runs : job_result s.job_results j ≡ SpiJobPending
-            runs =
-                let entry = h.sound.entries g.pending next.0 in
-                ap (job_result s.job_results) (sym job) ∙ h.sound.results.queued g.pending g.pending.next next.0 (omega arith) entry.next
+            entry : IsEntry d (view s) g.pending
+            entry = h.sound.entries g.pending next.0
+
+            result : (q : Bool) → is_sync_unit d k.unit ≡ q → job_result s.job_results (next_job d g.pending) ≡ SpiJobPending
+            result true sync =
+                h.sound.carries.queued k.unit g.pending g.pending.next (subst (λ q. RunsBy q (view s) k.unit g.pending) sync next.1) (omega arith) entry.next
+                ∙ ap (λ b. if b then SpiJobPending else SpiJobQueued) (same_number g.pending.next)
+            result false async =
+                h.sound.results.queued g.pending g.pending.next (going_asked d fits below chip w s h k.unit g few async e).0 (omega arith) entry.next
                 ∙ ap (λ b. if b && is_running s g.pending.sequence then SpiJobPending else SpiJobQueued) (same_number g.pending.next)
-                ∙ ap (λ b. if b then SpiJobPending else SpiJobQueued) (going_runs d fits below chip w s h k.unit g ((fits.jobs j k known).unit) e)
+                ∙ ap (λ b. if b then SpiJobPending else SpiJobQueued) (going_runs d fits below chip w s h k.unit g few async e)
+
+            runs : job_result s.job_results j ≡ SpiJobPending
+            runs = ap (job_result s.job_results) (sym job) ∙ result (is_sync_unit d k.unit) refl
         by false f = subst (λ b. JobMakes n value (if b then (place.Running, Some SpiJobPending) else (place.Look 0, None))) (sym f) (goes_to n value (place.Look 0) (
           omega arith,
           runs_none (λ g1 i same. let one : g ≡ g1 = let c = sym e ∙ i in cc in let job : next_job d g.pending ≡ r.job = ap (λ x. next_job d x.pending) one ∙ same ∙ sym is.number in let no = sym f ∙ ap (λ n. n == r.job) job ∙ same_number r.job in cc),
@@ -210,13 +281,13 @@ module _ (d : SpiTable) (fits : FitsSpi d) (below : Reservations) (chip : Chip) 
         ))
 
     -- the place after a look at a sequence that doesn't have it left
-    looks_on : (n value q : ℕ) → q < 8 → RunsNone d s.pending (is_running s) j → LeftNone d s.pending j q → ((p : Pending) → Contains s.pending p → p.sequence ≡ q → is_left d j p ≡ false) → JobMakes n value (after_look q, None)
+    looks_on : (n value q : ℕ) → q < 8 → RunsNone d under_way works j → LeftNone d under_way j q → ((p : Pending) → Contains under_way p → p.sequence ≡ q → is_left d j p ≡ false) → JobMakes n value (after_look q, None)
     looks_on n value q lt none left this = by (nat_lt q 7) refl
       where
         split : (a b : ℕ) → a < b + 1 → nat_lt a b ≡ false → a ≡ b
         split a b l f = grind (arith, nat_tests)
 
-        upto : LeftNone d s.pending j (q + 1)
+        upto : LeftNone d under_way j (q + 1)
         upto p there less = by_order (nat_lt p.sequence q) refl
           where
             by_order : (b : Bool) → nat_lt p.sequence q ≡ b → is_left d j p ≡ false
@@ -225,20 +296,20 @@ module _ (d : SpiTable) (fits : FitsSpi d) (below : Reservations) (chip : Chip) 
 
         by : (b : Bool) → nat_lt q 7 ≡ b → JobMakes n value (if nat_lt q 7 then place.Look (q + 1) else place.Result, None)
         by true f = subst (λ b. JobMakes n value (if b then place.Look (q + 1) else place.Result, None)) (sym f) (goes_to n value (place.Look (q + 1)) (let less = is_below q 7 f in omega (arith, less), none, upto))
-        by false f = subst (λ b. JobMakes n value (if b then place.Look (q + 1) else place.Result, None)) (sym f) (goes_to n value place.Result (none_any (is_left d j) s.pending (λ p there. upto p there (let few = (h.sound.entries p there).number in let past = is_past q 7 f in omega (arith, few, past, lt)))))
+        by false f = subst (λ b. JobMakes n value (if b then place.Look (q + 1) else place.Result, None)) (sym f) (goes_to n value place.Result (none_any (is_left d j) under_way (λ p there. upto p there (let few = (h.sound.entries p there).number in let past = is_past q 7 f in omega (arith, few, past, lt)))))
 
-    looks : (n value q : ℕ) → q < 8 → RunsNone d s.pending (is_running s) j → LeftNone d s.pending j q → (b : Bool) → is_pending q s.pending ≡ b → JobMakes n value (job_looked r q b, None)
-    looks n value q lt none left false e = looks_on n value q lt none left (λ p there same. absurd (let f = sym (ap (λ k. is_pending k s.pending) (sym same) ∙ is_there d fits below chip w s h p there) ∙ sym (sym e) in let g = subst (λ k. is_pending k s.pending ≡ true) same (is_there d fits below chip w s h p there) in let c = sym e ∙ g in cc))
-    looks n value q lt none left true e = by (place_in (jobs_list r.table q) r.job) refl (entry_of d fits below chip w s h q e)
+    looks : (n value q : ℕ) → q < 8 → RunsNone d under_way works j → LeftNone d under_way j q → (b : Bool) → is_pending q under_way ≡ b → JobMakes n value (job_looked r q b, None)
+    looks n value q lt none left false e = looks_on n value q lt none left (λ p there same. absurd (let g = subst (λ k. is_pending k under_way ≡ true) same (is_there d fits below chip w s h under_way p there) in let c = sym e ∙ g in cc))
+    looks n value q lt none left true e = by (place_in (jobs_list r.table q) r.job) refl (entry_of d fits below chip w s h under_way q e)
       where
         same_place : place_in (jobs_list r.table q) r.job ≡ place_in (jobs_list d q) j
         same_place = ap (λ x. place_in (jobs_list x q) r.job) is.table ∙ ap (λ n. place_in (jobs_list d q) n) is.number
 
-        by : (o : Option ℕ) → place_in (jobs_list r.table q) r.job ≡ o → (p : Pending) × Contains s.pending p × (p.sequence ≡ q) → JobMakes n value (by_place q (place_in (jobs_list r.table q) r.job), None)
+        by : (o : Option ℕ) → place_in (jobs_list r.table q) r.job ≡ o → (p : Pending) × Contains under_way p × (p.sequence ≡ q) → JobMakes n value (by_place q (place_in (jobs_list r.table q) r.job), None)
         by None f (p, there, of) = subst (λ o. JobMakes n value (by_place q o, None)) (sym f) (looks_on n value q lt none left (λ x also same. not_true (is_left d j x) (λ l. let a = at_left (jobs_of d x.sequence) x.next j l in place_missing d fits q j a.place (sym same_place ∙ f) (subst (λ i. a.place < length (jobs_of d i)) same a.within) (subst (λ i. slice_index_or (jobs_of d i) a.place 0 ≡ j) same a.is))))
         by (Some i) f (p, there, of) = let found = place_found d fits q j i (sym same_place ∙ f) in subst (λ o. JobMakes n value (by_place q o, None)) (sym f) (goes_to n value (place.Next q i) (lt, none, (p, there, of, found.0, found.1)))
 
-    nexts : (n value q i v : ℕ) → RunsNone d s.pending (is_running s) j → (p : Pending) → Contains s.pending p → p.sequence ≡ q → i < length (jobs_of d q) → slice_index_or (jobs_of d q) i 0 ≡ j → v ≡ p.next
+    nexts : (n value q i v : ℕ) → RunsNone d under_way works j → (p : Pending) → Contains under_way p → p.sequence ≡ q → i < length (jobs_of d q) → slice_index_or (jobs_of d q) i 0 ≡ j → v ≡ p.next
         → JobMakes n value (if nat_le v i then (place.Next q i, Some SpiJobQueued) else (place.Result, None))
     nexts n value q i v none p there of lt at e = by (nat_le v i) refl
       where
@@ -258,7 +329,7 @@ module _ (d : SpiTable) (fits : FitsSpi d) (below : Reservations) (chip : Chip) 
         by true f = subst (λ b. JobMakes n value (if b then (place.Next q i, Some SpiJobQueued) else (place.Result, None))) (sym f) (tells n value (place.Next q i) SpiJobQueued (sym (queued p i there none (let l = le v i f in omega (arith, l, e)) within is_at)))
         by false f = subst (λ b. JobMakes n value (if b then (place.Next q i, Some SpiJobQueued) else (place.Result, None))) (sym f) (goes_to n value place.Result (left_none p i there (let l = gt v i f in omega (arith, l, e)) within is_at))
 
-    job_steps : (p : JobPlace) → JobAt d s.pending (is_running s) j p → (n value : ℕ) → job_move r p ≡ Load n → value ≡ word_of chip n → JobMakes n value (job_took r p value)
+    job_steps : (p : JobPlace) → JobAt d under_way works j p → (n value : ℕ) → job_move r p ≡ Load n → value ≡ word_of chip n → JobMakes n value (job_took r p value)
     job_steps place.Running at n value move is_value = by (h.going k.unit) refl
       where
         word : n ≡ running_word k.unit
@@ -271,16 +342,16 @@ module _ (d : SpiTable) (fits : FitsSpi d) (below : Reservations) (chip : Chip) 
         by g e = subst (λ o. JobMakes n value (if is_running_job r.job o then (place.Running, Some SpiJobPending) else (place.Look 0, None))) (sym (says g e)) (runs_by n value g e)
     job_steps (place.Look q) (lt, none, left) n value move is_value =
         let one : sequence_word q ≡ n = cc in
-        subst (λ b. JobMakes n value (job_looked r q b, None)) (sym (ap (λ v. v == PENDING) (is_value ∙ ap (word_of chip) (sym one)) ∙ pending_word d fits below chip w s h on q lt)) (looks n value q lt none left (is_pending q s.pending) refl)
+        subst (λ b. JobMakes n value (job_looked r q b, None)) (sym (ap (λ v. v == PENDING) (is_value ∙ ap (word_of chip) (sym one)) ∙ pending_word d fits below chip w s h on q lt)) (looks n value q lt none left (is_pending q under_way) refl)
     job_steps (place.Next q i) (lt, none, (p, there, of, few, at)) n value move is_value =
         let one : NEXTS ≡ n = cc in
-        nexts n value q i (next_in value q) none p there of few at (ap (λ k. next_in value k) (sym of) ∙ ap (λ v. next_in v p.sequence) (is_value ∙ ap (word_of chip) (sym one)) ∙ ((h.words.on on).sequences.pending p there).next)
+        nexts n value q i (next_in value q) none p there of few at (ap (λ k. next_in value k) (sym of) ∙ ap (λ v. next_in v p.sequence) (is_value ∙ ap (word_of chip) (sym one)) ∙ next_says d fits below chip w s h on p there)
     job_steps place.Result none n value move is_value =
         let one : job_word r.job ≡ n = cc in
         tells n value place.Result (job_result_in value) (ap job_result_in (is_value ∙ ap (word_of chip) (sym one ∙ ap job_word is.number) ∙ (h.words.on on).sequences.jobs j small none) ∙ job_said (job_result s.job_results j) (h.sound.results.last j none))
 
     -- a step by the place
-    job_right : (p : JobPlace) → JobAt d s.pending (is_running s) j p → MakesTo (spi_basis d) (query_bodies d) below chip (chip_after chip (job_move r p) y) w s (Called (Get (JobResult j))) (job_move r p) false (value_of chip (job_move r p)) y fresh_history m
+    job_right : (p : JobPlace) → JobAt d under_way works j p → MakesTo (spi_basis d) (query_bodies d) below chip (chip_after chip (job_move r p) y) w s (Called (Get (JobResult j))) (job_move r p) false (value_of chip (job_move r p)) y fresh_history m
         (query.Job (record r { place = (job_took r p (value_of chip (job_move r p))).0 }), answers_by (job_took r p (value_of chip (job_move r p))).1)
     job_right place.Running at = job_steps place.Running at (running_word r.unit) (word_of chip (running_word r.unit)) refl refl
     job_right (place.Look q) at = job_steps (place.Look q) at (sequence_word q) (word_of chip (sequence_word q)) refl refl
@@ -361,7 +432,7 @@ module _ (d : SpiTable) (fits : FitsSpi d) where
       small : r.job < 16
       small = let lt = in_list d.jobs j is.job is.known in let n = is.number in omega (arith, lt, n, fits.rows.1)
 
-      by : (p : JobPlace) → JobAt d s.pending (is_running s) j p → is_shared (job_move r p) || may d (job_move r p) ≡ true
+      by : (p : JobPlace) → JobStands d s.pending (view s).begun (is_running s) j p → is_shared (job_move r p) || may d (job_move r p) ≡ true
       by place.Running i = may_first (running_word r.unit) (omega arith) (omega (arith, unit))
       by (place.Look q) i = may_first (sequence_word q) (omega arith) (let lt = i.0 in omega (arith, lt))
       by (place.Next q n) i = may_first NEXTS (omega arith) (omega arith)
@@ -380,7 +451,7 @@ module _ (d : SpiTable) (fits : FitsSpi d) where
   asks_later w s order x o t h = subst (λ mode. IsAsking d (is_off mode) x o t) (sym (mode_later d w s order)) h
 
   query_stays : (w : World) (s : SpiState) (order : Order) (k : QueryBody) (o : Origin Call) (t : FrameHistory) → query_place d k s o t → query_place d k (moved d w s order) o t
-  query_stays w s order (query.Job r) o t (j, asks, is, at) = (j, asks_later w s order (JobResult j) o t asks, is, subst (λ ps. JobAt d ps (is_running (moved d w s order)) j r.place) (sym (pending_later d w s order)) (subst (λ f. JobAt d s.pending f j r.place) (sym (running_later d w s order)) at))
+  query_stays w s order (query.Job r) o t (j, asks, is, at) = (j, asks_later w s order (JobResult j) o t asks, is, subst (λ ps. JobStands d ps (view (moved d w s order)).begun (is_running (moved d w s order)) j r.place) (sym (pending_later d w s order)) (subst (λ f. JobStands d s.pending (view (moved d w s order)).begun f j r.place) (sym (running_later d w s order)) (subst (λ b. JobStands d s.pending b (is_running s) j r.place) (sym (begun_later d w s order)) at)))
   query_stays w s order (query.Sequence q) o t (n, asks, lt, at) = (n, asks_later w s order (SequenceResult n) o t asks, lt, at)
   query_stays w s order (query.Unit u) o t (n, asks, lt, at) = (n, asks_later w s order (HwUnitStatus n) o t asks, lt, at)
 

@@ -14,8 +14,8 @@ use Terms.{Placed, placed_of, PointAssertion, prepares, read_answer, ReadBody, R
 use Terms.{ready, Received, refl, releases, Reservation, Reservations, resets_chip, RightOr, ShortensTo, slice_index}
 use Terms.{Some, spi_bare, spi_basis, spi_machine, spi_owing, SpiRepresents, SpiState, SpiTable, stands-move, Store}
 use Terms.{subst, suc, sym, Take, take, take_all, take_gave, take_held, take_more, trio_of, TripleBuffer, true}
-use Terms.{TurnsMask, Under, Unmask, value_of, view, with_holds, Within, word_later, word_of, WORDS, World, world_after}
-use Terms.{zero, ℕ}
+use Terms.{TurnsMask, Under, Unmask, value_of, view, with_holds, Within, word_later, word_of, WORDS, World}
+use Terms.{world_after, zero, ℕ}
 use Rattle.word_shapes.specs.Banks.{pinning, releasing}
 use Rattle.spi_sequences.specs.laws.{words.SideWords.{IsBeside, IsLike, banks_changed, beside_back, beside_one}}
 use Rattle.spi_sequences.specs.laws.{words.SideWords.{differs_by_store, mine, none_readied, received_changed}}
@@ -158,7 +158,7 @@ module _ (d : SpiTable) (fits : FitsSpi d) (below : Reservations) (chip : Chip) 
   word = word_of chip at.control % 4 + 4 * (word_of chip at.control % 4 + 1)
 
   pinned_now : SpiRepresents d below chip w s → r.bank ≡ word_of chip at.control % 4 → SpiRepresents d (has (Some (named_with EOk readable))) (chip_after chip (Store at.control word) 0) w s
-  pinned_now h e = banks_changed d fits c k i.known i.internal Received below held1 chip chip1 w s h on s.channels (like d fits below chip w s r c k i) (stands-move chip w (Store at.control word) 0 h.outside) differs beside (λ internal. (h.sizes on c k i.known).written internal) ((ap (λ n. Called (asks n)) (sym (number d fits below chip w s r c k i)), refl, on), h.right) (λ internal. agreed)
+  pinned_now h e = banks_changed d fits c k i.known i.internal Received below held1 chip chip1 w s h on s.channels (like d fits below chip w s r c k i) (stands-move chip w (Store at.control word) 0 h.outside) differs beside (λ internal. (h.sizes on c k i.known).written internal) ((ap (λ n. Called (asks n)) (sym (number d fits below chip w s r c k i)), refl, on), h.right) (tt, h.sending) h.carriers (λ internal. agreed)
     where
       held1 : Reservations
       held1 = has (Some (named_with EOk readable))
@@ -196,7 +196,7 @@ module _ (d : SpiTable) (fits : FitsSpi d) (below : Reservations) (chip : Chip) 
 
   -- the pin ends
   released_now : (acted : Option Answer) → SpiRepresents d (has acted) chip w s → SpiRepresents d below (chip_after chip (Store at.control (word_of chip at.control % 4)) 0) w s
-  released_now acted h = banks_changed d fits c k i.known i.internal Received (has acted) below chip chip1 w s h on s.channels (like d fits below chip w s r c k i) (stands-move chip w (Store at.control freed) 0 h.outside) differs beside (λ internal. (h.sizes on c k i.known).written internal) h.right.1 (λ internal. agreed)
+  released_now acted h = banks_changed d fits c k i.known i.internal Received (has acted) below chip chip1 w s h on s.channels (like d fits below chip w s r c k i) (stands-move chip w (Store at.control freed) 0 h.outside) differs beside (λ internal. (h.sizes on c k i.known).written internal) h.right.1 h.sending.1 h.carriers (λ internal. agreed)
     where
       freed : ℕ
       freed = word_of chip at.control % 4

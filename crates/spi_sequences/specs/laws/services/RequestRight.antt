@@ -5,14 +5,15 @@ use Rattle.spi_sequences.specs.Terms
 use Terms.{accepted, Add, add-ends, add_gave, adding, after_request, Answer, ap, AreOwed, arith, Bool, Call, Chip}
 use Terms.{chip_after, CommitsAfter, Contains, Contains-append_left, Contains-push_cases, Debt, DiffersIn, entries_of}
 use Terms.{false, filter, FitsSpi, Going, holds-agree, inl, inr, is_for, is_held, is_off, is_owed, is_running, is_some}
-use Terms.{IsPart, IsSoundState, job_word, jobs_of, length, MARKS, NEXTS, None, one_owed, Option, order_places}
-use Terms.{order_word, Origin, PartTo, PENDING, Pending, PendingWrites, position_word, refl, request_adds, RequestPlace}
-use Terms.{Reservations, running_word, RunsNext, same_or_other, Sequence, sequence_of, sequence_word, SequencesAgree}
-use Terms.{settles_part, shares_job, slice_index_or, Some, spi_owing, SpiRepresents, SpiState, SpiTable, stands-move}
-use Terms.{StandsIn, STATE, Store, stored_other, stored_same, subst, sym, Transmit, true, unit_of_sequence, unit_owed}
-use Terms.{UnitBody, Units, unless_done, unmarked_in, view, with_next_in, word_of, World, ℕ}
-use Rattle.spi_sequences.specs.laws.{bookkeeping.AcceptedState.{accepted_sound, accepted_words, apart_from, new}}
-use Rattle.spi_sequences.specs.laws.{bookkeeping.AcceptedState.{order_with, order_without, some}}
+use Terms.{is_sync_sequence, is_sync_unit, IsPart, IsSoundState, job_word, jobs_of, length, MARKS, NEXTS, None}
+use Terms.{one_owed, Option, order_places, order_word, Origin, PartTo, PENDING, Pending, PendingWrites, position_word}
+use Terms.{refl, request_adds, RequestPlace, Reservations, running_word, RunsBy, RunsNext, same_or_other, Sequence}
+use Terms.{sequence_of, sequence_word, SequencesAgree, settles_part, shares_job, slice_index_or, Some, spi_owing}
+use Terms.{SpiRepresents, SpiState, SpiTable, stands-move, StandsIn, STATE, Store, stored_other, stored_same, subst}
+use Terms.{sym, Transmit, true, unit_of_sequence, unit_owed, UnitBody, Units, unless_done, unmarked_in, view}
+use Terms.{with_next_in, word_of, World, ℕ}
+use Rattle.spi_sequences.specs.laws.{bookkeeping.AcceptedState.{accepted_sound, accepted_words, all_kept, apart_from}}
+use Rattle.spi_sequences.specs.laws.{bookkeeping.AcceptedState.{new, order_with, order_without, some}, words.AllSequences.{all_pending}}
 use Rattle.spi_sequences.specs.laws.{words.NumbersApart.{before_sequences, from_order, high_enough, high_order, job_at}}
 use Rattle.spi_sequences.specs.laws.{words.NumbersApart.{low_order, marks_apart, marks_at, nexts_apart, nexts_at}}
 use Rattle.spi_sequences.specs.laws.{words.NumbersApart.{not_marks, not_nexts, one_sequence, order_at, other_order}}
@@ -22,7 +23,7 @@ use Rattle.spi_sequences.specs.laws.{bookkeeping.SequenceEnded.{filter_back, the
 use Rattle.spi_sequences.specs.laws.{services.CancelRight.{named_own, order_there, own_order}}
 use Rattle.spi_sequences.specs.laws.{words.PendingWords.{firsts_changed, holds_debt, stands_owed}}
 use Rattle.spi_sequences.specs.laws.{words.WordsOfModule.{own_first}, words.JobPlaces.{job_unit, unit_few}}
-use Rattle.spi_sequences.specs.laws.{services.QueryRight.{may_first}, words.WordsToState.{RunsOn, any_none, going_next}}
+use Rattle.spi_sequences.specs.laws.{services.QueryRight.{may_first}, words.WordsToState.{RunsOn, any_none, going_asked}}
 use Rattle.spi_sequences.specs.laws.{words.WordsToState.{not_true, one_unit, runs_on, same_number}}
 use Rattle.spi_sequences.specs.laws.{services.SetUpRight.{may_store}}
 use Rattle.word_shapes.specs.Order as order
@@ -55,7 +56,7 @@ module _ (d : SpiTable) (fits : FitsSpi d) (q u : ℕ) (few : u < 2) where
 
 -- ---- the act
 
-module _ (d : SpiTable) (fits : FitsSpi d) (below : Reservations) (chip : Chip) (w : World) (s : SpiState) (h : SpiRepresents d below chip w s) (on : is_off s.mode ≡ false) (q : ℕ) (small : q < 8) (x : Sequence) (known : sequence_of d q ≡ Some x) (free : is_held d q s.pending ≡ false) where
+module _ (d : SpiTable) (fits : FitsSpi d) (below : Reservations) (chip : Chip) (w : World) (s : SpiState) (h : SpiRepresents d below chip w s) (on : is_off s.mode ≡ false) (q : ℕ) (small : q < 8) (x : Sequence) (known : sequence_of d q ≡ Some x) (free : is_held d q s.pending ≡ false) (async : is_sync_sequence d q ≡ false) where
   abbrev unit : ℕ
   unit = unit_of_sequence d q
 
@@ -68,7 +69,7 @@ module _ (d : SpiTable) (fits : FitsSpi d) (below : Reservations) (chip : Chip) 
     where
       by : RunsOn d fits below chip w s h q → ⊥
       by r =
-          let there = (going_next d fits below chip w s h r.unit r.job r.few r.is).0 in
+          let there = (going_asked d fits below chip w s h r.unit r.job r.few r.async r.is).0 in
           let none = any_none (λ p. held_by q p) s.pending free r.job.pending there in
           let f = sym none ∙ ap (λ b. b || shares_with q r.job.pending) (ap (λ n. n == q) r.of ∙ same_number q) in cc
         where
@@ -143,41 +144,45 @@ module _ (d : SpiTable) (fits : FitsSpi d) (below : Reservations) (chip : Chip) 
             sym (word_same j (other_order unit u j few lt ne low high) (before_sequences q j at.0) (not_nexts j at.1) (not_marks j at.1))
 
         by : (u ≡ unit) ⊎ (u ≢ unit) → ranked.Holds (record { at = order_word u }) (word_of c) (entries_of d (view after) u)
-        by (inl e) = subst (λ n. ranked.Holds (record { at = order_word n }) (word_of c) (entries_of d (view after) n)) (sym e) (subst (λ xs. ranked.Holds (record { at = order_word unit }) (word_of c) xs) (sym (order_with d fits (view s) h.sound q small x known free rests on unit refl)) holds)
-        by (inr ne) = subst (λ xs. ranked.Holds (record { at = order_word u }) (word_of c) xs) (sym (order_without d fits (view s) h.sound q small x known free rests on u ne)) (holds-agree (record { at = order_word u }) (word_of chip) (word_of c) (entries_of d (view s) u) (other_words ne) ((h.words.on on).sequences.orders u lt))
+        by (inl e) = subst (λ n. ranked.Holds (record { at = order_word n }) (word_of c) (entries_of d (view after) n)) (sym e) (subst (λ xs. ranked.Holds (record { at = order_word unit }) (word_of c) xs) (sym (order_with d fits (view s) h.sound q small x known free async rests on unit refl)) holds)
+        by (inr ne) = subst (λ xs. ranked.Holds (record { at = order_word u }) (word_of c) xs) (sym (order_without d fits (view s) h.sound q small x known free async rests on u ne)) (holds-agree (record { at = order_word u }) (word_of chip) (word_of c) (entries_of d (view s) u) (other_words ne) ((h.words.on on).sequences.orders u lt))
 
     soundly : IsSoundState d (view after)
-    soundly = accepted_sound d fits (view s) h.sound q small x known free rests on
+    soundly = accepted_sound d fits (view s) h.sound q small x known free async rests on
 
     wordly : SequencesAgree d (word_of c) (view after)
-    wordly = accepted_words d fits (view s) h.sound q small x known free rests on (word_of chip) (word_of c) (h.words.on on).sequences others_same
+    wordly = accepted_words d fits (view s) h.sound q small x known free async rests on (word_of chip) (word_of c) (h.words.on on).sequences others_same
         (differs.others (sequence_word q) (apart (sequence_word q) (inr (sequence_at q).0)) ∙ third_told) (differs.others NEXTS (apart NEXTS (inl nexts_at.1)) ∙ third_nexts) (differs.others MARKS (apart MARKS (inl marks_at.1)) ∙ third_marks) jobs_same orders
 
     nexts_kept : (u : ℕ) → u < 2 → (g : Option Going) → RunsNext d (view s) u g → RunsNext d (view after) u g
     nexts_kept u lt None n = tt
-    nexts_kept u lt (Some g) n = (Contains-append_left s.pending (new d fits (view s) h.sound q small x known free rests on ∷ []) g.pending n.0, n.1, n.2)
+    nexts_kept u lt (Some g) n = (all_kept d fits (view s) h.sound q small x known free async rests on g.pending n.0, runs (is_sync_unit d u) n.1, n.2)
+      where
+        runs : (b : Bool) → RunsBy b (view s) u g.pending → RunsBy b (view after) u g.pending
+        runs true r = r
+        runs false r = (Contains-append_left s.pending (new d fits (view s) h.sound q small x known free async rests on ∷ []) g.pending r.0, r.1)
 
     -- the frame owes a start
     accepted_now : (by : Origin Call) (acted : Option Answer) → StandsIn c w → SpiRepresents d (record { by = by; what = Debt unit; acted = acted } ∷ below) c w after
     accepted_now by acted stands = firsts_changed d fits below (record { by = by; what = Debt unit; acted = acted } ∷ below) chip c w s h on (holds_debt d (record { by = by; what = Debt unit; acted = acted }) unit below refl) stands (ap (λ x. x.wiring) differs.rest) (ap (λ x. x.serials.units) differs.rest) (ap (λ x. x.control) differs.rest) above
-        (word_same STATE (apart STATE (inl state_at.1)) (before_sequences q STATE state_at.2) state_apart.0 state_apart.1) runs_same after.pending after.requests after.sequence_results after.job_results ((few, on), h.right) soundly (λ u lt. nexts_kept u lt (h.going u) (h.nexts u lt)) wordly owed
+        (word_same STATE (apart STATE (inl state_at.1)) (before_sequences q STATE state_at.2) state_apart.0 state_apart.1) runs_same after.pending after.requests after.sequence_results after.job_results ((few, on, async), h.right) (tt, h.sending) h.carriers soundly (λ u lt. nexts_kept u lt (h.going u) (h.nexts u lt)) wordly owed
       where
-        owed_by : (u : ℕ) (p : Pending) → u < 2 → h.going u ≡ None → is_for d u p ≡ true → Contains s.pending p ⊎ (new d fits (view s) h.sound q small x known free rests on ≡ p) → (unit == u) || is_owed u below ≡ true
+        owed_by : (u : ℕ) (p : Pending) → u < 2 → h.going u ≡ None → is_for d u p ≡ true → Contains s.pending p ⊎ (new d fits (view s) h.sound q small x known free async rests on ≡ p) → (unit == u) || is_owed u below ≡ true
         owed_by u p lt none for (inl there) = or_right (unit == u) (h.owed u p lt none there for)
           where
             or_right : (a : Bool) {b : Bool} → b ≡ true → a || b ≡ true
             or_right true e = refl
             or_right false e = e
         owed_by u p lt none for (inr e) =
-            let at : is_for d u (new d fits (view s) h.sound q small x known free rests on) ≡ true = subst (λ z. is_for d u z ≡ true) (sym e) for in
+            let at : is_for d u (new d fits (view s) h.sound q small x known free async rests on) ≡ true = subst (λ z. is_for d u z ≡ true) (sym e) for in
             let same : unit ≡ u = one_unit d unit u (slice_index_or (jobs_of d q) 0 0) (job_unit d fits q 0 (some_job)) at in
             ap (λ b. b || is_owed u below) (ap (λ n. unit == n) (sym same) ∙ same_number unit)
           where
             some_job : 0 < length (jobs_of d q)
-            some_job = some d fits (view s) h.sound q small x known free rests on
+            some_job = some d fits (view s) h.sound q small x known free async rests on
 
         owed : AreOwed d (record { by = by; what = Debt unit; acted = acted } ∷ below) h.going after
-        owed u p lt none there for = owed_by u p lt none for (Contains-push_cases s.pending (new d fits (view s) h.sound q small x known free rests on) p there)
+        owed u p lt none there for = owed_by u p lt none for (Contains-push_cases s.pending (new d fits (view s) h.sound q small x known free async rests on) p there)
 
   -- what is owed after the act
   pub accepted_owes : (by : Origin Call) (acted : Option Answer) → CommitsAfter (spi_owing d) (Some (Units (requesting d q unit requests.Nexts))) first (λ c. SpiRepresents d (record { by = by; what = Debt unit; acted = acted } ∷ below) c w after)
@@ -201,4 +206,4 @@ module _ (d : SpiTable) (fits : FitsSpi d) (below : Reservations) (chip : Chip) 
       absent = not_true (order.is_there q (entries_of d (view s) unit)) (λ e. by_entry (there_back (is_running s) q (filter (is_for d unit) s.pending) e))
         where
           by_entry : (p : Pending) × Contains (filter (is_for d unit) s.pending) p × (p.sequence ≡ q) → ⊥
-          by_entry (p, is, same) = (apart_from d fits (view s) h.sound q small x known free rests on p (filter_back (is_for d unit) s.pending p is).0).0 same
+          by_entry (p, is, same) = (apart_from d fits (view s) h.sound q small x known free async rests on p (all_pending (view s) p (filter_back (is_for d unit) s.pending p is).0)).0 same

@@ -1,6 +1,6 @@
 -- The serving window of a unit: its steps.
 -- Used by bookkeeping.PendingWritesBounds, spi_serving: Serving, PendingWrites, services.UnitSteps, service/serve/rt.
-use Rattle.std.specs.Prelude.{ℕ, zero, suc, ◌+◌, ◌-◌, ◌/◌, ◌%◌, ◌==◌, nat_lt, nat_le, Bool, true, false, ◌&&◌, not, if◌then◌else◌, Option, Some, None}
+use Rattle.std.specs.Prelude.{ℕ, zero, suc, ◌+◌, ◌-◌, ◌/◌, ◌%◌, ◌==◌, nat_lt, nat_le, min, Bool, true, false, ◌&&◌, not, if◌then◌else◌, Option, Some, None}
 use Rattle.mcal_base.specs.declared.moves.Event.{Event}
 use Rattle.mcal_base.specs.declared.moves.Event.TheVariants as events
 use Rattle.mcal_base.specs.declared.moves.Move.{Move}
@@ -87,7 +87,7 @@ is_last_place x i = nat_le x.channel.length (i + 1)
 -- how many words the channel of the word has for the job
 abbrev pub length_taken : Placed → Taker → ℕ
 length_taken x (takers.Bank b) = x.channel.length
-length_taken x (takers.SetUp by) = by.length
+length_taken x (takers.SetUp by) = min by.length x.channel.length
 
 -- the place of the word after this one in the job
 abbrev pub after_word : (at : Position) → (length count : ℕ) → Option Position

@@ -3,20 +3,22 @@
 -- Used by services.WriteRight, services.ReadRight, services.CancelRight, services.QueryRight and 5 more.
 use Rattle.std.proofs.Common.{◌≡◌, ◌≢◌, ◌+◌, ◌<◌, ◌≤◌, ◌&&◌, ◌||◌, [], ◌∷◌, ◌∙◌, ◌⊎◌, ◌++◌}
 use Rattle.spi_sequences.specs.Terms
-use Terms.{acts_by, AllRight, answers, ap, AreLong, arith, AssertedAt, begins_word, Bool, Call, Called, Channel}
-use Terms.{channel-seen, channel_at, channel_of, ChannelFits, ChannelState, Chip, chip_after, Cleared, Contains, Debt}
-use Terms.{EOk, error_by, false, FitsSpi, flat_map-cons, FrameHistory, fresh_history, Going, Handling, happened}
-use Terms.{held_word, HeldRight, HoldsArrays, inl, inr, is_off, is_own_word, is_shared, Is_this_frame, is_users}
-use Terms.{is_word_of, IsSoundState, IsThisFrame, item-other, item-same, length, length_by, List, Load, LongBodies, may}
-use Terms.{Mode, moved, named, nat_lt, nat_tests, never_clean, None, Order, Origin, packed, Part, place_at, place_of}
-use Terms.{Placed, placed_of, PointAssertion, Pointer, Preparing, Reading, refl, Reservation, Reservations, ReservedBy}
-use Terms.{resets_chip, Right, RunsNext, same_or_other, set_up_code, set_up_word, SetUpBody, SetupEb, SetUpFits}
-use Terms.{slice_get, Some, Source, source_word, spi_basis, SpiRepresents, SpiState, SpiTable, stands-move, STATE}
-use Terms.{Store, stored_by, stored_in, stored_other, stored_same, subst, sym, true, TurnsTo, Under, untouched, view}
-use Terms.{with_channel, Within, word_at, word_of, WORDS, WordsAgree, World, world_after, Writing, ℕ}
+use Terms.{acts_by, AllRight, answers, ap, AreCarried, AreLong, arith, AssertedAt, begins_word, Bool, Call, Called}
+use Terms.{Channel, channel-seen, channel_at, channel_of, ChannelFits, ChannelState, Chip, chip_after, Cleared}
+use Terms.{Contains, Debt, EOk, error_by, false, FitsSpi, flat_map-cons, FrameHistory, fresh_history, Going, Handling}
+use Terms.{happened, held_word, HeldRight, HoldsArrays, inl, inr, is_off, is_own_word, is_shared, Is_this_frame}
+use Terms.{is_users, is_word_of, IsSoundState, IsThisFrame, item-other, item-same, length, length_by, List, Load}
+use Terms.{LongBodies, may, Mode, moved, named, nat_lt, nat_tests, never_clean, None, Order, Origin, packed, Part}
+use Terms.{place_at, place_of, Placed, placed_of, PointAssertion, Pointer, Preparing, Reading, refl, Reservation}
+use Terms.{Reservations, ReservedBy, resets_chip, Right, RunsNext, same_or_other, Sending, set_up_code, set_up_word}
+use Terms.{SetUpBody, SetupEb, SetUpFits, slice_get, Some, Source, source_word, spi_basis, SpiRepresents, SpiState}
+use Terms.{SpiTable, stands-move, STATE, Store, stored_by, stored_in, stored_other, stored_same, subst, sym, true}
+use Terms.{TurnsTo, Under, untouched, view, with_channel, Within, word_at, word_of, WORDS, WordsAgree, World}
+use Terms.{world_after, Writing, ℕ}
 use Rattle.spi_jobs.specs.declared.set_up.SetUp.{SetUp}
 use Rattle.spi_sequences.specs.laws.{words.SameWords.{sequences_alike, run_alike, banks_alike}}
 use Rattle.spi_sequences.specs.laws.{hardware.SourceFilled.{own_low}, hardware.AfterReset.{none_in}}
+use Rattle.spi_sequences.specs.laws.words.SendsKept.{sends_as}
 use Rattle.spi_sequences.specs.laws.{words.KeptWords.{right_as}, hardware.StableUnderHardware.{mode_later, pointwise}}
 use Rattle.spi_sequences.specs.laws.{services.SetUpSteps.{set_up_work, set_up_takes}, words.WordsOfModule.{word_of_own}}
 use Rattle.spi_sequences.specs.laws.{words.WordsOfModule.{past_the_first, of_one, of_held, of_set_up, of_banks}}
@@ -36,6 +38,7 @@ none_stored d mode cs (x ∷ xs) on r = flat_map-cons (λ h. stored_by h.what) x
     one x Handling r = refl
     one x (Writing n p b i y) r = refl
     one x (Reading n b) r = refl
+    one x (Sending u q n at banks failed device) r = refl
     one x (Preparing ws rs y) r = absurd (let f = sym on ∙ r.1 in cc)
 
 -- the state with a set-up of a channel
@@ -130,6 +133,9 @@ module _ (d : SpiTable) (fits : FitsSpi d) (below : Reservations) (chip : Chip) 
     going = h.going;
     nexts = λ u lt. subst (λ v. RunsNext d v u (h.going u)) (sym same_view) (h.nexts u lt);
     units = h.units;
+    sends = h.sends;
+    sending = sends_as d chip stored w w h.going h.going s later (λ u g lt sync is. refl) (λ u g lt sync is. refl) (λ u g n x k1 lt sync is there known. held_same x.channel k1 known) (λ u o knows. knows) below h.sending;
+    carriers = subst (λ v. AreCarried v below) (sym same_view) h.carriers;
     words = subst (λ v. WordsAgree d below h.going (word_of stored) v) (sym same_view) words_stay;
     set_ups = set_ups_same;
     sizes = sizes_same;

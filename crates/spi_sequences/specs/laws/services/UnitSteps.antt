@@ -1,7 +1,7 @@
 -- Frames that start or serve units: their steps.
 -- From services.RequestSteps, services.ServeSteps, services.StartSteps.
 -- Used by bookkeeping.PendingWritesBounds, service/unit/rt, PendingWrites, services.RequestRight.
-use Rattle.std.specs.Prelude.{ℕ, zero, suc, Option, Some, None}
+use Rattle.std.specs.Prelude.{ℕ, zero, suc, Bool, true, false, Option, Some, None}
 use Rattle.mcal_base.specs.declared.answer_name.AnswerName.TheVariants.{EOk, ENotOk}
 use Rattle.mcal_base.specs.declared.error_name.ErrorName.TheVariants.{SpiSeqPending}
 use Rattle.mcal_base.specs.declared.moves.Event.{Event}
@@ -15,6 +15,7 @@ use Rattle.service_outline.specs.Done.{goes, acts, ends, named, owed_error}
 use Rattle.service_outline.specs.declared.done.BodyTaken.{BodyTaken}
 use Rattle.service_outline.specs.declared.done.Epilogue.TheVariants.{Nothing}
 use Rattle.spi_machine.specs.Machine.{reporting}
+use Rattle.spi_machine.specs.Table.{is_sync_unit}
 use Rattle.spi_machine.specs.declared.table.SpiTable.{SpiTable}
 use Rattle.spi_sequences.specs.declared.service.request.RequestPlace.{RequestPlace}
 use Rattle.spi_sequences.specs.declared.service.request.Requested.{Requested}
@@ -85,9 +86,14 @@ rest_after (place.Serve (serve.Stand p)) = Rest
 rest_after (place.Start p) = Rest
 rest_after _ = Main
 
+-- the main function goes on with the other unit, unless that sends by Spi_SyncTransmit
+abbrev pub main_over : UnitBody → UnitPlace → (sync : Bool) → UnitBody × BodyTaken
+main_over k p true = (unit_at k p, ends None no_answer Nothing)
+main_over k p false = (record k { errand = rest_after p; unit = 1; place = place.Opens after.Serve }, goes)
+
 -- the unit has what it needs: the frame ends, or goes on with the other unit
 abbrev pub unit_over : UnitBody → UnitPlace → FrameRole → (number : ℕ) → UnitBody × BodyTaken
-unit_over k p Main zero = (record k { errand = rest_after p; unit = 1; place = place.Opens after.Serve }, goes)
+unit_over k p Main zero = main_over k p (is_sync_unit k.table 1)
 unit_over k p Main (suc u) = (unit_at k p, ends None no_answer Nothing)
 unit_over k p Rest u = (unit_at k p, ends None no_answer Nothing)
 unit_over k p Handler u = (unit_at k p, ends None no_answer Nothing)
@@ -111,9 +117,14 @@ abbrev pub after_start : UnitBody → StartPlace × Started → UnitBody × Body
 after_start k (r, started.Goes e) = (unit_at k (place.Start r), passes e)
 after_start k (r, started.Over) = unit_over k (place.Start r) k.errand k.unit
 
+-- the main function acts, and ends where its unit sends by Spi_SyncTransmit
+abbrev pub unit_acts : UnitBody → (sync : Bool) → UnitBody × BodyTaken
+unit_acts k true = (k, ends (Some Act) no_answer Nothing)
+unit_acts k false = (unit_at k (place.Opens after.Serve), acts)
+
 abbrev pub unit_took : UnitBody → UnitPlace → ℕ → UnitBody × BodyTaken
 unit_took k (place.Request r) v = after_request k (request_takes k.table (requested_by k.errand) r v)
-unit_took k place.Act v = (unit_at k (place.Opens after.Serve), acts)
+unit_took k place.Act v = unit_acts k (is_sync_unit k.table k.unit)
 unit_took k (place.Opens a) v = (unit_at k (opened a), goes)
 unit_took k (place.Tell n o) v = (unit_at k (told_next o), goes)
 unit_took k (place.Serve r) v = after_serve k (serve_takes k.table k.unit r v)

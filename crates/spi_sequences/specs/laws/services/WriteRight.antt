@@ -11,8 +11,8 @@ use Terms.{is_closed, is_off, is_own_word, is_shared, is_some, Is_this_frame, Is
 use Terms.{item-same, length, length-replicate, length-take-le, length_by, List, Load, LongBodies, Mask, may, Memory}
 use Terms.{moved, named, nat_lt, nat_tests, never_clean, None, Null, Option, or_rest, Order, Origin, Outside}
 use Terms.{own-control, own-word, place_at, place_of, placed_of, PointAssertion, Pointer, prepares, Put, put_gave}
-use Terms.{put_held, put_left, put_more, Putting, readied_in, refl, Reservation, Reservations, resets_chip, Right, Sent}
-use Terms.{Shortens, slice_index_or, Some, Source, source_word, spi_basis, SpiRepresents, SpiState, SpiTable}
+use Terms.{put_held, put_left, put_more, Putting, readied_in, refl, Reservation, Reservations, resets_chip, Right}
+use Terms.{Sent, Shortens, slice_index_or, Some, Source, source_word, spi_basis, SpiRepresents, SpiState, SpiTable}
 use Terms.{stands-move, Store, subst, suc, sym, take, take_all, to_write, trio_of, TripleBuffer, true, TurnsTo, Under}
 use Terms.{Unmask, untouched, Users, value_of, view, with_channel, Within, word_later, word_of, WORDS, words_from}
 use Terms.{World, world_after, WriteBody, WriteIb, Writing, Written, written_from, zero, ℕ}
@@ -172,7 +172,7 @@ module _ (d : SpiTable) (fits : FitsSpi d) (below : Reservations) (chip : Chip) 
 
   -- a bank is chosen
   chosen_now : is_off s.mode ≡ false → SpiRepresents d below chip w s → (b : ℕ) → b ≡ trio.free (word_of chip at.control) → SpiRepresents d (has b 0 None) chip w s
-  chosen_now on h b e = banks_changed d fits c k i.known i.internal Sent below (has b 0 None) chip chip w s h on s.channels (same_channels d fits below r c k i s) h.outside (differs_none own chip h.outside.all.words) beside (λ internal. (h.sizes on c k i.known).written internal) (right_for d fits below r c k i s b 0 None on tt h.right) (λ internal. agreed)
+  chosen_now on h b e = banks_changed d fits c k i.known i.internal Sent below (has b 0 None) chip chip w s h on s.channels (same_channels d fits below r c k i s) h.outside (differs_none own chip h.outside.all.words) beside (λ internal. (h.sizes on c k i.known).written internal) (right_for d fits below r c k i s b 0 None on tt h.right) (tt, h.sending) h.carriers (λ internal. agreed)
     where
       beside : IsBeside d fits c k i.known i.internal Sent below (has b 0 None)
       beside = aside d fits below r c k i b 0 None
@@ -190,7 +190,7 @@ module _ (d : SpiTable) (fits : FitsSpi d) (below : Reservations) (chip : Chip) 
 
   -- the next word is ready, or isn't any more
   ready_now : (b n : ℕ) (x y : Option ℕ) → SpiRepresents d (has b n x) chip w s → IsReady written n y → SpiRepresents d (has b n y) chip w s
-  ready_now b n x y h ready = banks_changed d fits c k i.known i.internal Sent (has b n x) (has b n y) chip chip w s h on s.channels (same_channels d fits below r c k i s) h.outside (differs_none own chip h.outside.all.words) beside (λ internal. (h.sizes on c k i.known).written internal) (right_for d fits below r c k i s b n y on ready h.right.1) (λ internal. agreed)
+  ready_now b n x y h ready = banks_changed d fits c k i.known i.internal Sent (has b n x) (has b n y) chip chip w s h on s.channels (same_channels d fits below r c k i s) h.outside (differs_none own chip h.outside.all.words) beside (λ internal. (h.sizes on c k i.known).written internal) (right_for d fits below r c k i s b n y on ready h.right.1) (tt, h.sending.1) h.carriers (λ internal. agreed)
     where
       on : is_off s.mode ≡ false
       on = h.right.0.2
@@ -211,7 +211,7 @@ module _ (d : SpiTable) (fits : FitsSpi d) (below : Reservations) (chip : Chip) 
 
   -- it is filled in
   filled_now : (b n v : ℕ) → SpiRepresents d (has b n (Some v)) chip w s → n < k.length → SpiRepresents d (has b (n + 1) None) (chip_after chip (Store (trio.word_at at b n) v) 0) w s
-  filled_now b n v h lt = banks_changed d fits c k i.known i.internal Sent (has b n (Some v)) (has b (n + 1) None) chip chip1 w s h on s.channels (same_channels d fits below r c k i s) (stands-move chip w (Store (trio.word_at at b n) v) 0 h.outside) differs beside (λ internal. (h.sizes on c k i.known).written internal) (right_for d fits below r c k i s b (n + 1) None on tt h.right.1) (λ internal. agreed)
+  filled_now b n v h lt = banks_changed d fits c k i.known i.internal Sent (has b n (Some v)) (has b (n + 1) None) chip chip1 w s h on s.channels (same_channels d fits below r c k i s) (stands-move chip w (Store (trio.word_at at b n) v) 0 h.outside) differs beside (λ internal. (h.sizes on c k i.known).written internal) (right_for d fits below r c k i s b (n + 1) None on tt h.right.1) (tt, h.sending.1) h.carriers (λ internal. agreed)
     where
       chip1 : Chip
       chip1 = chip_after chip (Store (trio.word_at at b n) v) 0
@@ -289,7 +289,7 @@ module _ (d : SpiTable) (fits : FitsSpi d) (below : Reservations) (chip : Chip) 
 
   -- the act: the bank is the newest
   committed_now : (b : ℕ) → SpiRepresents d (has b k.length None) chip w s → SpiRepresents d below (chip_after chip (Store at.control (b % 4 + 4 * (word_of chip at.control / 4))) 0) w after
-  committed_now b h = banks_changed d fits c k i.known i.internal Sent (has b k.length None) below chip chip1 w s h on after.channels written_like (stands-move chip w (Store at.control told) 0 h.outside) differs beside (λ internal. ap length sends_now ∙ from_length r.source k (channel_at s c)) (right_as d s.mode s.channels after.channels written_like.source below h.right.1) (λ internal. agreed)
+  committed_now b h = banks_changed d fits c k i.known i.internal Sent (has b k.length None) below chip chip1 w s h on after.channels written_like (stands-move chip w (Store at.control told) 0 h.outside) differs beside (λ internal. ap length sends_now ∙ from_length r.source k (channel_at s c)) (right_as d s.mode s.channels after.channels written_like.source below h.right.1) h.sending.1 h.carriers (λ internal. agreed)
     where
       told : ℕ
       told = b % 4 + 4 * (word_of chip at.control / 4)

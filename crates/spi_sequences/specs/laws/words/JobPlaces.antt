@@ -1,5 +1,5 @@
 -- Jobs by their places in a sequence, and the places that are left of a pending one.
--- From words.WordsToState, hardware.SourceFilled.
+-- From words.ListTests.
 -- Used by services.QueryRight, bookkeeping.SequenceEnded, bookkeeping.AcceptedState, services.CancelRight and 2 more.
 use Rattle.std.proofs.Common.{◌≡◌, ◌≢◌, ◌+◌, ◌-◌, ◌<◌, ◌≤◌, ◌==◌, ◌∙◌, if◌then◌else◌}
 use Rattle.spi_sequences.specs.Terms
@@ -8,8 +8,7 @@ use Terms.{is_on_unit, Job, job_at_place, job_number, job_of, jobs_by, jobs_list
 use Terms.{length-take-le, List, list_any, nat_lt, nat_tests, None, Option, or_else, place_before, place_in, refl}
 use Terms.{Sequence, sequence_of, slice_get, slice_index_or, Some, SpiTable, subst, suc, sym, true, unit_by}
 use Terms.{unit_of_sequence, zero, ℕ}
-use Rattle.spi_sequences.specs.laws.hardware.SourceFilled.{any_in}
-use Rattle.spi_sequences.specs.laws.words.WordsToState.{any_some, at_contained, is_number, same_number}
+use Rattle.spi_sequences.specs.laws.words.ListTests.{any_in, any_some, at_contained, is_number, same_number}
 use Rattle.spi_machine.specs.Wiring as wiring
 
 -- ---- what is left of a list

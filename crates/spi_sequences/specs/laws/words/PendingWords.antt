@@ -3,17 +3,18 @@
 -- Used by services.CancelRight, services.RequestRight, bookkeeping.ClearedUnit.
 use Rattle.std.proofs.Common.{◌≡◌, ◌+◌, ◌<◌, ◌≤◌, ◌∷◌, ◌∙◌}
 use Rattle.spi_sequences.specs.Terms
-use Terms.{AllRight, AnswerName, ap, AreOwed, arith, BanksAgree, Bool, Call, Channel, channel_of, Chip, Contains, Debt}
-use Terms.{Destination, DiffersIn, false, FitsSpi, flat_map-cons, Going, has_bit, held_word, idle, is_off, IsSoundState}
-use Terms.{length, List, Memory, None, Option, Pending, place_of, placed_of, position_word, prepares, put_held}
-use Terms.{PutRight, readied_by, readied_in, refl, Reservation, Reservations, ReservedBy, run_at, RunAgrees}
-use Terms.{running_word, RunsNext, SequencesAgree, set_up_word, slice_index, slice_index_or, Some, Source, source_word}
-use Terms.{SpiRepresents, SpiState, SpiTable, StandsIn, STATE, stored_by, stored_in, subst, sym, take_held, true}
-use Terms.{UnitAgrees, View, view, word_of, World, ℕ}
+use Terms.{AllRight, AllSend, AnswerName, ap, AreCarried, AreOwed, arith, BanksAgree, Bool, Call, carried_at}
+use Terms.{CarriesAgrees, Channel, channel_of, Chip, Contains, Debt, Destination, DiffersIn, false, FitsSpi}
+use Terms.{flat_map-cons, Going, has_bit, held_word, idle, is_off, IsSoundState, length, List, Memory, None, Option}
+use Terms.{Pending, place_of, placed_of, position_word, prepares, put_held, PutRight, readied_by, readied_in, refl}
+use Terms.{Reservation, Reservations, ReservedBy, run_at, run_carried, RunAgrees, running_word, RunsNext}
+use Terms.{SequencesAgree, set_up_word, slice_index, slice_index_or, Some, Source, source_word, SpiRepresents}
+use Terms.{SpiState, SpiTable, StandsIn, STATE, stored_by, stored_in, subst, sym, take_held, true, UnitAgrees, View}
+use Terms.{view, word_of, World, ℕ}
 use Rattle.spi_sequences.specs.laws.{words.SameWords.{banks_words, going_words}, hardware.AfterReset.{none_in}}
 use Rattle.spi_sequences.specs.laws.{words.KeptWords.{banks_view}, words.WordsOfModule.{of_banks, of_held, of_set_up}}
 use Rattle.spi_sequences.specs.laws.{words.WordsOfModule.{past_the_first}, words.WordsToState.{going_next}}
-use Rattle.spi_sequences.specs.laws.{services.SetUpRight.{none_stored}}
+use Rattle.spi_sequences.specs.laws.{words.SendsKept.{sends_as}, services.SetUpRight.{none_stored}}
 
 -- frames that hold the same of channels
 pub record HoldsLike (d : SpiTable) (held held1 : Reservations) : Type 0 where
@@ -56,8 +57,8 @@ banks_held d held held1 going m v c k b h = record {
 }
 
 -- what is held changes alone
-pub holds_changed : (d : SpiTable) (held held1 : Reservations) (chip : Chip) (w : World) (s : SpiState) (h : SpiRepresents d held chip w s) → HoldsLike d held held1 → AllRight d s.mode s.channels held1 → AreOwed d held1 h.going s → SpiRepresents d held1 chip w s
-holds_changed d held held1 chip w s h like right owed = record {
+pub holds_changed : (d : SpiTable) (held held1 : Reservations) (chip : Chip) (w : World) (s : SpiState) (h : SpiRepresents d held chip w s) → HoldsLike d held held1 → AllRight d s.mode s.channels held1 → AllSend d chip w h.going s held1 → AreCarried (view s) held1 → AreOwed d held1 h.going s → SpiRepresents d held1 chip w s
+holds_changed d held held1 chip w s h like right sending carried owed = record {
   right = right;
   outside = h.outside;
   wired = h.wired;
@@ -66,6 +67,9 @@ holds_changed d held held1 chip w s h like right owed = record {
   going = h.going;
   nexts = h.nexts;
   units = h.units;
+  sends = h.sends;
+  sending = sending;
+  carriers = carried;
   words = record {
     state = h.words.state;
     on = h.words.on;
@@ -107,8 +111,8 @@ module _ (d : SpiTable) (fits : FitsSpi d) (below held1 : Reservations) (chip ch
   run_kept u lt (Some g) e r = going_words d fits u (word_of chip) (word_of chip1) g (going_next d fits below chip w s h u g lt e).2 (runs u lt).0 (runs u lt).1
       (λ c x known. above (held_word (placed_of d c)) (past_the_first d c x _ (fits.channels c x known) (of_held d fits c x known))) (λ n x c i at known few. above (source_word (placed_of d x.channel) i) (omega arith)) r
 
-  pub firsts_changed : AllRight d s.mode s.channels held1 → IsSoundState d (view later) → ((u : ℕ) → u < 2 → RunsNext d (view later) u (h.going u)) → SequencesAgree d (word_of chip1) (view later) → AreOwed d held1 h.going later → SpiRepresents d held1 chip1 w later
-  firsts_changed right sound nexts sequences owed = record {
+  pub firsts_changed : AllRight d s.mode s.channels held1 → AllSend d chip w h.going s held1 → AreCarried (view s) held1 → IsSoundState d (view later) → ((u : ℕ) → u < 2 → RunsNext d (view later) u (h.going u)) → SequencesAgree d (word_of chip1) (view later) → AreOwed d held1 h.going later → SpiRepresents d held1 chip1 w later
+  firsts_changed right sending carried sound nexts sequences owed = record {
     right = right;
     outside = outside;
     wired = λ c lt. ap (λ x. slice_index x.sources c) wiring ∙ h.wired c lt;
@@ -116,7 +120,10 @@ module _ (d : SpiTable) (fits : FitsSpi d) (below held1 : Reservations) (chip ch
     sound = sound;
     going = h.going;
     nexts = nexts;
-    units = λ u lt. subst (λ xs. UnitAgrees d (slice_index_or xs u idle) (run_at s u) (h.going u)) (sym units) (h.units u lt);
+    units = λ u lt async. subst (λ xs. UnitAgrees d (slice_index_or xs u idle) (run_at s u) (h.going u)) (sym units) (h.units u lt async);
+    sends = λ u lt sync. subst (λ xs. CarriesAgrees d (slice_index_or xs u idle) (run_carried (carried_at s u)) (h.going u)) (sym units) (h.sends u lt sync);
+    sending = sends_as d chip chip1 w w h.going h.going s later (λ u g lt sync is. refl) (λ u g lt sync is. ap (λ xs. (slice_index_or xs u idle).select) units) (λ u g m x c lt sync is there known. above (held_word (placed_of d x.channel)) (past_the_first d x.channel c _ (fits.channels x.channel c known) (of_held d fits x.channel c known))) (λ u o knows. knows) held1 sending;
+    carriers = carried;
     words = record {
       state = state ∙ h.words.state;
       on = λ still. record { sequences = sequences; runs = λ u lt. run_kept u lt (h.going u) refl ((h.words.on on).runs u lt) };

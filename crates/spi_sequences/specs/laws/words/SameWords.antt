@@ -119,6 +119,7 @@ module _ (d : SpiTable) (fits : FitsSpi d) (going : ℕ → Option Going) (m m1 
   sequences_alike h = record {
     sequences = λ q lt. first_same (sequence_word q) (omega arith) (omega (arith, lt)) ∙ h.sequences q lt;
     pending = λ p there. let was = h.pending p there in record { next = ap (λ n. next_in n p.sequence) (first_same NEXTS (omega arith) (omega arith)) ∙ was.next; started = ap (λ n. has_mark n (started_bit p.sequence)) (first_same MARKS (omega arith) (omega arith)) ∙ was.started; cancelled = ap (λ n. has_mark n (cancelled_bit p.sequence)) (first_same MARKS (omega arith) (omega arith)) ∙ was.cancelled };
+    begun = λ u p e. ap (λ n. next_in n p.sequence) (first_same NEXTS (omega arith) (omega arith)) ∙ h.begun u p e;
     had = λ p i there le lt. let few = job_small d fits p.sequence i lt in first_same (job_word (slice_index_or (jobs_of d p.sequence) i 0)) (omega arith) (omega (arith, few)) ∙ h.had p i there le lt;
     jobs = λ j lt none. first_same (job_word j) (omega arith) (omega (arith, lt)) ∙ h.jobs j lt none;
     orders = λ u lt. holds-agree _ m m1 _ (λ j is. sym (orders_alike u j lt is)) (h.orders u lt);

@@ -3,21 +3,22 @@
 -- Used by services.WriteRight, services.ReadRight, services.InitPrepared, services.InitClearing, services.InitActRight.
 use Rattle.std.proofs.Common.{◌≡◌, ◌≢◌, ◌+◌, ◌*◌, ◌<◌, ◌≤◌, ◌==◌, ◌&&◌, ◌||◌, [], ◌∷◌, ◌∙◌, ◌⊎◌, ◌++◌, if◌then◌else◌}
 use Rattle.spi_sequences.specs.Terms
-use Terms.{AllRight, ap, AreThere, arith, Banks, BanksAgree, block_of, Bool, Call, Channel, channel_at, channel_of}
-use Terms.{ChannelState, Chip, chip_after, Cleared, common_steps, Contains, control_word, Debt, Destination}
-use Terms.{differs-after, DiffersIn, false, first_items, first_word, FitsChannel, FitsSpi, flat_map-cons, Going}
-use Terms.{Handling, has_bit, HasWords, held_word, HeldRight, inl, inr, is_off, is_owed, is_preparing, length}
-use Terms.{length_by, List, Memory, Mode, nat_le, nat_lt, nat_tests, None, Option, or_rest, owes_by, Part, place_of}
-use Terms.{Placed, placed_of, prepares, Preparing, put_by, put_held, PutRight, Putting, readied_by, readied_in, Reading}
-use Terms.{Received, refl, replicate, Reservation, Reservations, ReservedBy, run_at, RunAgrees, same_or_other, Sent}
-use Terms.{set_up_code, set_up_word, SetUpFits, Side, slice_get, slice_index, slice_index_or, Some, some_is, Source}
-use Terms.{source_word, SOURCES, SpiRepresents, SpiState, SpiTable, stands-agree, StandsIn, STATE, Store, stored}
-use Terms.{stored_by, stored_in, subst, sym, take, take_by, take_held, TakeRight, Taking, to_write, trio_of}
-use Terms.{TripleBuffer, true, unit_at, UnitAgrees, untouched, View, view, word_at, word_of, words-same, words_in}
-use Terms.{World, Writing, ℕ}
+use Terms.{AllRight, AllSend, ap, AreCarried, AreThere, arith, Banks, BanksAgree, block_of, Bool, Call, carried_at}
+use Terms.{CarriesAgrees, Channel, channel_at, channel_of, ChannelState, Chip, chip_after, Cleared, common_steps}
+use Terms.{Contains, control_word, Debt, Destination, differs-after, DiffersIn, false, first_items, first_word}
+use Terms.{FitsChannel, FitsSpi, flat_map-cons, Going, Handling, has_bit, HasWords, held_word, HeldRight, inl, inr}
+use Terms.{is_off, is_owed, is_preparing, length, length_by, List, Memory, Mode, nat_le, nat_lt, nat_tests, None}
+use Terms.{Option, or_rest, owes_by, Part, place_of, Placed, placed_of, prepares, Preparing, put_by, put_held}
+use Terms.{PutRight, Putting, readied_by, readied_in, Reading, Received, refl, replicate, Reservation, Reservations}
+use Terms.{ReservedBy, run_at, run_carried, RunAgrees, same_or_other, Sending, Sent, set_up_code, set_up_word}
+use Terms.{SetUpFits, Side, slice_get, slice_index, slice_index_or, Some, some_is, Source, source_word, SOURCES}
+use Terms.{SpiRepresents, SpiState, SpiTable, stands-agree, StandsIn, STATE, Store, stored, stored_by, stored_in}
+use Terms.{subst, sym, take, take_by, take_held, TakeRight, Taking, to_write, trio_of, TripleBuffer, true, unit_at}
+use Terms.{UnitAgrees, untouched, View, view, word_at, word_of, words-same, words_in, World, Writing, ℕ}
 use Rattle.spi_sequences.specs.laws.{words.SameWords.{sequences_alike, run_alike, banks_alike}}
 use Rattle.spi_sequences.specs.laws.{hardware.SourceFilled.{own_low, put_if}, hardware.AfterReset.{none_in}}
 use Rattle.spi_sequences.specs.laws.{words.KeptWords.{banks_view, next_view, sequences_as, sound_as}}
+use Rattle.spi_sequences.specs.laws.words.SendsKept.{sends_as}
 use Rattle.spi_sequences.specs.laws.{hardware.StableUnderHardware.{pointwise}, words.WordsOfModule.{IsWordOf}}
 use Rattle.spi_sequences.specs.laws.{words.WordsOfModule.{has_channel, internal_words, of_banks, of_held, of_one}}
 use Rattle.spi_sequences.specs.laws.{words.WordsOfModule.{of_set_up, own_banks, own_of_channel, past_the_first}}
@@ -123,6 +124,7 @@ module _ (d : SpiTable) (fits : FitsSpi d) (c : ℕ) (k : Channel) (e : channel_
       no_put (Reading m b) sources n r ne f = refl
       no_put (Debt u) sources n r ne f = absurd (cc)
       no_put (Cleared u) sources n r ne f = absurd (cc)
+      no_put (Sending u q i at bs failed device) sources n r ne f = absurd (cc)
       no_put Handling sources n r ne f = absurd (cc)
       no_put (Preparing ws rs z) sources n r ne f = absurd (cc)
 
@@ -132,6 +134,7 @@ module _ (d : SpiTable) (fits : FitsSpi d) (c : ℕ) (k : Channel) (e : channel_
       no_take (Debt u) n ne f = absurd (cc)
       no_take (Cleared u) n ne f = absurd (cc)
       no_take Handling n ne f = absurd (cc)
+      no_take (Sending u q i at bs failed device) n ne f = absurd (cc)
       no_take (Preparing ws rs z) n ne f = absurd (cc)
 
       unready : (y : Reservation) → is_of_bank y ≡ true → is_preparing y ≡ false
@@ -140,6 +143,7 @@ module _ (d : SpiTable) (fits : FitsSpi d) (c : ℕ) (k : Channel) (e : channel_
       unready (Debt u) f = refl
       unready (Cleared u) f = refl
       unready Handling f = refl
+      unready (Sending u q i at bs failed device) f = refl
       unready (Preparing ws rs z) f = absurd (cc)
 
       nothing_ready : (y : Reservation) → is_of_bank y ≡ true → readied_by y ≡ []
@@ -148,6 +152,7 @@ module _ (d : SpiTable) (fits : FitsSpi d) (c : ℕ) (k : Channel) (e : channel_
       nothing_ready (Debt u) f = refl
       nothing_ready (Cleared u) f = refl
       nothing_ready Handling f = refl
+      nothing_ready (Sending u q i at bs failed device) f = refl
       nothing_ready (Preparing ws rs z) f = absurd (cc)
 
       nothing_stored : (y : Reservation) → is_of_bank y ≡ true → stored_by y ≡ []
@@ -156,6 +161,7 @@ module _ (d : SpiTable) (fits : FitsSpi d) (c : ℕ) (k : Channel) (e : channel_
       nothing_stored (Debt u) f = refl
       nothing_stored (Cleared u) f = refl
       nothing_stored Handling f = refl
+      nothing_stored (Sending u q i at bs failed device) f = refl
       nothing_stored (Preparing ws rs z) f = absurd (cc)
 
       owes_none : (y : Reservation) (u : ℕ) (below : Bool) → is_of_bank y ≡ true → owes_by u y below ≡ below
@@ -164,6 +170,7 @@ module _ (d : SpiTable) (fits : FitsSpi d) (c : ℕ) (k : Channel) (e : channel_
       owes_none (Debt v) u below f = absurd (cc)
       owes_none (Cleared v) u below f = absurd (cc)
       owes_none Handling u below f = absurd (cc)
+      owes_none (Sending v q i at bs failed device) u below f = refl
       owes_none (Preparing ws rs z) u below f = absurd (cc)
 
   pub beside_back : (held held1 : Reservations) → IsBeside held held1 → IsBeside held1 held
@@ -228,16 +235,19 @@ module _ (d : SpiTable) (fits : FitsSpi d) (c : ℕ) (k : Channel) (e : channel_
         puts : (r : Bool) → put_held d (view (with_channels s cs)).sources n r held1 ≡ put_held d (view s).sources n r held1
         puts r = ap (λ f. put_held d f n r held1) same_sources
 
-    pub banks_changed : (k.internal ≡ true → length (slice_index_or cs c untouched).written ≡ k.length) → AllRight d s.mode cs held1 → (k.internal ≡ true → BanksAgree d held1 h.going (word_of chip1) (view (with_channels s cs)) c k) → SpiRepresents d held1 chip1 w (with_channels s cs)
-    banks_changed sized right own = record {
+    pub banks_changed : (k.internal ≡ true → length (slice_index_or cs c untouched).written ≡ k.length) → AllRight d s.mode cs held1 → AllSend d chip w h.going s held1 → AreCarried (view s) held1 → (k.internal ≡ true → BanksAgree d held1 h.going (word_of chip1) (view (with_channels s cs)) c k) → SpiRepresents d held1 chip1 w (with_channels s cs)
+    banks_changed sized right sending carried own = record {
       right = right;
       outside = outside;
       wired = λ n lt. ap (λ x. slice_index x.wiring.sources n) differs.rest ∙ h.wired n lt;
       size = ap (λ x. length x.serials.units) differs.rest ∙ h.size;
-      sound = sound_as d (view s) s.mode (view (with_channels s cs)).written (view (with_channels s cs)).received (view (with_channels s cs)).sources h.sound.off h.sound;
+      sound = sound_as d (view s) s.mode (view (with_channels s cs)).written (view (with_channels s cs)).received (view (with_channels s cs)).sources h.sound.off h.sound.carries.off h.sound;
       going = h.going;
-      nexts = λ u lt. next_view d (view s) (view (with_channels s cs)) u (h.going u) refl (h.nexts u lt);
-      units = λ u lt. subst (λ x. UnitAgrees d (unit_at x.serials u) (run_at s u) (h.going u)) (sym differs.rest) (h.units u lt);
+      nexts = λ u lt. next_view d (view s) (view (with_channels s cs)) u (h.going u) refl refl (h.nexts u lt);
+      units = λ u lt async. subst (λ x. UnitAgrees d (unit_at x.serials u) (run_at s u) (h.going u)) (sym differs.rest) (h.units u lt async);
+      sends = λ u lt sync. subst (λ x. CarriesAgrees d (unit_at x.serials u) (run_carried (carried_at s u)) (h.going u)) (sym differs.rest) (h.sends u lt sync);
+      sending = sends_as d chip chip1 w w h.going h.going s (with_channels s cs) (λ u g lt sync is. refl) (λ u g lt sync is. ap (λ x. (unit_at x.serials u).select) differs.rest) (λ u g n x k1 lt sync is there known. held_same x.channel k1 known) (λ u o knows. knows) held1 sending;
+      carriers = carried;
       words = record {
         state = differs.others STATE (not_first STATE (omega arith)) ∙ h.words.state;
         on = λ still. record {
@@ -292,6 +302,7 @@ none_readied d mode cs (x ∷ xs) on r =
     one x Handling r = (refl, refl)
     one x (Writing n p b i y) r = (refl, refl)
     one x (Reading n b) r = (refl, refl)
+    one x (Sending u q n at bs failed device) r = (refl, refl)
     one x (Preparing ws rs y) r = absurd (let f = sym on ∙ r.1 in cc)
 
 -- the banks of a side are driver words, and stand apart

@@ -1,60 +1,22 @@
 -- What the words of an initialised module say: of results, of pending sequences, and of what the units run.
--- From words.SameWords, hardware.SourceFilled, words.WordsOfModule.
+-- From words.SameWords, words.ListTests, words.AllSequences, words.WordsOfModule.
 -- Used by services.QueryRight, services.CancelRight, bookkeeping.SequenceEnded, bookkeeping.AcceptedState and 21 more.
-use Rattle.std.proofs.Common.{◌≡◌, ◌≢◌, ◌+◌, ◌-◌, ◌*◌, ◌/◌, ◌%◌, ◌<◌, ◌≤◌, ◌==◌, ◌||◌, [], ◌∷◌, ◌∙◌, if◌then◌else◌}
+use Rattle.std.proofs.Common.{◌≡◌, ◌+◌, ◌-◌, ◌*◌, ◌/◌, ◌%◌, ◌<◌, ◌==◌, ◌||◌, ◌∙◌, ◌⊎◌, if◌then◌else◌}
 use Rattle.spi_sequences.specs.Terms
-use Terms.{AnswerName, ap, arith, Bool, Chip, Contains, Contains-get_or, false, FitsSpi, get_or_default, Going, has_job}
-use Terms.{is_of, is_off, is_on_unit, is_pending, is_running, is_some, IsLast, IsOfSequence, Job, job_code, job_of}
-use Terms.{job_result_in, jobs_of, length, List, list_any, nat_lt, nat_tests, next_job, None, not, Option, PENDING}
-use Terms.{Pending, refl, Reservations, Run, run_at, run_in, run_of, RunAgrees, Running, running_word, runs_sequence}
-use Terms.{RunsNext, same_Some, sequence_code, sequence_result, sequence_result_in, sequence_word, shares_job}
-use Terms.{slice_get, slice_index_or, Some, SpiBusy, SpiIdle, SpiJobFailed, SpiJobOk, SpiRepresents, SpiSeqCanceled}
-use Terms.{SpiSeqFailed, SpiSeqOk, SpiSeqPending, SpiState, SpiTable, status_by, subst, suc, sym, Transfer, true}
-use Terms.{unit_at, UnitAgrees, view, word_of, World, zero, ℕ}
-use Rattle.spi_sequences.specs.laws.{words.SameWords.{job_small}, hardware.SourceFilled.{any_in}}
+use Terms.{all_of, AnswerName, ap, arith, Bool, carried_at, CarriesAgrees, Carrying, Chip, Contains, Contains-get_or}
+use Terms.{entry_carried, false, FitsSpi, get_or_default, Going, has_job, inl, inr, is_for, is_of, is_off, is_pending}
+use Terms.{is_running, is_some, is_sync_sequence, is_sync_unit, IsLast, IsOfSequence, job_code, job_result_in, jobs_of}
+use Terms.{List, nat_lt, next_in, next_job, NEXTS, None, not, Option, PENDING, Pending, refl, Reservations, Run}
+use Terms.{run_at, run_carried, run_in, run_of, RunAgrees, Running, running_word, runs_sequence, RunsBy, RunsNext}
+use Terms.{same_Some, sequence_code, sequence_result, sequence_result_in, sequence_word, shares_job, Some, SpiBusy}
+use Terms.{SpiIdle, SpiJobFailed, SpiJobOk, SpiRepresents, SpiSeqCanceled, SpiSeqFailed, SpiSeqOk, SpiSeqPending}
+use Terms.{SpiState, SpiTable, status_by, subst, sym, Transfer, true, unit_at, unit_of_sequence, UnitAgrees, view}
+use Terms.{word_of, World, ℕ}
+pub use Rattle.spi_sequences.specs.laws.words.ListTests.{any_none, any_some, at_contained, is_below, is_number, is_past}
+pub use Rattle.spi_sequences.specs.laws.words.ListTests.{none_any, not_true, one_unit, other_number, same_number}
+use Rattle.spi_sequences.specs.laws.{words.SameWords.{job_small}, words.ListTests.{any_in}}
+use Rattle.spi_sequences.specs.laws.{words.AllSequences.{all_cases, all_pending, any_all, one_of_all}}
 use Rattle.spi_sequences.specs.laws.{words.WordsOfModule.{some_at}}
-
--- ---- tests
-
-pub not_true : (b : Bool) → (b ≡ true → ⊥) → b ≡ false
-not_true true h = absurd (h refl)
-not_true false h = refl
-
-pub same_number : (n : ℕ) → (n == n) ≡ true
-same_number n = grind (arith, nat_tests)
-
-pub is_number : (n k : ℕ) → (n == k) ≡ true → n ≡ k
-is_number n k e = grind (arith, nat_tests)
-
-pub other_number : (n k : ℕ) → n ≢ k → (n == k) ≡ false
-other_number n k ne = grind (arith, nat_tests)
-
-pub is_below : (n k : ℕ) → nat_lt n k ≡ true → n < k
-is_below n k e = grind (arith, nat_tests)
-
-pub is_past : (n k : ℕ) → nat_lt n k ≡ false → k ≤ n
-is_past n k e = grind (arith, nat_tests)
-
--- ---- some of a list
-
-pub at_contained : {A : Type 0} (xs : List A) (k : ℕ) (x : A) → k < length xs → slice_index_or xs k x ≡ x → slice_get xs k ≡ Some x
-at_contained [] k x lt e = absurd (omega (arith, lt))
-at_contained (y ∷ ys) zero x lt e = ap (λ z. Some z) e
-at_contained (y ∷ ys) (suc k) x lt e = at_contained ys k x (omega (arith, lt)) e
-
-pub any_some : {A : Type 0} (p : A → Bool) (xs : List A) → list_any p xs ≡ true → (x : A) × Contains xs x × (p x ≡ true)
-any_some p [] e = absurd (cc)
-any_some p (y ∷ ys) e = by (p y) refl (any_some p ys)
-  where
-    by : (q : Bool) → p y ≡ q → (list_any p ys ≡ true → (x : _) × Contains ys x × (p x ≡ true)) → (x : _) × Contains (y ∷ ys) x × (p x ≡ true)
-    by true f rest = (y, (0, omega arith, refl), f)
-    by false f rest = let r = rest (ap (λ q. q || list_any p ys) (sym f) ∙ e) in (r.0, (suc r.1.0, let lt = r.1.1 in omega (arith, lt), r.1.2), r.2)
-
-pub any_none : {A : Type 0} (p : A → Bool) (xs : List A) → list_any p xs ≡ false → (x : A) → Contains xs x → p x ≡ false
-any_none p xs e x there = not_true (p x) (λ f. let g = sym e ∙ any_in p xs x there f in cc)
-
-pub none_any : {A : Type 0} (p : A → Bool) (xs : List A) → ((x : A) → Contains xs x → p x ≡ false) → list_any p xs ≡ false
-none_any p xs h = not_true (list_any p xs) (λ e. let r = any_some p xs e in let f = sym (h r.0 r.1) ∙ r.2 in cc)
 
 -- ---- results
 
@@ -94,34 +56,50 @@ run_packed j q few less =
     ∙ ap (λ n. Some (record { job = j; sequence = n })) sequence
 
 module _ (d : SpiTable) (fits : FitsSpi d) (held : Reservations) (chip : Chip) (w : World) (s : SpiState) (h : SpiRepresents d held chip w s) where
-  -- a unit with a job runs it for its sequence
-  pub going_run : (u : ℕ) (g : Going) → u < 2 → h.going u ≡ Some g → (t : Transfer) × (run_at s u ≡ Some (run_of d g t))
-  going_run u g lt is = let a = subst (λ o. UnitAgrees d (unit_at chip.serials u) (run_at s u) o) is (h.units u lt) in (a.0, a.1)
+  -- a unit with a job runs it for its sequence, and one that carries out sequences for calls runs no job of a pending one
+  pub going_run : (u : ℕ) (g : Going) → u < 2 → is_sync_unit d u ≡ false → h.going u ≡ Some g → (t : Transfer) × (run_at s u ≡ Some (run_of d g t))
+  going_run u g lt async is = let a = subst (λ o. UnitAgrees d (unit_at chip.serials u) (run_at s u) o) is (h.units u lt async) in (a.0, a.1)
+
+  idle_none : (r : Option Run) → not (is_some r) ≡ true → r ≡ None
+  idle_none None e = refl
+  idle_none (Some r) e = absurd (cc)
+
+  pub runs_none_sync : (u : ℕ) → is_sync_unit d u ≡ true → run_at s u ≡ None
+  runs_none_sync u sync = idle_none (run_at s u) (h.sound.carries.idle u sync)
 
   pub going_free : (u : ℕ) → u < 2 → h.going u ≡ None → run_at s u ≡ None
-  going_free u lt is = (subst (λ o. UnitAgrees d (unit_at chip.serials u) (run_at s u) o) is (h.units u lt)).1
+  going_free u lt is = by (is_sync_unit d u) refl
+    where
+      by : (q : Bool) → is_sync_unit d u ≡ q → run_at s u ≡ None
+      by true sync = runs_none_sync u sync
+      by false async = (subst (λ o. UnitAgrees d (unit_at chip.serials u) (run_at s u) o) is (h.units u lt async)).1
 
   pub going_next : (u : ℕ) (g : Going) → u < 2 → h.going u ≡ Some g → RunsNext d (view s) u (Some g)
   going_next u g lt is = subst (λ o. RunsNext d (view s) u o) is (h.nexts u lt)
 
-  pub going_runs : (u : ℕ) (g : Going) → u < 2 → h.going u ≡ Some g → is_running s g.pending.sequence ≡ true
-  going_runs u g lt is = let a = going_run u g lt is in some_at (runs_sequence g.pending.sequence) s.units u refl (ap (runs_sequence g.pending.sequence) a.1 ∙ same_number g.pending.sequence)
+  -- what it runs is of a pending sequence that has started
+  pub going_asked : (u : ℕ) (g : Going) → u < 2 → is_sync_unit d u ≡ false → h.going u ≡ Some g → Contains s.pending g.pending × (g.pending.started ≡ true) × (is_for d u g.pending ≡ true)
+  going_asked u g lt async is =
+      let next = going_next u g lt is in
+      let runs = subst (λ q. RunsBy q (view s) u g.pending) async next.1 in
+      (runs.0, runs.1, next.2)
+
+  pub going_runs : (u : ℕ) (g : Going) → u < 2 → is_sync_unit d u ≡ false → h.going u ≡ Some g → is_running s g.pending.sequence ≡ true
+  going_runs u g lt async is = let a = going_run u g lt async is in some_at (runs_sequence g.pending.sequence) s.units u refl (ap (runs_sequence g.pending.sequence) a.1 ∙ same_number g.pending.sequence)
 
   -- a sequence that runs a job runs it on a unit
   pub record RunsOn (q : ℕ) : Type 0 where
     pub unit : ℕ
     pub few : unit < 2
+    pub async : is_sync_unit d unit ≡ false
     pub job : Going
     pub is : h.going unit ≡ Some job
     pub of : job.pending.sequence ≡ q
 
-  runs_by : (q u : ℕ) → u < 2 → runs_sequence q (run_at s u) ≡ true → (g : Option Going) → h.going u ≡ g → RunsOn q
-  runs_by q u lt e None is = absurd (let f = sym e ∙ ap (runs_sequence q) (going_free u lt is) in cc)
-  runs_by q u lt e (Some g) is = record { unit = u; few = lt; job = g; is = is; of = is_number g.pending.sequence q (sym (ap (runs_sequence q) (going_run u g lt is).1) ∙ e) }
-
-  idle_none : (r : Option Run) → not (is_some r) ≡ true → r ≡ None
-  idle_none None e = refl
-  idle_none (Some r) e = absurd (cc)
+  runs_by : (q u : ℕ) → u < 2 → (sync : Bool) → is_sync_unit d u ≡ sync → runs_sequence q (run_at s u) ≡ true → (g : Option Going) → h.going u ≡ g → RunsOn q
+  runs_by q u lt sync i e None is = absurd (let f = sym e ∙ ap (runs_sequence q) (going_free u lt is) in cc)
+  runs_by q u lt true i e (Some g) is = absurd (let f = sym e ∙ ap (runs_sequence q) (runs_none_sync u i) in cc)
+  runs_by q u lt false i e (Some g) is = record { unit = u; few = lt; async = i; job = g; is = is; of = is_number g.pending.sequence q (sym (ap (runs_sequence q) (going_run u g lt i is).1) ∙ e) }
 
   pub runs_on : (q : ℕ) → is_running s q ≡ true → RunsOn q
   runs_on q e = by (any_some (runs_sequence q) s.units e)
@@ -133,52 +111,108 @@ module _ (d : SpiTable) (fits : FitsSpi d) (held : Reservations) (chip : Chip) (
           on (nat_lt u 2) refl runs
         where
           on : (b : Bool) → nat_lt u 2 ≡ b → runs_sequence q (run_at s u) ≡ true → RunsOn q
-          on true f runs = runs_by q u (is_below u 2 f) runs (h.going u) refl
+          on true f runs = runs_by q u (is_below u 2 f) (is_sync_unit d u) refl runs (h.going u) refl
           on false f runs = absurd (let g = sym runs ∙ ap (runs_sequence q) (idle_none (run_at s u) (h.sound.few u (is_past u 2 f))) in cc)
 
-  -- ---- pending sequences
+  -- ---- sequences under way
 
-  pub is_there : (p : Pending) → Contains s.pending p → is_pending p.sequence s.pending ≡ true
-  is_there p there = any_in (is_of p.sequence) s.pending p there (same_number p.sequence)
+  abbrev pub under_way : List Pending
+  under_way = all_of (view s)
 
-  pub entry_of : (q : ℕ) → is_pending q s.pending ≡ true → (p : Pending) × Contains s.pending p × (p.sequence ≡ q)
-  entry_of q e = let r = any_some (is_of q) s.pending e in (r.0, r.1, is_number r.0.sequence q r.2)
+  pub is_there : (ps : List Pending) (p : Pending) → Contains ps p → is_pending p.sequence ps ≡ true
+  is_there ps p there = any_in (is_of p.sequence) ps p there (same_number p.sequence)
+
+  pub entry_of : (ps : List Pending) (q : ℕ) → is_pending q ps ≡ true → (p : Pending) × Contains ps p × (p.sequence ≡ q)
+  entry_of ps q e = let r = any_some (is_of q) ps e in (r.0, r.1, is_number r.0.sequence q r.2)
+
+  -- a sequence of a unit that starts jobs of pending ones is under way where it is pending
+  pub pending_alone : (q : ℕ) → is_sync_sequence d q ≡ false → is_pending q under_way ≡ is_pending q s.pending
+  pending_alone q async = by (is_pending q s.pending) refl
+    where
+      none : is_pending q s.pending ≡ false → is_pending q under_way ≡ false
+      none e = any_all (view s) (is_of q) e (λ u p begun. other_number p.sequence q (λ same. let r = h.sound.carries.unit u p begun in let f = sym async ∙ ap (is_sync_sequence d) (sym same) ∙ ap (is_sync_unit d) r.2 ∙ r.1 in cc))
+
+      by : (b : Bool) → is_pending q s.pending ≡ b → is_pending q under_way ≡ is_pending q s.pending
+      by true e = let r = any_some (is_of q) s.pending e in any_in (is_of q) under_way r.0 (all_pending (view s) r.0 r.1) r.2 ∙ sym e
+      by false e = none e ∙ sym e
 
   -- its next job is one of its jobs
-  pub next_there : (p : Pending) → Contains s.pending p → Contains (jobs_of d p.sequence) (next_job d p)
+  pub next_there : (p : Pending) → Contains under_way p → Contains (jobs_of d p.sequence) (next_job d p)
   next_there p there = Contains-get_or (jobs_of d p.sequence) p.next 0 (h.sound.entries p there).next
 
-  pub next_small : (p : Pending) → Contains s.pending p → next_job d p < 16
+  pub next_small : (p : Pending) → Contains under_way p → next_job d p < 16
   next_small p there = job_small d fits p.sequence p.next (h.sound.entries p there).next
 
   -- two that share a job are one
-  shares_next : (p q : Pending) → Contains s.pending p → p.sequence ≡ q.sequence → shares_job d p.sequence q.sequence ≡ true
+  shares_next : (p q : Pending) → Contains under_way p → p.sequence ≡ q.sequence → shares_job d p.sequence q.sequence ≡ true
   shares_next p q there e = subst (λ n. shares_job d p.sequence n ≡ true) e (any_in (has_job d p.sequence) (jobs_of d p.sequence) (next_job d p) (next_there p there) (any_in (λ k. k == next_job d p) (jobs_of d p.sequence) (next_job d p) (next_there p there) (same_number (next_job d p))))
 
-  pub one_by_job : (p q : Pending) → Contains s.pending p → Contains s.pending q → shares_job d p.sequence q.sequence ≡ true → shares_job d q.sequence p.sequence ≡ true → p ≡ q
-  one_by_job p q (i, lt, e) (j, less, f) share back = by (nat_lt i j) refl (nat_lt j i) refl
-    where
-      at : slice_get s.pending i ≡ Some p
-      at = at_contained s.pending i p lt e
+  pub one_by_job : (p q : Pending) → Contains under_way p → Contains under_way q → shares_job d p.sequence q.sequence ≡ true → shares_job d q.sequence p.sequence ≡ true → p ≡ q
+  one_by_job p q there also share back = one_of_all d fits (view s) h.sound p q there also share back
 
-      there : slice_get s.pending j ≡ Some q
-      there = at_contained s.pending j q less f
-
-      by : (a : Bool) → nat_lt i j ≡ a → (b : Bool) → nat_lt j i ≡ b → p ≡ q
-      by true x b y = absurd (let g = sym share ∙ (h.sound.apart i j p q (is_below i j x) at there).1 in cc)
-      by false x true y = absurd (let g = sym back ∙ (h.sound.apart j i q p (is_below j i y) there at).1 in cc)
-      by false x false y = let le = is_past i j x in let ge = is_past j i y in let same : i ≡ j = omega (arith, le, ge) in same_Some p q (sym at ∙ ap (slice_get s.pending) same ∙ there)
-
-  pub one_pending : (p q : Pending) → Contains s.pending p → Contains s.pending q → p.sequence ≡ q.sequence → p ≡ q
+  pub one_pending : (p q : Pending) → Contains under_way p → Contains under_way q → p.sequence ≡ q.sequence → p ≡ q
   one_pending p q there also e = one_by_job p q there also (shares_next p q there e) (shares_next q p also (sym e))
 
-  -- the word of a sequence says whether it is pending
+  -- ---- units that are in use
+
+  no_run : (o : Option Carrying) → run_carried o ≡ None → o ≡ None
+  no_run None e = refl
+  no_run (Some x) e = absurd (cc)
+
+  no_entry : (o : Option Carrying) → ((p : Pending) → entry_carried o ≡ Some p → ⊥) → o ≡ None
+  no_entry None h = refl
+  no_entry (Some x) h = absurd (h x.entry refl)
+
+  pub carried_free : (u : ℕ) → u < 2 → h.going u ≡ None → carried_at s u ≡ None
+  carried_free u lt is = by (is_sync_unit d u) refl
+    where
+      by : (q : Bool) → is_sync_unit d u ≡ q → carried_at s u ≡ None
+      by true sync = no_run (carried_at s u) (subst (λ o. CarriesAgrees d (unit_at chip.serials u) (run_carried (carried_at s u)) o) is (h.sends u lt sync)).1
+      by false async = no_entry (carried_at s u) (λ p begun. let f = sym async ∙ (h.sound.carries.unit u p begun).1 in cc)
+
+  in_use : (u : ℕ) (g : Going) → u < 2 → h.going u ≡ Some g → is_some (run_at s u) || is_some (carried_at s u) ≡ true
+  in_use u g lt is = by (is_sync_unit d u) refl
+    where
+      either : (b : Bool) → b || true ≡ true
+      either true = refl
+      either false = refl
+
+      some : (o : Option Carrying) (r : Run) → run_carried o ≡ Some r → is_some o ≡ true
+      some None r e = absurd (cc)
+      some (Some x) r e = refl
+
+      by : (q : Bool) → is_sync_unit d u ≡ q → is_some (run_at s u) || is_some (carried_at s u) ≡ true
+      by true sync =
+          let a = subst (λ o. CarriesAgrees d (unit_at chip.serials u) (run_carried (carried_at s u)) o) is (h.sends u lt sync) in
+          ap (λ b. is_some (run_at s u) || b) (some (carried_at s u) (run_of d g a.0) a.1) ∙ either (is_some (run_at s u))
+      by false async = ap (λ r. is_some r || is_some (carried_at s u)) (going_run u g lt async is).1
+
+  -- a unit that carries out a sequence runs a job of it
+  pub carried_going : (u : ℕ) (p : Pending) → (view s).begun u ≡ Some p → (g : Going) × (h.going u ≡ Some g) × (g.pending ≡ p)
+  carried_going u p begun = by (h.going u) refl
+    where
+      right : (u < 2) × (is_sync_unit d u ≡ true) × (unit_of_sequence d p.sequence ≡ u)
+      right = h.sound.carries.unit u p begun
+
+      by : (o : Option Going) → h.going u ≡ o → (g : Going) × (h.going u ≡ Some g) × (g.pending ≡ p)
+      by None is = absurd (let f = sym begun ∙ ap entry_carried (carried_free u right.0 is) in cc)
+      by (Some g) is = (g, is, same_Some g.pending p (sym (subst (λ q. RunsBy q (view s) u g.pending) right.1 (going_next u g right.0 is).1) ∙ begun))
+
+  -- the word of a sequence says whether it is under way
   module _ (on : is_off s.mode ≡ false) where
-    pub pending_word : (q : ℕ) → q < 8 → (word_of chip (sequence_word q) == PENDING) ≡ is_pending q s.pending
-    pending_word q lt = let x = h.sound.results.sequences q lt in ap (λ v. v == PENDING) ((h.words.on on).sequences.sequences q lt) ∙ code_pending (sequence_result s.sequence_results q) (is_pending q s.pending) (h.sound.results.named q lt) x.0 x.1
+    pub pending_word : (q : ℕ) → q < 8 → (word_of chip (sequence_word q) == PENDING) ≡ is_pending q under_way
+    pending_word q lt = let x = h.sound.results.sequences q lt in ap (λ v. v == PENDING) ((h.words.on on).sequences.sequences q lt) ∙ code_pending (sequence_result s.sequence_results q) (is_pending q under_way) (h.sound.results.named q lt) x.0 x.1
 
     pub sequence_word_says : (q : ℕ) → q < 8 → sequence_result_in (word_of chip (sequence_word q)) ≡ sequence_result s.sequence_results q
     sequence_word_says q lt = ap sequence_result_in ((h.words.on on).sequences.sequences q lt) ∙ sequence_said (sequence_result s.sequence_results q) (h.sound.results.named q lt)
+
+    -- the next job of each sequence under way stands in its word
+    pub next_says : (p : Pending) → Contains under_way p → next_in (word_of chip NEXTS) p.sequence ≡ p.next
+    next_says p there = by (all_cases (view s) p there)
+      where
+        by : Contains s.pending p ⊎ ((u : ℕ) × ((view s).begun u ≡ Some p)) → next_in (word_of chip NEXTS) p.sequence ≡ p.next
+        by (inl is) = ((h.words.on on).sequences.pending p is).next
+        by (inr (u, e)) = (h.words.on on).sequences.begun u p e
 
     pub running_says : (u : ℕ) → u < 2 → (g : Option Going) → h.going u ≡ g → run_in (word_of chip (running_word u)) ≡ running_by d g
     running_says u lt None is = ap run_in (subst (λ o. RunAgrees d (word_of chip) u o) is ((h.words.on on).runs u lt))
@@ -187,20 +221,12 @@ module _ (d : SpiTable) (fits : FitsSpi d) (held : Reservations) (chip : Chip) (
         let p = going_next u g lt is in
         ap run_in a.running ∙ run_packed (next_job d g.pending) g.pending.sequence (next_small g.pending p.0) (h.sound.entries g.pending p.0).number
 
-    pub unit_word_says : (u : ℕ) → u < 2 → (if word_of chip (running_word u) == 0 then SpiIdle else SpiBusy) ≡ status_by false (is_some (run_at s u))
+    pub unit_word_says : (u : ℕ) → u < 2 → (if word_of chip (running_word u) == 0 then SpiIdle else SpiBusy) ≡ status_by false (is_some (run_at s u) || is_some (carried_at s u))
     unit_word_says u lt = by (h.going u) refl
       where
-        by : (g : Option Going) → h.going u ≡ g → (if word_of chip (running_word u) == 0 then SpiIdle else SpiBusy) ≡ status_by false (is_some (run_at s u))
-        by None is = ap (λ v. if v == 0 then SpiIdle else SpiBusy) (subst (λ o. RunAgrees d (word_of chip) u o) is ((h.words.on on).runs u lt)) ∙ sym (ap (λ r. status_by false (is_some r)) (going_free u lt is))
+        by : (g : Option Going) → h.going u ≡ g → (if word_of chip (running_word u) == 0 then SpiIdle else SpiBusy) ≡ status_by false (is_some (run_at s u) || is_some (carried_at s u))
+        by None is = ap (λ v. if v == 0 then SpiIdle else SpiBusy) (subst (λ o. RunAgrees d (word_of chip) u o) is ((h.words.on on).runs u lt)) ∙ sym (ap (λ r. status_by false (is_some r || is_some (carried_at s u))) (going_free u lt is) ∙ ap (λ x. status_by false (is_some x)) (carried_free u lt is))
         by (Some g) is =
             let a = subst (λ o. RunAgrees d (word_of chip) u o) is ((h.words.on on).runs u lt) in
             let some : (word_of chip (running_word u) == 0) ≡ false = other_number (word_of chip (running_word u)) 0 (λ e. let f = sym e ∙ a.running in omega (arith, f)) in
-            ap (λ b. if b then SpiIdle else SpiBusy) some ∙ sym (ap (λ r. status_by false (is_some r)) (going_run u g lt is).1)
-
--- the unit of a job is one
-pub one_unit : (d : SpiTable) (u v j : ℕ) → is_on_unit u (job_of d j) ≡ true → is_on_unit v (job_of d j) ≡ true → u ≡ v
-one_unit d u v j e f = by (job_of d j) e f
-  where
-    by : (k : Option Job) → is_on_unit u k ≡ true → is_on_unit v k ≡ true → u ≡ v
-    by None e f = absurd (cc)
-    by (Some k) e f = sym (is_number k.unit u e) ∙ is_number k.unit v f
+            ap (λ b. if b then SpiIdle else SpiBusy) some ∙ sym (ap (status_by false) (in_use u g lt is))

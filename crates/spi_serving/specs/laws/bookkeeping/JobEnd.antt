@@ -3,17 +3,17 @@
 -- Used by services.ServeRight, services.JobOverRight.
 use Rattle.std.proofs.Common.{◌≡◌, ◌+◌, ◌<◌, ◌++◌, ◌∙◌, if◌then◌else◌}
 use Rattle.spi_serving.specs.Terms
-use Terms.{after_job, after_last, AnswerName, ap, arith, Arrived, Bool, CANCELLED, cancelled_bit, changed, Chip}
-use Terms.{chip_after, done_same, end_by, ended, FAILED, false, find, FitsSpi, found_entry, goes_to_next, has_done}
-use Terms.{has_further, has_mark, is_done, is_of, is_there, IsFound, IsLast, IsServed, job_notice, job_over, jobs_by}
-use Terms.{jobs_list, jobs_of, length, length-take-le, List, MARKS, nat_lt, next_in, next_job, NEXTS, None, notes}
-use Terms.{Notice, notices_by, one_pending, Option, outcome_with, Pending, pending_of, PendingAgrees, refl}
-use Terms.{Reservations, result_by, Run, Running, SendsRight, Sequence, sequence_after, sequence_code, sequence_notice}
-use Terms.{sequence_of, SequenceNext, Serial, SerialAck, served, served_by, Serves, Some, spi_machine, SpiJobOk}
-use Terms.{SpiRepresents, SpiState, SpiTable, sym, true, unit_at, unit_of, UnitAgrees, with_item, with_next_in}
-use Terms.{with_run, word_of, World, Write, ℕ}
+use Terms.{after_job, after_last, all_pending, AnswerName, ap, arith, Arrived, Bool, CANCELLED, cancelled_bit, changed}
+use Terms.{Chip, chip_after, Contains, done_same, end_by, ended, FAILED, false, find, FitsSpi, found_entry}
+use Terms.{goes_to_next, has_done, has_further, has_mark, is_done, is_of, is_sync_unit, is_there, IsFound, IsLast}
+use Terms.{IsServed, job_notice, job_over, jobs_by, jobs_list, jobs_of, length, length-take-le, List, MARKS, nat_lt}
+use Terms.{next_in, next_job, NEXTS, None, notes, Notice, notices_by, one_pending, Option, outcome_with, Pending}
+use Terms.{pending_of, PendingAgrees, refl, Reservations, result_by, Run, run_at, Running, SendsRight, Sequence}
+use Terms.{sequence_after, sequence_code, sequence_notice, sequence_of, SequenceNext, Serial, SerialAck, served}
+use Terms.{served_by, Serves, Some, spi_machine, SpiJobOk, SpiRepresents, SpiState, SpiTable, sym, true, unit_at}
+use Terms.{unit_of, UnitAgrees, view, with_item, with_next_in, with_run, word_of, World, Write, ℕ}
 use Rattle.spi_serving.specs.laws.{words.FacingWords.{ends_here, run_is, way}, hardware.UnitRegisters.{unit_same}}
-use Rattle.spi_serving.specs.laws.{bookkeeping.UnderWay.{UnderWay, is_ready, unit_line}}
+use Rattle.spi_serving.specs.laws.{bookkeeping.UnderWay.{UnderWay, asked_by, is_ready, runs_so, unit_line}}
 use Rattle.chip_units.specs.Serials as serials
 use Rattle.spi_machine.specs.Machine as machine
 use Rattle.spi_machine.specs.Wiring as wiring
@@ -29,7 +29,7 @@ abbrev pub told_by : SpiTable → Pending → Option AnswerName → List Notice
 told_by d p None = job_notice d (next_job d p)
 told_by d p (Some x) = job_notice d (next_job d p) ++ sequence_notice d p.sequence
 
-jobs_count : (d : SpiTable) → FitsSpi d → (q : ℕ) → (jobs_list d q).count ≡ length (jobs_of d q)
+pub jobs_count : (d : SpiTable) → FitsSpi d → (q : ℕ) → (jobs_list d q).count ≡ length (jobs_of d q)
 jobs_count d fits q = by (sequence_of d q) refl
   where
     by : (o : Option Sequence) → sequence_of d q ≡ o → (wiring.jobs_by o).count ≡ length (jobs_by o)
@@ -37,7 +37,7 @@ jobs_count d fits q = by (sequence_of d q) refl
     by (Some k) e = let few = (fits.sequences q k e).few in let row = (fits.sequences q k e).row in sym (length-take-le k.jobs.count k.jobs.numbers (omega (arith, few, row)))
 
 module _ (d : SpiTable) (fits : FitsSpi d) (below : Reservations) (chip : Chip) (w : World) (s : SpiState) (h : SpiRepresents d below chip w s) (u : ℕ) (few : u < 2) (a : Arrived) (i : IsLast d (word_of chip) s w.now u a) (y : ℕ) where
-  abbrev pub by : IsServed (word_of chip) s w.now u a.served
+  abbrev pub by : IsServed d (word_of chip) s w.now u a.served
   by = i.arrived.taken.served
 
   abbrev pub under : UnderWay d below chip w s h u by.done.run
@@ -50,80 +50,11 @@ module _ (d : SpiTable) (fits : FitsSpi d) (below : Reservations) (chip : Chip) 
   abbrev pub entry : Pending
   entry = under.job.pending
 
-  said : PendingAgrees (word_of chip) entry
-  said = (h.words.on under.on).sequences.pending entry under.there
-
   pub sequence_is : a.served.run.sequence ≡ entry.sequence
   sequence_is = ap (λ (r : Running). r.sequence) (run_is d fits below chip w s h u few a.served by)
 
   pub job_is : a.served.run.job ≡ next_job d entry
   job_is = ap (λ (r : Running). r.job) (run_is d fits below chip w s h u few a.served by)
-
-  -- how it ends, where it does
-  abbrev pub ending : Option AnswerName
-  ending = end_by entry.cancelled run.transfer.failed (has_further d entry)
-
-  -- the frame has loaded how it goes on
-  pub course_is : after_job d a.served (has_mark (word_of chip MARKS) (cancelled_bit a.served.run.sequence)) (word_of chip NEXTS) ≡ course_by (word_of chip NEXTS) entry.sequence entry.next ending
-  course_is =
-      ap (λ q. after_of q (has_mark (word_of chip MARKS) (cancelled_bit q)) a.served.failed (next_in (word_of chip NEXTS) q)) sequence_is
-      ∙ ap (λ c. after_of entry.sequence c a.served.failed (next_in (word_of chip NEXTS) entry.sequence)) said.cancelled
-      ∙ ap (λ f. after_of entry.sequence entry.cancelled f (next_in (word_of chip NEXTS) entry.sequence)) (sym by.done.failed)
-      ∙ ap (λ n. after_of entry.sequence entry.cancelled run.transfer.failed n) said.next
-      ∙ ap (λ k. after_by entry.cancelled run.transfer.failed (nat_lt (entry.next + 1) k)) (jobs_count d fits entry.sequence)
-      ∙ each entry.cancelled run.transfer.failed (has_further d entry)
-    where
-      after_by : (c f more : Bool) → SequenceNext
-      after_by c f more = if c then courses.Ends CANCELLED else if f then courses.Ends FAILED else if more then courses.Further (with_next_in (word_of chip NEXTS) entry.sequence (entry.next + 1)) else courses.Ends 0
-
-      after_of : (q : ℕ) (c f : Bool) (n : ℕ) → SequenceNext
-      after_of q c f n = if c then courses.Ends CANCELLED else if f then courses.Ends FAILED else if nat_lt (n + 1) (jobs_list d q).count then courses.Further (with_next_in (word_of chip NEXTS) q (n + 1)) else courses.Ends 0
-
-      each : (c f more : Bool) → after_by c f more ≡ course_by (word_of chip NEXTS) entry.sequence entry.next (end_by c f more)
-      each true f more = refl
-      each false true more = refl
-      each false false true = refl
-      each false false false = refl
-
-  -- ---- the event
-
-  found : IsFound entry.sequence s.pending
-  found = found_entry entry.sequence s.pending (is_there d fits below chip w s h entry under.there)
-
-  pending_is : pending_of s run ≡ Some entry
-  pending_is = ap (λ (z : Run). find (is_of z.sequence) s.pending) under.runs ∙ found.is ∙ ap (λ z. Some z) (one_pending d fits below chip w s h found.entry entry found.there under.there found.of)
-
-  -- the unit is free, and the job has its result
-  abbrev pub over_state : SpiState
-  over_state = record (with_run (after_last s run run.transfer.failed) u None) { job_results = with_item SpiJobOk (after_last s run run.transfer.failed).job_results (next_job d entry) (result_by run.transfer.failed) }
-
-  abbrev pub state2 : Option AnswerName → SpiState
-  state2 None = record over_state { pending = changed entry.sequence goes_to_next over_state.pending }
-  state2 (Some x) = ended d over_state entry (entry.next + 1) x
-
-  after_is : (o : Option AnswerName) → sequence_after d over_state entry o ≡ outcome_with (state2 o) (notes (told_by d entry o)) None
-  after_is None = refl
-  after_is (Some x) = refl
-
-  told_is : (o : Option AnswerName) (c : SequenceNext) → c ≡ course_by (word_of chip NEXTS) entry.sequence entry.next o → notices_by d a.served c ≡ told_by d entry o
-  told_is o c e = ap (notices_by d a.served) e ∙ each o
-    where
-      each : (o : Option AnswerName) → notices_by d a.served (course_by (word_of chip NEXTS) entry.sequence entry.next o) ≡ told_by d entry o
-      each None = ap (job_notice d) job_is
-      each (Some x) = ap (λ n. job_notice d n ++ sequence_notice d a.served.run.sequence) job_is ∙ ap (λ q. job_notice d (next_job d entry) ++ sequence_notice d q) sequence_is
-
-  pub ends_is : (spi_machine d).happens w s (Serves (26 + u) y) ≡ Some (outcome_with (state2 ending) (notes (told_by d entry ending)) None)
-  ends_is =
-      ap (λ q. if q then Some (served d w s (unit_of (26 + u)) y (machine.run_of s (unit_of (26 + u)))) else None) (is_ready d fits below chip w s h u few under.on (ap (has_done w.now) by.done.is ∙ by.done.done))
-      ∙ ap (λ o. Some (served d w s o y (machine.run_of s o))) (unit_line u few)
-      ∙ ap (λ r. Some (served d w s (Some u) y r)) by.done.is
-      ∙ ap (λ q. Some (served_by d w s u y run q)) (ends_here d fits below chip w s h u few a i)
-      ∙ ap (λ o. Some (job_over d (after_last s run run.transfer.failed) u run.transfer.failed o)) pending_is
-      ∙ ap (λ z. Some z) (after_is ending)
-
-  -- what it tells is what the frame will tell
-  pub ends_told : (c : SequenceNext) → c ≡ after_job d a.served (has_mark (word_of chip MARKS) (cancelled_bit a.served.run.sequence)) (word_of chip NEXTS) → told_by d entry ending ≡ notices_by d a.served c
-  ends_told c e = sym (told_is ending c (e ∙ course_is))
 
   -- nothing begins on the wire
   pub ends_sends : SendsRight chip None (Write (SerialAck u) 1)
@@ -138,3 +69,81 @@ module _ (d : SpiTable) (fits : FitsSpi d) (below : Reservations) (chip : Chip) 
 
       done : serials.is_done (unit_at chip.serials u) chip.serials.time ≡ true
       done = ap (λ o. serials.has_ended o chip.serials.time) under.stands ∙ ap (λ t. serials.is_done_at under.word t) time ∙ done_same under.word under.transfer w.now under.like.start ∙ ap (λ (r : Run). is_done w.now r.transfer) (sym under.runs) ∙ by.done.done
+
+  -- of a unit that starts jobs of pending sequences
+  module _ (async : is_sync_unit d u ≡ false) where
+    -- which is one that the unit starts jobs of
+    there : Contains s.pending entry
+    there = (asked_by d fits below chip w s h u few async under.job under.is).0
+
+    pub runs : run_at s u ≡ Some run
+    runs = sym (runs_so d fits below chip w s h u few async) ∙ by.done.is
+
+    said : PendingAgrees (word_of chip) entry
+    said = (h.words.on under.on).sequences.pending entry there
+
+    -- how it ends, where it does
+    abbrev pub ending : Option AnswerName
+    ending = end_by entry.cancelled run.transfer.failed (has_further d entry)
+
+    -- the frame has loaded how it goes on
+    pub course_is : after_job d a.served (has_mark (word_of chip MARKS) (cancelled_bit a.served.run.sequence)) (word_of chip NEXTS) ≡ course_by (word_of chip NEXTS) entry.sequence entry.next ending
+    course_is =
+        ap (λ q. after_of q (has_mark (word_of chip MARKS) (cancelled_bit q)) a.served.failed (next_in (word_of chip NEXTS) q)) sequence_is
+        ∙ ap (λ c. after_of entry.sequence c a.served.failed (next_in (word_of chip NEXTS) entry.sequence)) said.cancelled
+        ∙ ap (λ f. after_of entry.sequence entry.cancelled f (next_in (word_of chip NEXTS) entry.sequence)) (sym by.done.failed)
+        ∙ ap (λ n. after_of entry.sequence entry.cancelled run.transfer.failed n) said.next
+        ∙ ap (λ k. after_by entry.cancelled run.transfer.failed (nat_lt (entry.next + 1) k)) (jobs_count d fits entry.sequence)
+        ∙ each entry.cancelled run.transfer.failed (has_further d entry)
+      where
+        after_by : (c f more : Bool) → SequenceNext
+        after_by c f more = if c then courses.Ends CANCELLED else if f then courses.Ends FAILED else if more then courses.Further (with_next_in (word_of chip NEXTS) entry.sequence (entry.next + 1)) else courses.Ends 0
+
+        after_of : (q : ℕ) (c f : Bool) (n : ℕ) → SequenceNext
+        after_of q c f n = if c then courses.Ends CANCELLED else if f then courses.Ends FAILED else if nat_lt (n + 1) (jobs_list d q).count then courses.Further (with_next_in (word_of chip NEXTS) q (n + 1)) else courses.Ends 0
+
+        each : (c f more : Bool) → after_by c f more ≡ course_by (word_of chip NEXTS) entry.sequence entry.next (end_by c f more)
+        each true f more = refl
+        each false true more = refl
+        each false false true = refl
+        each false false false = refl
+
+    -- ---- the event
+
+    found : IsFound entry.sequence s.pending
+    found = found_entry entry.sequence s.pending (is_there d fits below chip w s h s.pending entry there)
+
+    pending_is : pending_of s run ≡ Some entry
+    pending_is = ap (λ (z : Run). find (is_of z.sequence) s.pending) under.runs ∙ found.is ∙ ap (λ z. Some z) (one_pending d fits below chip w s h found.entry entry (all_pending (view s) found.entry found.there) (all_pending (view s) entry there) found.of)
+
+    -- the unit is free, and the job has its result
+    abbrev pub over_state : SpiState
+    over_state = record (with_run (after_last s run run.transfer.failed) u None) { job_results = with_item SpiJobOk (after_last s run run.transfer.failed).job_results (next_job d entry) (result_by run.transfer.failed) }
+
+    abbrev pub state2 : Option AnswerName → SpiState
+    state2 None = record over_state { pending = changed entry.sequence goes_to_next over_state.pending }
+    state2 (Some x) = ended d over_state entry (entry.next + 1) x
+
+    after_is : (o : Option AnswerName) → sequence_after d over_state entry o ≡ outcome_with (state2 o) (notes (told_by d entry o)) None
+    after_is None = refl
+    after_is (Some x) = refl
+
+    told_is : (o : Option AnswerName) (c : SequenceNext) → c ≡ course_by (word_of chip NEXTS) entry.sequence entry.next o → notices_by d a.served c ≡ told_by d entry o
+    told_is o c e = ap (notices_by d a.served) e ∙ each o
+      where
+        each : (o : Option AnswerName) → notices_by d a.served (course_by (word_of chip NEXTS) entry.sequence entry.next o) ≡ told_by d entry o
+        each None = ap (job_notice d) job_is
+        each (Some x) = ap (λ n. job_notice d n ++ sequence_notice d a.served.run.sequence) job_is ∙ ap (λ q. job_notice d (next_job d entry) ++ sequence_notice d q) sequence_is
+
+    pub ends_is : (spi_machine d).happens w s (Serves (26 + u) y) ≡ Some (outcome_with (state2 ending) (notes (told_by d entry ending)) None)
+    ends_is =
+        ap (λ q. if q then Some (served d w s (unit_of (26 + u)) y (machine.run_of s (unit_of (26 + u)))) else None) (is_ready d fits below chip w s h u few under.on (ap (has_done w.now) runs ∙ by.done.done))
+        ∙ ap (λ o. Some (served d w s o y (machine.run_of s o))) (unit_line u few)
+        ∙ ap (λ r. Some (served d w s (Some u) y r)) runs
+        ∙ ap (λ q. Some (served_by d w s u y run q)) (ends_here d fits below chip w s h u few a i)
+        ∙ ap (λ o. Some (job_over d (after_last s run run.transfer.failed) u run.transfer.failed o)) pending_is
+        ∙ ap (λ z. Some z) (after_is ending)
+
+    -- what it tells is what the frame will tell
+    pub ends_told : (c : SequenceNext) → c ≡ after_job d a.served (has_mark (word_of chip MARKS) (cancelled_bit a.served.run.sequence)) (word_of chip NEXTS) → told_by d entry ending ≡ notices_by d a.served c
+    ends_told c e = sym (told_is ending c (e ∙ course_is))

@@ -3,13 +3,13 @@
 -- Used by services.WellEnded, services.FailedEnded, services.GoesOnRight, words.LastKept, services.FreedUnit.
 use Rattle.std.proofs.Common.{◌≡◌, ◌≢◌, ◌+◌, ◌<◌, ◌≤◌, ◌==◌, ◌&&◌, ◌||◌, [], ◌∷◌, ◌∙◌, ◌⊎◌, if◌then◌else◌}
 use Rattle.spi_serving.specs.Terms
-use Terms.{ap, arith, Bool, changed, Chip, Contains, entries_of, Entry, false, filter, FitsSpi, goes_to_next, Going}
-use Terms.{GoingAgrees, held_word, inl, inr, is_for, is_of, is_on_unit, is_to_begin, job_of, job_unit, jobs_of, Keeps}
-use Terms.{KeepsNone, length, List, map, Memory, nat_lt, nat_tests, next_job, None, not, not_true, one_pending}
-use Terms.{one_unit, Option, other_number, Part, Pending, Pins, PinsNone, placed_of, PutRight, Putting, refl}
-use Terms.{Reservations, same_number, same_or_other, slice_get, Some, SpiRepresents, SpiState, SpiTable, subst, suc}
-use Terms.{sum_by, sym, TakeRight, Taking, true, unit_of_sequence, view, with_wait, word_of, words_before, words_of}
-use Terms.{World, ℕ}
+use Terms.{all_pending, ap, arith, Bool, changed, Chip, Contains, entries_of, Entry, false, filter, FitsSpi}
+use Terms.{goes_to_next, Going, GoingAgrees, held_word, inl, inr, is_for, is_of, is_on_unit, is_to_begin, job_of}
+use Terms.{job_unit, jobs_of, Keeps, KeepsNone, length, List, map, Memory, nat_lt, nat_tests, next_job, None, not}
+use Terms.{not_true, one_pending, one_unit, Option, other_number, Part, Pending, Pins, PinsNone, placed_of, PutRight}
+use Terms.{Putting, refl, Reservations, same_number, same_or_other, slice_get, Some, SpiRepresents, SpiState, SpiTable}
+use Terms.{subst, suc, sum_by, sym, TakeRight, Taking, true, unit_of_sequence, view, with_wait, word_of, words_before}
+use Terms.{words_of, World, ℕ}
 use Rattle.spi_serving.specs.laws.words.JoinedLists.{before-all, before-less, before-next}
 use Rattle.spi_serving.specs.laws.bookkeeping.MovedOn.{by_unit, going_other, going_with}
 use Rattle.spi_serving.specs.laws.words.Positions.{Stands, words_count}
@@ -134,7 +134,7 @@ module _ (d : SpiTable) (fits : FitsSpi d) (below : Reservations) (chip : Chip) 
   for_same x at = by (same_or_other x.sequence p.sequence)
     where
       by : (x.sequence ≡ p.sequence) ⊎ (x.sequence ≢ p.sequence) → is_for d u (item x) ≡ is_for d u x
-      by (inl e) = subst (λ z. is_for d u (item z) ≡ is_for d u z) (sym (one_pending d fits below chip w s h x p at there e)) (ap (λ q. is_for d u (if q then goes_to_next p else p)) (same_number p.sequence) ∙ own_for)
+      by (inl e) = subst (λ z. is_for d u (item z) ≡ is_for d u z) (sym (one_pending d fits below chip w s h x p (all_pending (view s) x at) (all_pending (view s) p there) e)) (ap (λ q. is_for d u (if q then goes_to_next p else p)) (same_number p.sequence) ∙ own_for)
       by (inr ne) = ap (λ q. is_for d u (if q then goes_to_next x else x)) (other_number x.sequence p.sequence ne)
 
   entry_same : (x : Pending) → now (item x) ≡ with_wait p.sequence true (was x)

@@ -3,11 +3,11 @@
 -- Used by words.LastKept, words.ReleasedPins, services.FailedEnded, services.WellEnded and 7 more.
 use Rattle.std.proofs.Common.{◌≡◌, ◌<◌, ◌==◌, ◌∙◌}
 use Rattle.spi_serving.specs.Terms
-use Terms.{any_in, ap, arith, channels_of, Chip, Contains, contains_map, false, FitsSpi, Going, going_next, GoingAgrees}
-use Terms.{held_word, is_for, is_number, is_off, is_on_unit, is_to_begin, Job, job_of, job_there, Keeps, KeepsNone}
-use Terms.{length, next_job, None, Option, Part, Pins, PinsNone, placed_of, PutRight, Putting, received_of, refl}
-use Terms.{Reservations, RunAgrees, same_number, slice_get, Some, some_is, SpiRepresents, SpiState, SpiTable, subst}
-use Terms.{sym, taken_of, TakeRight, Taking, true, uses_channel, word_of, World, ℕ}
+use Terms.{any_in, ap, arith, channels_of, Chip, Contains, contains_map, false, FitsSpi, Going, going_next}
+use Terms.{GoingAgrees, held_word, is_for, is_number, is_off, is_on_unit, is_to_begin, Job, job_of, job_there, Keeps}
+use Terms.{KeepsNone, length, next_job, None, Option, Part, Pins, PinsNone, placed_of, PutRight, Putting, received_of}
+use Terms.{refl, Reservations, RunAgrees, same_number, slice_get, Some, some_is, SpiRepresents, SpiState, SpiTable}
+use Terms.{subst, sym, taken_of, TakeRight, Taking, true, uses_channel, word_of, World, ℕ}
 use Rattle.spi_serving.specs.laws.words.JoinedLists.{get_mapped}
 
 module _ (d : SpiTable) (fits : FitsSpi d) (below : Reservations) (chip : Chip) (w : World) (s : SpiState) (h : SpiRepresents d below chip w s) (on : is_off s.mode ≡ false) where

@@ -2,17 +2,17 @@
 -- From words.FacingWords, services.ServeBounds, services.ServeDecisions, words.Positions, bookkeeping.UnderWay.
 use Rattle.std.proofs.Common.{◌<◌, ◌≤◌}
 use Rattle.spi_serving.specs.Terms
-use Terms.{arith, asked_word, channel_served, Chip, FitsSpi, IsServed, length, Position, Reservations, serve_place}
-use Terms.{ServePlace, SpiRepresents, SpiState, SpiTable, subst, sym, word_of, World, ℕ}
+use Terms.{arith, asked_word, channel_served, Chip, FitsSpi, IsServed, length, Position, Reservations}
+use Terms.{word_place, ServePlace, SpiRepresents, SpiState, SpiTable, subst, sym, word_of, World, ℕ}
 use Rattle.spi_serving.specs.laws.{services.ServeBounds.{Fitting}, services.ServeDecisions.{footing}}
 use Rattle.spi_serving.specs.laws.{words.FacingWords.{at_is, way}, words.Positions.{parts_few}}
 use Rattle.spi_serving.specs.laws.{bookkeeping.UnderWay.{UnderWay}}
 use Rattle.spi_sequences.specs.declared.service.serve.ServePlace.TheVariants as serve
 
-pub place_fits : (d : SpiTable) → FitsSpi d → (below : Reservations) (chip : Chip) (w : World) (s : SpiState) → SpiRepresents d below chip w s → (u : ℕ) → u < 2 → (p : ServePlace) → serve_place d u p (footing chip) w s → Fitting d u p
+pub place_fits : (d : SpiTable) → FitsSpi d → (below : Reservations) (chip : Chip) (w : World) (s : SpiState) → SpiRepresents d below chip w s → (u : ℕ) → u < 2 → (p : ServePlace) → word_place d u p (footing chip) w s → Fitting d u p
 place_fits d fits below chip w s h u few (serve.Acknowledge a c) (i, course) = (subst (λ (p : Position). p.channel < 4) (sym (at_is d fits below chip w s h u few a.served by)) (omega (arith, within, parts)), (word_of chip (asked_word (channel_served d a.served) a.served.at.word), i.arrived.taken.taker))
   where
-    by : IsServed (word_of chip) s w.now u a.served
+    by : IsServed d (word_of chip) s w.now u a.served
     by = i.arrived.taken.served
 
     under : UnderWay d below chip w s h u by.done.run

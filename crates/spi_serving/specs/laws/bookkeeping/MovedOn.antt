@@ -3,10 +3,10 @@
 -- Used by bookkeeping.PinsTurned, services.FurtherBegun, bookkeeping.JobOver, services.FailedEnded and 6 more.
 use Rattle.std.proofs.Common.{◌≡◌, ◌≢◌, ◌+◌, ◌-◌, ◌<◌, ◌≤◌, ◌==◌, ◌&&◌, ◌||◌, [], ◌∷◌, ◌++◌, ◌∙◌, ◌⊎◌, if◌then◌else◌}
 use Rattle.spi_serving.specs.Terms
-use Terms.{ap, arith, Bool, drop, false, FitsSpi, Going, GoingAgrees, inl, inr, is_ahead, is_below, is_for, is_to_begin}
-use Terms.{length, length-append, Memory, nat_lt, nat_tests, Option, other_number, Part, Position, received_of, refl}
-use Terms.{same_number, same_or_other, slice_get, Some, SpiTable, subst, suc, sym, take, taken_of, true, words_before}
-use Terms.{ℕ}
+use Terms.{ap, arith, Bool, drop, false, FitsSpi, Going, GoingAgrees, inl, inr, is_ahead, is_below, is_for}
+use Terms.{is_to_begin, length, length-append, Memory, nat_lt, nat_tests, Option, other_number, Part, Position}
+use Terms.{received_of, refl, same_number, same_or_other, slice_get, Some, SpiTable, subst, suc, sym, take, taken_of}
+use Terms.{true, words_before, ℕ}
 use Rattle.spi_serving.specs.laws.{words.JoinedLists.{before-less, before-next, dropped-count, dropped-more, taken-all}}
 use Rattle.spi_serving.specs.laws.{words.JoinedLists.{taken-same}, words.Positions.{Follows, Same, Next, Stands}}
 

@@ -1,18 +1,19 @@
 -- A job ends well and its sequence goes on: it waits with its next job, and the state is sound.
 -- Used by services.GoesOnRight, words.NextWords.
-use Rattle.std.proofs.Common.{◌≡◌, ◌≢◌, ◌+◌, ◌<◌, ◌≤◌, ◌==◌, ◌&&◌, ◌∙◌, ◌⊎◌, if◌then◌else◌}
+use Rattle.std.proofs.Common.{◌≡◌, ◌≢◌, ◌+◌, ◌<◌, ◌≤◌, ◌==◌, ◌&&◌, ◌∙◌, ◌⊎◌, if◌then◌else◌, ◌++◌, ◌||◌}
 use Rattle.spi_serving.specs.Terms
-use Terms.{AnswerName, any_in, any_mapped, any_none, ap, arith, at_contained, at_left, Bool, changed, Chip, Contains}
-use Terms.{Contains-get_or, contains_back, contains_map, false, FitsSpi, get_back, goes_to_next, has_job, inl, inr}
-use Terms.{is_left, is_of, is_off, is_pending, IsEntry, IsSoundState, item-other, item-same, job_result, jobs_of}
-use Terms.{left_at, LeftAt, length, List, list_any, next_job, none_any, not_true, one_by_job, one_pending, one_place}
-use Terms.{other_number, Pending, refl, Reservations, same_number, same_or_other, shares_job, slice_get, slice_index_or}
-use Terms.{Some, SpiJobOk, SpiJobPending, SpiJobQueued, SpiRepresents, SpiState, SpiTable, subst, sym, true, View, view}
-use Terms.{with_item, World, ℕ}
+use Terms.{all_carried, all_cases, all_of, all_pending, AnswerName, any_in, any_mapped, any_none, ap, arith}
+use Terms.{aside_pending, at_contained, at_left, Bool, changed, Chip, Contains, Contains-get_or, contains_back}
+use Terms.{contains_map, entries_begun, false, FitsSpi, get_back, goes_to_next, has_job, inl, inr, is_left, is_of}
+use Terms.{is_off, is_pending, is_sync_sequence, is_sync_unit, IsEntry, IsSoundState, item-other, item-same}
+use Terms.{job_result, jobs_of, left_at, LeftAt, length, List, list_any, list_any-append, next_job, none_any, not_true}
+use Terms.{one_by_job, one_pending, one_place, other_number, Pending, refl, Reservations, same_number, same_or_other}
+use Terms.{shares_job, slice_get, slice_index_or, Some, SpiJobOk, SpiJobPending, SpiJobQueued, SpiRepresents, SpiState}
+use Terms.{SpiTable, subst, sym, true, View, view, with_item, World, ℕ}
 use Rattle.spi_sequences.specs.Refinement.{IsLast}
 
 module _ (d : SpiTable) (fits : FitsSpi d) (below : Reservations) (chip : Chip) (w : World) (s : SpiState) (h : SpiRepresents d below chip w s) (p : Pending) (there : Contains s.pending p) (more : p.next + 1 < length (jobs_of d p.sequence)) (good : p.cancelled ≡ false)
-    (running idle : ℕ → Bool) (over : running p.sequence ≡ false) (others : (n : ℕ) → n ≢ p.sequence → running n ≡ (view s).running n) (few : (u : ℕ) → 2 ≤ u → idle u ≡ true) (on : is_off s.mode ≡ false) (result : AnswerName) (last : IsLast result) where
+    (running idle : ℕ → Bool) (over : running p.sequence ≡ false) (others : (n : ℕ) → n ≢ p.sequence → running n ≡ (view s).running n) (few : (u : ℕ) → 2 ≤ u → idle u ≡ true) (calm : (u : ℕ) → is_sync_unit d u ≡ true → idle u ≡ true) (on : is_off s.mode ≡ false) (result : AnswerName) (last : IsLast result) where
   abbrev item : Pending → Pending
   item x = if is_of p.sequence x then goes_to_next x else x
 
@@ -50,11 +51,33 @@ module _ (d : SpiTable) (fits : FitsSpi d) (below : Reservations) (chip : Chip) 
       by (z, at, same) = subst P (sym same) (split (same_or_other z.sequence p.sequence))
         where
           split : (z.sequence ≡ p.sequence) ⊎ (z.sequence ≢ p.sequence) → P (item z)
-          split (inl e) = subst (λ k. P (item k)) (sym (one_pending d fits below chip w s h z p at there e)) (subst P (sym item_own) own)
+          split (inl e) = subst (λ k. P (item k)) (sym (one_pending d fits below chip w s h z p (all_pending (view s) z at) (all_pending (view s) p there) e)) (subst P (sym item_own) own)
           split (inr ne) = subst P (sym (item_other z ne)) (other z at ne)
+
+  -- a sequence that a unit carries out is another one
+  unlike : (u : ℕ) (x : Pending) → (view s).begun u ≡ Some x → x.sequence ≢ p.sequence
+  unlike u x e same = let f = sym (aside_pending d (view s) h.sound p there u x e).1 ∙ ap (λ n. n == p.sequence) same ∙ same_number p.sequence in cc
+
+  pub begun_there : (u : ℕ) (x : Pending) → (view s).begun u ≡ Some x → Contains (all_of (view s)) x × (x.sequence ≢ p.sequence)
+  begun_there u x e = (all_carried (view s) u x (h.sound.carries.unit u x e).0 e, unlike u x e)
+
+  -- and of all sequences under way
+  pub each_of_all : (P : Pending → Type 0) → P (goes_to_next p) → ((x : Pending) → Contains (all_of (view s)) x → x.sequence ≢ p.sequence → P x) → (x : Pending) → Contains (all_of next_view) x → P x
+  each_of_all P own other x is = by (all_cases next_view x is)
+    where
+      by : Contains (changed p.sequence goes_to_next s.pending) x ⊎ ((u : ℕ) × ((view s).begun u ≡ Some x)) → P x
+      by (inl at) = each_entry P own (λ z there ne. other z (all_pending (view s) z there) ne) x at
+      by (inr (u, e)) = let r = begun_there u x e in other x r.0 r.1
 
   pub still_there : (x : Pending) → Contains s.pending x → Contains (changed p.sequence goes_to_next s.pending) (item x)
   still_there x (n, lt, e) = contains_map item s.pending n x (at_contained s.pending n x lt e)
+
+  all_still : (x : Pending) → Contains (all_of (view s)) x → Contains (all_of next_view) (item x)
+  all_still x is = by (all_cases (view s) x is)
+    where
+      by : Contains s.pending x ⊎ ((u : ℕ) × ((view s).begun u ≡ Some x)) → Contains (all_of next_view) (item x)
+      by (inl at) = all_pending next_view (item x) (still_there x at)
+      by (inr (u, e)) = subst (λ z. Contains (all_of next_view) z) (sym (item_other x (unlike u x e))) (all_carried next_view u x (h.sound.carries.unit u x e).0 e)
 
   shared : (a b j : ℕ) → Contains (jobs_of d a) j → Contains (jobs_of d b) j → shares_job d a b ≡ true
   shared a b j x y = any_in (has_job d a) (jobs_of d b) j y (any_in (λ k. k == j) (jobs_of d a) j x (same_number j))
@@ -62,17 +85,17 @@ module _ (d : SpiTable) (fits : FitsSpi d) (below : Reservations) (chip : Chip) 
   own_job : Contains (jobs_of d p.sequence) (next_job d p)
   own_job = Contains-get_or (jobs_of d p.sequence) p.next 0 (omega (arith, more))
 
-  -- its job is none of another pending sequence's
-  pub not_of_other : (x : Pending) → Contains s.pending x → x.sequence ≢ p.sequence → (i : ℕ) → i < length (jobs_of d x.sequence) → slice_index_or (jobs_of d x.sequence) i 0 ≢ next_job d p
+  -- its job is none of another sequence's under way
+  pub not_of_other : (x : Pending) → Contains (all_of (view s)) x → x.sequence ≢ p.sequence → (i : ℕ) → i < length (jobs_of d x.sequence) → slice_index_or (jobs_of d x.sequence) i 0 ≢ next_job d p
   not_of_other x at ne i lt e =
       let has : Contains (jobs_of d x.sequence) (next_job d p) = subst (λ j. Contains (jobs_of d x.sequence) j) e (Contains-get_or (jobs_of d x.sequence) i 0 lt) in
-      ne (ap (λ z. z.sequence) (one_by_job d fits below chip w s h x p at there (shared x.sequence p.sequence (next_job d p) has own_job) (shared p.sequence x.sequence (next_job d p) own_job has)))
+      ne (ap (λ z. z.sequence) (one_by_job d fits below chip w s h x p at (all_pending (view s) p there) (shared x.sequence p.sequence (next_job d p) has own_job) (shared p.sequence x.sequence (next_job d p) own_job has)))
 
-  entry : (x : Pending) → Contains (changed p.sequence goes_to_next s.pending) x → IsEntry d next_view x
-  entry = each_entry (λ x. IsEntry d next_view x) own (λ x at ne. other x ne (h.sound.entries x at))
+  entry : (x : Pending) → Contains (all_of next_view) x → IsEntry d next_view x
+  entry = each_of_all (λ x. IsEntry d next_view x) own (λ x at ne. other x ne (h.sound.entries x at))
     where
       own : IsEntry d next_view (goes_to_next p)
-      own = let e = h.sound.entries p there in record { number = e.number; next = more; had = e.had; last = e.last; cancelled = λ c. absurd (let f = sym good ∙ c in cc) }
+      own = let e = h.sound.entries p (all_pending (view s) p there) in record { number = e.number; next = more; had = e.had; last = e.last; cancelled = λ c. absurd (let f = sym good ∙ c in cc) }
 
       other : (x : Pending) → x.sequence ≢ p.sequence → IsEntry d (view s) x → IsEntry d next_view x
       other x ne e = record { number = e.number; next = e.next; had = e.had; last = e.last; cancelled = λ c. others x.sequence ne ∙ e.cancelled c }
@@ -96,12 +119,12 @@ module _ (d : SpiTable) (fits : FitsSpi d) (below : Reservations) (chip : Chip) 
 
       other : (x : Pending) → Contains s.pending x → x.sequence ≢ p.sequence → Queued x
       other x at ne i le lt =
-          item-other SpiJobOk s.job_results (next_job d p) (slice_index_or (jobs_of d x.sequence) i 0) result (not_of_other x at ne i lt)
+          item-other SpiJobOk s.job_results (next_job d p) (slice_index_or (jobs_of d x.sequence) i 0) result (not_of_other x (all_pending (view s) x at) ne i lt)
           ∙ h.sound.results.queued x i at le lt ∙ ap (λ q. if i == x.next && q then SpiJobPending else SpiJobQueued) (sym (others x.sequence ne))
 
   -- a job that none has left had none left before, but for the one that ended
-  pub none_left : (j : ℕ) → j ≢ next_job d p → list_any (is_left d j) (changed p.sequence goes_to_next s.pending) ≡ false → list_any (is_left d j) s.pending ≡ false
-  none_left j ne none = none_any (is_left d j) s.pending (λ x at. by x at (same_or_other x.sequence p.sequence))
+  pub none_left : (j : ℕ) → j ≢ next_job d p → list_any (is_left d j) (all_of next_view) ≡ false → list_any (is_left d j) (all_of (view s)) ≡ false
+  none_left j ne none = none_any (is_left d j) (all_of (view s)) (λ x at. by x at (same_or_other x.sequence p.sequence))
     where
       own : is_left d j p ≡ false
       own = not_true (is_left d j p) (λ e. left (at_left (jobs_of d p.sequence) p.next j e))
@@ -110,7 +133,7 @@ module _ (d : SpiTable) (fits : FitsSpi d) (below : Reservations) (chip : Chip) 
           left l = split (same_or_other l.place p.next)
             where
               gone : is_left d j (goes_to_next p) ≡ false
-              gone = ap (is_left d j) (sym item_own) ∙ any_none (is_left d j) (changed p.sequence goes_to_next s.pending) none (item p) (still_there p there)
+              gone = ap (is_left d j) (sym item_own) ∙ any_none (is_left d j) (all_of next_view) none (item p) (all_pending next_view (item p) (still_there p there))
 
               split : (l.place ≡ p.next) ⊎ (l.place ≢ p.next) → ⊥
               split (inl e) = ne (sym l.is ∙ ap (λ n. slice_index_or (jobs_of d p.sequence) n 0) e)
@@ -119,12 +142,18 @@ module _ (d : SpiTable) (fits : FitsSpi d) (below : Reservations) (chip : Chip) 
                   greater : (a b : ℕ) → a ≤ b → b ≢ a → a < b
                   greater a b le ne = grind arith
 
-      by : (x : Pending) → Contains s.pending x → (x.sequence ≡ p.sequence) ⊎ (x.sequence ≢ p.sequence) → is_left d j x ≡ false
-      by x at (inl e) = subst (λ z. is_left d j z ≡ false) (sym (one_pending d fits below chip w s h x p at there e)) own
-      by x at (inr other) = ap (is_left d j) (sym (item_other x other)) ∙ any_none (is_left d j) (changed p.sequence goes_to_next s.pending) none (item x) (still_there x at)
+      by : (x : Pending) → Contains (all_of (view s)) x → (x.sequence ≡ p.sequence) ⊎ (x.sequence ≢ p.sequence) → is_left d j x ≡ false
+      by x at (inl e) = subst (λ z. is_left d j z ≡ false) (sym (one_pending d fits below chip w s h x p at (all_pending (view s) p there) e)) own
+      by x at (inr other) = ap (is_left d j) (sym (item_other x other)) ∙ any_none (is_left d j) (all_of next_view) none (item x) (all_still x at)
 
-  pub still_pending : (n : ℕ) → is_pending n (changed p.sequence goes_to_next s.pending) ≡ is_pending n s.pending
-  still_pending n = any_mapped (is_of n) item s.pending (λ x. ap (λ z. z == n) (item_sequence x))
+  abbrev begun_ones : List Pending
+  begun_ones = entries_begun ((view s).begun 0) ++ entries_begun ((view s).begun 1)
+
+  pub still_pending : (n : ℕ) → is_pending n (all_of next_view) ≡ is_pending n (all_of (view s))
+  still_pending n =
+      list_any-append (is_of n) (changed p.sequence goes_to_next s.pending) begun_ones
+      ∙ ap (λ b. b || list_any (is_of n) begun_ones) (any_mapped (is_of n) item s.pending (λ x. ap (λ z. z == n) (item_sequence x)))
+      ∙ sym (list_any-append (is_of n) s.pending begun_ones)
 
   pub next_sound : IsSoundState d next_view
   next_sound = record {
@@ -136,6 +165,13 @@ module _ (d : SpiTable) (fits : FitsSpi d) (below : Reservations) (chip : Chip) 
       last = λ j none. by_job j none (same_or_other j (next_job d p));
       named = h.sound.results.named;
       sequences = λ n lt. let r = h.sound.results.sequences n lt in (λ e. still_pending n ∙ r.0 e, λ e. r.1 (sym (still_pending n) ∙ e));
+    };
+    carries = record {
+      unit = h.sound.carries.unit;
+      asked = each_entry (λ x. is_sync_sequence d x.sequence ≡ false) (h.sound.carries.asked p there) (λ x at ne. h.sound.carries.asked x at);
+      idle = calm;
+      queued = λ u x i e le lt. let r = begun_there u x e in item-other SpiJobOk s.job_results (next_job d p) (slice_index_or (jobs_of d x.sequence) i 0) result (not_of_other x r.0 r.1 i lt) ∙ h.sound.carries.queued u x i e le lt;
+      off = λ e u. absurd (let f = sym on ∙ e in cc);
     };
     few = few;
     off = λ e. absurd (let f = sym on ∙ e in cc);
@@ -149,6 +185,6 @@ module _ (d : SpiTable) (fits : FitsSpi d) (below : Reservations) (chip : Chip) 
           let second : y.request ≡ b.request = ap (λ z. z.request) isb ∙ item_request b in
           (omega (arith, less, first, second), ap (λ z. shares_job d z y.sequence) (ap (λ z. z.sequence) isa ∙ item_sequence a) ∙ ap (λ z. shares_job d a.sequence z) (ap (λ z. z.sequence) isb ∙ item_sequence b) ∙ r.1)
 
-      by_job : (j : ℕ) → list_any (is_left d j) (changed p.sequence goes_to_next s.pending) ≡ false → (j ≡ next_job d p) ⊎ (j ≢ next_job d p) → IsLast (job_result results j)
+      by_job : (j : ℕ) → list_any (is_left d j) (all_of next_view) ≡ false → (j ≡ next_job d p) ⊎ (j ≢ next_job d p) → IsLast (job_result results j)
       by_job j none (inl e) = subst (λ k. IsLast (job_result results k)) (sym e) (subst (λ x. IsLast x) (sym (item-same SpiJobOk s.job_results (next_job d p) result)) last)
       by_job j none (inr ne) = subst (λ x. IsLast x) (sym (item-other SpiJobOk s.job_results (next_job d p) j result ne)) (h.sound.results.last j (none_left j ne none))

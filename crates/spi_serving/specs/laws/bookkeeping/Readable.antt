@@ -1,19 +1,22 @@
 -- What the machine has of the words that came in, once a job has ended well.
 -- From words.JoinedLists, bookkeeping.JobsApart, words.Positions, services.FreedUnit and 4 more.
 -- Used by services.WellEnded, services.JobOverRight.
-use Rattle.std.proofs.Common.{◌≡◌, ◌≢◌, ◌+◌, ◌-◌, ◌<◌, ◌==◌, ◌&&◌, [], ◌∷◌, ◌++◌, ◌∙◌}
+use Rattle.std.proofs.Common.{◌≡◌, ◌≢◌, ◌+◌, ◌-◌, ◌<◌, ◌==◌, ◌&&◌, [], ◌∷◌, ◌++◌, ◌∙◌, if◌then◌else◌}
 use Rattle.spi_serving.specs.Terms
 use Terms.{after_last, all_kept, ap, arith, at_contained, Bool, channel-seen, channel_at, Contains, drop, ends_well}
-use Terms.{ext_get_or, false, first-at, first_items, get_or-drop, get_or-take, get_or_default, go_there, Goes}
-use Terms.{goes_to_channel, is_below, is_number, is_past, JobWord, kept, length, length-drop, length-first, List}
-use Terms.{nat_lt, no_word, none_any, not_true, Nowhere, Outcome, Part, received_with, refl, Run, run_at, serve-leaves}
-use Terms.{serve-receives, Serves, slice_get, slice_index_or, Some, spi_machine, SpiState, stored, suc, sum_by}
-use Terms.{sum_by-cons, sym, take, ToChannel, ToDestination, true, word_at, word_in, word_of, words_before, words_of, ℕ}
+use Terms.{ext_get_or, false, first-at, first_items, get_or-drop, get_or-take, get_or_default, go_there, Goes, goes_on}
+use Terms.{goes_to_array, goes_to_channel, has_done, Interrupt, is_below, is_done, is_number, is_past, item-same}
+use Terms.{JobWord, kept, length, length-drop, length-first, List, nat_lt, no_word, None, none_any, not, not_true}
+use Terms.{Nowhere, Outcome, outcome, Part, received_with, refl, Run, run_at, serve-leaves, serve-receives}
+use Terms.{serve-stores, Serves, slice_get, slice_index_or, Some, spi_machine, SpiState, stored, suc, sum_by}
+use Terms.{sum_by-cons, sym, take, tells_nothing, ToChannel, ToDestination, true, untouched, with_item, with_run}
+use Terms.{word_at, word_in, word_of, words_before, words_of, ℕ}
 use Rattle.spi_serving.specs.laws.{words.AllKept.{whole}, bookkeeping.JobsApart.{agrees_at, for_at, one_part}}
 use Rattle.spi_serving.specs.laws.{services.FreedUnit.{IsFilled, with_channels}, words.JoinedLists.{before-all}}
 use Rattle.spi_serving.specs.laws.{words.JoinedLists.{before-less, before-next, get_within}, words.Positions.{words_at}}
 use Rattle.spi_serving.specs.laws.{words.Positions.{words_count}, bookkeeping.StoredWord.{stored_is, stored_like}}
 use Rattle.spi_serving.specs.laws.{bookkeeping.UnderWay.{unit_line}, ToServe.{ToServe}}
+use Rattle.spi_machine.specs.Machine as machine
 use Rattle.spi_serving.specs.laws.words.Positions as positions
 
 -- ---- channels alone, and of them what came in alone
@@ -161,31 +164,96 @@ module _ (st : ToServe) where
 
   -- ---- what is readable
 
-  module _ (run : Run) (words_are : run.words ≡ words) (received_are : run.received ≡ g.received) (out : Outcome SpiState) (y : ℕ) (happens : (spi_machine d).happens w s (Serves (26 + u) y) ≡ Some out) (runs : run_at s u ≡ Some run) (well : ends_well (Some run) ≡ true) where
+  -- the channels of a state have what a job's words brought in
+  pub record IsStored (run : Run) (out : SpiState) : Type 0 where
+    pub destinations : (c i : ℕ) → word_at (channel_at out c).destination i ≡ (if goes_to_array c i (word_in run) (word_in run).goes then run.transfer.incoming else word_at (channel_at s c).destination i)
+    pub received : (n : ℕ) (x : JobWord) → slice_get run.words n ≡ Some x → x.goes ≡ ToChannel → go_there x.channel x.place (drop (n + 1) run.words) ≡ false → word_at (channel_at out x.channel).received x.place ≡ word_at (received_with run) n
+    pub others : (c i : ℕ) → go_there c i run.words ≡ false → word_at (channel_at out c).received i ≡ word_at (channel_at s c).received i
+
+  -- so it is where a serving ends the job
+  pub served_stored : (run : Run) (out : Outcome SpiState) (y : ℕ) → (spi_machine d).happens w s (Serves (26 + u) y) ≡ Some out → run_at s u ≡ Some run → run.transfer.failed ≡ false → ends_well (Some run) ≡ true → IsStored run out.state
+  served_stored run out y happens runs good well = record {
+    destinations = λ c i. serve-stores d w s (26 + u) y out u run c i happens (unit_line u few) runs good;
+    received = λ n x there goes last. serve-receives d w s (26 + u) y out u run n x happens (unit_line u few) runs well there goes last;
+    others = λ c i none. serve-leaves d w s (26 + u) y out u run c i happens (unit_line u few) runs well none;
+  }
+
+  -- and where the channels of a state are those after a job's last word
+  module _ (run : Run) (done : is_done w.now run.transfer ≡ true) (good : run.transfer.failed ≡ false) (over : goes_on run ≡ false) where
+    -- a serving of the same word, by a unit that runs it
+    abbrev run_by : SpiState → SpiState
+    run_by z = record z { units = with_item None s.units u (Some run); pending = []; mode = Interrupt }
+
+    runs_it : run_at (run_by s) u ≡ Some run
+    runs_it = item-same None s.units u (Some run)
+
+    abbrev out_by : Outcome SpiState
+    out_by = outcome (with_run (after_last (run_by s) run run.transfer.failed) u None) tells_nothing
+
+    happens_by : (spi_machine d).happens w (run_by s) (Serves (26 + u) 0) ≡ Some out_by
+    happens_by =
+        ap (λ o. if has_done w.now (machine.run_of (run_by s) o) then Some (machine.served d w (run_by s) o 0 (machine.run_of (run_by s) o)) else None) (unit_line u few)
+        ∙ ap (λ r. if has_done w.now r then Some (machine.served d w (run_by s) (Some u) 0 r) else None) runs_it
+        ∙ ap (λ b. if b then Some (machine.served_by d w (run_by s) u 0 run (goes_on run)) else None) done ∙ ap (λ b. Some (machine.served_by d w (run_by s) u 0 run b)) over
+
+    kept_same : (z : SpiState) (x : JobWord) (goes : Goes) (v : ℕ) → kept (run_by z) x goes v ≡ run_by (kept z x goes v)
+    kept_same z x ToDestination v = refl
+    kept_same z x ToChannel v = refl
+    kept_same z x Nowhere v = refl
+
+    all_same : (z : SpiState) (xs : List JobWord) (vs : List ℕ) → all_kept (run_by z) xs vs ≡ run_by (all_kept z xs vs)
+    all_same z [] vs = refl
+    all_same z (x ∷ xs) [] = refl
+    all_same z (x ∷ xs) (v ∷ vs) = ap (λ y. all_kept y xs vs) (kept_same z x x.goes v) ∙ all_same (kept z x x.goes v) xs vs
+
+    stored_same : (x : JobWord) (goes : Goes) (v : ℕ) → stored (run_by s) x goes v ≡ run_by (stored s x goes v)
+    stored_same x ToDestination v = refl
+    stored_same x ToChannel v = refl
+    stored_same x Nowhere v = refl
+
+    last_same : (b : Bool) → after_last (run_by s) run b ≡ run_by (after_last s run b)
+    last_same true = refl
+    last_same false = ap (λ y. all_kept y run.words (received_with run)) (stored_same (word_in run) (word_in run).goes run.transfer.incoming) ∙ all_same (stored s (word_in run) (word_in run).goes run.transfer.incoming) run.words (received_with run)
+
+    well_by : ends_well (Some run) ≡ true
+    well_by = ap (λ b. not b && not (goes_on run)) good ∙ ap not over
+
+    module _ (to : SpiState) (channels : to.channels ≡ (after_last s run run.transfer.failed).channels) where
+      channels_same : to.channels ≡ out_by.state.channels
+      channels_same = channels ∙ ap (λ z. z.channels) (sym (last_same run.transfer.failed))
+
+      pub last_stored : IsStored run to
+      last_stored = record {
+        destinations = λ c i. ap (λ xs. word_at (slice_index_or xs c untouched).destination i) channels_same ∙ serve-stores d w (run_by s) (26 + u) 0 out_by u run c i happens_by (unit_line u few) runs_it good;
+        received = λ n x there goes last. ap (λ xs. word_at (slice_index_or xs x.channel untouched).received x.place) channels_same ∙ serve-receives d w (run_by s) (26 + u) 0 out_by u run n x happens_by (unit_line u few) runs_it well_by there goes last;
+        others = λ c i none. ap (λ xs. word_at (slice_index_or xs c untouched).received i) channels_same ∙ serve-leaves d w (run_by s) (26 + u) 0 out_by u run c i happens_by (unit_line u few) runs_it well_by none;
+      }
+
+  module _ (run : Run) (words_are : run.words ≡ words) (received_are : run.received ≡ g.received) (out : SpiState) (brings : IsStored run out) where
     abbrev came : ℕ
     came = run.transfer.incoming
 
     -- a word of a part that goes to its channel
-    received_word : (n : ℕ) (x : Part) → slice_get g.parts n ≡ Some x → x.goes ≡ ToChannel → (i : ℕ) → i < length x.values → word_at (channel_at out.state x.channel).received i ≡ word_at (g.received ++ came ∷ []) (words_before g.parts n + i)
+    received_word : (n : ℕ) (x : Part) → slice_get g.parts n ≡ Some x → x.goes ≡ ToChannel → (i : ℕ) → i < length x.values → word_at (channel_at out x.channel).received i ≡ word_at (g.received ++ came ∷ []) (words_before g.parts n + i)
     received_word n x there goes i lt =
-        serve-receives d w s (26 + u) y out u run (words_before g.parts n + i) (word_of_part x i) happens (unit_line u few) runs well
+        brings.received (words_before g.parts n + i) (word_of_part x i)
         (ap (λ xs. slice_get xs (words_before g.parts n + i)) words_are ∙ get_word n x there i lt) goes (ap (λ xs. go_there x.channel i (drop (words_before g.parts n + i + 1) xs)) words_are ∙ last_there n x there i lt)
         ∙ ap (λ xs. word_at (xs ++ came ∷ []) (words_before g.parts n + i)) received_are
 
-    pub all_readable : (n : ℕ) (x : Part) → slice_get g.parts n ≡ Some x → x.goes ≡ ToChannel → (k : ℕ) → length x.values ≡ k → length (whole st came n x) ≡ k → first_items 0 k (channel_at out.state x.channel).received ≡ whole st came n x
-    all_readable n x there goes k size_is count_is = ext_get_or 0 (first_items 0 k (channel_at out.state x.channel).received) (whole st came n x) (length-first k (channel_at out.state x.channel).received ∙ sym count_is) (λ i lt. each i (let few_items = length-first k (channel_at out.state x.channel).received in omega (arith, lt, few_items)))
+    pub all_readable : (n : ℕ) (x : Part) → slice_get g.parts n ≡ Some x → x.goes ≡ ToChannel → (k : ℕ) → length x.values ≡ k → length (whole st came n x) ≡ k → first_items 0 k (channel_at out x.channel).received ≡ whole st came n x
+    all_readable n x there goes k size_is count_is = ext_get_or 0 (first_items 0 k (channel_at out x.channel).received) (whole st came n x) (length-first k (channel_at out x.channel).received ∙ sym count_is) (λ i lt. each i (let few_items = length-first k (channel_at out x.channel).received in omega (arith, lt, few_items)))
       where
-        each : (i : ℕ) → i < k → slice_index_or (first_items 0 k (channel_at out.state x.channel).received) i 0 ≡ slice_index_or (whole st came n x) i 0
+        each : (i : ℕ) → i < k → slice_index_or (first_items 0 k (channel_at out x.channel).received) i 0 ≡ slice_index_or (whole st came n x) i 0
         each i lt =
-            first-at k (channel_at out.state x.channel).received i lt ∙ received_word n x there goes i (let same = size_is in omega (arith, lt, same))
+            first-at k (channel_at out x.channel).received i lt ∙ received_word n x there goes i (let same = size_is in omega (arith, lt, same))
             ∙ sym (get_or-take (length x.values) (drop (words_before g.parts n) (g.received ++ came ∷ [])) i 0 (let same = size_is in omega (arith, lt, same)) ∙ get_or-drop (words_before g.parts n) (g.received ++ came ∷ []) i 0)
 
     -- and of a channel that has no part, what was
-    pub others_readable : (c k : ℕ) → ((n : ℕ) (x : Part) → slice_get g.parts n ≡ Some x → x.channel ≢ c) → first_items 0 k (channel_at out.state c).received ≡ first_items 0 k (channel_at s c).received
-    others_readable c k none = ext_get_or 0 (first_items 0 k (channel_at out.state c).received) (first_items 0 k (channel_at s c).received) (length-first k (channel_at out.state c).received ∙ sym (length-first k (channel_at s c).received)) (λ i lt. each i (let few_items = length-first k (channel_at out.state c).received in omega (arith, lt, few_items)))
+    pub others_readable : (c k : ℕ) → ((n : ℕ) (x : Part) → slice_get g.parts n ≡ Some x → x.channel ≢ c) → first_items 0 k (channel_at out c).received ≡ first_items 0 k (channel_at s c).received
+    others_readable c k none = ext_get_or 0 (first_items 0 k (channel_at out c).received) (first_items 0 k (channel_at s c).received) (length-first k (channel_at out c).received ∙ sym (length-first k (channel_at s c).received)) (λ i lt. each i (let few_items = length-first k (channel_at out c).received in omega (arith, lt, few_items)))
       where
-        each : (i : ℕ) → i < k → slice_index_or (first_items 0 k (channel_at out.state c).received) i 0 ≡ slice_index_or (first_items 0 k (channel_at s c).received) i 0
+        each : (i : ℕ) → i < k → slice_index_or (first_items 0 k (channel_at out c).received) i 0 ≡ slice_index_or (first_items 0 k (channel_at s c).received) i 0
         each i lt =
-            first-at k (channel_at out.state c).received i lt
-            ∙ serve-leaves d w s (26 + u) y out u run c i happens (unit_line u few) runs well (ap (go_there c i) words_are ∙ none_there c i none)
+            first-at k (channel_at out c).received i lt
+            ∙ brings.others c i (ap (go_there c i) words_are ∙ none_there c i none)
             ∙ sym (first-at k (channel_at s c).received i lt)

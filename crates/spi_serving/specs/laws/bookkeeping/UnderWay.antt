@@ -2,11 +2,13 @@
 -- Used by services.ServeDecisions, words.FacingWords, services.FurtherRight, bookkeeping.JobEnd and 5 more.
 use Rattle.std.proofs.Common.{◌≡◌, ◌+◌, ◌*◌, ◌/◌, ◌%◌, ◌<◌, ◌==◌, ◌&&◌, ◌∙◌, if◌then◌else◌}
 use Rattle.spi_serving.specs.Terms
-use Terms.{ap, arith, bit_of, Bool, by_two, Chip, Contains, done_same, false, FitsSpi, Going, going_next, GoingAgrees}
-use Terms.{has_done, InTransfer, is_done, is_for, is_off, IsDone, job_of, next_job, None, none_in, not, not_true}
-use Terms.{Option, packed_position, Position, position_in, ready, refl, Reservations, Run, run_at, run_in, run_of}
+use Terms.{all_of, ap, arith, bit_of, Bool, by_two, carried_at, CarriesAgrees, Chip, Contains, done_same, false}
+use Terms.{FitsSpi, Going, going_asked, going_next, GoingAgrees, has_done, InTransfer, is_done, is_for, is_off}
+use Terms.{is_sync_unit, IsDone, job_of, next_job, None, none_under_way, not, not_true, Option, packed_position}
+use Terms.{Pending, Position, position_in, ready, refl, Reservations, Run, run_at, run_carried, run_in, run_of}
 use Terms.{RunAgrees, Running, running_says, running_word, select_by, select_of, Serial, Some, some_is, SpiRepresents}
-use Terms.{SpiState, SpiTable, subst, sym, Transfer, true, unit_at, unit_of, UnitAgrees, word_of, WordAgrees, World, ℕ}
+use Terms.{SpiState, SpiTable, subst, sym, Transfer, true, unit_at, unit_of, unit_run, UnitAgrees, view, word_of}
+use Terms.{WordAgrees, World, ℕ}
 use Rattle.chip_units.specs.Serials as serials
 use Rattle.chip_units.specs.declared.serial.Word as chips
 use Rattle.spi_machine.specs.Machine as machine
@@ -44,7 +46,7 @@ pub record UnderWay (d : SpiTable) (below : Reservations) (chip : Chip) (w : Wor
   pub job : Going
   pub is : h.going u ≡ Some job
   pub on : is_off s.mode ≡ false
-  pub there : Contains s.pending job.pending
+  pub there : Contains (all_of (view s)) job.pending
   pub for : is_for d u job.pending ≡ true
   pub represents : GoingAgrees d (word_of chip) u job
   pub transfer : Transfer
@@ -52,7 +54,6 @@ pub record UnderWay (d : SpiTable) (below : Reservations) (chip : Chip) (w : Wor
   pub word : chips.Word
   pub stands : (unit_at chip.serials u).word ≡ Some word
   pub like : WordAgrees word transfer
-  pub select : (unit_at chip.serials u).select ≡ select_of (select_by (job_of d (next_job d job.pending)))
 
 module _ (d : SpiTable) (fits : FitsSpi d) (below : Reservations) (chip : Chip) (w : World) (s : SpiState) (h : SpiRepresents d below chip w s) (u : ℕ) (few : u < 2) where
   abbrev unit : Serial
@@ -61,9 +62,28 @@ module _ (d : SpiTable) (fits : FitsSpi d) (below : Reservations) (chip : Chip) 
   time : chip.serials.time ≡ w.now
   time = h.outside.together.serials ∙ h.outside.now
 
-  -- a module that has something pending is initialised
-  pub initialised : (g : Going) → Contains s.pending g.pending → is_off s.mode ≡ false
-  initialised g there = not_true (is_off s.mode) (λ e. none_in g.pending (subst (λ ps. Contains ps g.pending) (h.sound.off e).0 there))
+  -- a module that has something under way is initialised
+  initialised : (p : Pending) → Contains (all_of (view s)) p → is_off s.mode ≡ false
+  initialised p there = not_true (is_off s.mode) (λ e. none_under_way d (view s) h.sound e p there)
+
+  -- what the unit runs agrees with its word, whichever kind of unit it is
+  agrees : CarriesAgrees d unit (unit_run d s u) (h.going u)
+  agrees = by (is_sync_unit d u) refl
+    where
+      plain : (o : Option Going) → UnitAgrees d unit (run_at s u) o → CarriesAgrees d unit (run_at s u) o
+      plain None a = a
+      plain (Some g) a = (a.0, a.1, a.2)
+
+      by : (q : Bool) → is_sync_unit d u ≡ q → CarriesAgrees d unit (if q then run_carried (carried_at s u) else run_at s u) (h.going u)
+      by true e = h.sends u few e
+      by false e = plain (h.going u) (h.units u few e)
+
+  -- a unit that starts jobs of pending sequences runs one of those, on its device
+  pub asked_by : is_sync_unit d u ≡ false → (g : Going) → h.going u ≡ Some g → Contains s.pending g.pending × ((unit_at chip.serials u).select ≡ select_of (select_by (job_of d (next_job d g.pending))))
+  asked_by async g is = ((going_asked d fits below chip w s h u g few async is).0, (subst (λ o. UnitAgrees d unit (run_at s u) o) is (h.units u few async)).3)
+
+  pub runs_so : is_sync_unit d u ≡ false → unit_run d s u ≡ run_at s u
+  runs_so async = ap (λ q. if q then run_carried (carried_at s u) else run_at s u) async
 
   in_transfer : (x : Serial) (t : Transfer) → InTransfer x.word t → (y : chips.Word) × (x.word ≡ Some y) × WordAgrees y t
   in_transfer x t a = by x.word refl a
@@ -72,14 +92,14 @@ module _ (d : SpiTable) (fits : FitsSpi d) (below : Reservations) (chip : Chip) 
       by None e a = absurd a
       by (Some y) e a = (y, e, a)
 
-  pub under_way : (run : Run) → run_at s u ≡ Some run → UnderWay d below chip w s h u run
-  under_way run is = by (h.going u) refl (h.units u few)
+  pub under_way : (run : Run) → unit_run d s u ≡ Some run → UnderWay d below chip w s h u run
+  under_way run is = by (h.going u) refl agrees
     where
-      by : (o : Option Going) → h.going u ≡ o → UnitAgrees d unit (run_at s u) o → UnderWay d below chip w s h u run
+      by : (o : Option Going) → h.going u ≡ o → CarriesAgrees d unit (unit_run d s u) o → UnderWay d below chip w s h u run
       by None e a = absurd (let f = sym is ∙ a.1 in cc)
       by (Some g) e a =
           let next = going_next d fits below chip w s h u g few e in
-          let on = initialised g next.0 in
+          let on = initialised g.pending next.0 in
           let on_wire = in_transfer unit a.0 a.2 in
           record {
             job = g;
@@ -93,14 +113,13 @@ module _ (d : SpiTable) (fits : FitsSpi d) (below : Reservations) (chip : Chip) 
             word = on_wire.0;
             stands = on_wire.1;
             like = on_wire.2;
-            select = a.3;
           }
 
   -- its word is done on the chip where it is in the machine
-  pub done_alike : serials.is_done unit chip.serials.time ≡ has_done w.now (run_at s u)
-  done_alike = ap (λ t. serials.is_done unit t) time ∙ by (h.going u) (h.units u few)
+  pub done_alike : serials.is_done unit chip.serials.time ≡ has_done w.now (unit_run d s u)
+  done_alike = ap (λ t. serials.is_done unit t) time ∙ by (h.going u) agrees
     where
-      by : (o : Option Going) → UnitAgrees d unit (run_at s u) o → serials.is_done unit w.now ≡ has_done w.now (run_at s u)
+      by : (o : Option Going) → CarriesAgrees d unit (unit_run d s u) o → serials.is_done unit w.now ≡ has_done w.now (unit_run d s u)
       by None a = ap (λ o. serials.has_ended o w.now) a.0 ∙ sym (ap (λ o. has_done w.now o) a.1)
       by (Some g) a =
           let on_wire = in_transfer unit a.0 a.2 in
@@ -123,10 +142,10 @@ module _ (d : SpiTable) (fits : FitsSpi d) (below : Reservations) (chip : Chip) 
   run_there (Some run) e = (run, refl, e)
 
   -- what the state register says
-  pub state_done : (b : Bool) → has_done w.now (run_at s u) ≡ true → serials.is_failed unit chip.serials.time ≡ b → IsDone s w.now u b
-  state_done b e f = by (run_there (run_at s u) e)
+  pub state_done : (b : Bool) → has_done w.now (unit_run d s u) ≡ true → serials.is_failed unit chip.serials.time ≡ b → IsDone d s w.now u b
+  state_done b e f = by (run_there (unit_run d s u) e)
     where
-      by : (run : Run) × (run_at s u ≡ Some run) × (is_done w.now run.transfer ≡ true) → IsDone s w.now u b
+      by : (run : Run) × (unit_run d s u ≡ Some run) × (is_done w.now run.transfer ≡ true) → IsDone d s w.now u b
       by (run, is, done) =
           let way = under_way run is in
           let ended : serials.is_done_at way.word chip.serials.time ≡ true = ap (λ t. serials.is_done_at way.word t) time ∙ done_same way.word way.transfer w.now way.like.start ∙ ap (λ r. is_done w.now r.transfer) (sym way.runs) ∙ done in
@@ -138,7 +157,7 @@ module _ (d : SpiTable) (fits : FitsSpi d) (below : Reservations) (chip : Chip) 
           }
 
   -- what came in, unless the word failed
-  pub received_says : (run : Run) → run_at s u ≡ Some run → is_done w.now run.transfer ≡ true → run.transfer.failed ≡ false → serials.received unit chip.serials.time ≡ run.transfer.incoming
+  pub received_says : (run : Run) → unit_run d s u ≡ Some run → is_done w.now run.transfer ≡ true → run.transfer.failed ≡ false → serials.received unit chip.serials.time ≡ run.transfer.incoming
   received_says run is done good =
       let way = under_way run is in
       let ended : serials.is_done_at way.word chip.serials.time ≡ true = ap (λ t. serials.is_done_at way.word t) time ∙ done_same way.word way.transfer w.now way.like.start ∙ ap (λ r. is_done w.now r.transfer) (sym way.runs) ∙ done in
@@ -148,6 +167,6 @@ module _ (d : SpiTable) (fits : FitsSpi d) (below : Reservations) (chip : Chip) 
       ∙ way.like.incoming well ∙ ap (λ r. r.transfer.incoming) (sym way.runs)
 
   -- what it runs and where it stands, as they were loaded
-  module _ (run : Run) (is : run_at s u ≡ Some run) (way : UnderWay d below chip w s h u run) where
+  module _ (run : Run) (is : unit_run d s u ≡ Some run) (way : UnderWay d below chip w s h u run) where
     pub says_run : (r : Running) → run_in (word_of chip (running_word u)) ≡ Some r → r ≡ record { job = next_job d way.job.pending; sequence = way.job.pending.sequence }
     says_run r e = some_is r (record { job = next_job d way.job.pending; sequence = way.job.pending.sequence }) (sym e ∙ running_says d fits below chip w s h way.on u few (Some way.job) way.is)

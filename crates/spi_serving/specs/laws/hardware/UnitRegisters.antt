@@ -1,10 +1,11 @@
 -- Writes of a unit's registers: what they leave of the agreement.
--- Used by services.FurtherRight, services.ServeDecisions, services.JobOverRight, bookkeeping.JobEnd.
+-- Used by services.FurtherRight, services.ServeDecisions, bookkeeping.JobEnd, services.FurtherServed, services.JobLeft.
 use Rattle.std.proofs.Common.{◌≡◌, ◌≢◌, ◌<◌, ◌∙◌, ◌⊎◌}
 use Rattle.spi_serving.specs.Terms
-use Terms.{ap, Chip, chip_after, get_or-set_other, get_or-set_same, Going, idle, inl, inr, length, length-set, None}
-use Terms.{Option, Reservations, run_at, same_or_other, Serial, SerialWidth, Some, SpiRepresents, SpiState, SpiTable}
-use Terms.{stands-move, subst, sym, unit_at, UnitAgrees, World, Write, ℕ}
+use Terms.{ap, carried_at, CarriesAgrees, Chip, chip_after, false, get_or-set_other, get_or-set_same, Going, idle, inl}
+use Terms.{inr, is_sync_unit, length, length-set, None, Option, refl, Reservations, run_at, run_carried, same_or_other}
+use Terms.{sends_as, Serial, SerialWidth, Some, SpiRepresents, SpiState, SpiTable, stands-move, subst, sym, true}
+use Terms.{unit_at, UnitAgrees, World, Write, ℕ}
 use Rattle.chip_units.specs.Serials as serials
 
 -- a unit among those of a chip, and the others
@@ -20,6 +21,10 @@ module _ (d : SpiTable) (below : Reservations) (chip : Chip) (w : World) (s : Sp
   width_unit v None a = a
   width_unit v (Some g) a = a
 
+  width_carried : (v n : ℕ) (r : Option Going) → CarriesAgrees d (unit_at chip.serials n) (run_carried (carried_at s n)) r → CarriesAgrees d (record (unit_at chip.serials n) { width = v }) (run_carried (carried_at s n)) r
+  width_carried v n None a = a
+  width_carried v n (Some g) a = a
+
   pub width_agrees : (v y : ℕ) → SpiRepresents d below (chip_after chip (Write (SerialWidth u) v) y) w s
   width_agrees v y = record {
     right = h.right;
@@ -29,7 +34,10 @@ module _ (d : SpiTable) (below : Reservations) (chip : Chip) (w : World) (s : Sp
     sound = h.sound;
     going = h.going;
     nexts = h.nexts;
-    units = λ n lt. unit_by n lt (same_or_other n u);
+    units = λ n lt async. unit_by n lt async (same_or_other n u);
+    sends = λ n lt sync. carried_by n lt sync (same_or_other n u);
+    sending = sends_as d chip (chip_after chip (Write (SerialWidth u) v) y) w w h.going h.going s s (λ n g lt sync is. refl) (λ n g lt sync is. select_by n (same_or_other n u)) (λ n g i x k lt sync is there known. refl) (λ n o knows. knows) below h.sending;
+    carriers = h.carriers;
     words = h.words;
     set_ups = h.set_ups;
     sizes = h.sizes;
@@ -41,11 +49,21 @@ module _ (d : SpiTable) (below : Reservations) (chip : Chip) (w : World) (s : Sp
       new : Serial
       new = record (unit_at chip.serials u) { width = v }
 
-      unit_by : (n : ℕ) → n < 2 → (n ≡ u) ⊎ (n ≢ u) → UnitAgrees d (unit_at (serials.with_unit chip.serials u new) n) (run_at s n) (h.going n)
-      unit_by n lt (inl e) =
+      unit_by : (n : ℕ) → n < 2 → is_sync_unit d n ≡ false → (n ≡ u) ⊎ (n ≢ u) → UnitAgrees d (unit_at (serials.with_unit chip.serials u new) n) (run_at s n) (h.going n)
+      unit_by n lt async (inl e) =
           subst (λ k. UnitAgrees d (unit_at (serials.with_unit chip.serials u new) k) (run_at s k) (h.going k)) (sym e)
-          (subst (λ x. UnitAgrees d x (run_at s u) (h.going u)) (sym (unit_same chip u new h.size few)) (width_unit v (h.going u) (h.units u few)))
-      unit_by n lt (inr ne) = subst (λ x. UnitAgrees d x (run_at s n) (h.going n)) (sym (unit_other chip u n new ne)) (h.units n lt)
+          (subst (λ x. UnitAgrees d x (run_at s u) (h.going u)) (sym (unit_same chip u new h.size few)) (width_unit v (h.going u) (h.units u few (subst (λ k. is_sync_unit d k ≡ false) e async))))
+      unit_by n lt async (inr ne) = subst (λ x. UnitAgrees d x (run_at s n) (h.going n)) (sym (unit_other chip u n new ne)) (h.units n lt async)
+
+      carried_by : (n : ℕ) → n < 2 → is_sync_unit d n ≡ true → (n ≡ u) ⊎ (n ≢ u) → CarriesAgrees d (unit_at (serials.with_unit chip.serials u new) n) (run_carried (carried_at s n)) (h.going n)
+      carried_by n lt sync (inl e) =
+          subst (λ k. CarriesAgrees d (unit_at (serials.with_unit chip.serials u new) k) (run_carried (carried_at s k)) (h.going k)) (sym e)
+          (subst (λ x. CarriesAgrees d x (run_carried (carried_at s u)) (h.going u)) (sym (unit_same chip u new h.size few)) (width_carried v u (h.going u) (h.sends u few (subst (λ k. is_sync_unit d k ≡ true) e sync))))
+      carried_by n lt sync (inr ne) = subst (λ x. CarriesAgrees d x (run_carried (carried_at s n)) (h.going n)) (sym (unit_other chip u n new ne)) (h.sends n lt sync)
+
+      select_by : (n : ℕ) → (n ≡ u) ⊎ (n ≢ u) → (unit_at (serials.with_unit chip.serials u new) n).select ≡ (unit_at chip.serials n).select
+      select_by n (inl e) = ap (λ k. (unit_at (serials.with_unit chip.serials u new) k).select) e ∙ ap (λ x. x.select) (unit_same chip u new h.size few) ∙ ap (λ k. (unit_at chip.serials k).select) (sym e)
+      select_by n (inr ne) = ap (λ x. x.select) (unit_other chip u n new ne)
 
   -- and it is the unit's
   pub width_is : (v y : ℕ) → (unit_at (chip_after chip (Write (SerialWidth u) v) y).serials u).width ≡ v

@@ -1,6 +1,6 @@
 -- A job has failed and no pin of it stands: what is left are the words of its sequence.
 -- From words.SidesApart, services.FreedUnit, bookkeeping.JobsApart, words.ReleasedPins, bookkeeping.MovedOn and 7 more.
--- Used by services.JobOverRight.
+-- Used by services.JobLeft.
 use Rattle.std.proofs.Common.{◌≡◌, ◌≢◌, ◌+◌, ◌<◌, ◌≤◌, ◌∷◌, ◌∙◌, ◌⊎◌}
 use Rattle.spi_serving.specs.Terms
 use Terms.{abandoning, abandons, Answer, ap, arith, Banks, banks_held, BanksAgree, Call, Channel, channel_of, Chip}
@@ -153,6 +153,7 @@ module _ (st : ToServe) (fc : Chip) (freed : IsFree st.d st.w st.chip st.u fc) (
     running = a.away (running_word u) (first_away (running_word u) (omega (arith, few))) ∙ freed.running;
     first = λ j low high ne. same j (first_away j high) ne;
     still_held = λ n k is_channel external. held_same n k is_channel;
+    held_away = λ n k is_channel none. held_same n k is_channel;
     set_ups = λ n k is_channel. set_up_same n k is_channel;
     sources = λ n i lt less. same (place_of (Source n) i) (users_away (place_of (Source n) i) (omega arith)) (λ e. omega (arith, e, few));
     destinations = λ n i lt. same (place_of (Destination n) i) (users_away (place_of (Destination n) i) (omega arith)) (λ e. omega (arith, e, few)) ∙ (h.arrays n).destination i lt;

@@ -1,20 +1,20 @@
 -- A job has ended and its unit is free: the words and registers stand for the machine's state.
--- From services.FurtherBegun, bookkeeping.MovedOn, ToServe, bookkeeping.JobOver.
+-- From bookkeeping.MovedOn, ToServe, bookkeeping.JobOver.
 -- Used by services.GoesOnRight, services.SequenceOverRight, services.WellEnded, services.FailedEnded and 5 more.
-use Rattle.std.proofs.Common.{◌≡◌, ◌≢◌, ◌+◌, ◌<◌, ◌≤◌, ◌==◌, ◌||◌, ◌∷◌, ◌∙◌, ◌⊎◌, if◌then◌else◌}
+use Rattle.std.proofs.Common.{◌&&◌, ◌≡◌, ◌≢◌, ◌+◌, ◌<◌, ◌≤◌, ◌==◌, ◌||◌, ◌∷◌, ◌∙◌, ◌⊎◌, if◌then◌else◌}
 use Rattle.spi_serving.specs.Terms
-use Terms.{Answer, AnswerName, any_some, ap, AreOwed, arith, banks_view, banks_words, BanksAgree, Bool, Call, Channel}
-use Terms.{channel_at, channel_of, ChannelState, Chip, Contains, Debt, Destination, entries_of, false, filter}
-use Terms.{filter_back, from_order, get_or_default, Going, going_free, going_next, going_run, has_bit, has_channel}
-use Terms.{held_word, holds-agree, inl, inr, is_for, is_number, is_owed, is_running, is_some, IsSoundState, item-other}
-use Terms.{item-same, length, length_by, List, list_any, next_job, None, none_in, none_stored, not, not_true, of_banks}
-use Terms.{of_held, of_set_up, of_sixteen, one_pending, one_unit, Option, order_word, Origin, other_number, Part}
-use Terms.{part_there, PartBy, past_the_first, Pending, place_of, placed_of, position_word, refl, Reservation}
-use Terms.{Reservations, ReservedBy, Run, run_at, RunAgrees, running_word, runs_sequence, RunsNext, same_number}
+use Terms.{all_pending, AllRight, AllSend, Answer, AnswerName, ap, AreCarried, AreOwed, arith, banks_view, banks_words}
+use Terms.{BanksAgree, Bool, Call, carried_at, CarriesAgrees, Channel, channel_at, channel_of, ChannelState, Chip}
+use Terms.{Contains, Debt, Destination, entries_of, false, filter, filter_back, from_order, Going, going_next, has_bit}
+use Terms.{has_channel, held_word, holds-agree, inl, inr, is_for, is_interrupt, is_off, is_owed, is_sync_unit}
+use Terms.{IsSoundState, length, length_by, List, mode_word, next_job, None, none_in, none_stored, not, not_true}
+use Terms.{of_banks, of_held, of_set_up, of_sixteen, one_pending, one_unit, Option, order_word, Origin, Part}
+use Terms.{part_there, PartBy, past_the_first, Pending, place_of, placed_of, position_word, put_held, refl}
+use Terms.{Reservation, Reservations, ReservedBy, run_at, run_carried, RunAgrees, running_word, RunsNext, same_number}
 use Terms.{same_or_other, SequencesAgree, set_up_code, set_up_word, SetUpFits, slice_get, slice_index, slice_index_or}
 use Terms.{Some, Source, source_word, SpiRepresents, SpiState, SpiTable, StandsIn, STATE, subst, sym, there_back}
 use Terms.{to_order, true, unit_at, UnitAgrees, untouched, view, with_item, word_at, word_of, World, ℕ}
-use Rattle.spi_serving.specs.laws.{services.FurtherBegun.{any_changed, right_like}, bookkeeping.MovedOn.{going_here}}
+use Rattle.spi_serving.specs.laws.{bookkeeping.MovedOn.{going_here}}
 use Rattle.spi_serving.specs.laws.{bookkeeping.MovedOn.{going_other}, ToServe.{ToServe}}
 use Rattle.word_shapes.specs.Order as order
 use Rattle.word_shapes.specs.PriorityQueue as ranked
@@ -62,17 +62,6 @@ module _ (st : ToServe) where
   abbrev pub going_left : ℕ → Option Going
   going_left = over.going_free d fits below chip w s h u few g is
 
-  -- ---- what runs, once the unit is free
-
-  abbrev units_left : List (Option Run)
-  units_left = with_item None s.units u None
-
-  run_left : (n : ℕ) → n ≢ u → slice_index_or units_left n None ≡ run_at s n
-  run_left n ne = item-other None s.units u n None ne
-
-  pub others_run : (n : ℕ) → n ≢ g.pending.sequence → list_any (runs_sequence n) units_left ≡ is_running s n
-  others_run n ne = any_changed (runs_sequence n) None s.units u None refl (sym (ap (runs_sequence n) (going_run d fits below chip w s h u g few is).1 ∙ other_number g.pending.sequence n (λ e. ne (sym e))))
-
   -- another unit runs another sequence
   pub others_differ : (n : ℕ) (k : Going) → n < 2 → n ≢ u → h.going n ≡ Some k → k.pending.sequence ≢ g.pending.sequence
   others_differ n k lt ne e same =
@@ -80,43 +69,6 @@ module _ (st : ToServe) where
       let other = going_next d fits below chip w s h n k lt e in
       let one = one_pending d fits below chip w s h k.pending g.pending other.0 own.0 same in
       ne (one_unit d n u (next_job d g.pending) (subst (λ z. is_for d n z ≡ true) one other.2) own.2)
-
-  pub none_runs : list_any (runs_sequence g.pending.sequence) units_left ≡ false
-  none_runs = not_true (list_any (runs_sequence g.pending.sequence) units_left) (λ e. by (any_some (runs_sequence g.pending.sequence) units_left e))
-    where
-      q : ℕ
-      q = g.pending.sequence
-
-      -- two jobs of one sequence are one
-      elsewhere : (n : ℕ) → n ≢ u → runs_sequence q (run_at s n) ≡ true → ⊥
-      elsewhere n ne e = split (same_or_other n 0) (same_or_other n 1)
-        where
-          on_unit : n < 2 → (o : Option Going) → h.going n ≡ o → ⊥
-          on_unit lt None f = let x = sym e ∙ ap (runs_sequence q) (going_free d fits below chip w s h n lt f) in cc
-          on_unit lt (Some k) f =
-              others_differ n k lt ne f (is_number k.pending.sequence q (sym (ap (runs_sequence q) (going_run d fits below chip w s h n k lt f).1) ∙ e))
-
-          split : (n ≡ 0) ⊎ (n ≢ 0) → (n ≡ 1) ⊎ (n ≢ 1) → ⊥
-          split (inl a) b = on_unit (omega (arith, a)) (h.going n) refl
-          split (inr a) (inl b) = on_unit (omega (arith, b)) (h.going n) refl
-          split (inr a) (inr b) = idle (run_at s n) (h.sound.few n (omega (arith, a, b))) e
-            where
-              idle : (r : Option Run) → not (is_some r) ≡ true → runs_sequence q r ≡ true → ⊥
-              idle None x y = cc
-              idle (Some r) x y = cc
-
-      by : (x : Option Run) × Contains units_left x × (runs_sequence q x ≡ true) → ⊥
-      by (x, (n, lt, at), runs) = split (same_or_other n u)
-        where
-          same : slice_index_or units_left n None ≡ x
-          same = get_or_default units_left n None x lt ∙ at
-
-          split : (n ≡ u) ⊎ (n ≢ u) → ⊥
-          split (inl e) = let f : None ≡ x = sym (item-same None s.units u None) ∙ ap (λ k. slice_index_or units_left k None) (sym e) ∙ same in let z = ap (runs_sequence q) f ∙ runs in cc
-          split (inr ne) = elsewhere n ne (ap (runs_sequence q) (sym (run_left n ne) ∙ same) ∙ runs)
-
-  pub few_run : (n : ℕ) → 2 ≤ n → not (is_some (slice_index_or units_left n None)) ≡ true
-  few_run n le = ap (λ r. not (is_some r)) (run_left n (λ e. omega (arith, e, le, few))) ∙ h.sound.few n le
 
   -- it is owed a start, and others are where they were
   pub owed_left : (owner : Origin Call) (acted : Option Answer) (n : ℕ) → n < 2 → going_left n ≡ None → (n ≢ u → is_owed n below ≡ true) → is_owed n (start_owed u owner acted ∷ below) ≡ true
@@ -141,7 +93,7 @@ module _ (st : ToServe) where
       by (x, at, same) =
           let own = going_next d fits below chip w s h u g few is in
           let k = filter_back (is_for d n) s.pending x at in
-          let one = one_pending d fits below chip w s h x g.pending k.0 own.0 same in
+          let one = one_pending d fits below chip w s h x g.pending (all_pending (view s) x k.0) own.0 same in
           ne (one_unit d n u (next_job d g.pending) (subst (λ z. is_for d n z ≡ true) one k.1) own.2)
 
   -- ---- the agreement
@@ -161,6 +113,7 @@ module _ (st : ToServe) where
       pub running : word_of c (running_word u) ≡ 0
       pub first : (j : ℕ) → STATE ≤ j → j < STATE + 64 → j ≢ running_word u → word_of c j ≡ word_of chip j
       pub still_held : (n : ℕ) (k : Channel) → channel_of d n ≡ Some k → k.internal ≡ false → word_of c (held_word (placed_of d n)) ≡ word_of chip (held_word (placed_of d n))
+      pub held_away : (n : ℕ) (k : Channel) → channel_of d n ≡ Some k → ((i : ℕ) (x : Part) → slice_get g.parts i ≡ Some x → x.channel ≢ n) → word_of c (held_word (placed_of d n)) ≡ word_of chip (held_word (placed_of d n))
       pub set_ups : (n : ℕ) (k : Channel) → channel_of d n ≡ Some k → word_of c (set_up_word (placed_of d n)) ≡ word_of chip (set_up_word (placed_of d n))
       pub sources : (n i : ℕ) → n < 16 → i < 64 → word_of c (place_of (Source n) i) ≡ word_of chip (place_of (Source n) i)
       pub destinations : (n i : ℕ) → i < length_by (channel_of d n) → word_of c (place_of (Destination n) i) ≡ word_at (slice_index_or cs n untouched).destination i
@@ -178,7 +131,7 @@ module _ (st : ToServe) where
       past_source : (n i : ℕ) → n < 16 → i < 64 → word_of f (place_of (Source n) i) ≡ word_of chip (place_of (Source n) i)
       past_source n i lt less = t.above (place_of (Source n) i) (omega arith) ∙ l.sources n i lt less
 
-      run_other : (n : ℕ) → n < 2 → n ≢ u → (o : Option Going) → h.going n ≡ o → RunAgrees d (word_of chip) n o → RunAgrees d (word_of f) n o
+      pub run_other : (n : ℕ) → n < 2 → n ≢ u → (o : Option Going) → h.going n ≡ o → RunAgrees d (word_of chip) n o → RunAgrees d (word_of f) n o
       run_other n lt ne None e r = (t.runs n lt).0 ∙ l.first (running_word n) (omega arith) (omega (arith, lt)) (λ x. ne (omega (arith, x))) ∙ r
       run_other n lt ne (Some k) e r = record {
         channels = r.channels;
@@ -222,27 +175,13 @@ module _ (st : ToServe) where
           by (inl e) = subst (λ k. RunAgrees d (word_of f) k (going_left k)) (sym e) (subst (λ o. RunAgrees d (word_of f) u o) (sym (going_here h.going u None)) ((t.runs u few).0 ∙ l.running))
           by (inr ne) = subst (λ o. RunAgrees d (word_of f) n o) (sym (going_other h.going u None n ne)) (run_other n lt ne (h.going n) refl ((h.words.on on).runs n lt))
 
-      module _ (ps : List Pending) (qs js : List AnswerName) where
-        abbrev after : SpiState
-        after = with_free s u cs ps qs js
-
+      -- the state after it has these channels
+      module _ (after : SpiState) (channels : after.channels ≡ cs) (mode : after.mode ≡ s.mode) where
         banks_told : (n : ℕ) (k : Channel) → channel_of d n ≡ Some k → k.internal ≡ true → BanksAgree d held going_left (word_of f) (view after) n k
-        banks_told n k known internal = banks_view d held going_left (word_of f) (view (with_channels s cs)) (view after) n k refl refl (λ r. refl)
+        banks_told n k known internal =
+            banks_view d held going_left (word_of f) (view (with_channels s cs)) (view after) n k (ap (λ xs. (slice_index_or xs n untouched).written) channels) (ap (λ xs. (slice_index_or xs n untouched).received) channels) (λ r. ap (λ xs. put_held d (λ m. (slice_index_or xs m untouched).source) n r held) channels)
             (banks_words d fits held going_left (word_of c) (word_of f) (view (with_channels s cs)) n k known (t.above (held_word (placed_of d n)) (past_the_first d n k (held_word (placed_of d n)) (fits.channels n k known) (of_held d fits n k known)))
             (λ side j own. t.above j (past_the_first d n k j (fits.channels n k known) (of_banks d fits n k known internal side j own))) (l.banks n k known internal))
-
-        unit_left : (n : ℕ) → n < 2 → UnitAgrees d (unit_at c.serials n) (run_at after n) (going_left n)
-        unit_left n lt = by (same_or_other n u)
-          where
-            by : (n ≡ u) ⊎ (n ≢ u) → UnitAgrees d (unit_at c.serials n) (run_at after n) (going_left n)
-            by (inl e) =
-                subst (λ k. UnitAgrees d (unit_at c.serials k) (run_at after k) (going_left k)) (sym e)
-                (subst (λ r. UnitAgrees d (unit_at c.serials u) r (going_left u)) (sym (item-same None s.units u None))
-                (subst (λ o. UnitAgrees d (unit_at c.serials u) None o) (sym (going_here h.going u None)) l.unit))
-            by (inr ne) =
-                subst (λ x. UnitAgrees d x (run_at after n) (going_left n)) (sym (l.others n ne))
-                (subst (λ r. UnitAgrees d (unit_at chip.serials n) r (going_left n)) (sym (run_left n ne))
-                (subst (λ o. UnitAgrees d (unit_at chip.serials n) (run_at s n) o) (sym (going_other h.going u None n ne)) (h.units n lt)))
 
         fewer : (n i : ℕ) → i < length_by (channel_of d n) → (n < 16) × (i < 64)
         fewer n i lt = by (channel_of d n) refl lt
@@ -251,28 +190,38 @@ module _ (st : ToServe) where
             by None e less = absurd (omega (arith, less))
             by (Some k) e less = (of_sixteen d n k fits e, let most = (fits.channels n k e).few in omega (arith, less, most))
 
-        pub freed_agrees : IsSoundState d (view after) → ((n : ℕ) → n < 2 → RunsNext d (view after) n (going_left n)) → SequencesAgree d (word_of f) (view after) → AreOwed d held going_left after → SpiRepresents d held f w after
-        freed_agrees sound nexts sequences owed = record {
-          right = ((few, on), right_like d s cs like.source below h.right);
+        as_now : (n : ℕ) → channel_at after n ≡ slice_index_or cs n untouched
+        as_now n = ap (λ xs. slice_index_or xs n untouched) channels
+
+        -- held so, with these units
+        pub freed_as : (held1 : Reservations) → AllRight d after.mode after.channels held1 → ((n : ℕ) → n < 2 → is_sync_unit d n ≡ false → UnitAgrees d (unit_at f.serials n) (run_at after n) (going_left n))
+            → ((n : ℕ) → n < 2 → is_sync_unit d n ≡ true → CarriesAgrees d (unit_at f.serials n) (run_carried (carried_at after n)) (going_left n)) → AllSend d f w going_left after held1 → AreCarried (view after) held1
+            → ((n : ℕ) (k : Channel) → BanksAgree d held going_left (word_of f) (view after) n k → BanksAgree d held1 going_left (word_of f) (view after) n k)
+            → IsSoundState d (view after) → ((n : ℕ) → n < 2 → RunsNext d (view after) n (going_left n)) → SequencesAgree d (word_of f) (view after) → AreOwed d held1 going_left after → SpiRepresents d held1 f w after
+        freed_as held1 right units sends sending carriers banks sound nexts sequences owed = record {
+          right = right;
           outside = t.outside;
           wired = λ n lt. ap (λ x. slice_index x.wiring.sources n) t.rest ∙ ap (λ x. slice_index x.sources n) l.wiring ∙ h.wired n lt;
           size = ap (λ x. length x.serials.units) t.rest ∙ l.size;
           sound = sound;
           going = going_left;
           nexts = nexts;
-          units = λ n lt. subst (λ x. UnitAgrees d (unit_at x.serials n) (run_at after n) (going_left n)) (sym t.rest) (unit_left n lt);
+          units = units;
+          sends = sends;
+          sending = sending;
+          carriers = carriers;
           words = record {
-            state = t.state ∙ l.first STATE (omega arith) (omega arith) (λ e. omega (arith, e)) ∙ h.words.state;
+            state = t.state ∙ l.first STATE (omega arith) (omega arith) (λ e. omega (arith, e)) ∙ h.words.state ∙ ap mode_word (sym mode);
             on = λ still. record { sequences = sequences; runs = runs_left };
-            banks = banks_told;
-            stored = λ j n there. absurd (none_in (j, n) (subst (λ xs. Contains xs (j, n)) (none_stored d s.mode cs held on ((few, on), right_like d s cs like.source below h.right)) there));
+            banks = λ n k known internal. banks n k (banks_told n k known internal);
+            stored = λ j n there. absurd (none_in (j, n) (subst (λ xs. Contains xs (j, n)) (none_stored d after.mode after.channels held1 (ap is_off mode ∙ on) right) there));
           };
-          set_ups = λ still n k known external. t.above (set_up_word (placed_of d n)) (past_the_first d n k (set_up_word (placed_of d n)) (fits.channels n k known) (of_set_up d fits n k known)) ∙ l.set_ups n k known ∙ h.set_ups on n k known external ∙ ap (λ o. set_up_code o) (sym (like.set_up n));
-          sizes = λ still n k known. record { written = λ i. ap length (like.written n) ∙ (h.sizes on n k known).written i; set_up = λ i. subst (λ o. SetUpFits k o) (sym (like.set_up n)) ((h.sizes on n k known).set_up i) };
+          set_ups = λ still n k known external. t.above (set_up_word (placed_of d n)) (past_the_first d n k (set_up_word (placed_of d n)) (fits.channels n k known) (of_set_up d fits n k known)) ∙ l.set_ups n k known ∙ h.set_ups on n k known external ∙ ap (λ o. set_up_code o) (sym (ap (λ z. z.set_up) (as_now n) ∙ like.set_up n));
+          sizes = λ still n k known. record { written = λ i. ap length (ap (λ z. z.written) (as_now n) ∙ like.written n) ∙ (h.sizes on n k known).written i; set_up = λ i. subst (λ o. SetUpFits k o) (sym (ap (λ z. z.set_up) (as_now n) ∙ like.set_up n)) ((h.sizes on n k known).set_up i) };
           arrays = λ n. record {
-            source = λ i lt. past_source n i (fewer n i lt).0 (fewer n i lt).1 ∙ (h.arrays n).source i lt ∙ ap (λ xs. word_at xs i) (sym (like.source n));
-            destination = λ i lt. t.above (place_of (Destination n) i) (omega arith) ∙ l.destinations n i lt;
+            source = λ i lt. past_source n i (fewer n i lt).0 (fewer n i lt).1 ∙ (h.arrays n).source i lt ∙ ap (λ xs. word_at xs i) (sym (ap (λ z. z.source) (as_now n) ∙ like.source n));
+            destination = λ i lt. t.above (place_of (Destination n) i) (omega arith) ∙ l.destinations n i lt ∙ ap (λ z. word_at z.destination i) (sym (as_now n));
           };
-          lines = λ n lt. ap (λ x. has_bit x.control.enabled (26 + n)) t.rest ∙ ap (λ x. has_bit x.enabled (26 + n)) l.control ∙ h.lines n lt;
+          lines = λ n lt. ap (λ x. has_bit x.control.enabled (26 + n)) t.rest ∙ ap (λ x. has_bit x.enabled (26 + n)) l.control ∙ h.lines n lt ∙ ap (λ m. is_interrupt m && not (is_sync_unit d n)) (sym mode);
           owed = owed;
         }

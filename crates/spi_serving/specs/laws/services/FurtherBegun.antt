@@ -1,19 +1,21 @@
 -- A further word has begun and what came in is kept: the words and registers stand for the machine's state.
 -- From bookkeeping.MovedOn, bookkeeping.PinsTurned, bookkeeping.JobsApart, words.JoinedLists, ToServe.
--- Used by services.FurtherRight, services.FreedUnit, bookkeeping.StoredWord, words.KeepingWords.
-use Rattle.std.proofs.Common.{◌≡◌, ◌≢◌, ◌+◌, ◌<◌, ◌≤◌, ◌||◌, [], ◌∷◌, ◌∙◌, ◌⊎◌, if◌then◌else◌}
+-- Used by bookkeeping.StoredWord, words.KeepingWords, services.FreedServed, services.FurtherServed.
+use Rattle.std.proofs.Common.{◌≡◌, ◌≢◌, ◌+◌, ◌<◌, ◌≤◌, ◌&&◌, ◌||◌, [], ◌∷◌, ◌∙◌, ◌⊎◌, if◌then◌else◌}
 use Rattle.spi_serving.specs.Terms
-use Terms.{AllRight, ap, arith, BanksAgree, Bool, Call, cancelled_bit, Channel, channel_at, channel_of, ChannelState}
-use Terms.{Chip, Contains, Destination, entries_of, false, from_order, Going, GoingAgrees, has_bit, has_channel}
-use Terms.{has_mark, held_word, HeldRight, holds-agree, inl, inr, is_some, IsReady, IsSoundState, item-other, item-same}
+use Terms.{AllRight, AllSend, ap, AreCarried, arith, BanksAgree, Bool, Call, cancelled_bit, carried_at, CarriesAgrees}
+use Terms.{Channel, channel_at, channel_of, ChannelState, Chip, Contains, Destination, entries_of, false, from_order}
+use Terms.{Going, GoingAgrees, has_bit, has_channel, has_mark, held_word, HeldRight, holds-agree, inl, inr}
+use Terms.{is_interrupt, is_off, is_owed, is_some, is_sync_unit, IsReady, IsSoundState, item-other, item-same}
 use Terms.{job_small, job_word, jobs_of, length, length-append, length_by, List, list_any, MARKS, next_in, NEXTS, None}
 use Terms.{none_in, none_stored, not, of_sixteen, Option, order_word, packed_position, Part, part_there, PartBy}
 use Terms.{place_of, placed_of, pointwise, Position, position_word, refl, Reservation, Reservations, ReservedBy, Run}
-use Terms.{run_at, RunAgrees, running_word, runs_sequence, RunsNext, same_or_other, sequence_word, SequencesAgree}
-use Terms.{set_up_code, set_up_word, SetUpFits, slice_get, slice_index, slice_index_or, Some, Source, source_word}
-use Terms.{SpiRepresents, SpiState, SpiTable, StandsIn, started_bit, STATE, subst, suc, sym, to_order, to_write, true}
-use Terms.{unit_at, UnitAgrees, untouched, view, with_item, word_at, word_of, WordsAgree, Writing, zero, ℕ}
-use Rattle.spi_serving.specs.laws.{bookkeeping.JobsApart.{agrees_at, for_at}, bookkeeping.MovedOn.{ahead_still}}
+use Terms.{run_at, run_carried, RunAgrees, running_word, runs_sequence, RunsNext, same_or_other, sends_as}
+use Terms.{sequence_word, SequencesAgree, set_up_code, set_up_word, SetUpFits, slice_get, slice_index, slice_index_or}
+use Terms.{Some, Source, source_word, SpiRepresents, SpiState, SpiTable, StandsIn, started_bit, STATE, subst, suc, sym}
+use Terms.{to_order, to_write, true, unit_at, UnitAgrees, untouched, view, with_item, word_at, word_of, WordsAgree}
+use Terms.{Writing, zero, ℕ}
+use Rattle.spi_serving.specs.laws.{bookkeeping.JobsApart.{agrees_at, for_at, one_job}, bookkeeping.MovedOn.{ahead_still}}
 use Rattle.spi_serving.specs.laws.{bookkeeping.MovedOn.{by_unit, going_here, going_other}}
 use Rattle.spi_serving.specs.laws.{words.JoinedLists.{get_within}, bookkeeping.PinsTurned.{After, At, going1, later}}
 use Rattle.spi_serving.specs.laws.{ToServe.{ToServe}}
@@ -86,6 +88,7 @@ module _ (st : ToServe) (at : At st st.g.at (length st.g.received)) (p : Positio
     pub position : word_of c (position_word u) ≡ packed_position p
     pub first : (j : ℕ) → STATE ≤ j → j < STATE + 64 → j ≢ position_word u → word_of c j ≡ word_of chip j
     pub held : (n : ℕ) (k : Channel) → channel_of d n ≡ Some k → k.internal ≡ false → word_of c (held_word (placed_of d n)) ≡ word_of chip (held_word (placed_of d n))
+    pub held_away : (n : ℕ) (k : Channel) → channel_of d n ≡ Some k → n ≢ at.part.channel → word_of c (held_word (placed_of d n)) ≡ word_of chip (held_word (placed_of d n))
     pub set_ups : (n : ℕ) (k : Channel) → channel_of d n ≡ Some k → word_of c (set_up_word (placed_of d n)) ≡ word_of chip (set_up_word (placed_of d n))
     pub sources : (n i : ℕ) → n < 16 → i < 64 → word_of c (place_of (Source n) i) ≡ word_of chip (place_of (Source n) i)
     pub banks : (n : ℕ) (k : Channel) → channel_of d n ≡ Some k → k.internal ≡ true → BanksAgree d below going_after (word_of c) (view s) n k
@@ -184,6 +187,7 @@ module _ (st : ToServe) (at : At st st.g.at (length st.g.received)) (p : Positio
     sequences_after = record {
       sequences = λ q lt. words.first (sequence_word q) (omega arith) (omega (arith, lt)) (λ e. omega (arith, e, few)) ∙ was.sequences q lt;
       pending = λ z there. let a = was.pending z there in record { next = ap (λ n. next_in n z.sequence) nexts ∙ a.next; started = ap (λ n. has_mark n (started_bit z.sequence)) marks ∙ a.started; cancelled = ap (λ n. has_mark n (cancelled_bit z.sequence)) marks ∙ a.cancelled };
+      begun = λ n z e. ap (λ v. next_in v z.sequence) nexts ∙ was.begun n z e;
       had = λ z i there le lt. let small = job_small d fits z.sequence i lt in words.first (job_word (slice_index_or (jobs_of d z.sequence) i 0)) (omega arith) (omega (arith, small)) (λ e. omega (arith, e, few)) ∙ was.had z i there le lt;
       jobs = λ j lt none. words.first (job_word j) (omega arith) (omega (arith, lt)) (λ e. omega (arith, e, few)) ∙ was.jobs j lt none;
       orders = λ n lt. holds-agree (record { at = order_word n }) (word_of chip) (word_of c) (entries_of d (view s) n) (λ j own. sym (order_same n j lt own)) (was.orders n lt);
@@ -201,46 +205,41 @@ module _ (st : ToServe) (at : At st st.g.at (length st.g.received)) (p : Positio
         order_same : (n j : ℕ) → n < 2 → ranked.own_of (record { at = order_word n }) j ≡ true → word_of c j ≡ word_of chip j
         order_same n j lt own = let low = from_order n j own in let high = to_order n j own in words.first j (omega (arith, low)) (omega (arith, high, lt)) (λ e. omega (arith, e, low, high, lt, few))
 
-    module _ (r1 : Run) (cs : List ChannelState) (ws : List (List (ℕ × ℕ))) (q : Run) (runs : run_at s u ≡ Some q) (same : r1.sequence ≡ q.sequence) (like : IsLike cs s) where
-      abbrev pub begun_state : SpiState
-      begun_state = with_run_and s u r1 cs ws
-
-      seen : view begun_state ≡ view s
-      seen = view_as s u q r1 runs same cs ws like
-
-      pub begun_agrees : StandsIn c w → c.wiring ≡ chip.wiring → c.control ≡ chip.control → length c.serials.units ≡ 2 → UnitAgrees d (unit_at c.serials u) (Some r1) (Some going_on) → ((n : ℕ) → n ≢ u → unit_at c.serials n ≡ unit_at chip.serials n)
-          → ((n i : ℕ) → i < length_by (channel_of d n) → word_of c (place_of (Destination n) i) ≡ word_at (slice_index_or cs n untouched).destination i) → SpiRepresents d below c w begun_state
-      begun_agrees outside wiring control size unit others destinations = record {
-        right = right_like d s cs like.source below h.right;
+    -- the state after it is as it was but for the unit's run, the wire, and the users' destinations
+    module _ (s1 : SpiState) (seen : view s1 ≡ view s) (like : IsLike s1.channels s) where
+      -- held so
+      pub begun_agrees : (held1 : Reservations) → AllRight d s1.mode s1.channels held1 → AllSend d c w going_after s1 held1 → AreCarried (view s) held1
+          → ((n : ℕ) (k : Channel) → BanksAgree d below going_after (word_of c) (view s) n k → BanksAgree d held1 going_after (word_of c) (view s) n k) → ((n : ℕ) → is_owed n below ≡ true → is_owed n held1 ≡ true)
+          → StandsIn c w → c.wiring ≡ chip.wiring → c.control ≡ chip.control → length c.serials.units ≡ 2
+          → ((n : ℕ) → n < 2 → is_sync_unit d n ≡ false → UnitAgrees d (unit_at c.serials n) (run_at s1 n) (going_after n)) → ((n : ℕ) → n < 2 → is_sync_unit d n ≡ true → CarriesAgrees d (unit_at c.serials n) (run_carried (carried_at s1 n)) (going_after n))
+          → ((n i : ℕ) → i < length_by (channel_of d n) → word_of c (place_of (Destination n) i) ≡ word_at (channel_at s1 n).destination i) → SpiRepresents d held1 c w s1
+      begun_agrees held1 right sending carriers banks owed outside wiring control size asked sent destinations = record {
+        right = right;
         outside = outside;
         wired = λ n lt. ap (λ x. slice_index x.sources n) wiring ∙ h.wired n lt;
         size = size;
         sound = subst (λ v. IsSoundState d v) (sym seen) h.sound;
         going = going_after;
         nexts = λ n lt. subst (λ v. RunsNext d v n (going_after n)) (sym seen) (by_unit (λ k o. RunsNext d (view s) k o) h.going u (Some going_on) (subst (λ o. RunsNext d (view s) u o) is (h.nexts u few)) n (h.nexts n lt));
-        units = λ n lt. unit_by n lt (same_or_other n u);
-        words = subst (λ v. WordsAgree d below going_after (word_of c) v) (sym seen) (record {
+        units = asked;
+        sends = sent;
+        sending = sending;
+        carriers = subst (λ v. AreCarried v held1) (sym seen) carriers;
+        words = subst (λ v. WordsAgree d held1 going_after (word_of c) v) (sym seen) (record {
           state = words.first STATE (omega arith) (omega arith) (λ e. omega (arith, e)) ∙ h.words.state;
           on = λ still. record { sequences = sequences_after; runs = runs_after };
-          banks = words.banks;
-          stored = λ j n is. absurd (none_in (j, n) (subst (λ xs. Contains xs (j, n)) (none_stored d s.mode s.channels below on h.right) is));
+          banks = λ n k known internal. banks n k (words.banks n k known internal);
+          stored = λ j n is. absurd (none_in (j, n) (subst (λ xs. Contains xs (j, n)) (none_stored d s1.mode s1.channels held1 (ap is_off mode ∙ on) right) is));
         });
         set_ups = λ still n k known external. words.set_ups n k known ∙ h.set_ups on n k known external ∙ ap (λ o. set_up_code o) (sym (like.set_up n));
         sizes = λ still n k known. record { written = λ i. ap length (like.written n) ∙ (h.sizes on n k known).written i; set_up = λ i. subst (λ o. SetUpFits k o) (sym (like.set_up n)) ((h.sizes on n k known).set_up i) };
         arrays = λ n. record { source = λ i lt. words.sources n i (fewer n i lt).0 (fewer n i lt).1 ∙ (h.arrays n).source i lt ∙ ap (λ xs. word_at xs i) (sym (like.source n)); destination = λ i lt. destinations n i lt };
-        lines = λ n lt. ap (λ x. has_bit x.enabled (26 + n)) control ∙ h.lines n lt;
-        owed = λ n z lt free there for. h.owed n z lt (still_free n free) there for;
+        lines = λ n lt. ap (λ x. has_bit x.enabled (26 + n)) control ∙ h.lines n lt ∙ ap (λ m. is_interrupt m && not (is_sync_unit d n)) (sym mode);
+        owed = λ n z lt free there for. owed n (h.owed n z lt (still_free n free) (subst (λ ps. Contains ps z) (ap (λ v. v.pending) seen) there) for);
       }
         where
-          unit_by : (n : ℕ) → n < 2 → (n ≡ u) ⊎ (n ≢ u) → UnitAgrees d (unit_at c.serials n) (run_at begun_state n) (going_after n)
-          unit_by n lt (inl e) =
-              subst (λ k. UnitAgrees d (unit_at c.serials k) (run_at begun_state k) (going_after k)) (sym e)
-              (subst (λ r. UnitAgrees d (unit_at c.serials u) r (going_after u)) (sym (item-same None s.units u (Some r1)))
-              (subst (λ o. UnitAgrees d (unit_at c.serials u) (Some r1) o) (sym (going_here h.going u (Some going_on))) unit))
-          unit_by n lt (inr ne) =
-              subst (λ x. UnitAgrees d x (run_at begun_state n) (going_after n)) (sym (others n ne))
-              (subst (λ r. UnitAgrees d (unit_at chip.serials n) r (going_after n)) (sym (item-other None s.units u n (Some r1) ne))
-              (subst (λ o. UnitAgrees d (unit_at chip.serials n) (run_at s n) o) (sym (going_other h.going u (Some going_on) n ne)) (h.units n lt)))
+          mode : s1.mode ≡ s.mode
+          mode = ap (λ v. v.mode) seen
 
           still_free : (n : ℕ) → going_after n ≡ None → h.going n ≡ None
           still_free n free = by (same_or_other n u)
@@ -255,3 +254,34 @@ module _ (st : ToServe) (at : At st st.g.at (length st.g.received)) (p : Positio
               by : (o : Option Channel) → channel_of d n ≡ o → i < length_by o → (n < 16) × (i < 64)
               by None e less = absurd (omega (arith, less))
               by (Some k) e less = (of_sixteen d n k fits e, let most = (fits.channels n k e).few in omega (arith, less, most))
+
+    -- of a unit that starts jobs of pending sequences
+    module _ (async : is_sync_unit d u ≡ false) (r1 : Run) (cs : List ChannelState) (ws : List (List (ℕ × ℕ))) (q : Run) (runs : run_at s u ≡ Some q) (same : r1.sequence ≡ q.sequence) (like : IsLike cs s) where
+      abbrev pub begun_state : SpiState
+      begun_state = with_run_and s u r1 cs ws
+
+      pub run_agrees : StandsIn c w → c.wiring ≡ chip.wiring → c.control ≡ chip.control → length c.serials.units ≡ 2 → UnitAgrees d (unit_at c.serials u) (Some r1) (Some going_on) → ((n : ℕ) → n ≢ u → unit_at c.serials n ≡ unit_at chip.serials n)
+          → ((n i : ℕ) → i < length_by (channel_of d n) → word_of c (place_of (Destination n) i) ≡ word_at (slice_index_or cs n untouched).destination i) → SpiRepresents d below c w begun_state
+      run_agrees outside wiring control size unit others destinations =
+          begun_agrees begun_state (view_as s u q r1 runs same cs ws like) like below (right_like d s cs like.source below h.right)
+          (sends_as d chip c w w h.going going_after s begun_state (λ n k lt sync e. going_other h.going u (Some going_on) n (other_one n sync)) (λ n k lt sync e. ap (λ x. x.select) (others n (other_one n sync)))
+          (λ n k i x z lt sync e there known. words.held_away x.channel z known (λ f. other_one n sync (one_job d fits below chip w s h on u n g k few lt is e g.at.channel i at.part x at.there there f))) (λ n o knows. knows) below h.sending)
+          h.carriers (λ n k agrees. agrees) (λ n owes. owes) outside wiring control size (λ n lt asks. unit_by n lt asks (same_or_other n u))
+          (λ n lt sync. let ne = other_one n sync in
+          subst (λ x. CarriesAgrees d x (run_carried (carried_at s n)) (going_after n)) (sym (others n ne))
+          (subst (λ o. CarriesAgrees d (unit_at chip.serials n) (run_carried (carried_at s n)) o) (sym (going_other h.going u (Some going_on) n ne)) (h.sends n lt sync)))
+          destinations
+        where
+          -- a unit that carries out a sequence for a call is another one
+          other_one : (n : ℕ) → is_sync_unit d n ≡ true → n ≢ u
+          other_one n sync e = let f = sym sync ∙ ap (is_sync_unit d) e ∙ async in cc
+
+          unit_by : (n : ℕ) → n < 2 → is_sync_unit d n ≡ false → (n ≡ u) ⊎ (n ≢ u) → UnitAgrees d (unit_at c.serials n) (run_at begun_state n) (going_after n)
+          unit_by n lt asks (inl e) =
+              subst (λ k. UnitAgrees d (unit_at c.serials k) (run_at begun_state k) (going_after k)) (sym e)
+              (subst (λ r. UnitAgrees d (unit_at c.serials u) r (going_after u)) (sym (item-same None s.units u (Some r1)))
+              (subst (λ o. UnitAgrees d (unit_at c.serials u) (Some r1) o) (sym (going_here h.going u (Some going_on))) unit))
+          unit_by n lt asks (inr ne) =
+              subst (λ x. UnitAgrees d x (run_at begun_state n) (going_after n)) (sym (others n ne))
+              (subst (λ r. UnitAgrees d (unit_at chip.serials n) r (going_after n)) (sym (item-other None s.units u n (Some r1) ne))
+              (subst (λ o. UnitAgrees d (unit_at chip.serials n) (run_at s n) o) (sym (going_other h.going u (Some going_on) n ne)) (h.units n lt asks)))

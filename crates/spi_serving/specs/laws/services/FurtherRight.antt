@@ -1,41 +1,41 @@
--- A further word begins: the event, and the moves that the window owes after it.
+-- A further word begins, on a unit of either kind: the word on the wire, and the moves that the window owes after it.
 -- From words.KeepingWords, words.FacingWords, words.Positions, bookkeeping.StoredWord, words.SidesApart and 8 more.
 -- Used by services.ServeRight, services.JobOverRight, services.GoesOnRight, services.SequenceOverRight and 4 more.
 use Rattle.std.proofs.Common.{◌≡◌, ◌≢◌, ◌+◌, ◌%◌, ◌^◌, ◌<◌, ◌≤◌, ◌==◌, ◌&&◌, [], ◌∷◌, ◌++◌, ◌∙◌, ◌⊎◌, if◌then◌else◌}
 use Rattle.spi_serving.specs.Terms
-use Terms.{Answer, ap, arith, Arrived, as_begun, asked_word, bank_of, bank_word, begins, begins_on, Begun, begun, Bool}
-use Terms.{Call, Channel, channel_at, channel_next, channel_of, channel_served, ChannelState, Chip, chip_after}
-use Terms.{cleared_of, clears, CommitsTo, control_word, Destination, destination_own, destination_word, ExternalAgrees}
-use Terms.{false, find, FitsSpi, found_entry, FrameRole, free_bank, Goes, goes_by, Going, Handler, has_channel}
-use Terms.{has_done, held_word, inl, inr, InTransfer, is_last_place, is_number, is_of, is_there, IsFound, IsFurther}
-use Terms.{IsServed, item-same, JobWord, Keep, keep_of, keeping, length, length-set, length_by, lets_of, lets_with}
-use Terms.{List, Main, may, may_store, may_users, min, mod-mod, nat_le, nat_lt, nat_tests, None, not, notes, Nowhere}
-use Terms.{of_sixteen, on_wire, one_owed, one_pending, Option, Origin, outcome_with, own-control, own_first, own_held}
-use Terms.{own_low, packed_position, PartBy, pending_of, place_of, Placed, placed_of, Position, position_word, Received}
-use Terms.{received_with, refl, releasing, Reservations, Rest, Run, run_at, run_of, same_or_other, SendsRight, Sent}
-use Terms.{SerialData, served, served_by, ServePlace, Serves, SetUp, slice_index_or, Some, SOURCES, spi_machine}
-use Terms.{spi_owing, SpiRepresents, SpiState, SpiTable, stands-move, StandsIn, Store, stored, stored_other}
-use Terms.{stored_same, subst, suc, sym, taker_of, ToChannel, ToDestination, Transmit, trio_of, true, unit_at, unit_of}
-use Terms.{unit_over, unit_owed, UnitAgrees, UnitBody, UnitPlace, Units, unless_done, unpacked, untouched, wire_at}
-use Terms.{with_item, with_word, word_after, word_at, word_of, World, Write, zero, ℕ}
-use Rattle.spi_serving.specs.laws.{services.FurtherBegun.{begun_agrees, with_run_and}, words.FacingWords.{at_is}}
-use Rattle.spi_serving.specs.laws.{words.FacingWords.{goes_further, next_at, next_channel, next_word}}
+use Terms.{after_serve, ap, arith, Arrived, as_begun, asked_word, bank_of, bank_word, begins, Begun, begun, Bool}
+use Terms.{CarriesAgrees, Channel, channel_at, channel_next, channel_of, channel_served, ChannelState, Chip}
+use Terms.{chip_after, CommitsAfter, CommitsTo, control_word, Destination, destination_own, destination_word}
+use Terms.{ExternalAgrees, false, FitsSpi, FrameRole, free_bank, Goes, goes_by, Going, Handler, has_channel, has_ended}
+use Terms.{held_word, inl, inr, InTransfer, is_last_place, is_number, is_sync_unit, IsFurther, IsServed, job_of}
+use Terms.{JobWord, Keep, keep_ends, keep_move, keep_of, keeping, length, length_by, lets_of, lets_with, List, Main}
+use Terms.{main_over, may, may_store, may_users, min, mod-mod, nat_le, nat_lt, nat_tests, next_job, None, not, Nowhere}
+use Terms.{of_sixteen, on_wire, one_owed, Option, owed_left, owed_move, owes_move, own-control, own_first, own_held}
+use Terms.{own_low, packed_position, PartBy, PendingWrites, place_of, Placed, placed_of, Position, position_word}
+use Terms.{Received, received_with, refl, releasing, Reservations, Rest, Run, run_of, same_or_other, select_by}
+use Terms.{select_of, SendsRight, Sent, Serial, SerialData, serve_keeps, serve_lets, serve_move, ServePlace, ServeStep}
+use Terms.{SetUp, slice_index_or, Some, SOURCES, spi_owing, SpiRepresents, SpiState, SpiTable, stands-move, StandsIn}
+use Terms.{Store, stored, stored_other, stored_same, subst, suc, sym, Take, take_gave, take_move, taker_of, ToChannel}
+use Terms.{ToDestination, Transmit, trio_of, true, unit_at, unit_over, unit_owed, unit_run, UnitBody, UnitPlace, Units}
+use Terms.{unless_done, unpacked, untouched, value_of, wire_at, with_item, word_after, word_at, word_of, World, Write}
+use Terms.{zero, ℕ}
+use Rattle.spi_serving.specs.laws.{words.FacingWords.{at_is}}
+use Rattle.spi_serving.specs.laws.{words.FacingWords.{next_at, next_channel, next_word}}
 use Rattle.spi_serving.specs.laws.{words.FacingWords.{served_by as by_served, served_is, standing, way, word_is}}
 use Rattle.spi_serving.specs.laws.{words.FoundWord.{narrow, width_same}, words.KeepingWords.{IsKept, IsLet, NotLet}}
 use Rattle.spi_serving.specs.laws.{words.KeepingWords.{here_known, kept_first, kept_more, kept_nowhere, kept_outside}}
 use Rattle.spi_serving.specs.laws.{words.KeepingWords.{let_ends, let_none, own_first_word, own_word_more, there_known}}
-use Rattle.spi_serving.specs.laws.{words.KeepingWords.{words_after}, bookkeeping.MovedOn.{moved_on}}
+use Rattle.spi_serving.specs.laws.{bookkeeping.MovedOn.{moved_on}}
 use Rattle.spi_serving.specs.laws.{words.Positions.{Follows, Same, Next, Stands, held_back, part_few}}
-use Rattle.spi_serving.specs.laws.{hardware.UnitRegisters.{unit_other, unit_same}, words.SidesApart.{banks_low}}
+use Rattle.spi_serving.specs.laws.{hardware.UnitRegisters.{unit_same}, words.SidesApart.{banks_low}}
 use Rattle.spi_serving.specs.laws.{words.SidesApart.{banks_own, is_inside}, bookkeeping.StoredWord.{stored_elsewhere}}
-use Rattle.spi_serving.specs.laws.{bookkeeping.StoredWord.{stored_is, stored_like, stored_there}}
-use Rattle.spi_serving.specs.laws.{bookkeeping.PinsTurned.{After, At}, bookkeeping.UnderWay.{UnderWay, is_ready}}
-use Rattle.spi_serving.specs.laws.{bookkeeping.UnderWay.{unit_line}, ToServe.{ToServe}}
+use Rattle.spi_serving.specs.laws.{bookkeeping.StoredWord.{stored_there}}
+use Rattle.spi_serving.specs.laws.{bookkeeping.PinsTurned.{After, At}, bookkeeping.UnderWay.{UnderWay}}
+use Rattle.spi_serving.specs.laws.{ToServe.{ToServe}}
 use Rattle.chip_units.specs.Serials as serials
 use Rattle.word_shapes.specs.declared.take.Take.TheVariants as takes
 use Rattle.spi_jobs.specs.declared.keeping.Keep.TheVariants as keeps
 use Rattle.spi_jobs.specs.declared.keeping.Taker.TheVariants as takers
-use Rattle.spi_machine.specs.Machine as machine
 use Rattle.spi_machine.specs.Transfers as transfers
 use Rattle.spi_sequences.specs.declared.service.serve.ServePlace.TheVariants as serve
 use Rattle.spi_sequences.specs.declared.service.unit.UnitPlace.TheVariants as units
@@ -47,11 +47,42 @@ serving d e u q = record { table = d; errand = e; unit = u; place = units.Serve 
 
 -- a frame whose window is over owes nothing
 pub over_none : (k : UnitBody) (q : UnitPlace) (e : FrameRole) (n : ℕ) → unless_done (unit_over k q e n).1.done (unit_owed (unit_over k q e n).0) ≡ None
-over_none k q Main zero = refl
+over_none k q Main zero = by (is_sync_unit k.table 1)
+  where
+    by : (sync : Bool) → unless_done (main_over k q sync).1.done (unit_owed (main_over k q sync).0) ≡ None
+    by true = refl
+    by false = refl
 over_none k q Main (suc n) = refl
 over_none k q Rest n = refl
 over_none k q Handler n = refl
 over_none k q (Transmit r) n = refl
+
+-- the moves of a window after a further word has begun, as a frame owes them
+pub record OwesWords (d : SpiTable) (u : ℕ) (into : ServePlace → PendingWrites) : Type 0 where
+  pub moves : (q : ServePlace) → owed_move (into q) ≡ serve_move d u q
+  pub lets : (a : Arrived) (p : Position) (t : Take) (v : ℕ) → owed_left (into (serve.Let a p t)) v ≡ Some (into (serve_lets d a p t v (has_ended (take_gave t v))).0)
+  pub keeps : (k : Keep) (p : Position) (v : ℕ) → owed_left (into (serve.Keep k p)) v ≡ Some (into (serve_keeps k p (keep_ends k)).0)
+  pub stands : (p : Position) (v : ℕ) → owed_left (into (serve.Stand p)) v ≡ None
+
+-- as one that serves does
+pub served_words : (d : SpiTable) (e : FrameRole) (u : ℕ) → OwesWords d u (λ q. Units (serving d e u q))
+served_words d e u = record {
+  moves = λ q. refl;
+  lets = λ a p t v. lets_by a p t v (has_ended (take_gave t v));
+  keeps = λ k p v. keeps_by k p (keep_ends k);
+  stands = λ p v. over_none (serving d e u (serve.Stand p)) (units.Serve (serve.Stand p)) e u;
+}
+  where
+    left : ServePlace → ServePlace × ServeStep → Option PendingWrites
+    left q r = unless_done (after_serve (serving d e u q) r).1.done (unit_owed (after_serve (serving d e u q) r).0)
+
+    lets_by : (a : Arrived) (p : Position) (t : Take) (v : ℕ) (b : Bool) → left (serve.Let a p t) (serve_lets d a p t v b) ≡ Some (Units (serving d e u (serve_lets d a p t v b).0))
+    lets_by a p t v true = refl
+    lets_by a p t v false = refl
+
+    keeps_by : (k : Keep) (p : Position) (b : Bool) → left (serve.Keep k p) (serve_keeps k p b) ≡ Some (Units (serving d e u (serve_keeps k p b).0))
+    keeps_by k p true = refl
+    keeps_by k p false = refl
 
 -- ---- how the word is kept, by its channel
 
@@ -69,17 +100,17 @@ kept_as x i m v false e z f =
     ap (λ q. keeping x i (if not q then takers.SetUp (unpacked (m (if q && i == 0 then control_word x Received else held_word x))) else if i == 0 then takers.Bank (free_bank (m (if q && i == 0 then control_word x Received else held_word x))) else takers.Bank (bank_of (m (if q && i == 0 then control_word x Received else held_word x)))) v) e
 
 module _ (d : SpiTable) (fits : FitsSpi d) (below : Reservations) (chip : Chip) (w : World) (s : SpiState) (h : SpiRepresents d below chip w s) (u : ℕ) (few : u < 2) (a : Arrived) (p : Position) (v y : ℕ)
-    (i : IsFurther d (word_of chip) s w.now u a p) (wide : (unit_at chip.serials u).width ≡ (channel_next d a p).channel.width) (is_word : (run : Run) → run_at s u ≡ Some run → v ≡ (word_after run).sent) where
-  abbrev by : IsServed (word_of chip) s w.now u a.served
+    (i : IsFurther d (word_of chip) s w.now u a p) (wide : (unit_at chip.serials u).width ≡ (channel_next d a p).channel.width) (is_word : (run : Run) → unit_run d s u ≡ Some run → v ≡ (word_after run).sent) where
+  abbrev pub by : IsServed d (word_of chip) s w.now u a.served
   by = by_served d fits below chip w s h u few a p i
 
-  abbrev under : UnderWay d below chip w s h u by.done.run
+  abbrev pub under : UnderWay d below chip w s h u by.done.run
   under = way d fits below chip w s h u few a.served by
 
   abbrev pub going : Going
   going = under.job
 
-  abbrev run : Run
+  abbrev pub run : Run
   run = by.done.run
 
   abbrev first : Stands d fits u (word_of chip) going under.for under.represents going.at (length going.received)
@@ -88,7 +119,7 @@ module _ (d : SpiTable) (fits : FitsSpi d) (below : Reservations) (chip : Chip) 
   abbrev second : Stands d fits u (word_of chip) going under.for under.represents p (length going.received + 1)
   second = (next_at d fits below chip w s h u few a p i).0
 
-  abbrev st : ToServe
+  abbrev pub st : ToServe
   st = record { d = d; fits = fits; below = below; chip = chip; w = w; s = s; h = h; on = under.on; u = u; few = few; g = going; is = under.is }
 
   abbrev pub at : At st going.at (length going.received)
@@ -117,10 +148,10 @@ module _ (d : SpiTable) (fits : FitsSpi d) (below : Reservations) (chip : Chip) 
   abbrev pub there : Placed
   there = placed_of d next.part.channel
 
-  abbrev word : JobWord
+  abbrev pub word : JobWord
   word = word_after run
 
-  abbrev chip1 : Chip
+  abbrev pub chip1 : Chip
   chip1 = chip_after chip (Write (SerialData u) v) y
 
   outside1 : StandsIn chip1 w
@@ -128,39 +159,21 @@ module _ (d : SpiTable) (fits : FitsSpi d) (below : Reservations) (chip : Chip) 
 
   -- ---- the event
 
-  abbrev stored_word : JobWord
+  abbrev pub stored_word : JobWord
   stored_word = transfers.word_of run
 
-  abbrev later_run : Run
+  abbrev pub later_run : Run
   later_run = begun w.now y run.sequence run.words (received_with run)
 
   abbrev pub channels : List ChannelState
   channels = (stored s stored_word stored_word.goes run.transfer.incoming).channels
 
-  abbrev wires : List (List (ℕ × ℕ))
+  abbrev pub wires : List (List (ℕ × ℕ))
   wires = with_item [] s.wires u (wire_at s u ++ on_wire y (transfers.word_of later_run) ∷ [])
 
-  -- the machine's state after it, and the word that begins
-  abbrev pub state1 : SpiState
-  state1 = with_run_and s u later_run channels wires
-
+  -- the word that begins
   abbrev pub word1 : Begun
   word1 = as_begun d u (Some going.pending) word
-
-  found : IsFound going.pending.sequence s.pending
-  found = found_entry going.pending.sequence s.pending (is_there d fits below chip w s h going.pending under.there)
-
-  pending_is : pending_of s run ≡ Some going.pending
-  pending_is = ap (λ (z : Run). find (is_of z.sequence) s.pending) under.runs ∙ found.is ∙ ap (λ z. Some z) (one_pending d fits below chip w s h found.entry going.pending found.there under.there found.of)
-
-  pub further_is : (spi_machine d).happens w s (Serves (26 + u) y) ≡ Some (outcome_with state1 (notes []) (Some word1))
-  further_is =
-      ap (λ q. if q then Some (served d w s (unit_of (26 + u)) y (machine.run_of s (unit_of (26 + u)))) else None) (is_ready d fits below chip w s h u few under.on (ap (has_done w.now) by.done.is ∙ by.done.done))
-      ∙ ap (λ o. Some (served d w s o y (machine.run_of s o))) (unit_line u few)
-      ∙ ap (λ r. Some (served d w s (Some u) y r)) by.done.is
-      ∙ ap (λ q. Some (served_by d w s u y run q)) (goes_further d fits below chip w s h u few a p i)
-      ∙ ap (λ o. Some (begins_on d (stored s stored_word stored_word.goes run.transfer.incoming) u y o later_run)) pending_is
-      ∙ ap (λ z. Some (outcome_with (with_word z u y later_run) (notes []) (Some word1))) (stored_is s stored_word stored_word.goes run.transfer.incoming)
 
   -- ---- the word on the wire
 
@@ -176,21 +189,24 @@ module _ (d : SpiTable) (fits : FitsSpi d) (below : Reservations) (chip : Chip) 
   sent_is : word.sent ≡ slice_index_or next.part.values p.word 0 % 2 ^ there.channel.width
   sent_is = ap (λ (z : JobWord). z.sent) (next_word d fits below chip w s h u few a p i) ∙ ap (λ n. slice_index_or next.part.values p.word 0 % 2 ^ n) (width_same d fits below chip w s h u few a p i)
 
-  pub further_sends : SendsRight chip (Some word1) (Write (SerialData u) v)
-  further_sends = record {
+  abbrev pub Selected : Chip → Type 0
+  Selected c = (unit_at c.serials u).select ≡ select_of (select_by (job_of d (next_job d going.pending)))
+
+  pub further_sends : Selected chip → SendsRight chip (Some word1) (Write (SerialData u) v)
+  further_sends select = record {
     on = refl;
     word =
         ap (λ n. v % 2 ^ min n 16) wide_is ∙ ap (λ n. v % 2 ^ n) least ∙ ap (λ z. z % 2 ^ there.channel.width) (is_word run by.done.is ∙ sent_is)
         ∙ mod-mod (slice_index_or next.part.values p.word 0) (2 ^ there.channel.width) ∙ sym sent_is;
     width = ap (λ n. min n 16) wide_is ∙ least ∙ sym width_is;
-    select = under.select;
+    select = select;
   }
 
   -- ---- the unit after it
 
-  unit1 : UnitAgrees d (unit_at chip1.serials u) (Some later_run) (Some (moved_on going p came))
-  unit1 = subst (λ x. UnitAgrees d x (Some later_run) (Some (moved_on going p came))) (sym (unit_same chip u (serials.begun y chip.serials.time (unit_at chip.serials u)) h.size few))
-      (begins w.now y (word_after (run_of d going under.transfer)), ap (λ (z : Run). Some (begun w.now y z.sequence z.words (received_with z))) under.runs, transfers1, under.select)
+  pub unit1 : CarriesAgrees d (unit_at chip1.serials u) (Some later_run) (Some (moved_on going p came))
+  unit1 = subst (λ x. CarriesAgrees d x (Some later_run) (Some (moved_on going p came))) (sym (unit_same chip u (serials.begun y chip.serials.time (unit_at chip.serials u)) h.size few))
+      (begins w.now y (word_after (run_of d going under.transfer)), ap (λ (z : Run). Some (begun w.now y z.sequence z.words (received_with z))) under.runs, transfers1)
     where
       transfers1 : InTransfer (serials.begun y chip.serials.time (unit_at chip.serials u)).word (begins w.now y (word_after (run_of d going under.transfer)))
       transfers1 = record {
@@ -199,43 +215,45 @@ module _ (d : SpiTable) (fits : FitsSpi d) (below : Reservations) (chip : Chip) 
         failed = refl;
       }
 
+  pub selected1 : Selected chip → Selected chip1
+  selected1 select = ap (λ (x : Serial). x.select) (unit_same chip u (serials.begun y chip.serials.time (unit_at chip.serials u)) h.size few) ∙ select
+
   -- ---- the moves that are owed
 
   abbrev Lets : Chip → Type 0
   Lets c = IsLet st at p next follows came c
 
-  abbrev Keeps : Chip → Type 0
+  abbrev pub Keeps : Chip → Type 0
   Keeps c = IsKept st at p next follows came c
 
   -- the chip has what the beginning left beside the words
-  record IsAfter (c : Chip) : Type 0 where
-    serials : c.serials ≡ chip1.serials
-    wiring : c.wiring ≡ chip.wiring
-    control : c.control ≡ chip.control
+  pub record IsAfter (c : Chip) : Type 0 where
+    pub serials : c.serials ≡ chip1.serials
+    pub wiring : c.wiring ≡ chip.wiring
+    pub control : c.control ≡ chip.control
 
-  abbrev Destinations : Chip → Type 0
+  abbrev pub Destinations : Chip → Type 0
   Destinations c = (n j : ℕ) → j < length_by (channel_of d n) → word_of c (place_of (Destination n) j) ≡ word_at (slice_index_or channels n untouched).destination j
 
   own_position : may d (Store (position_word u) (packed_position p)) ≡ true
   own_position = may_store d fits (position_word u) (packed_position p) (own_first d (position_word u) (omega arith) (omega (arith, few)))
 
-  module _ (e : FrameRole) (owner : Origin Call) (acted : Option Answer) where
-    abbrev Done : Chip → Type 0
-    Done c = SpiRepresents d (cleared_of u owner acted ∷ below) c w state1
+  -- the chip as the last of them leaves it
+  abbrev pub placed_in : Chip → Chip
+  placed_in c = chip_after c (Store (position_word u) (packed_position p)) 0
 
-    abbrev Owes : ServePlace → Chip → Type 0
-    Owes q c = (n : ℕ) × CommitsTo (spi_owing d) n (Units (serving d e u q)) c Done
+  module _ (into : ServePlace → PendingWrites) (owes : OwesWords d u into) (Done : Chip → Type 0) (over : (c : Chip) → Keeps c → IsAfter c → Destinations c → Done (placed_in c)) where
+    abbrev pub Owes : ServePlace → Chip → Type 0
+    Owes q c = (n : ℕ) × CommitsTo (spi_owing d) n (into q) c Done
 
-    stand : (c : Chip) → Keeps c → IsAfter c → ((n j : ℕ) → j < length_by (channel_of d n) → word_of c (place_of (Destination n) j) ≡ word_at (slice_index_or channels n untouched).destination j) → Owes (serve.Stand p) c
-    stand c kept rest destinations = one_owed (spi_owing d) Done (Units (serving d e u (serve.Stand p))) c None own_position tt (over_none (serving d e u (serve.Stand p)) (units.Serve (serve.Stand p)) e u)
-        (clears d below final w state1 u owner acted fits (begun_agrees st at p next follows came final (words_after st at p next follows came c kept) later_run channels wires run by.done.is refl (stored_like s stored_word stored_word.goes run.transfer.incoming)
-        (stands-move c w (Store (position_word u) (packed_position p)) 0 kept.outside) rest.wiring rest.control (ap (λ x. length x.units) rest.serials ∙ length-set chip.serials.units u _ ∙ h.size)
-        (subst (λ x. UnitAgrees d (unit_at x u) (Some later_run) (Some (moved_on going p came))) (sym rest.serials) unit1)
-        (λ n ne. ap (λ x. unit_at x n) rest.serials ∙ unit_other chip u n (serials.begun y chip.serials.time (unit_at chip.serials u)) ne)
-        (λ n j lt. stored_other c (position_word u) (packed_position p) 0 (place_of (Destination n) j) (λ f. omega (arith, f, few)) ∙ destinations n j lt)) (λ q none also for. let runs = sym (item-same None s.units u (Some later_run)) ∙ none in cc))
-      where
-        final : Chip
-        final = chip_after c (Store (position_word u) (packed_position p)) 0
+    -- one move of the window
+    step_to : (q : ServePlace) (c : Chip) (left : Option PendingWrites) → owes_move d (serve_move d u q) ≡ true → owed_left (into q) (value_of c (serve_move d u q)) ≡ left → CommitsAfter (spi_owing d) left (chip_after c (serve_move d u q) 0) Done → Owes q c
+    step_to q c left own e rest =
+        one_owed (spi_owing d) Done (into q) c left (subst (λ m. owes_move d m ≡ true) (sym (owes.moves q)) own) tt (ap (λ m. owed_left (into q) (value_of c m)) (owes.moves q) ∙ e)
+        (subst (λ m. CommitsAfter (spi_owing d) left (chip_after c m 0) Done) (sym (owes.moves q)) rest)
+
+    stand : (c : Chip) → Keeps c → IsAfter c → Destinations c → Owes (serve.Stand p) c
+    stand c kept rest destinations = step_to (serve.Stand p) c None own_position (owes.stands p (value_of c (Store (position_word u) (packed_position p)))) (over c kept rest destinations)
 
     -- ---- the word is kept
 
@@ -289,8 +307,8 @@ module _ (d : SpiTable) (fits : FitsSpi d) (below : Reservations) (chip : Chip) 
 
       keep_first : here.channel.internal ≡ true → going.at.word ≡ 0 → Owes (serve.Keep (keeps.Hold here (free_bank (word_of chip (control_word here Received))) came) p) c
       keep_first q z =
-          one_owed (spi_owing d) Done (Units (serving d e u (serve.Keep (keeps.Hold here b came) p))) c (Some (Units (serving d e u (serve.Keep (keeps.Fill here 0 b came) p)))) (may_store d fits (held_word here) b (own_held d fits at.part.channel known.0 known.1)) tt refl
-          (one_owed (spi_owing d) Done (Units (serving d e u (serve.Keep (keeps.Fill here 0 b came) p))) held_c (Some (Units (serving d e u (serve.Stand p)))) (may_store d fits (bank_word here Received b 0) came (banks_own d fits at.part.channel known.0 known.1 (is_inside d fits at.part.channel known.0 known.1 q) Received (bank_word here Received b 0) (own_first_word st at p next follows came c l q z))) tt refl
+          step_to (serve.Keep (keeps.Hold here b came) p) c (Some (into (serve.Keep (keeps.Fill here 0 b came) p))) (may_store d fits (held_word here) b (own_held d fits at.part.channel known.0 known.1)) (owes.keeps (keeps.Hold here b came) p (value_of c (keep_move (keeps.Hold here b came))))
+          (step_to (serve.Keep (keeps.Fill here 0 b came) p) held_c (Some (into (serve.Stand p))) (may_store d fits (bank_word here Received b 0) came (banks_own d fits at.part.channel known.0 known.1 (is_inside d fits at.part.channel known.0 known.1 q) Received (bank_word here Received b 0) (own_first_word st at p next follows came c l q z))) (owes.keeps (keeps.Fill here 0 b came) p (value_of held_c (keep_move (keeps.Fill here 0 b came))))
           (stand (chip_after held_c (Store (bank_word here Received b 0) came) 0) kept (record { serials = rest.serials; wiring = rest.wiring; control = rest.control }) (internal_destinations q (chip_after held_c (Store (bank_word here Received b 0) came) 0) kept)))
         where
           b : ℕ
@@ -304,7 +322,7 @@ module _ (d : SpiTable) (fits : FitsSpi d) (below : Reservations) (chip : Chip) 
 
       keep_more : here.channel.internal ≡ true → 0 < going.at.word → Owes (serve.Keep (keeps.Fill here going.at.word (bank_of (word_of chip (held_word here))) came) p) c
       keep_more q z =
-          one_owed (spi_owing d) Done (Units (serving d e u (serve.Keep (keeps.Fill here going.at.word b came) p))) c (Some (Units (serving d e u (serve.Stand p)))) (may_store d fits (bank_word here Received b going.at.word) came (banks_own d fits at.part.channel known.0 known.1 (is_inside d fits at.part.channel known.0 known.1 q) Received (bank_word here Received b going.at.word) (own_word_more st at p next follows came c l q z))) tt refl
+          step_to (serve.Keep (keeps.Fill here going.at.word b came) p) c (Some (into (serve.Stand p))) (may_store d fits (bank_word here Received b going.at.word) came (banks_own d fits at.part.channel known.0 known.1 (is_inside d fits at.part.channel known.0 known.1 q) Received (bank_word here Received b going.at.word) (own_word_more st at p next follows came c l q z))) (owes.keeps (keeps.Fill here going.at.word b came) p (value_of c (keep_move (keeps.Fill here going.at.word b came))))
           (stand (chip_after c (Store (bank_word here Received b going.at.word) came) 0) kept (record { serials = rest.serials; wiring = rest.wiring; control = rest.control }) (internal_destinations q (chip_after c (Store (bank_word here Received b going.at.word) came) 0) kept))
         where
           b : ℕ
@@ -326,13 +344,13 @@ module _ (d : SpiTable) (fits : FitsSpi d) (below : Reservations) (chip : Chip) 
 
         keep_nowhere : (unpacked (word_of chip (held_word here))).destination ≡ false → Owes (serve.Keep (keeps.Drop here) p) c
         keep_nowhere f =
-            one_owed (spi_owing d) Done (Units (serving d e u (serve.Keep (keeps.Drop here) p))) c (Some (Units (serving d e u (serve.Stand p)))) (may_store d fits (held_word here) 0 (own_held d fits at.part.channel known.0 known.1)) tt refl
+            step_to (serve.Keep (keeps.Drop here) p) c (Some (into (serve.Stand p))) (may_store d fits (held_word here) 0 (own_held d fits at.part.channel known.0 known.1)) (owes.keeps (keeps.Drop here) p (value_of c (keep_move (keeps.Drop here))))
             (stand c (kept_nowhere st at p next follows came c l q) rest
             (same_destinations c (λ n j lt less. l.others (place_of (Destination n) j) (not_let (place_of (Destination n) j) (omega arith))) (goes_there Nowhere (goes_is false f))))
 
         keep_outside : (unpacked (word_of chip (held_word here))).destination ≡ true → Owes (serve.Keep (keeps.Store here going.at.word came) p) c
         keep_outside f =
-            one_owed (spi_owing d) Done (Units (serving d e u (serve.Keep (keeps.Store here going.at.word came) p))) c (Some (Units (serving d e u (serve.Stand p)))) (may_users d fits (destination_word here going.at.word) (destination_own d fits at.part.channel going.at.word within) (omega (arith, small.0, small.1))) tt refl
+            step_to (serve.Keep (keeps.Store here going.at.word came) p) c (Some (into (serve.Stand p))) (may_users d fits (destination_word here going.at.word) (destination_own d fits at.part.channel going.at.word within) (omega (arith, small.0, small.1))) (owes.keeps (keeps.Store here going.at.word came) p (value_of c (keep_move (keeps.Store here going.at.word came))))
             (stand (chip_after c (Store (destination_word here going.at.word) came) 0) kept (record { serials = rest.serials; wiring = rest.wiring; control = rest.control }) there_now)
           where
             within : going.at.word < length_by (channel_of d at.part.channel)
@@ -390,8 +408,8 @@ module _ (d : SpiTable) (fits : FitsSpi d) (below : Reservations) (chip : Chip) 
     lets_by : (q : Bool) → there.channel.internal ≡ q → (b : Bool) → is_last_place there p.word ≡ b → Owes (lets_with d a p there) chip1
     lets_by true f true g1 =
         subst (λ z. Owes (if z then serve.Let a p (releasing there Sent) else serve.Keep (keep_of d a) p) chip1) (sym (ap (λ z. z && is_last_place there p.word) f ∙ g1))
-        (one_owed (spi_owing d) Done (Units (serving d e u (serve.Let a p (takes.Release cw)))) chip1 (Some (Units (serving d e u (serve.Let a p (takes.Free cw (word_of chip1 cw % 4)))))) (own f) tt refl
-        (one_owed (spi_owing d) Done (Units (serving d e u (serve.Let a p (takes.Free cw (word_of chip1 cw % 4))))) chip1 (Some (Units (serving d e u (serve.Keep (keep_of d a) p)))) (own f) tt refl
+        (step_to (serve.Let a p (takes.Release cw)) chip1 (Some (into (serve.Let a p (takes.Free cw (word_of chip1 cw % 4))))) (own f) (owes.lets a p (takes.Release cw) (value_of chip1 (take_move (takes.Release cw))))
+        (step_to (serve.Let a p (takes.Free cw (word_of chip1 cw % 4))) chip1 (Some (into (serve.Keep (keep_of d a) p))) (own f) (owes.lets a p (takes.Free cw (word_of chip1 cw % 4)) (value_of chip1 (take_move (takes.Free cw (word_of chip1 cw % 4)))))
         (keep_owes (chip_after chip1 (Store cw (word_of chip1 cw % 4)) 0) (let_ends st at p next follows came chip1 outside1 (λ j. refl) f (is_last f true g1)) (record { serials = refl; wiring = refl; control = refl }))))
       where
         cw : ℕ

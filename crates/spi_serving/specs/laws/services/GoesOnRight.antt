@@ -4,18 +4,18 @@
 -- Used by services.JobOverRight.
 use Rattle.std.proofs.Common.{◌≡◌, ◌≢◌, ◌+◌, ◌<◌, ◌≤◌, [], ◌∷◌, ◌∙◌, ◌⊎◌, if◌then◌else◌}
 use Rattle.spi_serving.specs.Terms
-use Terms.{after_serve, Again, again-ends, again_gave, Answer, ap, AreOwed, arith, Bool, Call, changed, ChannelState}
-use Terms.{Chip, CommitsTo, Contains, contains_back, DiffersIn, entries_of, failed_word, false, FitsSpi, FrameRole}
-use Terms.{goes_to_next, Going, going_next, inl, inr, is_for, is_of, is_owed, is_some, IsPart, IsSoundState, job_word}
-use Terms.{jobs_of, Leaving, length, List, MARKS, may_store, named_own, next_job, next_small, NEXTS, None, not_order}
-use Terms.{one_owed, Option, order_places, order_there, order_word, Origin, own_first, own_order, PartTo, Pending, refl}
-use Terms.{RunsNext, same_or_other, sequence_word, sequences_as, SequencesAgree, serve_again, Served, ServePlace}
-use Terms.{settles_part, Some, sound_as, spi_owing, SpiJobOk, SpiRepresents, SpiState, SpiTable, STATE, subst, sym}
-use Terms.{Taker, true, unit_owed, Units, unless_done, view, waiting-absent, waiting_again, with_item, with_next_in}
-use Terms.{word_of, ℕ}
-use Rattle.spi_serving.specs.laws.{services.FreedUnit.{in_no_other, order_left, IsFilled, Left, few_run, freed_agrees}}
-use Rattle.spi_serving.specs.laws.{services.FreedUnit.{going_left, none_runs, other_free, others_differ, others_run}}
-use Rattle.spi_serving.specs.laws.{services.FreedUnit.{owed_left, start_owed, with_free}}
+use Terms.{after_serve, Again, again-ends, again_gave, all_carried, all_pending, Answer, ap, AreOwed, arith, Bool}
+use Terms.{Call, changed, ChannelState, Chip, CommitsTo, Contains, contains_back, DiffersIn, entries_of, failed_word}
+use Terms.{false, FitsSpi, FrameRole, goes_to_next, Going, going_asked, going_next, inl, inr, is_for, is_of, is_owed}
+use Terms.{is_some, is_sync_unit, IsPart, IsSoundState, job_word, jobs_of, Leaving, length, List, MARKS, may_store}
+use Terms.{named_own, next_job, next_small, NEXTS, None, not_order, one_owed, Option, order_places, order_there}
+use Terms.{order_word, Origin, own_first, own_order, PartTo, Pending, refl, RunsBy, RunsNext, same_or_other}
+use Terms.{sequence_word, sequences_as, SequencesAgree, serve_again, Served, ServePlace, settles_part, Some, sound_as}
+use Terms.{spi_owing, SpiJobOk, SpiRepresents, SpiState, SpiTable, STATE, subst, sym, Taker, true, unit_owed, Units}
+use Terms.{unless_done, view, waiting-absent, waiting_again, with_item, with_next_in, word_of, ℕ}
+use Rattle.spi_serving.specs.laws.{services.FreedServed.{calm_run, few_run, freed_agrees, none_runs, others_run}}
+use Rattle.spi_serving.specs.laws.{services.FreedUnit.{in_no_other, order_left, IsFilled, Left, going_left}}
+use Rattle.spi_serving.specs.laws.{services.FreedUnit.{other_free, others_differ, owed_left, start_owed, with_free}}
 use Rattle.spi_serving.specs.laws.{services.FurtherRight.{serving}, bookkeeping.MovedOn.{going_here, going_other}}
 use Rattle.spi_serving.specs.laws.{bookkeeping.NextJob.{item_other, next_sound, next_view, still_there}}
 use Rattle.spi_serving.specs.laws.{words.NextWords.{next_words}, bookkeeping.JobOver.{for_same, waits_again}}
@@ -45,7 +45,7 @@ module _ (d : SpiTable) (fits : FitsSpi d) (e : FrameRole) (u : ℕ) (few : u < 
 
 -- ---- the words
 
-module _ (st : ToServe) (owner : Origin Call) (acted : Option Answer) (cs : List ChannelState)
+module _ (st : ToServe) (async : is_sync_unit st.d st.u ≡ false) (owner : Origin Call) (acted : Option Answer) (cs : List ChannelState)
     (like : IsFilled cs st.s) (c : Chip) (l : Left st owner acted cs like c)
     (more : st.g.pending.next + 1 < length (jobs_of st.d st.g.pending.sequence))
     (good : st.g.pending.cancelled ≡ false) where
@@ -55,7 +55,7 @@ module _ (st : ToServe) (owner : Origin Call) (acted : Option Answer) (cs : List
   p = g.pending
 
   there : Contains s.pending p
-  there = (going_next d fits below chip w s h u g few is).0
+  there = (going_asked d fits below chip w s h u g few async is).0
 
   for : is_for d u p ≡ true
   for = (going_next d fits below chip w s h u g few is).2
@@ -71,26 +71,36 @@ module _ (st : ToServe) (owner : Origin Call) (acted : Option Answer) (cs : List
   idle = (view after).idle
 
   over : runs p.sequence ≡ false
-  over = none_runs st
+  over = none_runs st async
 
   others : (n : ℕ) → n ≢ p.sequence → runs n ≡ (view s).running n
-  others = others_run st
+  others = others_run st async
 
   rest : (n : ℕ) → 2 ≤ n → idle n ≡ true
-  rest = few_run st
+  rest = few_run st async
+
+  calm : (n : ℕ) → is_sync_unit d n ≡ true → idle n ≡ true
+  calm = calm_run st async
 
   sound : IsSoundState d (view after)
-  sound = sound_as d (next_view d fits below chip w s h p there more good runs idle over others rest on SpiJobOk tt) s.mode (view after).written (view after).received (view after).sources (λ e. absurd (let f = sym on ∙ e in cc)) (next_sound d fits below chip w s h p there more good runs idle over others rest on SpiJobOk tt)
+  sound = sound_as d (next_view d fits below chip w s h p there more good runs idle over others rest calm on SpiJobOk tt) s.mode (view after).written (view after).received (view after).sources (λ e. absurd (let f = sym on ∙ e in cc)) (λ e n. absurd (let f = sym on ∙ e in cc)) (next_sound d fits below chip w s h p there more good runs idle over others rest calm on SpiJobOk tt)
 
   still : (x : Pending) → Contains s.pending x → x.sequence ≢ p.sequence → Contains after.pending x
-  still x at ne = subst (λ z. Contains after.pending z) (item_other d fits below chip w s h p there more good runs idle over others rest on SpiJobOk tt x ne) (still_there d fits below chip w s h p there more good runs idle over others rest on SpiJobOk tt x at)
+  still x at ne = subst (λ z. Contains after.pending z) (item_other d fits below chip w s h p there more good runs idle over others rest calm on SpiJobOk tt x ne) (still_there d fits below chip w s h p there more good runs idle over others rest calm on SpiJobOk tt x at)
 
   nexts : (n : ℕ) → n < 2 → RunsNext d (view after) n (going_left st n)
   nexts n lt = by (same_or_other n u)
     where
       other : n ≢ u → (o : Option Going) → h.going n ≡ o → RunsNext d (view s) n o → RunsNext d (view after) n o
       other ne None e r = tt
-      other ne (Some k) e r = (still k.pending r.0 (others_differ st n k lt ne e), r.1, r.2)
+      other ne (Some k) e r = split (is_sync_unit d n) refl
+        where
+          split : (b : Bool) → is_sync_unit d n ≡ b → RunsNext d (view after) n (Some k)
+          split true i = let begun = subst (λ q. RunsBy q (view s) n k.pending) i r.1 in (all_carried (view after) n k.pending lt begun, subst (λ q. RunsBy q (view after) n k.pending) (sym i) begun, r.2)
+          split false i =
+              let asked = subst (λ q. RunsBy q (view s) n k.pending) i r.1 in
+              let at = still k.pending asked.0 (others_differ st n k lt ne e) in
+              (all_pending (view after) k.pending at, subst (λ q. RunsBy q (view after) n k.pending) (sym i) (at, asked.1), r.2)
 
       by : (n ≡ u) ⊎ (n ≢ u) → RunsNext d (view after) n (going_left st n)
       by (inl e) = subst (λ k. RunsNext d (view after) k (going_left st k)) (sym e) (subst (λ o. RunsNext d (view after) u o) (sym (going_here h.going u None)) tt)
@@ -118,7 +128,7 @@ module _ (st : ToServe) (owner : Origin Call) (acted : Option Answer) (cs : List
     Owes q c1 = (n : ℕ) × CommitsTo (spi_owing d) n (Units (serving d e u q)) c1 Done
 
     job_few : r.run.job < 16
-    job_few = subst (λ j. j < 16) (sym job_is) (next_small d fits below chip w s h p there)
+    job_few = subst (λ j. j < 16) (sym job_is) (next_small d fits below chip w s h p (all_pending (view s) p there))
 
     abbrev result : ℕ
     result = job_word r.run.job
@@ -151,7 +161,7 @@ module _ (st : ToServe) (owner : Origin Call) (acted : Option Answer) (cs : List
       nexts_told : word_of f NEXTS ≡ with_next_in (word_of chip NEXTS) p.sequence (p.next + 1)
       nexts_told = told_second w u few c l.outside result aside (failed_word r.failed) NEXTS aside_nexts v apart f differs ∙ next_is
 
-      orders : (n : ℕ) → n < 2 → ranked.Holds (record { at = order_word n }) (word_of f) (entries_of d (next_view d fits below chip w s h p there more good runs idle over others rest on SpiJobOk tt) n)
+      orders : (n : ℕ) → n < 2 → ranked.Holds (record { at = order_word n }) (word_of f) (entries_of d (next_view d fits below chip w s h p there more good runs idle over others rest calm on SpiJobOk tt) n)
       orders n lt = subst (λ xs. ranked.Holds (record { at = order_word n }) (word_of f) xs) (sym (waits_again d fits below chip w s h p there more runs over others n)) (by (same_or_other n u))
         where
           by : (n ≡ u) ⊎ (n ≢ u) → ranked.Holds (record { at = order_word n }) (word_of f) (order.waiting p.sequence true (entries_of d (view s) n))
@@ -160,13 +170,13 @@ module _ (st : ToServe) (owner : Origin Call) (acted : Option Answer) (cs : List
               (order_other w u few c l.outside result aside (failed_word r.failed) NEXTS aside_nexts v apart f differs n lt ne (entries_of d (view s) n) (order_left st owner acted cs like c l n lt))
 
       sequences : SequencesAgree d (word_of f) (view after)
-      sequences = sequences_as d (next_view d fits below chip w s h p there more good runs idle over others rest on SpiJobOk tt) s.mode (view after).written (view after).received (view after).sources (word_of f)
-          (next_words d fits below chip w s h p there more good runs idle over others rest on SpiJobOk tt (word_of f) nexts_told marks
+      sequences = sequences_as d (next_view d fits below chip w s h p there more good runs idle over others rest calm on SpiJobOk tt) s.mode (view after).written (view after).received (view after).sources (word_of f)
+          (next_words d fits below chip w s h p there more good runs idle over others rest calm on SpiJobOk tt (word_of f) nexts_told marks
           (λ n lt. high_same (sequence_word n) (omega arith) (omega (arith, lt)) (λ x. let j = job_few in omega (arith, x, j))) told
           (λ j lt ne. high_same (job_word j) (omega arith) (omega (arith, lt)) (λ x. let same = job_is in ne (omega (arith, x, same)))) orders)
 
       represents : Done f
-      represents = freed_agrees st owner acted cs like c f l (is_told w u few c l.outside result aside (failed_word r.failed) NEXTS aside_nexts v apart f differs) after.pending after.sequence_results after.job_results sound nexts sequences owed
+      represents = freed_agrees st async owner acted cs like c f l (is_told w u few c l.outside result aside (failed_word r.failed) NEXTS aside_nexts v apart f differs) after.pending after.sequence_results after.job_results sound nexts sequences owed
 
     pub result_owes : Owes (serve.Result leaving) c
     result_owes = one_owed (spi_owing d) Done (Units (serving d e u (serve.Result leaving))) c (Some (Units (serving d e u (serve.Further r v)))) (may_store d fits result (failed_word r.failed) (own_first d result (omega arith) (let lt = job_few in omega (arith, lt)))) tt refl
@@ -181,4 +191,4 @@ module _ (st : ToServe) (owner : Origin Call) (acted : Option Answer) (cs : List
         first = first_told w u few c l.outside result aside (failed_word r.failed) NEXTS aside_nexts v apart
 
         number : r.run.sequence < 16
-        number = let lt = (h.sound.entries p there).number in let same = sequence_is in omega (arith, lt, same)
+        number = let lt = (h.sound.entries p (all_pending (view s) p there)).number in let same = sequence_is in omega (arith, lt, same)

@@ -4,21 +4,23 @@
 -- Used by services.JobOverRight.
 use Rattle.std.proofs.Common.{◌≡◌, ◌≢◌, ◌+◌, ◌<◌, ◌≤◌, ◌==◌, ◌&&◌, [], ◌∷◌, ◌∙◌, ◌⊎◌}
 use Rattle.spi_serving.specs.Terms
-use Terms.{after_serve, Answer, AnswerName, ap, AreOwed, arith, at_left, Bool, Call, ChannelState, Chip, CommitsTo}
-use Terms.{Contains, DiffersIn, drop, drop-ends, drop_gave, Dropped, dropping, ended_sound, ended_view, ended_words}
-use Terms.{entries_of, failed_word, false, filter, filter_back, filter_keeps, FitsSpi, FrameRole, given_back, Going}
-use Terms.{going_next, inl, inr, is_for, is_left, is_of, is_off, is_some, IsOfSequence, IsPart, IsSoundState}
-use Terms.{item-other, item-same, job_code, job_result, job_word, jobs_of, Leaving, left_at, left_order, LeftAt, length}
-use Terms.{List, list_any, MARKS, may_store, named_own, next_job, next_small, NEXTS, None, not, not_order, not_true}
-use Terms.{one_owed, one_place, Option, order_there, order_word, Origin, other_number, own_first, own_order, PartTo}
-use Terms.{Pending, refl, result_by, RunsNext, same_or_other, search_of, sequence_code, sequence_word, sequences_as}
+use Terms.{after_serve, all_of, all_pending, Answer, AnswerName, ap, AreOwed, arith, at_left, Bool, Call, ChannelState}
+use Terms.{Chip, CommitsTo, Contains, DiffersIn, drop, drop-ends, drop_gave, Dropped, dropping, ended_sound}
+use Terms.{ended_view, ended_words, entries_of, failed_word, false, filter, filter_back, filter_keeps, FitsSpi}
+use Terms.{FrameRole, given_back, Going, going_asked, going_next, inl, inr, is_for, is_left, is_of, is_off, is_some}
+use Terms.{is_sync_unit, IsOfSequence, IsPart, IsSoundState, item-other, item-same, job_code, job_result, job_word}
+use Terms.{jobs_of, Leaves, leaves_pending, Leaving, left_at, left_order, LeftAt, length, List, list_any, MARKS}
+use Terms.{may_store, named_own, next_job, next_small, NEXTS, None, not, not_order, not_true, one_owed, one_place}
+use Terms.{Option, order_there, order_word, Origin, other_number, own_first, own_order, PartTo, Pending, refl}
+use Terms.{result_by, RunsBy, RunsNext, same_or_other, search_of, sequence_code, sequence_word, sequences_as}
 use Terms.{SequencesAgree, serve_drops, Served, ServePlace, settles_part, slice_index_or, Some, sound_as, spi_owing}
 use Terms.{SpiJobOk, SpiRepresents, SpiSeqOk, SpiSeqPending, SpiState, SpiTable, STATE, stay, subst, sym, Taker}
 use Terms.{there_by, true, unit_owed, Units, unless_done, view, with_item, without, word_of, ℕ}
 use Rattle.spi_sequences.specs.Refinement.{IsLast}
-use Rattle.spi_serving.specs.laws.{services.FreedUnit.{in_no_other, order_left, IsFilled, Left, few_run, freed_agrees}}
-use Rattle.spi_serving.specs.laws.{services.FreedUnit.{going_left, other_free, others_differ, others_run, owed_left}}
-use Rattle.spi_serving.specs.laws.{services.FreedUnit.{start_owed, with_free}, services.FurtherRight.{serving}}
+use Rattle.spi_serving.specs.laws.{services.FreedServed.{calm_run, few_run, freed_agrees, others_run}}
+use Rattle.spi_serving.specs.laws.{services.FreedUnit.{in_no_other, order_left, IsFilled, Left, going_left}}
+use Rattle.spi_serving.specs.laws.{services.FreedUnit.{other_free, others_differ, owed_left, start_owed, with_free}}
+use Rattle.spi_serving.specs.laws.{services.FurtherRight.{serving}}
 use Rattle.spi_serving.specs.laws.{bookkeeping.MovedOn.{going_here, going_other}, services.ToldRight.{IsAside}}
 use Rattle.spi_serving.specs.laws.{services.ToldRight.{aside_high, both_outside, both_told, first_told, is_told}}
 use Rattle.spi_serving.specs.laws.{services.ToldRight.{order_before, order_other, told_first, told_other, told_second}}
@@ -55,7 +57,7 @@ told_result false = refl
 
 -- ---- the words
 
-module _ (st : ToServe) (owner : Origin Call) (acted : Option Answer) (cs : List ChannelState)
+module _ (st : ToServe) (async : is_sync_unit st.d st.u ≡ false) (owner : Origin Call) (acted : Option Answer) (cs : List ChannelState)
     (like : IsFilled cs st.s) (c : Chip) (l : Left st owner acted cs like c) (failed : Bool) (x : AnswerName)
     (named : IsOfSequence x) (done : x ≡ SpiSeqPending → ⊥) where
   open st use {d, fits, below, chip, w, s, h, on, u, few, g, is}
@@ -64,13 +66,16 @@ module _ (st : ToServe) (owner : Origin Call) (acted : Option Answer) (cs : List
   p = g.pending
 
   there : Contains s.pending p
-  there = (going_next d fits below chip w s h u g few is).0
+  there = (going_asked d fits below chip w s h u g few async is).0
+
+  all : Contains (all_of (view s)) p
+  all = all_pending (view s) p there
 
   for : is_for d u p ≡ true
   for = (going_next d fits below chip w s h u g few is).2
 
   within : p.next < length (jobs_of d p.sequence)
-  within = (h.sound.entries p there).next
+  within = (h.sound.entries p all).next
 
   abbrev results : List AnswerName
   results = with_item SpiJobOk s.job_results (next_job d p) (result_by failed)
@@ -86,10 +91,16 @@ module _ (st : ToServe) (owner : Origin Call) (acted : Option Answer) (cs : List
   idle = (view after).idle
 
   others : (n : ℕ) → n ≢ p.sequence → runs n ≡ (view s).running n
-  others = others_run st
+  others = others_run st async
 
   rest : (n : ℕ) → 2 ≤ n → idle n ≡ true
-  rest = few_run st
+  rest = few_run st async
+
+  calm : (n : ℕ) → is_sync_unit d n ≡ true → idle n ≡ true
+  calm = calm_run st async
+
+  leaves : Leaves (view s) p after.pending (view s).begun
+  leaves = leaves_pending d (view s) h.sound p there
 
   -- of the jobs that were left its own alone has run
   abbrev later : ℕ → Bool
@@ -127,15 +138,19 @@ module _ (st : ToServe) (owner : Origin Call) (acted : Option Answer) (cs : List
   off e = absurd (let f = sym on ∙ e in cc)
 
   sound : IsSoundState d (view after)
-  sound = sound_as d (ended_view d fits (view s) h.sound p there (p.next + 1) (omega arith) results ran unrun runs idle x named done others rest off) s.mode (view after).written (view after).received (view after).sources (λ e. absurd (let f = sym on ∙ e in cc))
-      (ended_sound d fits (view s) h.sound p there (p.next + 1) (omega arith) results ran unrun runs idle x named done others rest off)
+  sound = sound_as d (ended_view d fits (view s) h.sound p all (p.next + 1) (omega arith) results ran unrun after.pending (view s).begun leaves runs idle x named done others rest calm off) s.mode (view after).written (view after).received (view after).sources (λ e. absurd (let f = sym on ∙ e in cc)) (λ e n. absurd (let f = sym on ∙ e in cc))
+      (ended_sound d fits (view s) h.sound p all (p.next + 1) (omega arith) results ran unrun after.pending (view s).begun leaves runs idle x named done others rest calm off)
 
   nexts : (n : ℕ) → n < 2 → RunsNext d (view after) n (going_left st n)
   nexts n lt = by (same_or_other n u)
     where
       other : n ≢ u → (o : Option Going) → h.going n ≡ o → RunsNext d (view s) n o → RunsNext d (view after) n o
       other ne None e r = tt
-      other ne (Some k) e r = (filter_keeps (λ z. not (is_of p.sequence z)) s.pending k.pending r.0 (ap not (other_number k.pending.sequence p.sequence (others_differ st n k lt ne e))), r.1, r.2)
+      other ne (Some k) e r = (leaves.stays k.pending r.0 (others_differ st n k lt ne e), split (is_sync_unit d n) r.1, r.2)
+        where
+          split : (b : Bool) → RunsBy b (view s) n k.pending → RunsBy b (view after) n k.pending
+          split true begun = begun
+          split false asked = (filter_keeps (λ z. not (is_of p.sequence z)) s.pending k.pending asked.0 (ap not (other_number k.pending.sequence p.sequence (others_differ st n k lt ne e))), asked.1)
 
       by : (n ≡ u) ⊎ (n ≢ u) → RunsNext d (view after) n (going_left st n)
       by (inl e) = subst (λ k. RunsNext d (view after) k (going_left st k)) (sym e) (subst (λ o. RunsNext d (view after) u o) (sym (going_here h.going u None)) tt)
@@ -157,10 +172,10 @@ module _ (st : ToServe) (owner : Origin Call) (acted : Option Answer) (cs : List
     Owes q c1 = (n : ℕ) × CommitsTo (spi_owing d) n (Units (serving d e u q)) c1 Done
 
     job_few : r.run.job < 16
-    job_few = subst (λ j. j < 16) (sym job_is) (next_small d fits below chip w s h p there)
+    job_few = subst (λ j. j < 16) (sym job_is) (next_small d fits below chip w s h p all)
 
     number : r.run.sequence < 8
-    number = subst (λ q. q < 8) (sym sequence_is) (h.sound.entries p there).number
+    number = subst (λ q. q < 8) (sym sequence_is) (h.sound.entries p all).number
 
     abbrev result : ℕ
     result = job_word r.run.job
@@ -205,11 +220,11 @@ module _ (st : ToServe) (owner : Origin Call) (acted : Option Answer) (cs : List
           ap (λ j. word_of f (job_word j)) (sym job_is) ∙ told_first w u few c l.outside result aside (failed_word r.failed) ending beside v apart f differs ∙ ap failed_word failed_is ∙ told_result failed
           ∙ ap job_code (sym (item-same SpiJobOk s.job_results (next_job d p) (result_by failed)))
 
-      orders : (n : ℕ) → n < 2 → ranked.Holds (record { at = order_word n }) (word_of f) (entries_of d (ended_view d fits (view s) h.sound p there (p.next + 1) (omega arith) results ran unrun runs idle x named done others rest off) n)
+      orders : (n : ℕ) → n < 2 → ranked.Holds (record { at = order_word n }) (word_of f) (entries_of d (ended_view d fits (view s) h.sound p all (p.next + 1) (omega arith) results ran unrun after.pending (view s).begun leaves runs idle x named done others rest calm off) n)
       orders n lt = by (same_or_other n u)
         where
           Order : ℕ → Type 0
-          Order k = ranked.Holds (record { at = order_word k }) (word_of f) (entries_of d (ended_view d fits (view s) h.sound p there (p.next + 1) (omega arith) results ran unrun runs idle x named done others rest off) k)
+          Order k = ranked.Holds (record { at = order_word k }) (word_of f) (entries_of d (ended_view d fits (view s) h.sound p all (p.next + 1) (omega arith) results ran unrun after.pending (view s).begun leaves runs idle x named done others rest calm off) k)
 
           by : (n ≡ u) ⊎ (n ≢ u) → Order n
           by (inl y) = subst Order (sym y) (subst (λ xs. ranked.Holds (record { at = order_word u }) (word_of f) xs) (sym (left_order d u p.sequence (view s).running runs others s.pending (was.orders u few).once)) (subst (λ q. ranked.Holds (record { at = order_word u }) (word_of f) (order.without q (entries_of d (view s) u))) sequence_is holds))
@@ -223,14 +238,14 @@ module _ (st : ToServe) (owner : Origin Call) (acted : Option Answer) (cs : List
           own e = let y = sym unless ∙ ap (λ k. is_left d k p && not (later k)) e ∙ ap (λ q. q && not (later (next_job d p))) own_left ∙ ap not own_run in cc
 
       sequences : SequencesAgree d (word_of f) (view after)
-      sequences = sequences_as d (ended_view d fits (view s) h.sound p there (p.next + 1) (omega arith) results ran unrun runs idle x named done others rest off) s.mode (view after).written (view after).received (view after).sources (word_of f)
-          (ended_words d fits (view s) h.sound p there (p.next + 1) (omega arith) results ran unrun runs idle x named done others rest off (word_of chip) (word_of f) was
+      sequences = sequences_as d (ended_view d fits (view s) h.sound p all (p.next + 1) (omega arith) results ran unrun after.pending (view s).begun leaves runs idle x named done others rest calm off) s.mode (view after).written (view after).received (view after).sources (word_of f)
+          (ended_words d fits (view s) h.sound p all (p.next + 1) (omega arith) results ran unrun after.pending (view s).begun leaves runs idle x named done others rest calm off (word_of chip) (word_of f) was
           (λ n lt ne. high_same (sequence_word n) (omega arith) (omega (arith, lt)) (λ y. let lt1 = job_few in omega (arith, y, lt1)) (λ y. let same = sequence_is in ne (omega (arith, y, same)))) told
           (low_same NEXTS (omega arith) (omega arith)) (low_same MARKS (omega arith) (omega arith)) job_same
           (λ j lt left none. subst (λ k. word_of f (job_word k) ≡ job_code (job_result results k)) (sym (is_own j left none)) result_told) orders)
 
       represents : Done f
-      represents = freed_agrees st owner acted cs like c f l (is_told w u few c l.outside result aside (failed_word r.failed) ending beside v apart f differs) after.pending after.sequence_results after.job_results sound nexts sequences owed
+      represents = freed_agrees st async owner acted cs like c f l (is_told w u few c l.outside result aside (failed_word r.failed) ending beside v apart f differs) after.pending after.sequence_results after.job_results sound nexts sequences owed
 
     pub result_owes : Owes (serve.Result leaving) c
     result_owes = one_owed (spi_owing d) Done (Units (serving d e u (serve.Result leaving))) c (Some (Units (serving d e u (serve.End r v)))) (may_store d fits result (failed_word r.failed) (own_first d result (omega arith) (let lt = job_few in omega (arith, lt)))) tt refl

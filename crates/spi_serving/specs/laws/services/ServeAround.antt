@@ -2,21 +2,22 @@
 -- a step at a place that owes moves.
 use Rattle.std.proofs.Common.{◌≡◌, ◌≢◌, ◌+◌, ◌<◌, ◌≤◌, ◌==◌, ◌&&◌, ◌∙◌, ◌⊎◌, if◌then◌else◌}
 use Rattle.spi_serving.specs.Terms
-use Terms.{after_job, ap, arith, Arrived, asked_word, begins_word, Bool, cancelled_bit, channel_next, channel_served}
-use Terms.{Chip, false, faulted_run, Fill, Find, find_move, Footing, get_or-set_other, get_or-set_same, happened}
-use Terms.{Hardware, has_mark, idle, inl, inr, is_done, is_fill, IsArrived, IsDone, IsFinding, IsFurther, IsLast}
-use Terms.{IsServed, IsTaken, item-other, item-same, length, Level, level_leaves, Load, MARKS, memories, Memory, moved}
-use Terms.{nat_le, nat_tests, NEXTS, None, Option, Order, Position, refl, resets_chip, Run, run_at, run_in}
-use Terms.{running_word, same_or_other, Serial, serve_move, serve_owes, serve_place, Served, ServePlace, slice_index_or}
-use Terms.{Some, SpiFault, SpiState, SpiTable, subst, sym, Taker, taker_of, Tick, Transfer, true, unit_at, Word}
-use Terms.{word-left, word_of, World, world_after, ℕ}
+use Terms.{after_job, ap, arith, Arrived, asked_word, begins_word, Bool, cancelled_bit, carried_at, Carrying}
+use Terms.{channel_next, channel_served, Chip, false, faulted_carrying, faulted_run, Fill, Find, find_move, Footing}
+use Terms.{get_or-set_other, get_or-set_same, happened, Hardware, has_mark, idle, inl, inr, is_done, is_fill}
+use Terms.{is_sync_unit, IsArrived, IsDone, IsFinding, IsFurther, IsLast, IsServed, IsTaken, item-other, item-same}
+use Terms.{length, Level, level_leaves, Load, MARKS, memories, Memory, moved, nat_le, nat_tests, NEXTS, None, Option}
+use Terms.{Order, Position, refl, resets_chip, Run, run_at, run_carried, run_in, running_word, same_or_other, Serial}
+use Terms.{serve_move, serve_owes, Served, ServePlace, slice_index_or, Some, SpiFault, SpiState, SpiTable, subst, sym}
+use Terms.{Taker, taker_of, Tick, Transfer, true, unit_at, unit_run, Word, word-left, word_of, word_place, World}
+use Terms.{world_after, ℕ}
 use Rattle.chip_units.specs.Serials as serials
 use Rattle.spi_jobs.specs.declared.finding.Find.TheVariants as finds
 use Rattle.spi_sequences.specs.declared.service.serve.ServePlace.TheVariants as serve
 
 -- ---- the hardware leaves the places
 
-module _ (d : SpiTable) (u : ℕ) (f f1 : Footing) (w w1 : World) (s s1 : SpiState) (words : f1.0 ≡ f.0) (width : f1.2 u ≡ f.2 u) (now : w.now ≤ w1.now) (keeps : (run : Run) → run_at s u ≡ Some run → is_done w.now run.transfer ≡ true → run_at s1 u ≡ Some run) where
+module _ (d : SpiTable) (u : ℕ) (f f1 : Footing) (w w1 : World) (s s1 : SpiState) (words : f1.0 ≡ f.0) (width : f1.2 u ≡ f.2 u) (now : w.now ≤ w1.now) (keeps : (run : Run) → unit_run d s u ≡ Some run → is_done w.now run.transfer ≡ true → unit_run d s1 u ≡ Some run) where
   some_is : (x y : Run) → Some x ≡ Some y → x ≡ y
   some_is x y e = cc
 
@@ -26,17 +27,17 @@ module _ (d : SpiTable) (u : ℕ) (f f1 : Footing) (w w1 : World) (s s1 : SpiSta
       later : (b n k : ℕ) → n ≤ k → nat_le (b + 8) n ≡ true → nat_le (b + 8) k ≡ true
       later b n k le e = grind (arith, nat_tests)
 
-  done_kept : (bad : Bool) → IsDone s w.now u bad → IsDone s1 w1.now u bad
+  done_kept : (bad : Bool) → IsDone d s w.now u bad → IsDone d s1 w1.now u bad
   done_kept bad i = record { run = i.run; is = keeps i.run i.is i.done; done = done_still i.run.transfer i.done; failed = i.failed }
 
-  served_kept : (r : Served) → IsServed f.0 s w.now u r → IsServed f1.0 s1 w1.now u r
-  served_kept r i = subst (λ m. IsServed m s1 w1.now u r) (sym words) (record { done = done_kept r.failed i.done; run = i.run; at = i.at })
+  served_kept : (r : Served) → IsServed d f.0 s w.now u r → IsServed d f1.0 s1 w1.now u r
+  served_kept r i = subst (λ m. IsServed d m s1 w1.now u r) (sym words) (record { done = done_kept r.failed i.done; run = i.run; at = i.at })
 
   taken_kept : (r : Served) (t : Taker) → IsTaken d f.0 s w.now u r t → IsTaken d f1.0 s1 w1.now u r t
   taken_kept r t i = record { served = served_kept r i.served; taker = i.taker ∙ ap (λ (m : Memory). taker_of (channel_served d r) r.at.word (m (asked_word (channel_served d r) r.at.word))) (sym words) }
 
   -- the run is the one that it was
-  run_back : (r : Served) (i : IsServed f.0 s w.now u r) (run : Run) → run_at s1 u ≡ Some run → run_at s u ≡ Some run
+  run_back : (r : Served) (i : IsServed d f.0 s w.now u r) (run : Run) → unit_run d s1 u ≡ Some run → unit_run d s u ≡ Some run
   run_back r i run e = i.done.is ∙ ap (λ z. Some z) (some_is i.done.run run (sym (keeps i.done.run i.done.is i.done.done) ∙ e))
 
   arrived_kept : (a : Arrived) → IsArrived d f.0 s w.now u a → IsArrived d f1.0 s1 w1.now u a
@@ -48,9 +49,9 @@ module _ (d : SpiTable) (u : ℕ) (f f1 : Footing) (w w1 : World) (s s1 : SpiSta
   last_kept : (a : Arrived) → IsLast d f.0 s w.now u a → IsLast d f1.0 s1 w1.now u a
   last_kept a i = record { arrived = arrived_kept a i.arrived; ends = i.ends }
 
-  pub place_kept : (p : ServePlace) → serve_place d u p f w s → serve_place d u p f1 w1 s1
-  place_kept serve.Shut i = tt
-  place_kept serve.State i = tt
+  pub place_kept : (p : ServePlace) → word_place d u p f w s → word_place d u p f1 w1 s1
+  place_kept serve.Shut i = i
+  place_kept serve.State i = i
   place_kept (serve.Running bad) i = done_kept bad i
   place_kept (serve.Position r bad) i = (done_kept bad i.0, ap (λ (m : Memory). run_in (m (running_word u))) words ∙ i.1)
   place_kept (serve.Taker r) i = served_kept r i
@@ -86,19 +87,26 @@ module _ (d : SpiTable) (u : ℕ) (few : u < 2) (chip : Chip) (w : World) (s : S
       by (inr ne) = ap (λ x. x.width) (get_or-set_other chip.serials.units n u (serials.faulted chip.serials.time (unit_at chip.serials n)) idle ne)
 
   -- a word that is done stays as it is
-  run_kept : (n : ℕ) (run : Run) → run_at s u ≡ Some run → is_done w.now run.transfer ≡ true → run_at (moved d w s (SpiFault n)) u ≡ Some run
-  run_kept n run e done = by (same_or_other u n)
+  run_kept : (n : ℕ) (run : Run) → unit_run d s u ≡ Some run → is_done w.now run.transfer ≡ true → unit_run d (moved d w s (SpiFault n)) u ≡ Some run
+  run_kept n run e done = by (is_sync_unit d u) e (same_or_other u n)
     where
-      by : (u ≡ n) ⊎ (u ≢ n) → run_at (moved d w s (SpiFault n)) u ≡ Some run
-      by (inl f) =
-          subst (λ k. run_at (moved d w s (SpiFault k)) u ≡ Some run) f
-          (item-same None s.units u (faulted_run w.now (run_at s u)) ∙ ap (faulted_run w.now) e ∙ ap (λ q. Some (record run { transfer = if q then run.transfer else record run.transfer { failed = true } })) done)
-      by (inr ne) = item-other None s.units n u (faulted_run w.now (run_at s n)) ne ∙ e
+      still : faulted_run w.now (Some run) ≡ Some run
+      still = ap (λ q. Some (record run { transfer = if q then run.transfer else record run.transfer { failed = true } })) done
+
+      carried : (o : Option Carrying) → run_carried o ≡ Some run → run_carried (faulted_carrying w.now o) ≡ Some run
+      carried None f = absurd (cc)
+      carried (Some x) f = ap (faulted_run w.now) f ∙ still
+
+      by : (q : Bool) → (if q then run_carried (carried_at s u) else run_at s u) ≡ Some run → (u ≡ n) ⊎ (u ≢ n) → (if q then run_carried (carried_at (moved d w s (SpiFault n)) u) else run_at (moved d w s (SpiFault n)) u) ≡ Some run
+      by true f (inl g) = subst (λ k. run_carried (carried_at (moved d w s (SpiFault k)) u) ≡ Some run) g (ap run_carried (item-same None s.carried u (faulted_carrying w.now (carried_at s u))) ∙ carried (carried_at s u) f)
+      by true f (inr ne) = ap run_carried (item-other None s.carried n u (faulted_carrying w.now (carried_at s n)) ne) ∙ f
+      by false f (inl g) = subst (λ k. run_at (moved d w s (SpiFault k)) u ≡ Some run) g (item-same None s.units u (faulted_run w.now (run_at s u)) ∙ ap (faulted_run w.now) f ∙ still)
+      by false f (inr ne) = item-other None s.units n u (faulted_run w.now (run_at s n)) ne ∙ f
 
   abbrev Footprint : Chip → Footing
   Footprint c = (word_of c, (λ n. (unit_at c.serials n).select), (λ n. (unit_at c.serials n).width))
 
-  pub serve_later : (order : Order) (p : ServePlace) → is_fill order ≡ false → serve_place d u p (Footprint chip) w s → serve_place d u p (Footprint (happened chip order)) (world_after w chip.clock.rate order) (moved d w s order)
+  pub serve_later : (order : Order) (p : ServePlace) → is_fill order ≡ false → word_place d u p (Footprint chip) w s → word_place d u p (Footprint (happened chip order)) (world_after w chip.clock.rate order) (moved d w s order)
   serve_later (Fill c ws) p e i = absurd (cc)
   serve_later (SpiFault n) p e i = place_kept d u (Footprint chip) (Footprint (happened chip (SpiFault n))) w (world_after w chip.clock.rate (SpiFault n)) s (moved d w s (SpiFault n)) (words_kept chip (SpiFault n) refl) (width_kept n) (omega arith) (run_kept n) p i
   serve_later (Level k v) p e i = place_kept d u (Footprint chip) (Footprint (happened chip (Level k v))) w (world_after w chip.clock.rate (Level k v)) s s (words_kept chip (Level k v) refl) (ap (λ xs. (slice_index_or xs u idle).width) (level_leaves (λ c. c.serials.units) chip k v refl)) (omega arith) (λ run f g. f) p i

@@ -2,12 +2,12 @@
 -- Used by bookkeeping.LastWordFits, spi_driver: services.ServePart.
 use Rattle.std.proofs.Common.{◌≡◌, ◌≢◌, ◌+◌, ◌/◌, ◌%◌, ◌<◌, ◌≤◌, ◌==◌, ◌&&◌, ◌∙◌, ◌⊎◌, if◌then◌else◌}
 use Rattle.spi_serving.specs.Terms
-use Terms.{ap, arith, Arrived, bank_of, begins_by, Bool, channel_at_place, channel_next, channel_number, channel_served}
-use Terms.{commit_at, commit_more, commit_with, commits_left, false, found_in, free_bank, further_of, inl, inr}
-use Terms.{is_last_place, JobOver, keep_more, keep_of, keeping, Leaving, lets_with, list_of, meets_at, None, not}
-use Terms.{Option, or_none, Over, Placed, placed_by, placed_of, Position, refl, releasing, run_in, Running, same_number}
-use Terms.{same_or_other, Sent, serve_fuel, serve_more, serve_owes, serve_room, serve_run, serve_takes, ServePlace}
-use Terms.{ServeStep, SetUp, Some, SpiTable, subst, sym, Taker, taker_of, true, unpacked, ℕ}
+use Terms.{ap, arith, Arrived, bank_of, begins_by, Bool, channel_at_place, channel_next, channel_number}
+use Terms.{channel_served, commit_at, commit_more, commit_with, commits_left, false, found_in, free_bank, further_of}
+use Terms.{inl, inr, is_last_place, JobOver, keep_more, keep_of, keeping, Leaving, lets_with, list_of, meets_at, None}
+use Terms.{not, Option, or_none, Over, Placed, placed_by, placed_of, Position, refl, releasing, run_in, Running}
+use Terms.{same_number, same_or_other, Sent, serve_fuel, serve_more, serve_owes, serve_room, serve_run, serve_takes}
+use Terms.{ServePlace, ServeStep, SetUp, Some, SpiTable, subst, sym, Taker, taker_of, true, unpacked, ℕ}
 use Rattle.spi_sequences.specs.declared.service.serve.ServeStep.TheVariants.{Goes}
 use Rattle.spi_jobs.specs.declared.finding.Find.TheVariants as finds
 use Rattle.spi_jobs.specs.declared.keeping.Keep.TheVariants as keeps
@@ -96,7 +96,7 @@ fuel_at d p = if serve_owes p then 1 + serve_more d p else serve_fuel p
 abbrev pub room_at : SpiTable → ServePlace → ℕ
 room_at d p = if serve_owes p then 1 + serve_more d p else serve_room p
 
-keep_few : (x : Placed) (i : ℕ) (t : Taker) (w : ℕ) → keep_more (keeping x i t w) ≤ 1
+pub keep_few : (x : Placed) (i : ℕ) (t : Taker) (w : ℕ) → keep_more (keeping x i t w) ≤ 1
 keep_few x i (takers.Bank b) w = by (i == 0)
   where
     by : (q : Bool) → keep_more (if q then keeps.Hold x b w else keeps.Fill x i b w) ≤ 1

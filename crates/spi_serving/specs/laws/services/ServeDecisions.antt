@@ -5,17 +5,19 @@ use Rattle.std.proofs.Common.{◌≡◌, ◌+◌, ◌/◌, ◌%◌, ◌<◌, ◌
 use Rattle.spi_serving.specs.Terms
 use Terms.{after_job, ap, Arrived, asked_word, asking, bank_word, begins_by, begins_of, Bool, cancelled_bit}
 use Terms.{channel_next, channel_served, Chip, chip_after, control_word, false, Find, find_gave, find_left, find_move}
-use Terms.{finding, FitsSpi, Footing, found_in, further_of, has_mark, held_word, is_done, IsArrived, IsDone, IsFinding}
-use Terms.{IsFurther, IsLast, IsServed, IsTaken, Load, MARKS, masked_by, NEXTS, None, not, Option, Over, pinned_bank}
-use Terms.{Placed, Position, position_in, position_word, ready, Received, refl, Reservations, Run, run_at, run_in}
-use Terms.{Running, running_says, running_word, Sent, SerialWidth, serve_finds, serve_owes, serve_place, serve_run}
-use Terms.{serve_takes, Served, ServePlace, ServeStep, SetUp, Some, source_word, SpiRepresents, SpiState, SpiTable}
-use Terms.{subst, sym, Taker, true, unit_at, unpacked, value_of, word_after, word_of, World, Write, ℕ}
+use Terms.{finding, FitsSpi, Footing, found_in, further_of, has_done, has_mark, held_word, is_done, is_sync_unit}
+use Terms.{IsArrived, IsDone, IsFinding, IsFurther, IsLast, IsServed, IsTaken, Load, MARKS, masked_by, NEXTS, None}
+use Terms.{not, Option, Over, pinned_bank, Placed, Position, position_in, position_word, ready, Received, refl}
+use Terms.{Reservations, Run, run_in, Running, running_says, running_word, Sent, SerialWidth, serve_finds, serve_owes}
+use Terms.{serve_run, serve_takes, Served, ServePlace, ServeStep, SetUp, Some, source_word, SpiRepresents, SpiState}
+use Terms.{SpiTable, subst, sym, Taker, true, unit_at, unit_run, unpacked, value_of, word_after, word_of, word_place}
+use Terms.{World, Write, ℕ}
 use Rattle.spi_sequences.specs.declared.service.serve.ServeStep.TheVariants.{Goes}
 use Rattle.spi_serving.specs.laws.{words.FacingWords.{next_channel}, words.FoundWord.{found_bank, found_default}}
 use Rattle.spi_serving.specs.laws.{words.FoundWord.{found_source, placed}, hardware.UnitRegisters.{width_agrees}}
 use Rattle.spi_serving.specs.laws.{hardware.UnitRegisters.{width_is}, bookkeeping.UnderWay.{UnderWay, done_alike}}
-use Rattle.spi_serving.specs.laws.{bookkeeping.UnderWay.{not_ready, received_says, state_done, state_says, under_way}}
+use Rattle.spi_serving.specs.laws.{bookkeeping.UnderWay.{not_ready, received_says, runs_so, state_done, state_says}}
+use Rattle.spi_serving.specs.laws.{bookkeeping.UnderWay.{under_way}}
 use Rattle.chip_units.specs.Serials as serials
 use Rattle.spi_jobs.specs.declared.finding.Find.TheVariants as finds
 use Rattle.spi_sequences.specs.declared.service.serve.ServePlace.TheVariants as serve
@@ -35,12 +37,12 @@ footing chip = (word_of chip, (λ u. (unit_at chip.serials u).select), (λ u. (u
 module _ (d : SpiTable) (fits : FitsSpi d) (below : Reservations) (chip : Chip) (w : World) (s : SpiState) (h : SpiRepresents d below chip w s) (u : ℕ) (few : u < 2) where
   -- a step without an event goes on at a place, or nothing was there to serve
   abbrev pub Decided : Chip → ServePlace × ServeStep → Type 0
-  Decided c (p, Goes None) = SpiRepresents d below c w s × serve_place d u p (footing c) w s
+  Decided c (p, Goes None) = SpiRepresents d below c w s × word_place d u p (footing c) w s
   Decided c (p, Over) = SpiRepresents d below c w s × (ready w s (26 + u) ≡ false) × (serve_owes p ≡ false)
   Decided c (p, _) = ⊥
 
-  pub state_decides : Decided chip (serve_takes d u serve.State (serials.state (unit_at chip.serials u) chip.serials.time))
-  state_decides = by (serials.is_done (unit_at chip.serials u) chip.serials.time) refl (serials.is_failed (unit_at chip.serials u) chip.serials.time) refl
+  pub state_decides : is_sync_unit d u ≡ false → Decided chip (serve_takes d u serve.State (serials.state (unit_at chip.serials u) chip.serials.time))
+  state_decides async = by (serials.is_done (unit_at chip.serials u) chip.serials.time) refl (serials.is_failed (unit_at chip.serials u) chip.serials.time) refl
     where
       v : ℕ
       v = serials.state (unit_at chip.serials u) chip.serials.time
@@ -52,10 +54,10 @@ module _ (d : SpiTable) (fits : FitsSpi d) (below : Reservations) (chip : Chip) 
           (subst (λ q. Decided chip (if not a then (serve.State, Over) else (serve.Running q, Goes None))) (sym (says.1 ∙ f)) (split a e b f))
         where
           split : (a : Bool) → serials.is_done (unit_at chip.serials u) chip.serials.time ≡ a → (b : Bool) → serials.is_failed (unit_at chip.serials u) chip.serials.time ≡ b → Decided chip (if not a then (serve.State, Over) else (serve.Running b, Goes None))
-          split false e b f = (h, not_ready d fits below chip w s h u few (sym (done_alike d fits below chip w s h u few) ∙ e), refl)
+          split false e b f = (h, not_ready d fits below chip w s h u few (ap (has_done w.now) (sym (runs_so d fits below chip w s h u few async)) ∙ sym (done_alike d fits below chip w s h u few) ∙ e), refl)
           split true e b f = (h, state_done d fits below chip w s h u few b (sym (done_alike d fits below chip w s h u few) ∙ e) f)
 
-  pub running_decides : (bad : Bool) → IsDone s w.now u bad → Decided chip (serve_takes d u (serve.Running bad) (word_of chip (running_word u)))
+  pub running_decides : (bad : Bool) → IsDone d s w.now u bad → Decided chip (serve_takes d u (serve.Running bad) (word_of chip (running_word u)))
   running_decides bad i = by (run_in (word_of chip (running_word u))) refl
     where
       way : UnderWay d below chip w s h u i.run
@@ -65,10 +67,10 @@ module _ (d : SpiTable) (fits : FitsSpi d) (below : Reservations) (chip : Chip) 
       by None e = absurd (let f = sym e ∙ running_says d fits below chip w s h way.on u few (Some way.job) way.is in cc)
       by (Some r) e = (h, (i, e))
 
-  pub position_decides : (r : Running) (bad : Bool) (v : ℕ) → IsDone s w.now u bad → run_in (word_of chip (running_word u)) ≡ Some r → v ≡ word_of chip (position_word u) → Decided chip (serve_takes d u (serve.Position r bad) v)
+  pub position_decides : (r : Running) (bad : Bool) (v : ℕ) → IsDone d s w.now u bad → run_in (word_of chip (running_word u)) ≡ Some r → v ≡ word_of chip (position_word u) → Decided chip (serve_takes d u (serve.Position r bad) v)
   position_decides r bad v i e at = (h, record { done = i; run = e; at = ap position_in (sym at) })
 
-  pub taker_decides : (r : Served) → IsServed (word_of chip) s w.now u r → Decided chip (serve_takes d u (serve.Taker r) (word_of chip (asked_word (channel_served d r) r.at.word)))
+  pub taker_decides : (r : Served) → IsServed d (word_of chip) s w.now u r → Decided chip (serve_takes d u (serve.Taker r) (word_of chip (asked_word (channel_served d r) r.at.word)))
   taker_decides r i = (h, record { served = i; taker = refl })
 
   pub receive_decides : (r : Served) (t : Taker) → IsTaken d (word_of chip) s w.now u r t → Decided chip (serve_takes d u (serve.Receive r t) (serials.received (unit_at chip.serials u) chip.serials.time))
@@ -80,7 +82,7 @@ module _ (d : SpiTable) (fits : FitsSpi d) (below : Reservations) (chip : Chip) 
       arrived : IsArrived d (word_of chip) s w.now u a
       arrived = record { taken = i; word = λ run is good. came run is good }
         where
-          came : (run : Run) → run_at s u ≡ Some run → run.transfer.failed ≡ false → serials.received (unit_at chip.serials u) chip.serials.time ≡ run.transfer.incoming
+          came : (run : Run) → unit_run d s u ≡ Some run → run.transfer.failed ≡ false → serials.received (unit_at chip.serials u) chip.serials.time ≡ run.transfer.incoming
           came run is good =
               let same : i.served.done.run ≡ run = some_is i.served.done.run run (sym i.served.done.is ∙ is) in
               received_says d fits below chip w s h u few run is (subst (λ (z : Run). is_done w.now z.transfer ≡ true) same i.served.done.done) good

@@ -6,8 +6,8 @@ use Terms.{and_parts, arith, Arrived, asked_word, asking, bank_word, Bool, Chann
 use Terms.{control_word, false, Find, find_move, FitsSpi, has_channel, held_word, is_shared, IsFinding, IsFurther}
 use Terms.{length_by, Load, MARKS, may, may_first, may_store, may_users, Move, nat_lt, nat_tests, NEXTS, of_sixteen}
 use Terms.{own-control, own-word, own_held, Placed, placed_of, Position, position_word, Received, refl, Reservations}
-use Terms.{running_word, Sent, serve_move, serve_owes, serve_place, ServePlace, Some, source_own, source_word}
-use Terms.{SpiRepresents, SpiState, SpiTable, subst, sym, trio_of, true, word_of, World, ℕ}
+use Terms.{running_word, Sent, serve_move, serve_owes, ServePlace, Some, source_own, source_word, SpiRepresents}
+use Terms.{SpiState, SpiTable, subst, sym, trio_of, true, word_of, word_place, World, ℕ}
 use Rattle.spi_serving.specs.laws.{services.ServeDecisions.{asks_load, footing}, words.FacingWords.{next_at}}
 use Rattle.spi_serving.specs.laws.{words.FacingWords.{next_channel, served_by, served_is, standing, way}}
 use Rattle.spi_serving.specs.laws.{words.FoundWord.{bank_small, known, pinned_bank_is, placed}}
@@ -71,7 +71,7 @@ module _ (d : SpiTable) (fits : FitsSpi d) (below : Reservations) (chip : Chip) 
     may_found (finds.Newest y) j = absurd j
     may_found (finds.SetUp y) j = absurd j
 
-  pub serve_may : (p : ServePlace) → serve_owes p ≡ false → serve_place d u p (footing chip) w s → is_shared (serve_move d u p) || may d (serve_move d u p) ≡ true
+  pub serve_may : (p : ServePlace) → serve_owes p ≡ false → word_place d u p (footing chip) w s → is_shared (serve_move d u p) || may d (serve_move d u p) ≡ true
   serve_may serve.Shut e i = refl
   serve_may serve.State e i = below_two u few
   serve_may (serve.Running b) e i = may_first d fits (running_word u) (omega arith) (omega (arith, few))

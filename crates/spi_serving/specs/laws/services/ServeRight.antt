@@ -5,19 +5,20 @@ use Rattle.std.proofs.Common.{◌≡◌, ◌+◌, ◌<◌, [], ◌∷◌, ◌&&�
 use Rattle.spi_serving.specs.Terms
 use Terms.{Answer, ap, Arrived, asked_word, Begun, Bool, Call, channel_next, channel_served, Chip, chip_after}
 use Terms.{cleared_of, CommitsTo, Event, false, Find, find_move, FitsSpi, FrameRole, is_last_place, is_shared}
-use Terms.{IsFinding, JobOver, keep_of, lets_of, lets_with, List, Load, Move, None, notes, Notice, notices_by, Option}
-use Terms.{Origin, outcome_with, Over, Placed, Position, position_word, ready, refl, releasing, Reservations}
-use Terms.{SendsRight, Sent, serve_ahead, serve_move, serve_owes, serve_place, serve_takes, ServePlace, Serves}
-use Terms.{ServeStep, Some, spi_machine, spi_owing, SpiRepresents, SpiState, SpiTable, subst, sym, true, Units}
-use Terms.{value_of, word_of, World, ℕ}
+use Terms.{is_sync_unit, IsFinding, JobOver, keep_of, lets_of, lets_with, List, Load, Move, None, notes, Notice}
+use Terms.{notices_by, Option, Origin, outcome_with, Over, Placed, Position, position_word, ready, refl, releasing}
+use Terms.{Reservations, SendsRight, Sent, serve_ahead, serve_move, serve_owes, serve_place, serve_takes, ServePlace}
+use Terms.{Serves, ServeStep, Some, spi_machine, spi_owing, SpiRepresents, SpiState, SpiTable, subst, sym, true, Units}
+use Terms.{value_of, word_of, word_place, World, ℕ}
 use Rattle.spi_sequences.specs.declared.service.serve.ServeStep.TheVariants.{Goes}
 use Rattle.spi_serving.specs.laws.{services.ServeDecisions.{Decided, asks_load, find_decides, footing, marks_decides}}
 use Rattle.spi_serving.specs.laws.{services.ServeDecisions.{nexts_decides, position_decides, receive_decides}}
 use Rattle.spi_serving.specs.laws.{services.ServeDecisions.{running_decides, state_decides, taker_decides}}
 use Rattle.spi_serving.specs.laws.{services.ServeDecisions.{width_decides}, bookkeeping.JobEnd.{ending, ends_sends}}
 use Rattle.spi_serving.specs.laws.{bookkeeping.JobEnd.{ends_told}, services.FreedUnit.{start_owed}}
-use Rattle.spi_serving.specs.laws.{services.FurtherRight.{further_is, further_owes, further_sends, serving, state1}}
-use Rattle.spi_serving.specs.laws.{services.FurtherRight.{word1}, services.JobOverRight.{job_owes, over_is, state3}}
+use Rattle.spi_serving.specs.laws.{services.FurtherRight.{serving}, services.FurtherServed.{further_is, further_owes}}
+use Rattle.spi_serving.specs.laws.{services.FurtherServed.{further_sends, state1, word1}}
+use Rattle.spi_serving.specs.laws.{services.JobOverRight.{job_owes, over_is, state3}}
 use Rattle.mcal_base.specs.declared.moves.Event.TheVariants as events
 use Rattle.spi_jobs.specs.declared.finding.Find.TheVariants as finds
 use Rattle.spi_sequences.specs.declared.service.serve.ServePlace.TheVariants as serve
@@ -45,9 +46,9 @@ Leaves d e below u before after w s made received (p, Over) = SpiRepresents d be
 Leaves d e below u before after w s made received (p, JobOver x) = ⊥
 Leaves d e below u before after w s made received (p, Goes (Some x)) = ServeHappens d e below u before after w s made received p x
 
-module _ (d : SpiTable) (fits : FitsSpi d) (e : FrameRole) (below : Reservations) (chip : Chip) (w : World) (s : SpiState) (h : SpiRepresents d below chip w s) (u : ℕ) (few : u < 2) (y : ℕ) where
+module _ (d : SpiTable) (fits : FitsSpi d) (e : FrameRole) (below : Reservations) (chip : Chip) (w : World) (s : SpiState) (h : SpiRepresents d below chip w s) (u : ℕ) (few : u < 2) (async : is_sync_unit d u ≡ false) (y : ℕ) where
   -- nothing is owed at a place where something stands
-  stands_free : (q : ServePlace) (c : Chip) → serve_place d u q (footing c) w s → serve_owes q ≡ false
+  stands_free : (q : ServePlace) (c : Chip) → word_place d u q (footing c) w s → serve_owes q ≡ false
   stands_free serve.Shut c i = refl
   stands_free serve.State c i = refl
   stands_free (serve.Running b) c i = refl
@@ -63,7 +64,7 @@ module _ (d : SpiTable) (fits : FitsSpi d) (e : FrameRole) (below : Reservations
   stands_free _ c i = absurd i
 
   decided : (c : Chip) (made : Move) (r : ServePlace × ServeStep) → Decided d fits below chip w s h u few c r → Leaves d e below u chip c w s made y r
-  decided c made (p, Goes None) i = (i.0, i.1, stands_free p c i.1)
+  decided c made (p, Goes None) i = (i.0, (async, i.1), stands_free p c i.1)
   decided c made (p, Over) i = i
   decided c made (p, JobOver x) i = absurd i
   decided c made (p, Goes (Some x)) i = absurd i
@@ -96,9 +97,9 @@ module _ (d : SpiTable) (fits : FitsSpi d) (e : FrameRole) (below : Reservations
           split true = refl
           split false = refl
 
-  pub steps_right : (p : ServePlace) → serve_owes p ≡ false → is_shared (serve_move d u p) ≡ false → serve_place d u p (footing chip) w s → Step (serve_move d u p) p
+  pub steps_right : (p : ServePlace) → serve_owes p ≡ false → is_shared (serve_move d u p) ≡ false → word_place d u p (footing chip) w s → Step (serve_move d u p) p
   steps_right serve.Shut f k i = absurd (cc)
-  steps_right serve.State f k i = decided chip (serve_move d u serve.State) (serve_takes d u serve.State (value_of chip (serve_move d u serve.State))) (state_decides d fits below chip w s h u few)
+  steps_right serve.State f k i = decided chip (serve_move d u serve.State) (serve_takes d u serve.State (value_of chip (serve_move d u serve.State))) (state_decides d fits below chip w s h u few async)
   steps_right (serve.Running b) f k i = decided chip (serve_move d u (serve.Running b)) (serve_takes d u (serve.Running b) (value_of chip (serve_move d u (serve.Running b)))) (running_decides d fits below chip w s h u few b i)
   steps_right (serve.Position r b) f k i = decided chip (serve_move d u (serve.Position r b)) (serve_takes d u (serve.Position r b) (value_of chip (serve_move d u (serve.Position r b)))) (position_decides d fits below chip w s h u few r b (word_of chip (position_word u)) i.0 i.1 refl)
   steps_right (serve.Taker r) f k i = subst (λ made. Step made (serve.Taker r)) (sym (asks_load (channel_served d r) r.at.word)) (decided chip (Load (asked_word (channel_served d r) r.at.word)) (serve_takes d u (serve.Taker r) (word_of chip (asked_word (channel_served d r) r.at.word))) (taker_decides d fits below chip w s h u few r i))
@@ -115,25 +116,25 @@ module _ (d : SpiTable) (fits : FitsSpi d) (e : FrameRole) (below : Reservations
       found (finds.Source z n) j = decided chip (find_move (finds.Source z n)) (serve_takes d u (serve.Find a p (finds.Source z n)) (value_of chip (find_move (finds.Source z n)))) (find_decides d fits below chip w s h u few a p i wide (channel_next d a p) refl (finds.Source z n) j)
       found (finds.Default z) j = decided chip (find_move (finds.Default z)) (serve_takes d u (serve.Find a p (finds.Default z)) (value_of chip (find_move (finds.Default z)))) (find_decides d fits below chip w s h u few a p i wide (channel_next d a p) refl (finds.Default z) j)
   steps_right (serve.Begin a p v) f k (i, wide, word) = record {
-    state = state1 d fits below chip w s h u few a p v y i wide word;
+    state = state1 d fits below chip w s h u few async a p v y i wide word;
     notices = [];
-    begins = Some (word1 d fits below chip w s h u few a p v y i wide word);
-    is = further_is d fits below chip w s h u few a p v y i wide word;
+    begins = Some (word1 d fits below chip w s h u few async a p v y i wide word);
+    is = further_is d fits below chip w s h u few async a p v y i wide word;
     is_serve = refl;
-    sends = further_sends d fits below chip w s h u few a p v y i wide word;
+    sends = further_sends d fits below chip w s h u few async a p v y i wide word;
     owing = lets_owing a p;
-    owes = subst (λ o. ServeOwes d e below u (chip_after chip (serve_move d u (serve.Begin a p v)) y) w (state1 d fits below chip w s h u few a p v y i wide word) [] (lets_of d a p) o) (sym (lets_ahead a p)) (refl, λ owner acted. further_owes d fits below chip w s h u few a p v y i wide word e owner acted);
+    owes = subst (λ o. ServeOwes d e below u (chip_after chip (serve_move d u (serve.Begin a p v)) y) w (state1 d fits below chip w s h u few async a p v y i wide word) [] (lets_of d a p) o) (sym (lets_ahead a p)) (refl, λ owner acted. further_owes d fits below chip w s h u few async a p v y i wide word e owner acted);
   }
   steps_right (serve.Marks a) f k i = decided chip (serve_move d u (serve.Marks a)) (serve_takes d u (serve.Marks a) (value_of chip (serve_move d u (serve.Marks a)))) (marks_decides d fits below chip w s h u few a i)
   steps_right (serve.Nexts a c) f k i = decided chip (serve_move d u (serve.Nexts a c)) (serve_takes d u (serve.Nexts a c) (value_of chip (serve_move d u (serve.Nexts a c)))) (nexts_decides d fits below chip w s h u few a c i.0 i.1)
   steps_right (serve.Acknowledge a c) f k (i, course) = record {
-    state = state3 d fits below chip w s h u few a i y (ending d fits below chip w s h u few a i y);
+    state = state3 d fits below chip w s h u few async a i y (ending d fits below chip w s h u few a i y async);
     notices = notices_by d a.served c;
     begins = None;
-    is = over_is d fits below chip w s h u few a i y ∙ ap (λ ns. Some (outcome_with (state3 d fits below chip w s h u few a i y (ending d fits below chip w s h u few a i y)) (notes ns) None)) (ends_told d fits below chip w s h u few a i y c course);
+    is = over_is d fits below chip w s h u few async a i y ∙ ap (λ ns. Some (outcome_with (state3 d fits below chip w s h u few async a i y (ending d fits below chip w s h u few a i y async)) (notes ns) None)) (ends_told d fits below chip w s h u few a i y async c course);
     is_serve = refl;
     sends = ends_sends d fits below chip w s h u few a i y;
     owing = refl;
-    owes = (refl, λ owner acted. job_owes d fits below chip w s h u few a i y e owner acted c course);
+    owes = (refl, λ owner acted. job_owes d fits below chip w s h u few async a i y e owner acted c course);
   }
   steps_right _ f k i = absurd (cc)

@@ -1,29 +1,28 @@
 -- A job has ended well and all that came in is readable: what is left are the words of its sequence.
 -- From words.SidesApart, services.FreedUnit, words.AllKept, words.Positions, bookkeeping.Readable and 9 more.
--- Used by services.FailedEnded, services.JobOverRight.
+-- Used by services.FailedEnded, services.JobLeft.
 use Rattle.std.proofs.Common.{◌≡◌, ◌≢◌, ◌+◌, ◌<◌, ◌≤◌, ◌==◌, ◌&&◌, [], ◌∷◌, ◌∙◌, ◌⊎◌, if◌then◌else◌}
 use Rattle.spi_serving.specs.Terms
 use Terms.{Answer, ap, arith, Banks, banks_held, BanksAgree, Bool, Call, Channel, channel_at, channel_of, Chip}
-use Terms.{committing, Contains, Destination, destination_word, ends_well, false, first_items, Goes, goes_by, goes_on}
-use Terms.{goes_to_array, Going, has_channel, held_word, holds_debt, inl, inr, InternalAgrees, IsWordOf, JobWord}
-use Terms.{KeepsNone, length, length_by, List, nat_lt, nat_tests, no_word, None, none_in, none_readied, not, of_banks}
-use Terms.{of_held, of_one, of_set_up, of_sixteen, Option, Origin, other_number, Outcome, own_low, own_of, Part, PartBy}
-use Terms.{past_the_first, place_of, Placed, placed_of, pointwise, prepares, put_held, PutRight, Received, refl, Run}
-use Terms.{run_at, running_word, same_number, same_or_other, Sent, serve-stores, Serves, set_up_by, set_up_word, SetUp}
-use Terms.{sides_apart, slice_get, slice_index_or, Some, some_is, Source, SOURCES, spi_machine, SpiState, stands-agree}
-use Terms.{STATE, subst, suc, sym, take_held, ToChannel, trio_of, true, unit_at, UnitAgrees, unpacked, View, view}
-use Terms.{word_at, word_in, word_of, words_of, zero, ℕ}
+use Terms.{committing, Contains, Destination, destination_word, false, first_items, Goes, goes_by, goes_to_array}
+use Terms.{Going, has_channel, held_word, holds_debt, inl, inr, InternalAgrees, IsWordOf, JobWord, KeepsNone, length}
+use Terms.{length_by, List, nat_lt, nat_tests, no_word, None, none_in, none_readied, of_banks, of_held, of_one}
+use Terms.{of_set_up, of_sixteen, Option, Origin, other_number, own_low, own_of, Part, PartBy, past_the_first}
+use Terms.{place_of, Placed, placed_of, pointwise, prepares, put_held, PutRight, Received, refl, Run, running_word}
+use Terms.{same_number, same_or_other, Sent, set_up_by, set_up_word, SetUp, sides_apart, slice_get, slice_index_or}
+use Terms.{Some, some_is, Source, SOURCES, SpiState, stands-agree, STATE, subst, suc, sym, take_held, ToChannel}
+use Terms.{trio_of, true, unit_at, UnitAgrees, unpacked, View, view, word_at, word_in, word_of, words_of, zero, ℕ}
 use Rattle.spi_serving.specs.laws.{words.AllKept.{AllKept, IsApart, ReceivedAt, whole_length}}
 use Rattle.spi_serving.specs.laws.{bookkeeping.JobsApart.{agrees_at, for_at, one_job}, words.CommitWords.{upto}}
 use Rattle.spi_serving.specs.laws.{services.FreedUnit.{IsFilled, IsFree, Left, going_left, start_owed, with_channels}}
 use Rattle.spi_serving.specs.laws.{words.LastKept.{IsBase, here, here_known}, words.JoinedLists.{get_within}}
 use Rattle.spi_serving.specs.laws.{bookkeeping.MovedOn.{going_here, going_other}, bookkeeping.JobOver.{all_begun}}
 use Rattle.spi_serving.specs.laws.{bookkeeping.JobOver.{put_over, take_over}, words.Positions.{held_back, part_known}}
-use Rattle.spi_serving.specs.laws.{words.Positions.{part_most, parts_few}, bookkeeping.Readable.{all_readable}}
+use Rattle.spi_serving.specs.laws.{words.Positions.{part_most, parts_few}, bookkeeping.Readable.{all_readable, IsStored}}
 use Rattle.spi_serving.specs.laws.{bookkeeping.Readable.{at_place, others_readable, word_of_part}}
 use Rattle.spi_serving.specs.laws.{words.SidesApart.{banks_low, banks_of_one, banks_past, banks_unheld, banks_words}}
 use Rattle.spi_serving.specs.laws.{words.SidesApart.{is_inside, says_inside}, bookkeeping.PinsTurned.{At}}
-use Rattle.spi_serving.specs.laws.{bookkeeping.PinsTurned.{none_received}, bookkeeping.UnderWay.{unit_line}}
+use Rattle.spi_serving.specs.laws.bookkeeping.PinsTurned.{none_received}
 use Rattle.spi_serving.specs.laws.{ToServe.{ToServe}}
 use Rattle.word_shapes.specs.TripleBuffer as trio
 
@@ -58,7 +57,7 @@ module _ (st : ToServe) where
       by_other m lt (inr ne) = subst (λ o. KeepsNone o x.channel) (sym (going_other h.going u None m ne)) (other m lt ne (h.going m) refl)
 
   module _ (at : At st g.at (length g.received)) (last : length g.received + 1 ≡ length (words_of d g.parts))
-      (run : Run) (words_are : run.words ≡ words_of d g.parts) (received_are : run.received ≡ g.received) (out : Outcome SpiState) (y : ℕ) (happens : (spi_machine d).happens w s (Serves (26 + u) y) ≡ Some out) (runs : run_at s u ≡ Some run) (well : ends_well (Some run) ≡ true)
+      (run : Run) (words_are : run.words ≡ words_of d g.parts) (received_are : run.received ≡ g.received) (out : SpiState) (brings : IsStored st run out)
       (fc : Chip) (freed : IsFree d w chip u fc) (b : Chip) (base : IsBase st at last run.transfer.incoming fc freed.outside freed.alike b)
       (c : Chip) (kept : AllKept st run.transfer.incoming b (upto 4) c) where
     abbrev v : ℕ
@@ -152,16 +151,9 @@ module _ (st : ToServe) where
         ap (λ xs. slice_index_or xs (length run.received) no_word) words_are ∙ ap (λ xs. slice_index_or (words_of d g.parts) (length xs) no_word) received_are
         ∙ ap (λ n. slice_index_or (words_of d g.parts) n no_word) at.count ∙ at_place st g.at.channel g.at.word at.part at.there at.inside
 
-    good : run.transfer.failed ≡ false
-    good = by run.transfer.failed (goes_on run) well
-      where
-        by : (a b : Bool) → (not a && not b) ≡ true → a ≡ false
-        by true b e = absurd (cc)
-        by false b e = refl
-
-    has : (goes : Goes) → at.part.goes ≡ goes → (n i : ℕ) → word_at (channel_at out.state n).destination i ≡ (if goes_to_array n i (word_of_part st at.part g.at.word) goes then v else word_at (channel_at s n).destination i)
+    has : (goes : Goes) → at.part.goes ≡ goes → (n i : ℕ) → word_at (channel_at out n).destination i ≡ (if goes_to_array n i (word_of_part st at.part g.at.word) goes then v else word_at (channel_at s n).destination i)
     has goes f n i =
-        serve-stores d w s (26 + u) y out u run n i happens (unit_line u few) runs good
+        brings.destinations n i
         ∙ ap (λ (x : JobWord). if goes_to_array n i x x.goes then v else word_at (channel_at s n).destination i) part_word
         ∙ ap (λ z. if goes_to_array n i (word_of_part st at.part g.at.word) z then v else word_at (channel_at s n).destination i) f
 
@@ -175,7 +167,7 @@ module _ (st : ToServe) where
     was_there : (n i : ℕ) → i < length_by (channel_of d n) → (its.channel.internal ≡ false → place_of (Destination n) i ≢ destination_word its g.at.word) → word_of c (place_of (Destination n) i) ≡ word_at (channel_at s n).destination i
     was_there n i lt apart = same (place_of (Destination n) i) (users_apart (place_of (Destination n) i) (omega arith)) (λ q e. let low = held_low in omega (arith, low, e)) apart (λ e. omega (arith, e, few)) ∙ (h.arrays n).destination i lt
 
-    destination_at : (n i : ℕ) → i < length_by (channel_of d n) → (q : Bool) → its.channel.internal ≡ q → PartBy q (word_of chip) its g.at g.at.channel at.part → word_of c (place_of (Destination n) i) ≡ word_at (channel_at out.state n).destination i
+    destination_at : (n i : ℕ) → i < length_by (channel_of d n) → (q : Bool) → its.channel.internal ≡ q → PartBy q (word_of chip) its g.at g.at.channel at.part → word_of c (place_of (Destination n) i) ≡ word_at (channel_at out n).destination i
     destination_at n i lt true e a = was_there n i lt (λ q. absurd (let f = sym e ∙ q in cc)) ∙ sym (has ToChannel a.goes n i)
     destination_at n i lt false e a = by (unpacked (word_of chip (held_word its))).destination refl (same_or_other n at.part.channel) (same_or_other i g.at.word)
       where
@@ -186,7 +178,7 @@ module _ (st : ToServe) where
         small = fewer n i lt
 
         -- another word
-        other : (to : Bool) → (unpacked (word_of chip (held_word its))).destination ≡ to → (n ≢ at.part.channel) ⊎ (i ≢ g.at.word) → word_of c (place_of (Destination n) i) ≡ word_at (channel_at out.state n).destination i
+        other : (to : Bool) → (unpacked (word_of chip (held_word its))).destination ≡ to → (n ≢ at.part.channel) ⊎ (i ≢ g.at.word) → word_of c (place_of (Destination n) i) ≡ word_at (channel_at out n).destination i
         other to f ne = was_there n i lt (λ q e. apart e ne) ∙ sym (has (goes_by to) (goes_is ∙ ap goes_by f) n i ∙ ap (λ z. if z then v else word_at (channel_at s n).destination i) (no_goes to ne))
           where
             most : g.at.word < 64
@@ -206,7 +198,7 @@ module _ (st : ToServe) where
                 and_false false = refl
 
         -- the word itself
-        this : (to : Bool) → (unpacked (word_of chip (held_word its))).destination ≡ to → n ≡ at.part.channel → i ≡ g.at.word → word_of c (place_of (Destination n) i) ≡ word_at (channel_at out.state n).destination i
+        this : (to : Bool) → (unpacked (word_of chip (held_word its))).destination ≡ to → n ≡ at.part.channel → i ≡ g.at.word → word_of c (place_of (Destination n) i) ≡ word_at (channel_at out n).destination i
         this to f en ei =
             ap (word_of c) place
             ∙ kept.apart (destination_word its g.at.word) (users_apart (destination_word its g.at.word) (omega arith)) ∙ base.arrives e
@@ -220,16 +212,16 @@ module _ (st : ToServe) where
             goes_here false = refl
             goes_here true = ap (λ q. q && g.at.word == i) (ap (λ m. at.part.channel == m) en ∙ same_number at.part.channel) ∙ ap (λ j. g.at.word == j) ei ∙ same_number g.at.word
 
-        by : (to : Bool) → (unpacked (word_of chip (held_word its))).destination ≡ to → (n ≡ at.part.channel) ⊎ (n ≢ at.part.channel) → (i ≡ g.at.word) ⊎ (i ≢ g.at.word) → word_of c (place_of (Destination n) i) ≡ word_at (channel_at out.state n).destination i
+        by : (to : Bool) → (unpacked (word_of chip (held_word its))).destination ≡ to → (n ≡ at.part.channel) ⊎ (n ≢ at.part.channel) → (i ≡ g.at.word) ⊎ (i ≢ g.at.word) → word_of c (place_of (Destination n) i) ≡ word_at (channel_at out n).destination i
         by to f (inl x) (inl z) = this to f x z
         by to f (inl x) (inr z) = other to f (inr z)
         by to f (inr x) z = other to f (inl x)
 
     -- ---- banks
 
-    module _ (owner : Origin Call) (acted : Option Answer) (like : IsFilled out.state.channels s) where
+    module _ (owner : Origin Call) (acted : Option Answer) (like : IsFilled out.channels s) where
       abbrev after : View
-      after = view (with_channels s out.state.channels)
+      after = view (with_channels s out.channels)
 
       abbrev going_then : ℕ → Option Going
       going_then = going_left st
@@ -242,7 +234,7 @@ module _ (st : ToServe) where
       own_received i x there k is_channel internal = (
         committing r.put r.banks,
         subst (λ q. trio.Stands (trio_of (placed_of d x.channel) Received) (word_of c) (if q then committing r.put r.banks else r.banks)) (four i (omega (arith, within, parts))) r.stands,
-        λ none. r.filled ∙ sym (all_readable st run words_are received_are out y happens runs well i x there a.goes k.length (a.count ∙ length_is)
+        λ none. r.filled ∙ sym (all_readable st run words_are received_are out brings i x there a.goes k.length (a.count ∙ length_is)
             (whole_length st v b i x there inside last ∙ length_is)),
         r.takes,
         λ m lt. keeps_none i x there m lt,
@@ -278,7 +270,7 @@ module _ (st : ToServe) where
         other_received none = (
           was.received,
           stands-agree (trio_of (placed_of d n) Received) (word_of chip) (word_of c) was.received (λ j own. sym (still j (of_banks d fits n k is_channel internal Received j own))) was.receives,
-          λ prepared. was.readable prepared ∙ sym (others_readable st run words_are received_are out y happens runs well n k.length none),
+          λ prepared. was.readable prepared ∙ sym (others_readable st run words_are received_are out brings n k.length none),
           was.reads,
           put_over d fits below chip w s h u few g is n (word_of c) was.received.put (still (held_word (placed_of d n)) (of_held d fits n k is_channel)) (λ j z part. absurd (none j z part.0 part.1))
               (subst (λ o. PutRight h.going (word_of chip) (placed_of d n) o was.received.put) (none_received d s.mode s.channels (view s).sources n below on h.right) was.keeps),
@@ -319,7 +311,7 @@ module _ (st : ToServe) where
           keeps = subst (λ o. PutRight going_then (word_of c) (placed_of d n) o received_left.0.put) (sym (none_received d s.mode s.channels after.sources n below on h.right)) received_left.4;
         })
 
-      pub well_left : Left st owner acted out.state.channels like c
+      pub well_left : Left st owner acted out.channels like c
       well_left = record {
         outside = kept.outside;
         wiring = ap (λ z. z.wiring) kept.rest ∙ ap (λ z. z.wiring) base.rest ∙ freed.wiring;
@@ -330,11 +322,16 @@ module _ (st : ToServe) where
         running = kept.apart (running_word u) (first_apart (running_word u) (omega (arith, few))) ∙ base.same (running_word u) (λ i. first_held (running_word u) (omega (arith, few))) (λ i e. omega (arith, e, few)) ∙ freed.running;
         first = λ j low high ne. same j (first_apart j high) (λ i. first_held j high) (λ i e. omega (arith, e, high)) ne;
         still_held = held_external;
+        held_away = λ n k is_channel none. held_out n k is_channel none k.internal refl;
         set_ups = set_up_same;
         sources = source_same;
         destinations = λ n i lt. destination_at n i lt its.channel.internal refl agrees_here;
         banks = banks_left;
       }
         where
+          held_out : (n : ℕ) (k : Channel) (is_channel : channel_of d n ≡ Some k) → ((i : ℕ) (x : Part) → slice_get g.parts i ≡ Some x → x.channel ≢ n) → (q : Bool) → k.internal ≡ q → word_of c (held_word (placed_of d n)) ≡ word_of chip (held_word (placed_of d n))
+          held_out n k is_channel none true internal = held_apart n k is_channel (banks_unheld d fits n k is_channel internal Received n k is_channel) (inl (λ e. none g.at.channel at.part at.there (sym e)))
+          held_out n k is_channel none false external = held_external n k is_channel external
+
           serials : c.serials ≡ fc.serials
           serials = ap (λ z. z.serials) kept.rest ∙ ap (λ z. z.serials) base.rest

@@ -1,17 +1,17 @@
 -- A job's last word is kept: what its internal channels received becomes readable, one channel after the other.
--- From words.SidesApart, words.JoinedLists, bookkeeping.JobsApart, words.Positions, services.FurtherRight and 1 more.
--- Used by words.LastKept, words.CommitWords, services.WellEnded, services.JobOverRight, words.ReleasedPins and 1 more.
+-- From words.SidesApart, words.JoinedLists, bookkeeping.JobsApart, words.Positions, services.EndsOwed.
+-- Used by words.LastKept, words.CommitWords, services.WellEnded, words.ReleasedPins, bookkeeping.Readable and 1 more.
 use Rattle.std.proofs.Common.{◌≡◌, ◌≢◌, ◌+◌, ◌-◌, ◌<◌, ◌≤◌, ◌==◌, [], ◌∷◌, ◌++◌, ◌∙◌, ◌⊎◌, if◌then◌else◌}
 use Rattle.spi_serving.specs.Terms
-use Terms.{after_serve, Answer, ap, AreThere, arith, bank_of, Banks, Bool, Channel, channel_at_place, channel_of, Chip}
-use Terms.{commit-ends, commit_at, commit_by, commit_last, commit_with, CommitsTo, committing, committing_of, DiffersIn}
-use Terms.{drop, false, first_internal, FrameRole, held_word, inl, inr, is_number, is_some, IsPart, Leaving, length}
-use Terms.{length-append, length-take-le, List, may_store, Memory, named_own, nat_lt, nat_tests, next_job, None}
-use Terms.{one_owed, Option, own_held, own_low, Part, PartBy, PartTo, placed_of, Put, put_gave, PutIn, Putting, putting}
-use Terms.{Received, refl, same_or_other, serve_commits, serve_owes, ServePlace, settles_part, slice_get, Some, some_is}
+use Terms.{Answer, ap, AreThere, arith, bank_of, Banks, Bool, Channel, channel_at_place, channel_of, Chip, commit-ends}
+use Terms.{commit_at, commit_by, commit_last, commit_with, CommitsTo, committing, committing_of, DiffersIn, drop}
+use Terms.{false, first_internal, has_ended, held_word, inl, inr, is_number, is_some, IsPart, Leaving, length, length-append}
+use Terms.{length-take-le, List, may_store, Memory, named_own, nat_lt, nat_tests, next_job, None, Option, own_held}
+use Terms.{own_low, Part, PartBy, PartTo, PendingWrites, placed_of, Put, put_gave, put_left, PutIn, Putting, putting, Received}
+use Terms.{refl, same_or_other, serve_commits, serve_owes, ServePlace, settles_part, slice_get, Some, some_is}
 use Terms.{spi_owing, SpiTable, stands-agree, stands_owed, StandsIn, subst, suc, sym, take, take_held, trio_of}
-use Terms.{TripleBuffer, true, unit_owed, Units, unless_done, where_owed, word_of, words_before, words_of, ℕ}
-use Rattle.spi_serving.specs.laws.{bookkeeping.JobsApart.{agrees_at, for_at, one_part}, services.FurtherRight.{serving}}
+use Terms.{TripleBuffer, true, word_of, words_before, words_of, ℕ}
+use Rattle.spi_serving.specs.laws.{bookkeeping.JobsApart.{agrees_at, for_at, one_part}, services.EndsOwed.{end_to, OwesEnds, OwesPut}}
 use Rattle.spi_serving.specs.laws.{words.JoinedLists.{before-all, before-less, before-next, dropped-count, get_within}}
 use Rattle.spi_serving.specs.laws.{words.Positions.{channel_there, part_known, words_count}}
 use Rattle.spi_serving.specs.laws.{words.SidesApart.{banks_fit, banks_of_one, banks_own, banks_unheld, banks_words}}
@@ -29,9 +29,6 @@ commit_owes d l n = by (first_internal d l.served n)
     by : (o : Option ℕ) → serve_owes (commit_by d l o) ≡ true
     by None = refl
     by (Some i) = refl
-
-pub owes_place : (d : SpiTable) (e : FrameRole) (u : ℕ) (q : ServePlace) → serve_owes q ≡ true → unit_owed (serving d e u q) ≡ Some (Units (serving d e u q))
-owes_place d e u q o = ap (λ b. where_owed b (Units (serving d e u q))) o
 
 pub lt_else : (i n : ℕ) → i ≢ n → nat_lt i (suc n) ≡ nat_lt i n
 lt_else i n ne = grind (arith, nat_tests)
@@ -130,51 +127,75 @@ module _ (st : ToServe) (v : ℕ) where
           length-take-le (length x.values) (drop (words_before g.parts n) (g.received ++ v ∷ [])) (let rest = dropped-count (words_before g.parts n) (g.received ++ v ∷ []) in let more = length-append g.received (v ∷ []) in let le = whole_inside in omega (arith, rest, more, le))
           ∙ (subst (λ q. PartBy q (word_of chip) (placed_of d x.channel) g.at n x) inside ((agrees_at d fits below chip w s h on u g few is).parts n x at).1).count
 
-      module _ (e : FrameRole) (l : Leaving) (Done : Chip → Type 0) where
-        abbrev Owes : ServePlace → Chip → Type 0
-        Owes q c = (i : ℕ) × CommitsTo (spi_owing d) i (Units (serving d e u q)) c Done
+      -- as a frame owes the moves of a put, and what it owes after them
+      module _ (owing : Put → PendingWrites) (next : PendingWrites) (owes : OwesPut owing next) (Done : Chip → Type 0) where
+        put_steps : (a : Put) (y : ℕ) (o : Option Answer) → (put_gave a y).ended ≡ o → PartTo putting (spi_owing d) owing (λ xs. Some next) a y o
+        put_steps a y None f = owes.lefts a y ∙ ap (λ q. Some (if q then next else owing (put_left a y))) (ap is_some f)
+        put_steps a y (Some z) f = owes.lefts a y ∙ ap (λ q. Some (if q then next else owing (put_left a y))) (ap is_some f)
 
-        commit_steps : (a : Put) (y : ℕ) (o : Option Answer) → (put_gave a y).ended ≡ o → PartTo putting (spi_owing d) (λ z. Units (serving d e u (serve.Commit l n (commits.Put z)))) (λ xs. Some (Units (serving d e u (commit_last d l (3 - n))))) a y o
-        commit_steps a y None f = ap (λ q. unless_done (after_serve (serving d e u (serve.Commit l n (commits.Put a))) (serve_commits d l n (commits.Put a) y q)).1.done (unit_owed (after_serve (serving d e u (serve.Commit l n (commits.Put a))) (serve_commits d l n (commits.Put a) y q)).0)) (ap is_some f)
-        commit_steps a y (Some z) f = ap (λ q. unless_done (after_serve (serving d e u (serve.Commit l n (commits.Put a))) (serve_commits d l n (commits.Put a) y q)).1.done (unit_owed (after_serve (serving d e u (serve.Commit l n (commits.Put a))) (serve_commits d l n (commits.Put a) y q)).0)) (ap is_some f) ∙ owes_place d e u (commit_last d l (3 - n)) (commit_owes d l (3 - n))
-
-        commit_part : IsPart putting (trio.own_of (trio_at x)) (spi_owing d) (λ z. Units (serving d e u (serve.Commit l n (commits.Put z)))) (λ xs. Some (Units (serving d e u (commit_last d l (3 - n)))))
-        commit_part = record {
-          moves = λ z. refl;
-          steps = λ z y. commit_steps z y (put_gave z y).ended refl;
+        put_part : IsPart putting (trio.own_of (trio_at x)) (spi_owing d) owing (λ xs. Some next)
+        put_part = record {
+          moves = owes.moves;
+          steps = λ z y. put_steps z y (put_gave z y).ended refl;
           named = named_own d fits (trio.own_of (trio_at x)) (λ j own. banks_own d fits x.channel (known n x at).0 (known n x at).1 inner Received j own);
           fits = λ z c. tt;
         }
+
+        module _ (f f1 : ℕ → Bool) (not_yet : f n ≡ false) (by_now : f1 n ≡ true) (others : (m : ℕ) → m ≢ n → f1 m ≡ f m) (c : Chip) (a : AllKept b f c) (onward : (c1 : Chip) → AllKept b f1 c1 → (i : ℕ) × CommitsTo (spi_owing d) i next c1 Done) where
+          abbrev was : ReceivedAt n x (word_of c) (f n)
+          was = a.received n x at inside
+
+          stands_yet : trio.Stands (trio_at x) (word_of c) was.banks
+          stands_yet = subst (λ q. trio.Stands (trio_at x) (word_of c) (if q then committing was.put was.banks else was.banks)) not_yet was.stands
+
+          pub put_owed : (bank : ℕ) → bank ≡ was.put.bank → (i : ℕ) × CommitsTo (spi_owing d) i (owing (committing_of (placed_of d x.channel) Received bank)) c Done
+          put_owed bank same =
+              settles_part putting (trio.own_of (trio_at x)) (spi_owing d) owing (λ xs. Some next) put_part own_there
+              (λ m words. (words ≡ []) × trio.Stands (trio_at x) m (committing was.put was.banks)) Done 2 (committing_of (placed_of d x.channel) Received bank) c a.outside.all.words
+              (commit-ends (trio_at x) (word_of c) was.banks was.put bank (banks_fit d fits x.channel (known n x at).0 (known n x at).1 inner Received) was.puts same (ap length was.filled ∙ whole_length) stands_yet)
+              (λ c1 words differs now. onward c1 (kept_on f f1 c c1 (stands_owed (trio.own_of (trio_at x)) c c1 w differs a.outside) differs a (record {
+                banks = was.banks;
+                put = was.put;
+                puts = was.puts;
+                filled = was.filled;
+                takes = was.takes;
+                held = differs.others (held_word (placed_of d x.channel)) (unheld n n x x at at inside) ∙ was.held;
+                stands = subst (λ q. trio.Stands (trio_at x) (word_of c1) (if q then committing was.put was.banks else was.banks)) (sym by_now) now.1;
+              }) others))
+
+      -- as one that serves owes them
+      module _ (into : ServePlace → PendingWrites) (owes : OwesEnds d u into) (l : Leaving) (Done : Chip → Type 0) where
+        abbrev Owes : ServePlace → Chip → Type 0
+        Owes q c = (i : ℕ) × CommitsTo (spi_owing d) i (into q) c Done
+
+        served_put : OwesPut (λ z. into (serve.Commit l n (commits.Put z))) (into (commit_last d l (3 - n)))
+        served_put = record { moves = λ z. owes.moves (serve.Commit l n (commits.Put z)); lefts = λ z y. owes.lefts (serve.Commit l n (commits.Put z)) y tt (owed z y (has_ended (put_gave z y))) ∙ so z y (has_ended (put_gave z y)) }
+          where
+            owed : (z : Put) (y : ℕ) (q : Bool) → serve_owes (serve_commits d l n (commits.Put z) y q).0 ≡ true
+            owed z y true = commit_owes d l (3 - n)
+            owed z y false = refl
+
+            so : (z : Put) (y : ℕ) (q : Bool) → Some (into (serve_commits d l n (commits.Put z) y q).0) ≡ Some (if q then into (commit_last d l (3 - n)) else into (serve.Commit l n (commits.Put (put_left z y))))
+            so z y true = refl
+            so z y false = refl
 
         module _ (f f1 : ℕ → Bool) (not_yet : f n ≡ false) (by_now : f1 n ≡ true) (others : (m : ℕ) → m ≢ n → f1 m ≡ f m) (c : Chip) (a : AllKept b f c) (onward : (c1 : Chip) → AllKept b f1 c1 → Owes (commit_last d l (3 - n)) c1) where
           abbrev r : ReceivedAt n x (word_of c) (f n)
           r = a.received n x at inside
 
+          commit_put : (bank : ℕ) → bank ≡ r.put.bank → Owes (serve.Commit l n (commits.Put (committing_of (placed_of d x.channel) Received bank))) c
+          commit_put bank same = put_owed (λ z. into (serve.Commit l n (commits.Put z))) (into (commit_last d l (3 - n))) served_put Done f f1 not_yet by_now others c a onward bank same
+
           standing : trio.Stands (trio_at x) (word_of c) r.banks
           standing = subst (λ q. trio.Stands (trio_at x) (word_of c) (if q then committing r.put r.banks else r.banks)) not_yet r.stands
-
-          commit_put : (bank : ℕ) → bank ≡ r.put.bank → Owes (serve.Commit l n (commits.Put (committing_of (placed_of d x.channel) Received bank))) c
-          commit_put bank same =
-              settles_part putting (trio.own_of (trio_at x)) (spi_owing d) (λ z. Units (serving d e u (serve.Commit l n (commits.Put z)))) (λ xs. Some (Units (serving d e u (commit_last d l (3 - n))))) commit_part own_there
-              (λ m words. (words ≡ []) × trio.Stands (trio_at x) m (committing r.put r.banks)) Done 2 (committing_of (placed_of d x.channel) Received bank) c a.outside.all.words
-              (commit-ends (trio_at x) (word_of c) r.banks r.put bank (banks_fit d fits x.channel (known n x at).0 (known n x at).1 inner Received) r.puts same (ap length r.filled ∙ whole_length) standing)
-              (λ c1 words differs now. onward c1 (kept_on f f1 c c1 (stands_owed (trio.own_of (trio_at x)) c c1 w differs a.outside) differs a (record {
-                banks = r.banks;
-                put = r.put;
-                puts = r.puts;
-                filled = r.filled;
-                takes = r.takes;
-                held = differs.others (held_word (placed_of d x.channel)) (unheld n n x x at at inside) ∙ r.held;
-                stands = subst (λ q. trio.Stands (trio_at x) (word_of c1) (if q then committing r.put r.banks else r.banks)) (sym by_now) now.1;
-              }) others))
 
           bank_small : r.put.bank < 3
           bank_small = (subst (λ o. PutIn (trio_at x) (word_of c) r.banks.bank r.banks.take o) r.puts standing.put).below
 
           commit_held : Owes (serve.Commit l n (commits.Held (placed_of d x.channel))) c
           commit_held =
-              one_owed (spi_owing d) Done (Units (serving d e u (serve.Commit l n (commits.Held (placed_of d x.channel))))) c (Some (Units (serving d e u (serve.Commit l n (commits.Put (committing_of (placed_of d x.channel) Received (bank_of (word_of c (held_word (placed_of d x.channel))))))))))
-              (may_store d fits (held_word (placed_of d x.channel)) 0 (own_held d fits x.channel (known n x at).0 (known n x at).1)) tt refl
+              end_to d u into owes Done (serve.Commit l n (commits.Held (placed_of d x.channel))) (serve.Commit l n (commits.Put (committing_of (placed_of d x.channel) Received (bank_of (word_of c (held_word (placed_of d x.channel))))))) c tt refl refl
+              (may_store d fits (held_word (placed_of d x.channel)) 0 (own_held d fits x.channel (known n x at).0 (known n x at).1))
               (commit_put (bank_of (word_of c (held_word (placed_of d x.channel)))) (let held = r.held in let small = bank_small in omega (arith, held, small)))
 
           -- it is known of the channel of the last word which bank it is

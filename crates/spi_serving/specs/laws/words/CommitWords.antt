@@ -1,17 +1,15 @@
 -- A job's last word is kept: the internal channels at its places follow one another, each with its moves.
--- From words.AllKept, bookkeeping.JobsApart, words.Positions, services.FurtherRight, ToServe.
--- Used by services.JobOverRight, words.ReleasedPins, services.FailedEnded, services.WellEnded, words.LastKept.
-use Rattle.std.proofs.Common.{◌≡◌, ◌+◌, ◌-◌, ◌<◌, ◌≤◌, [], ◌∷◌, ◌∙◌, if◌then◌else◌}
+-- From words.AllKept, bookkeeping.JobsApart, words.Positions, ToServe.
+-- Used by words.ReleasedPins, services.FailedEnded, services.WellEnded, words.LastKept, services.JobLeft.
+use Rattle.std.proofs.Common.{◌≡◌, ◌+◌, ◌-◌, ◌≤◌, [], ◌∷◌, ◌∙◌, if◌then◌else◌}
 use Rattle.spi_serving.specs.Terms
-use Terms.{ap, arith, Bool, channel_number, Chip, commit_by, commit_last, CommitsTo, false, first_internal, FrameRole}
-use Terms.{held_word, Leaving, length, List, list_of, lt_itself, lt_next, map, meets_at, nat_lt, nat_tests, next_job}
-use Terms.{None, Option, Part, placed_of, refl, ServePlace, slice_get, Some, some_is, spi_owing, subst, suc, sym, true}
-use Terms.{Units, word_of, words_of, zero, ℕ}
-use Rattle.spi_serving.specs.laws.{words.AllKept.{AllKept, ReceivedAt, commit_one, lt_else, unheld}}
-use Rattle.spi_serving.specs.laws.{bookkeeping.JobsApart.{agrees_at, for_at}, services.FurtherRight.{serving}}
+use Terms.{ap, arith, Bool, channel_number, Chip, CommitsTo, false, first_internal, held_word}
+use Terms.{List, list_of, map, meets_at, nat_lt, nat_tests, next_job, None}
+use Terms.{Option, Part, PendingWrites, placed_of, refl, Served, slice_get, Some, some_is, spi_owing, subst, suc}
+use Terms.{sym, true, word_of, zero, ℕ}
+use Rattle.spi_serving.specs.laws.{words.AllKept.{AllKept, ReceivedAt, lt_else, unheld}}
+use Rattle.spi_serving.specs.laws.bookkeeping.JobsApart.{agrees_at, for_at}
 use Rattle.spi_serving.specs.laws.{words.Positions.{list_channels, number_there}, ToServe.{ToServe}}
-use Rattle.spi_jobs.specs.declared.keeping.Taker.TheVariants as takers
-use Rattle.spi_sequences.specs.declared.service.serve.ServePlace.TheVariants as serve
 
 -- the places before this one
 abbrev pub upto : ℕ → (place : ℕ) → Bool
@@ -22,13 +20,8 @@ none_mapped f [] n e = refl
 none_mapped f (x ∷ xs) zero e = absurd (cc)
 none_mapped f (x ∷ xs) (suc n) e = none_mapped f xs n e
 
-module _ (st : ToServe) (v : ℕ) (last : length st.g.received + 1 ≡ length (words_of st.d st.g.parts)) (b : Chip)
-    (e : FrameRole) (l : Leaving) (job_is : l.served.run.job ≡ next_job st.d st.g.pending) (Done : Chip → Type 0)
-    (taken : (x : Part) → slice_get st.g.parts l.served.at.channel ≡ Some x → (placed_of st.d x.channel).channel.internal ≡ true → (bank : ℕ) × (l.taker ≡ takers.Bank bank) × (bank ≡ word_of b (held_word (placed_of st.d x.channel)))) where
+module _ (st : ToServe) (v : ℕ) (b : Chip) (served : Served) (job_is : served.run.job ≡ next_job st.d st.g.pending) where
   open st use {d, fits, below, chip, w, s, h, on, u, few, g, is}
-
-  abbrev Owes : ServePlace → Chip → Type 0
-  Owes q c = (i : ℕ) × CommitsTo (spi_owing d) i (Units (serving d e u q)) c Done
 
   abbrev On : (ℕ → Bool) → Chip → Type 0
   On f c = AllKept st v b f c
@@ -46,55 +39,57 @@ module _ (st : ToServe) (v : ℕ) (last : length st.g.received + 1 ≡ length (w
   }
 
   -- what a place of the job has, as a frame looks for it
-  meets_none : (n : ℕ) → slice_get g.parts n ≡ None → meets_at d (λ x. x.channel.internal) (channel_number (list_of d l.served.run.job) n) ≡ false
+  meets_none : (n : ℕ) → slice_get g.parts n ≡ None → meets_at d (λ x. x.channel.internal) (channel_number (list_of d served.run.job) n) ≡ false
   meets_none n f =
       ap (λ j. meets_at d (λ x. x.channel.internal) (channel_number (list_of d j) n)) job_is
       ∙ ap (meets_at d (λ x. x.channel.internal)) (ap (λ xs. slice_get xs n) (list_channels d fits u (word_of chip) g (for_at d fits below chip w s h on u g few is) (agrees_at d fits below chip w s h on u g few is) ∙ sym (agrees_at d fits below chip w s h on u g few is).channels) ∙ none_mapped (λ y. y.channel) g.parts n f)
 
-  meets_some : (n : ℕ) (x : Part) → slice_get g.parts n ≡ Some x → meets_at d (λ y. y.channel.internal) (channel_number (list_of d l.served.run.job) n) ≡ is_inside x
+  meets_some : (n : ℕ) (x : Part) → slice_get g.parts n ≡ Some x → meets_at d (λ y. y.channel.internal) (channel_number (list_of d served.run.job) n) ≡ is_inside x
   meets_some n x f =
       ap (λ j. meets_at d (λ y. y.channel.internal) (channel_number (list_of d j) n)) job_is
       ∙ ap (meets_at d (λ y. y.channel.internal)) (number_there d fits u (word_of chip) g (for_at d fits below chip w s h on u g few is) (agrees_at d fits below chip w s h on u g few is) n x f)
 
-  -- the bank of the last word's channel is known
-  known_bank : (n : ℕ) (x : Part) → slice_get g.parts n ≡ Some x → is_inside x ≡ true → (f : ℕ → Bool) (c : Chip) → On f c → n ≡ l.served.at.channel → (bank : ℕ) × (l.taker ≡ takers.Bank bank) × (bank ≡ word_of c (held_word (placed_of d x.channel)))
-  known_bank n x at inside f c a same =
-      let z = taken x (ap (slice_get g.parts) (sym same) ∙ at) inside in
-      (z.0, z.1, z.2 ∙ sym (a.apart (held_word (placed_of d x.channel)) (λ m y bt within. unheld st v m n y x bt at within)))
+  -- what is held of a channel stays while banks are committed
+  pub held_kept : (n : ℕ) (x : Part) → slice_get g.parts n ≡ Some x → (f : ℕ → Bool) (c : Chip) → On f c → word_of c (held_word (placed_of d x.channel)) ≡ word_of b (held_word (placed_of d x.channel))
+  held_kept n x at f c a = a.apart (held_word (placed_of d x.channel)) (λ m y bt within. unheld st v m n y x bt at within)
 
-  module _ (onward : (c : Chip) → On (upto 4) c → Owes (serve.Result l) c) where
-    small : (m n : ℕ) → n + suc m ≡ 4 → nat_lt 3 m ≡ false
-    small m n four = past m (omega (arith, four))
-      where
-        past : (m : ℕ) → m ≤ 3 → nat_lt 3 m ≡ false
-        past m le = grind (arith, nat_tests)
+  -- as a frame owes the moves of an internal channel at a place, where there is one, and what it owes after the last one
+  module _ (owing : Option ℕ → PendingWrites) (Done : Chip → Type 0) where
+    abbrev Owes : Option ℕ → Chip → Type 0
+    Owes o c = (i : ℕ) × CommitsTo (spi_owing d) i (owing o) c Done
 
-    abbrev by_first : (n m : ℕ) → Bool → ServePlace
-    by_first n m q = commit_by d l (if q then Some n else first_internal d l.served m)
+    module _ (one : (n : ℕ) (x : Part) → slice_get g.parts n ≡ Some x → is_inside x ≡ true → (c : Chip) → On (upto n) c → ((c1 : Chip) → On (upto (suc n)) c1 → Owes (first_internal d served (3 - n)) c1) → Owes (Some n) c)
+        (onward : (c : Chip) → On (upto 4) c → Owes None c) where
+      small : (m n : ℕ) → n + suc m ≡ 4 → nat_lt 3 m ≡ false
+      small m n four = past m (omega (arith, four))
+        where
+          past : (m : ℕ) → m ≤ 3 → nat_lt 3 m ≡ false
+          past m le = grind (arith, nat_tests)
 
-    first_is : (m n : ℕ) → n + suc m ≡ 4 → (q : Bool) → meets_at d (λ x. x.channel.internal) (channel_number (list_of d l.served.run.job) n) ≡ q → commit_last d l (suc m) ≡ by_first n m q
-    first_is m n four q e1 =
-        ap (λ z. commit_by d l (if z then None else if meets_at d (λ x. x.channel.internal) (channel_number (list_of d l.served.run.job) (4 - suc m)) then Some (4 - suc m) else first_internal d l.served m)) (small m n four)
-        ∙ ap (λ i. commit_by d l (if meets_at d (λ x. x.channel.internal) (channel_number (list_of d l.served.run.job) i) then Some i else first_internal d l.served m)) (let at : 4 - suc m ≡ n = omega (arith, four) in at)
-        ∙ ap (by_first n m) e1
+      abbrev by_first : (n m : ℕ) → Bool → Option ℕ
+      by_first n m q = if q then Some n else first_internal d served m
 
-    pub commits_owed : (m n : ℕ) → n + m ≡ 4 → (c : Chip) → On (upto n) c → Owes (commit_last d l m) c
-    commits_owed zero n four c a = onward c (subst (λ k. On (upto k) c) (let same : n ≡ 4 = omega (arith, four) in same) a)
-    commits_owed (suc m) n four c a = by (commits_owed m (suc n) (omega (arith, four))) (slice_get g.parts n) refl
-      where
-        More : Type 0
-        More = (c1 : Chip) → On (upto (suc n)) c1 → Owes (commit_last d l m) c1
+      first_is : (m n : ℕ) → n + suc m ≡ 4 → (q : Bool) → meets_at d (λ x. x.channel.internal) (channel_number (list_of d served.run.job) n) ≡ q → first_internal d served (suc m) ≡ by_first n m q
+      first_is m n four q e1 =
+          ap (λ z. if z then None else if meets_at d (λ x. x.channel.internal) (channel_number (list_of d served.run.job) (4 - suc m)) then Some (4 - suc m) else first_internal d served m) (small m n four)
+          ∙ ap (λ i. if meets_at d (λ x. x.channel.internal) (channel_number (list_of d served.run.job) i) then Some i else first_internal d served m) (let at : 4 - suc m ≡ n = omega (arith, four) in at)
+          ∙ ap (by_first n m) e1
 
-        skip : More → meets_at d (λ x. x.channel.internal) (channel_number (list_of d l.served.run.job) n) ≡ false → ((x : Part) → slice_get g.parts n ≡ Some x → is_inside x ≡ false) → Owes (commit_last d l (suc m)) c
-        skip more f none = subst (λ q. Owes q c) (sym (first_is m n four false f)) (more c (lifted n c a none))
+      pub commits_owed : (m n : ℕ) → n + m ≡ 4 → (c : Chip) → On (upto n) c → Owes (first_internal d served m) c
+      commits_owed zero n four c a = onward c (subst (λ k. On (upto k) c) (let same : n ≡ 4 = omega (arith, four) in same) a)
+      commits_owed (suc m) n four c a = by (commits_owed m (suc n) (omega (arith, four))) (slice_get g.parts n) refl
+        where
+          More : Type 0
+          More = (c1 : Chip) → On (upto (suc n)) c1 → Owes (first_internal d served m) c1
 
-        one : More → (x : Part) → slice_get g.parts n ≡ Some x → (q : Bool) → is_inside x ≡ q → Owes (commit_last d l (suc m)) c
-        one more x at false f = skip more (meets_some n x at ∙ f) (λ z bt. ap is_inside (some_is z x (sym bt ∙ at)) ∙ f)
-        one more x at true f = subst (λ q. Owes q c) (sym (first_is m n four true (meets_some n x at ∙ f)))
-            (commit_one st v b n x at f last e l Done (upto n) (upto (suc n)) (lt_itself n) (lt_next n) (λ i ne. lt_else i n ne) c a
-            (λ c1 a1. subst (λ k. Owes (commit_last d l k) c1) (let same : m ≡ 3 - n = omega (arith, four) in same) (more c1 a1))
-            job_is (known_bank n x at f (upto n) c a))
+          skip : More → meets_at d (λ x. x.channel.internal) (channel_number (list_of d served.run.job) n) ≡ false → ((x : Part) → slice_get g.parts n ≡ Some x → is_inside x ≡ false) → Owes (first_internal d served (suc m)) c
+          skip more f none = subst (λ o. Owes o c) (sym (first_is m n four false f)) (more c (lifted n c a none))
 
-        by : More → (o : Option Part) → slice_get g.parts n ≡ o → Owes (commit_last d l (suc m)) c
-        by more None f = skip more (meets_none n f) (λ x at. absurd (let k = sym f ∙ at in cc))
-        by more (Some x) f = one more x f (is_inside x) refl
+          there : More → (x : Part) → slice_get g.parts n ≡ Some x → (q : Bool) → is_inside x ≡ q → Owes (first_internal d served (suc m)) c
+          there more x at false f = skip more (meets_some n x at ∙ f) (λ z bt. ap is_inside (some_is z x (sym bt ∙ at)) ∙ f)
+          there more x at true f = subst (λ o. Owes o c) (sym (first_is m n four true (meets_some n x at ∙ f)))
+              (one n x at f c a (λ c1 a1. subst (λ k. Owes (first_internal d served k) c1) (let same : m ≡ 3 - n = omega (arith, four) in same) (more c1 a1)))
+
+          by : More → (o : Option Part) → slice_get g.parts n ≡ o → Owes (first_internal d served (suc m)) c
+          by more None f = skip more (meets_none n f) (λ x at. absurd (let k = sym f ∙ at in cc))
+          by more (Some x) f = there more x f (is_inside x) refl

@@ -16,7 +16,7 @@ use Rattle.spi_machine.specs.Transfers as transfers
 use Rattle.spi_sequences.specs.declared.service.serve.ServePlace.TheVariants as serve
 
 module _ (d : SpiTable) (fits : FitsSpi d) (below : Reservations) (chip : Chip) (w : World) (s : SpiState) (h : SpiRepresents d below chip w s) (u : ℕ) (few : u < 2) where
-  module _ (r : Served) (i : IsServed (word_of chip) s w.now u r) where
+  module _ (r : Served) (i : IsServed d (word_of chip) s w.now u r) where
     abbrev pub way : UnderWay d below chip w s h u i.done.run
     way = under_way d fits below chip w s h u few i.done.run i.done.is
 
@@ -110,7 +110,7 @@ module _ (d : SpiTable) (fits : FitsSpi d) (below : Reservations) (chip : Chip) 
 
   -- a further word
   module _ (a : Arrived) (p : Position) (i : IsFurther d (word_of chip) s w.now u a p) where
-    abbrev pub served_by : IsServed (word_of chip) s w.now u a.served
+    abbrev pub served_by : IsServed d (word_of chip) s w.now u a.served
     served_by = i.arrived.taken.served
 
     abbrev going : Going

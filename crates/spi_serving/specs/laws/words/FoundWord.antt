@@ -27,7 +27,7 @@ pub pinned_in : (v bank pin : ℕ) → bank < 3 → pin < 3 → v ≡ bank + 4 *
 pinned_in v bank pin few less e = omega (arith, few, less, e)
 
 module _ (d : SpiTable) (fits : FitsSpi d) (below : Reservations) (chip : Chip) (w : World) (s : SpiState) (h : SpiRepresents d below chip w s) (u : ℕ) (few : u < 2) (a : Arrived) (p : Position) (i : IsFurther d (word_of chip) s w.now u a p) where
-  abbrev by : IsServed (word_of chip) s w.now u a.served
+  abbrev by : IsServed d (word_of chip) s w.now u a.served
   by = served_by d fits below chip w s h u few a p i
 
   abbrev under : UnderWay d below chip w s h u by.done.run

@@ -1,13 +1,13 @@
 -- The words of the channels of a job that moves on: the pin that ends, and the word that is kept.
 -- From words.SidesApart, bookkeeping.PinsTurned, bookkeeping.JobsApart, service_outline: Words and 4 more.
 -- Used by services.FurtherRight, words.LastKept.
-use Rattle.std.proofs.Common.{◌≡◌, ◌≢◌, ◌+◌, ◌%◌, ◌<◌, [], ◌∷◌, ◌++◌, ◌∙◌, ◌⊎◌, if◌then◌else◌}
+use Rattle.std.proofs.Common.{◌≡◌, ◌≢◌, ◌+◌, ◌%◌, ◌<◌, ◌==◌, [], ◌∷◌, ◌++◌, ◌∙◌, ◌⊎◌, if◌then◌else◌}
 use Rattle.spi_serving.specs.Terms
 use Terms.{ap, arith, bank_of, bank_word, Banks, BanksAgree, Bool, Channel, channel_of, Chip, chip_after, chooses}
 use Terms.{choosing, control_word, destination_word, false, filling, fills, free, free_bank, Going, has_channel}
 use Terms.{held_word, inl, inr, IsWordOf, length, List, nat_lt, None, not, of_held, of_one, of_set_up, Option}
-use Terms.{own-control, own-word, own_held, own_low, own_of, packed_position, past_the_first, place_of, Placed}
-use Terms.{placed_of, Position, position_word, put_held, PutIn, PutRight, Putting, Received, received_of, refl}
+use Terms.{other_number, own-control, own-word, own_held, own_low, own_of, packed_position, past_the_first, place_of}
+use Terms.{Placed, placed_of, Position, position_word, put_held, PutIn, PutRight, Putting, Received, received_of, refl}
 use Terms.{releases, same_or_other, Sent, set_up_by, set_up_word, sides_apart, Some, Source, SOURCES, stands-agree}
 use Terms.{stands-move, stands_by_store, StandsIn, STATE, Store, stored_other, stored_same, subst, sym, TakeRight}
 use Terms.{trio_of, TripleBuffer, true, used, view, word_of, WORDS, ℕ}
@@ -25,6 +25,10 @@ use Rattle.word_shapes.specs.TripleBuffer as trio
 pub none_of : (xs : List ℕ) → length xs ≡ 0 → xs ≡ []
 none_of [] e = refl
 none_of (x ∷ xs) e = absurd (omega (arith, e))
+
+-- a place past the first one
+some_word : (n : ℕ) → 0 < n → (n == 0) ≡ false
+some_word n lt = other_number n 0 (λ e. omega (arith, e, lt))
 
 -- a free bank is one of three
 pub free_small : (v : ℕ) → free v < 3
@@ -126,6 +130,8 @@ module _ (st : ToServe) (at : At st st.g.at (length st.g.received)) (p : Positio
     pub others : (j : ℕ) → NotLet j → NotKept j → word_of c j ≡ word_of chip j
     pub sent : SentAfter c
     pub received : ReceivedAfter c
+    -- what is held of an internal channel is the bank that takes its words
+    pub held : here.channel.internal ≡ true → word_of c (held_word here) ≡ (if g.at.word == 0 then free_bank (word_of chip (control_word here Received)) else word_of chip (held_word here))
 
   -- what the next channel sends stays where none of its words is stored
   sent_stays : (c c1 : Chip) → (there.channel.internal ≡ true → (j : ℕ) → trio.own_of (trio_of there Sent) j ≡ true → word_of c1 j ≡ word_of c j) → SentAfter c → SentAfter c1
@@ -137,7 +143,7 @@ module _ (st : ToServe) (at : At st st.g.at (length st.g.received)) (p : Positio
     no_received external c1 k known internal = absurd (let f = sym internal ∙ ap (λ (z : Channel). z.internal) (sym (has_channel d fits at.part.channel k known)) ∙ external in cc)
 
     pub kept_nowhere : here.channel.internal ≡ false → IsKept c
-    kept_nowhere external = record { outside = l.outside; others = λ j a b. l.others j a; sent = l.sent; received = no_received external c }
+    kept_nowhere external = record { outside = l.outside; others = λ j a b. l.others j a; sent = l.sent; received = no_received external c; held = λ i. absurd (let f = sym external ∙ i in cc) }
 
     pub kept_outside : here.channel.internal ≡ false → IsKept (chip_after c (Store (destination_word here g.at.word) v) 0)
     kept_outside external = record {
@@ -145,6 +151,7 @@ module _ (st : ToServe) (at : At st st.g.at (length st.g.received)) (p : Positio
       others = λ j a b. stored_other c (destination_word here g.at.word) v 0 j (b.1 external) ∙ l.others j a;
       sent = sent_stays c (chip_after c (Store (destination_word here g.at.word) v) 0) (λ ti j own. stored_other c (destination_word here g.at.word) v 0 j (λ e. absurd (let f = sym own ∙ banks_low d fits next.part.channel there_known.0 there_known.1 (there_inside ti) Sent j (omega (arith, e)) in cc))) l.sent;
       received = no_received external (chip_after c (Store (destination_word here g.at.word) v) 0);
+      held = λ i. absurd (let f = sym external ∙ i in cc);
     }
 
     -- an internal one's goes to the bank of its put
@@ -249,6 +256,7 @@ module _ (st : ToServe) (at : At st st.g.at (length st.g.received)) (p : Positio
           others = λ j a b. first_other j (b.0 internal).0 (b.0 internal).1 ∙ l.others j a;
           sent = sent_stays c first_chip (λ ti j own. let apart = sent_apart ti internal j own in first_other j apart.0 apart.1) l.sent;
           received = received_first;
+          held = λ i. held_now ∙ sym (ap (λ (n : ℕ). if n == 0 then chosen else word_of chip (held_word here)) first);
         }
 
       -- a further one goes to the bank that is held
@@ -311,6 +319,7 @@ module _ (st : ToServe) (at : At st st.g.at (length st.g.received)) (p : Positio
             refl,
             more_put k known inside,
           );
+          held = λ i. more_other (held_word here) held_apart ∙ held_same ∙ sym (ap (λ (q : Bool). if q then free_bank (word_of chip control) else word_of chip (held_word here)) (some_word g.at.word more));
         }
 
 -- ---- the words after them
@@ -472,6 +481,7 @@ module _ (st : ToServe) (at : At st st.g.at (length st.g.received)) (p : Positio
     position = stored_same c (position_word u) (packed_position p) 0 (omega (arith, few)) kept.outside.all.words;
     first = λ j low high ne. let apart = low_apart j high in last_other j apart.0 apart.1 ne;
     held = λ n k known external. external_held n k known external;
+    held_away = λ n k known ne. held_other n k known ne;
     set_ups = λ n k known. set_up_all n k known;
     sources = λ n i lt less. source_same n i lt less;
     banks = banks_after;

@@ -1,21 +1,21 @@
 -- The last word of a job is kept, by its channel.
 -- From words.AllKept, words.JoinedLists, bookkeeping.JobsApart, words.KeepingWords, words.SidesApart and 7 more.
--- Used by services.JobOverRight, services.WellEnded.
+-- Used by services.WellEnded, services.JobLeft.
 use Rattle.std.proofs.Common.{◌≡◌, ◌≢◌, ◌+◌, ◌<◌, ◌≤◌, ◌==◌, [], ◌∷◌, ◌++◌, ◌∙◌, ◌⊎◌, if◌then◌else◌}
 use Rattle.spi_serving.specs.Terms
 use Terms.{ap, arith, bank_of, bank_word, Banks, BanksAgree, Bool, Channel, channel_of, Chip, chip_after, chooses}
-use Terms.{choosing, commit_last, CommitsTo, control_word, destination_own, destination_word, drop, false, filling}
-use Terms.{fills, FrameRole, free, free_bank, has_channel, held_word, inl, inr, Leaving, length, length-append}
-use Terms.{length_by, List, lt_zero, may_store, may_users, nat_lt, nat_tests, None, of_banks, of_held, of_one}
-use Terms.{of_sixteen, one_owed, Option, other_number, own-control, own-word, own_held, own_low, Part, past_the_first}
-use Terms.{Placed, placed_of, put_held, PutIn, PutRight, Putting, Received, received_of, refl, running_word}
-use Terms.{same_or_other, ServePlace, slice_get, Some, some_is, SOURCES, spi_owing, stands-agree, stands-move}
+use Terms.{choosing, CommitsTo, control_word, destination_own, destination_word, drop, false, filling}
+use Terms.{fills, free, free_bank, has_channel, HasWords, held_word, inl, inr, Keep, length, length-append, length_after, length_by, List}
+use Terms.{lt_zero, may_store, may_users, nat_lt, nat_tests, None, of_banks, of_held, of_one, of_sixteen, Option}
+use Terms.{other_number, own-control, own-word, own_held, own_low, Part, past_the_first, PendingWrites, Placed}
+use Terms.{placed_of, put_held, PutIn, PutRight, Putting, Received, received_of, refl, running_word, same_or_other}
+use Terms.{slice_get, Some, some_is, SOURCES, spi_owing, stands-agree, stands-move}
 use Terms.{stands_by_store, StandsIn, STATE, Store, stored_other, stored_same, subst, suc, sym, take, take_held}
-use Terms.{taken_of, trio_of, TripleBuffer, true, unit_owed, Units, unpacked, view, word_of, words_before, words_of, ℕ}
+use Terms.{taken_of, trio_of, TripleBuffer, true, unpacked, view, word_of, words_before, words_of, ℕ}
 use Rattle.word_shapes.specs.Playing.{stored}
-use Rattle.spi_serving.specs.laws.{words.AllKept.{AllKept, ReceivedAt, commit_owes, owes_place, places_apart, unheld}}
+use Rattle.spi_serving.specs.laws.{words.AllKept.{AllKept, ReceivedAt, places_apart, unheld}}
 use Rattle.spi_serving.specs.laws.{words.AllKept.{whole}, bookkeeping.JobsApart.{agrees_at, for_at, is_kept, one_part}}
-use Rattle.spi_serving.specs.laws.{words.CommitWords.{upto}, services.FurtherRight.{serving}}
+use Rattle.spi_serving.specs.laws.{words.CommitWords.{upto}, services.EndsOwed.{keep_to, OwesKeep}}
 use Rattle.spi_serving.specs.laws.{words.KeepingWords.{free_same, free_small, none_of}, words.JoinedLists.{before-less}}
 use Rattle.spi_serving.specs.laws.{words.JoinedLists.{before-next, dropped-count, dropped-more, taken-all, taken-same}}
 use Rattle.spi_serving.specs.laws.{bookkeeping.JobOver.{last_part, last_word}, words.Positions.{part_few, part_known}}
@@ -23,7 +23,6 @@ use Rattle.spi_serving.specs.laws.{words.SidesApart.{banks_fit, banks_own, is_in
 use Rattle.spi_serving.specs.laws.{bookkeeping.PinsTurned.{none_received}, ToServe.{ToServe}}
 use Rattle.word_shapes.specs.TripleBuffer as trio
 use Rattle.spi_jobs.specs.declared.keeping.Keep.TheVariants as keeps
-use Rattle.spi_sequences.specs.declared.service.serve.ServePlace.TheVariants as serve
 
 taken_all : (a i n k : ℕ) → n < a → (if nat_lt n a then k else if n == a then i else 0) ≡ k
 taken_all a i n k lt = grind (arith, nat_tests)
@@ -122,6 +121,7 @@ module _ (st : ToServe) (at : At st st.g.at (length st.g.received))
     -- the words beside those of banks: which bank is held, and the word of the user's destination
     pub record IsBase (b : Chip) : Type 0 where
       pub rest : b ≡ record fc { words = b.words }
+      pub sized : HasWords b
       pub same : (j : ℕ) → (here.channel.internal ≡ true → j ≢ held_word here) → (here.channel.internal ≡ false → j ≢ destination_word here g.at.word) → word_of b j ≡ word_of fc j
       pub bank : here.channel.internal ≡ true → word_of b (held_word here) ≡ bank_taken
       pub arrives : here.channel.internal ≡ false → word_of b (destination_word here g.at.word) ≡ (if (unpacked (word_of chip (held_word here))).destination then v else word_of chip (destination_word here g.at.word))
@@ -189,17 +189,14 @@ module _ (st : ToServe) (at : At st st.g.at (length st.g.received))
 
     -- ---- by its channel
 
-    module _ (e : FrameRole) (l : Leaving) (Done : Chip → Type 0) (onward : (b c : Chip) → IsBase b → Kept b c → (i : ℕ) × CommitsTo (spi_owing d) i (Units (serving d e u (commit_last d l 4))) c Done) where
-      abbrev Owes : ServePlace → Chip → Type 0
-      Owes q c = (i : ℕ) × CommitsTo (spi_owing d) i (Units (serving d e u q)) c Done
-
-      goes_on : unit_owed (serving d e u (commit_last d l 4)) ≡ Some (Units (serving d e u (commit_last d l 4)))
-      goes_on = owes_place d e u (commit_last d l 4) (commit_owes d l 4)
+    module _ (owing : Keep → PendingWrites) (next : PendingWrites) (owes : OwesKeep owing next) (Done : Chip → Type 0) (onward : (b c : Chip) → IsBase b → Kept b c → (i : ℕ) × CommitsTo (spi_owing d) i next c Done) where
+      abbrev Owes : Keep → Chip → Type 0
+      Owes k c = (i : ℕ) × CommitsTo (spi_owing d) i (owing k) c Done
 
       -- an external channel's word goes to the user's destination, or nowhere
-      pub last_outside : here.channel.internal ≡ false → (unpacked (word_of chip (held_word here))).destination ≡ true → Owes (serve.KeepLast l (keeps.Store here g.at.word v)) fc
+      pub last_outside : here.channel.internal ≡ false → (unpacked (word_of chip (held_word here))).destination ≡ true → Owes (keeps.Store here g.at.word v) fc
       last_outside external to =
-          one_owed (spi_owing d) Done (Units (serving d e u (serve.KeepLast l (keeps.Store here g.at.word v)))) fc (Some (Units (serving d e u (commit_last d l 4)))) (may_users d fits word (destination_own d fits at.part.channel g.at.word word_within) (let few_words = place_small in omega (arith, few_words))) tt goes_on
+          keep_to d owing next owes Done (keeps.Store here g.at.word v) next fc refl (may_users d fits word (destination_own d fits at.part.channel g.at.word word_within) (let few_words = place_small in omega (arith, few_words)))
           (onward b b base (kept_by b b base stands refl (λ j out. refl) (λ i. absurd (let f = sym external ∙ i in cc))))
         where
           word : ℕ
@@ -217,19 +214,21 @@ module _ (st : ToServe) (at : At st st.g.at (length st.g.received))
           base : IsBase b
           base = record {
             rest = refl;
+            sized = length_after fc (Store word v) 0 ∙ outside.all.words;
             same = λ j a c. stored_other fc word v 0 j (c external);
             bank = λ i. absurd (let f = sym external ∙ i in cc);
             arrives = λ i. stored_same fc word v 0 (omega (arith, small)) outside.all.words ∙ sym (ap (λ q. if q then v else word_of chip word) to);
           }
 
-      pub last_nowhere : here.channel.internal ≡ false → (unpacked (word_of chip (held_word here))).destination ≡ false → Owes (serve.KeepLast l (keeps.Drop here)) fc
+      pub last_nowhere : here.channel.internal ≡ false → (unpacked (word_of chip (held_word here))).destination ≡ false → Owes (keeps.Drop here) fc
       last_nowhere external to =
-          one_owed (spi_owing d) Done (Units (serving d e u (serve.KeepLast l (keeps.Drop here)))) fc (Some (Units (serving d e u (commit_last d l 4)))) (may_store d fits (held_word here) 0 (own_held d fits at.part.channel here_known.0 here_known.1)) tt goes_on
+          keep_to d owing next owes Done (keeps.Drop here) next fc refl (may_store d fits (held_word here) 0 (own_held d fits at.part.channel here_known.0 here_known.1))
           (onward fc fc base (kept_by fc fc base outside refl (λ j out. refl) (λ i. absurd (let f = sym external ∙ i in cc))))
         where
           base : IsBase fc
           base = record {
             rest = refl;
+            sized = outside.all.words;
             same = λ j a b. refl;
             bank = λ i. absurd (let f = sym external ∙ i in cc);
             arrives = λ i. alike (destination_word here g.at.word) (λ e. omega (arith, e, few)) ∙ sym (ap (λ q. if q then v else word_of chip (destination_word here g.at.word)) to);
@@ -301,6 +300,7 @@ module _ (st : ToServe) (at : At st st.g.at (length st.g.received))
           base1 : IsBase b1
           base1 = record {
             rest = refl;
+            sized = length_after fc (Store (held_word here) chosen) 0 ∙ outside.all.words;
             same = λ j a c. stored_other fc (held_word here) chosen 0 j (a inside);
             bank = λ i. stored_same fc (held_word here) chosen 0 (let r = held_there in let low = r.1 in omega (arith, low)) outside.all.words ∙ sym taken_is;
             arrives = λ external. absurd (let f = sym inside ∙ external in cc);
@@ -315,10 +315,10 @@ module _ (st : ToServe) (at : At st st.g.at (length st.g.received))
           none_before : [] ++ v ∷ [] ≡ all_of g.at.channel at.part
           none_before = ap (λ xs. xs ++ v ∷ []) (sym (none_of (received_of g g.at.channel at.part) (ap length here_received ∙ count_here ∙ first))) ∙ here_whole
 
-          pub last_first : Owes (serve.KeepLast l (keeps.Hold here chosen v)) fc
+          pub last_first : Owes (keeps.Hold here chosen v) fc
           last_first =
-              one_owed (spi_owing d) Done (Units (serving d e u (serve.KeepLast l (keeps.Hold here chosen v)))) fc (Some (Units (serving d e u (serve.KeepLast l (keeps.Fill here 0 chosen v))))) (may_store d fits (held_word here) chosen (own_held d fits at.part.channel here_known.0 here_known.1)) tt refl
-              (one_owed (spi_owing d) Done (Units (serving d e u (serve.KeepLast l (keeps.Fill here 0 chosen v)))) b1 (Some (Units (serving d e u (commit_last d l 4)))) (may_fill (bank_word here Received chosen 0) own_word1) tt goes_on
+              keep_to d owing next owes Done (keeps.Hold here chosen v) (owing (keeps.Fill here 0 chosen v)) fc refl (may_store d fits (held_word here) chosen (own_held d fits at.part.channel here_known.0 here_known.1))
+              (keep_to d owing next owes Done (keeps.Fill here 0 chosen v) next b1 refl (may_fill (bank_word here Received chosen 0) own_word1)
               (onward b1 (chip_after b1 (Store (bank_word here Received chosen 0) v) 0) base1 (filled_by b1 base1 (stands-move fc w (Store (held_word here) chosen) 0 outside) (choosing chosen old.received) (record { bank = chosen; filled = [] }) (bank_word here Received chosen 0) own_word1
               (fills t (word_of b1) (choosing chosen old.received) (record { bank = chosen; filled = [] }) v fit (let lt = word_fits in omega (arith, lt)) refl with_held) none_before old.reads (sym taken_is))))
 
@@ -348,6 +348,7 @@ module _ (st : ToServe) (at : At st st.g.at (length st.g.received))
           base2 : IsBase fc
           base2 = record {
             rest = refl;
+            sized = outside.all.words;
             same = λ j a c. refl;
             bank = λ i. alike (held_word here) (λ f. let r = held_there in let past = r.0 in omega (arith, past, f, few)) ∙ kept_put.3 ∙ sym bank_is ∙ sym taken_more;
             arrives = λ external. absurd (let f = sym inside ∙ external in cc);
@@ -359,7 +360,7 @@ module _ (st : ToServe) (at : At st st.g.at (length st.g.received))
               (subst (λ n. trio.Stands t (stored (word_of fc) (bank_word here Received kept_put.0.bank n) v) (filling v kept_put.0 old.received)) count_is
               (fills t (word_of fc) old.received kept_put.0 v fit (subst (λ n. n < here.channel.length) (sym count_is) word_fits) kept_put.1 before))
 
-          pub last_more : Owes (serve.KeepLast l (keeps.Fill here g.at.word holding v)) fc
+          pub last_more : Owes (keeps.Fill here g.at.word holding v) fc
           last_more =
-              one_owed (spi_owing d) Done (Units (serving d e u (serve.KeepLast l (keeps.Fill here g.at.word holding v)))) fc (Some (Units (serving d e u (commit_last d l 4)))) (may_fill (bank_word here Received holding g.at.word) own_more) tt goes_on
+              keep_to d owing next owes Done (keeps.Fill here g.at.word holding v) next fc refl (may_fill (bank_word here Received holding g.at.word) own_more)
               (onward fc (chip_after fc (Store (bank_word here Received holding g.at.word) v) 0) base2 (filled_by fc base2 outside old.received kept_put.0 (bank_word here Received holding g.at.word) own_more filled_more (ap (λ xs. xs ++ v ∷ []) kept_put.2 ∙ here_whole) old.reads (sym bank_is ∙ sym taken_more)))

@@ -6,10 +6,10 @@ use Rattle.spi_serving.specs.Terms
 use Terms.{after_word, ap, arith, as_words, asked_word, bank_of, Bool, Channel, channel_at_place, channel_number}
 use Terms.{channel_of, channels_by, channels_of, control_word, ExternalAgrees, false, FitsSpi, flag, free_bank, Going}
 use Terms.{GoingAgrees, has_channel, held_word, is_ahead, is_below, is_for, is_past, is_to_begin, Job, job_of}
-use Terms.{job_there, JobWord, length, length-map, length-take-le, length_taken, List, list_by, list_of, masked, Memory}
-use Terms.{nat_lt, nat_tests, next_job, no_word, None, not, Option, packed, Part, part_there, PartBy, Placed, placed_by}
-use Terms.{placed_of, Position, Received, refl, SetUp, slice_get, slice_index_or, Some, SpiTable, subst, suc, sum_by}
-use Terms.{sym, take, taker_of, true, unpacked, width_by, words_before, words_of, ℕ}
+use Terms.{job_there, JobWord, length, length-map, length-take-le, length_taken, List, list_by, list_of, masked}
+use Terms.{Memory, min, nat_lt, nat_tests, next_job, no_word, None, not, Option, packed, Part, part_there, PartBy}
+use Terms.{Placed, placed_by, placed_of, Position, Received, refl, SetUp, slice_get, slice_index_or, Some, SpiTable}
+use Terms.{subst, suc, sum_by, sym, take, taker_of, true, unpacked, width_by, words_before, words_of, ℕ}
 use Rattle.spi_serving.specs.laws.words.JoinedLists.{before-all, before-less, before-next, get_mapped, get_there}
 use Rattle.spi_serving.specs.laws.words.JoinedLists.{get_within, joined-at, joined-count, numbered-count}
 use Rattle.spi_serving.specs.laws.words.JoinedLists.{numbered-first}
@@ -238,7 +238,7 @@ module _ (d : SpiTable) (fits : FitsSpi d) (u : ℕ) (m : Memory) (g : Going) (f
       by true = refl
       by false = refl
 
-  of_external : (x : Placed) (i v : ℕ) → x.channel.internal ≡ false → length_taken x (taker_of x i v) ≡ (unpacked v).length
+  of_external : (x : Placed) (i v : ℕ) → x.channel.internal ≡ false → length_taken x (taker_of x i v) ≡ min (unpacked v).length x.channel.length
   of_external x i v e = ap (λ q. length_taken x (if not q then takers.SetUp (unpacked v) else if i == 0 then takers.Bank (free_bank v) else takers.Bank (bank_of v))) e
 
   asked_external : (x : Placed) (i : ℕ) → x.channel.internal ≡ false → asked_word x i ≡ held_word x
@@ -254,6 +254,11 @@ module _ (d : SpiTable) (fits : FitsSpi d) (u : ℕ) (m : Memory) (g : Going) (f
       y : Placed
       y = placed_of d x.channel
 
+      least : (a b : ℕ) → a ≤ b → min a b ≡ a
+      least a b le = omega (arith, le)
+
       by : (q : Bool) → y.channel.internal ≡ q → PartBy q m y g.at n x → length_taken y (taker_of y i (m (asked_word y i))) ≡ length x.values
       by true f a = of_internal y i (m (asked_word y i)) f ∙ sym a.count
-      by false f a = of_external y i (m (asked_word y i)) f ∙ ap (λ j. (unpacked (m j)).length) (asked_external y i f) ∙ ap (λ z. z.length) (held_back n x e a) ∙ sym a.count
+      by false f a =
+          of_external y i (m (asked_word y i)) f ∙ ap (λ j. min (unpacked (m j)).length y.channel.length) (asked_external y i f) ∙ ap (λ z. min z.length y.channel.length) (held_back n x e a)
+          ∙ least a.by.length y.channel.length a.few ∙ sym a.count

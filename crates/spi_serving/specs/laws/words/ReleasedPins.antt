@@ -1,21 +1,21 @@
 -- A job has failed: the pins of its channels end, one after the other, where they still stand.
 -- From words.SidesApart, bookkeeping.JobsApart, words.Positions, words.AllKept, words.CommitWords and 3 more.
--- Used by services.FailedEnded, services.JobOverRight.
-use Rattle.std.proofs.Common.{◌≡◌, ◌≢◌, ◌+◌, ◌-◌, ◌<◌, ◌≤◌, ◌==◌, ◌&&◌, ◌||◌, [], ◌∙◌, ◌⊎◌, if◌then◌else◌}
+-- Used by services.FailedEnded, services.JobLeft.
+use Rattle.std.proofs.Common.{◌≡◌, ◌≢◌, ◌+◌, ◌-◌, ◌≤◌, ◌==◌, ◌&&◌, ◌||◌, ◌∙◌, ◌⊎◌, [], if◌then◌else◌}
 use Rattle.spi_serving.specs.Terms
-use Terms.{after_serve, Answer, ap, AreThere, arith, Banks, BanksAgree, Bool, Channel, channel_at_place, channel_number}
-use Terms.{channel_of, Chip, CommitsTo, DiffersIn, false, first_items, first_pinned, FrameRole, Going, has_channel, inl}
-use Terms.{inr, InternalAgrees, is_last_place, is_pinned_at, is_some, is_to_begin, IsPart, Leaving, length, list_of}
-use Terms.{lt_itself, lt_next, meets_at, Memory, named_own, nat_le, nat_lt, nat_tests, next_job, None, not, Option}
-use Terms.{own_low, Part, PartBy, PartTo, Pins, Placed, placed_of, Position, prepares, put_held, refl, release-ends}
+use Terms.{Answer, ap, AreThere, arith, Banks, BanksAgree, Bool, Channel, channel_at_place, channel_number, channel_of}
+use Terms.{Chip, CommitsTo, DiffersIn, false, first_items, first_pinned, Going, has_channel, inl, inr, InternalAgrees}
+use Terms.{is_last_place, is_pinned_at, is_some, is_to_begin, IsPart, Leaving, length, list_of, lt_itself, lt_next}
+use Terms.{meets_at, Memory, named_own, nat_le, nat_lt, nat_tests, next_job, None, not, Option, own_low, Part, PartBy}
+use Terms.{PartTo, PendingWrites, Pins, Placed, placed_of, Position, prepares, put_held, refl, release-ends}
 use Terms.{release_by, release_last, releasing_of, running_word, same_or_other, Sent, serve_owes, serve_releases}
-use Terms.{ServePlace, settles_part, slice_get, Some, some_is, spi_owing, SpiTable, stands-agree, stands_owed, StandsIn}
-use Terms.{subst, suc, sym, Take, take_gave, TakeRight, Taking, taking, trio_of, TripleBuffer, true, unit_owed, Units}
-use Terms.{unless_done, view, word_of, zero, ℕ}
+use Terms.{ServePlace, settles_part, slice_get, Some, some_is, spi_owing, SpiTable, stands-agree, stands_owed}
+use Terms.{StandsIn, subst, suc, sym, Take, take_gave, TakeRight, Taking, taking, trio_of, TripleBuffer, true, view}
+use Terms.{word_of, zero, ℕ}
 use Rattle.word_shapes.specs.Banks.{releasing}
-use Rattle.spi_serving.specs.laws.{words.AllKept.{lt_else, owes_place}, bookkeeping.JobsApart.{agrees_at, for_at}}
+use Rattle.spi_serving.specs.laws.{words.AllKept.{lt_else}, bookkeeping.JobsApart.{agrees_at, for_at}}
 use Rattle.spi_serving.specs.laws.{bookkeeping.JobsApart.{is_same, one_part}, words.CommitWords.{none_mapped, upto}}
-use Rattle.spi_serving.specs.laws.{services.FreedUnit.{IsFree}, services.FurtherRight.{serving}}
+use Rattle.spi_serving.specs.laws.{services.FreedUnit.{IsFree}, services.EndsOwed.{OwesEnds}}
 use Rattle.spi_serving.specs.laws.{words.Positions.{channel_there, list_channels, number_there, part_known}}
 use Rattle.spi_serving.specs.laws.{words.SidesApart.{banks_fit, banks_of_one, banks_own, banks_past, banks_words}}
 use Rattle.spi_serving.specs.laws.{words.SidesApart.{is_inside}, ToServe.{ToServe}}
@@ -125,21 +125,21 @@ module _ (st : ToServe) (fc : Chip) (freed : IsFree st.d st.w st.chip st.u fc) w
           }
 
   -- a pin ends
-  module _ (e : FrameRole) (l : Leaving) (Done : Chip → Type 0) where
+  module _ (into : ServePlace → PendingWrites) (owes : OwesEnds d u into) (l : Leaving) (Done : Chip → Type 0) where
     abbrev Owes : ServePlace → Chip → Type 0
-    Owes q c = (i : ℕ) × CommitsTo (spi_owing d) i (Units (serving d e u q)) c Done
+    Owes q c = (i : ℕ) × CommitsTo (spi_owing d) i (into q) c Done
 
     module _ (n : ℕ) (x : Part) (at : slice_get g.parts n ≡ Some x) (inside : (placed_of d x.channel).channel.internal ≡ true) where
       own_there : AreThere (trio.own_of (sent_trio x))
       own_there j own = let low = own_low d fits j (banks_own d fits x.channel (known n x at).0 (known n x at).1 (inner n x at inside) Sent j own) in omega (arith, low)
 
-      release_steps : (a : Take) (y : ℕ) (o : Option Answer) → (take_gave a y).ended ≡ o → PartTo taking (spi_owing d) (λ z. Units (serving d e u (serve.Release l n z))) (λ xs. Some (Units (serving d e u (release_last d l (3 - n))))) a y o
-      release_steps a y None f = ap (λ q. unless_done (after_serve (serving d e u (serve.Release l n a)) (serve_releases d l n a y q)).1.done (unit_owed (after_serve (serving d e u (serve.Release l n a)) (serve_releases d l n a y q)).0)) (ap is_some f)
-      release_steps a y (Some z) f = ap (λ q. unless_done (after_serve (serving d e u (serve.Release l n a)) (serve_releases d l n a y q)).1.done (unit_owed (after_serve (serving d e u (serve.Release l n a)) (serve_releases d l n a y q)).0)) (ap is_some f) ∙ owes_place d e u (release_last d l (3 - n)) (release_owes d l (3 - n))
+      release_steps : (a : Take) (y : ℕ) (o : Option Answer) → (take_gave a y).ended ≡ o → PartTo taking (spi_owing d) (λ z. into (serve.Release l n z)) (λ xs. Some (into (release_last d l (3 - n)))) a y o
+      release_steps a y None f = owes.lefts (serve.Release l n a) y tt (subst (λ q. serve_owes (serve_releases d l n a y q).0 ≡ true) (sym (ap is_some f)) refl) ∙ ap (λ q. Some (into (serve_releases d l n a y q).0)) (ap is_some f)
+      release_steps a y (Some z) f = owes.lefts (serve.Release l n a) y tt (subst (λ q. serve_owes (serve_releases d l n a y q).0 ≡ true) (sym (ap is_some f)) (release_owes d l (3 - n))) ∙ ap (λ q. Some (into (serve_releases d l n a y q).0)) (ap is_some f)
 
-      release_part : IsPart taking (trio.own_of (sent_trio x)) (spi_owing d) (λ z. Units (serving d e u (serve.Release l n z))) (λ xs. Some (Units (serving d e u (release_last d l (3 - n)))))
+      release_part : IsPart taking (trio.own_of (sent_trio x)) (spi_owing d) (λ z. into (serve.Release l n z)) (λ xs. Some (into (release_last d l (3 - n))))
       release_part = record {
-        moves = λ z. refl;
+        moves = λ z. owes.moves (serve.Release l n z);
         steps = λ z y. release_steps z y (take_gave z y).ended refl;
         named = named_own d fits (trio.own_of (sent_trio x)) (λ j own. banks_own d fits x.channel (known n x at).0 (known n x at).1 (inner n x at inside) Sent j own);
         fits = λ z c. tt;
@@ -172,7 +172,7 @@ module _ (st : ToServe) (fc : Chip) (freed : IsFree st.d st.w st.chip st.u fc) w
       release_one : l.served.run.job ≡ next_job d g.pending → (c : Chip) → AllLet (upto n) c → ((c1 : Chip) → AllLet (upto (suc n)) c1 → Owes (release_last d l (3 - n)) c1) → Owes (serve.Release l n (releasing_of (channel_at_place d l.served.run.job n) Sent)) c
       release_one job_is c a onward =
           subst (λ z. Owes (serve.Release l n (releasing_of z Sent)) c) (sym (ap (λ j. channel_at_place d j n) job_is ∙ channel_there d fits u (word_of chip) g (for_at d fits below chip w s h on u g few is) (agrees_at d fits below chip w s h on u g few is) n x at))
-          (settles_part taking (trio.own_of (sent_trio x)) (spi_owing d) (λ z. Units (serving d e u (serve.Release l n z))) (λ xs. Some (Units (serving d e u (release_last d l (3 - n))))) release_part own_there
+          (settles_part taking (trio.own_of (sent_trio x)) (spi_owing d) (λ z. into (serve.Release l n z)) (λ xs. Some (into (release_last d l (3 - n)))) release_part own_there
           (λ m words. (words ≡ []) × trio.Stands (sent_trio x) m (releasing (a.sent n x at inside).banks)) Done 2 (releasing_of (placed_of d x.channel) Sent) c a.outside.all.words
           (release-ends (sent_trio x) (word_of c) (a.sent n x at inside).banks (banks_fit d fits x.channel (known n x at).0 (known n x at).1 (inner n x at inside) Sent) (a.sent n x at inside).stands)
           (λ c1 words differs now. onward c1 (let_on c c1 differs a now.1)))

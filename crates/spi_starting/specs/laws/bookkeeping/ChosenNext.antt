@@ -1,5 +1,5 @@
 -- What a start chooses: the pending sequence, the first channel of its next job, and that a look at the order finds it.
--- Used by services.StartRight, services.StartWords, words.UnitWords.
+-- Used by services.StartRight, services.StartWords, services.ReadyOwed, words.BegunWords.
 use Rattle.std.proofs.Common.{◌≡◌, ◌<◌, [], ◌∷◌, ◌∙◌}
 use Rattle.spi_starting.specs.Terms
 use Terms.{ap, arith, best, best_in, Channel, channel_at_place, channel_number, channels_by, channels_of, Contains}

@@ -1,11 +1,12 @@
 -- The unit has the first word of its job in transfer, under its device; the other unit stays.
 -- From bookkeeping.RanState, bookkeeping.UnitsGoOn, ToStart.
 -- Used by services.StartRight, words.UnitWords, services.StartBegun, services.StartWords.
-use Rattle.std.proofs.Common.{◌≡◌, ◌≢◌, ◌%◌, ◌^◌, ◌<◌, ◌≤◌, [], ◌∷◌, ◌∙◌, ◌⊎◌}
+use Rattle.std.proofs.Common.{◌≡◌, ◌≢◌, ◌%◌, ◌^◌, ◌<◌, ◌≤◌, [], ◌∙◌, ◌⊎◌}
 use Rattle.spi_starting.specs.Terms
-use Terms.{ap, arith, Chip, first_word, get_or-set_other, get_or-set_same, Going, idle, inl, inr, InTransfer}
-use Terms.{item-other, item-same, job_of, length, min, next_job, None, Option, Pending, refl, Run, run_at, run_of}
-use Terms.{same_or_other, select_by, select_of, Some, SpiState, SpiTable, subst, sym, unit_at, UnitAgrees, words_are, ℕ}
+use Terms.{ap, arith, carried_at, CarriesAgrees, Chip, false, first_word, get_or-set_other, get_or-set_same, Going}
+use Terms.{idle, inl, inr, InTransfer, is_sync_unit, item-other, item-same, job_of, length, min, next_job, None}
+use Terms.{Option, Pending, refl, Run, run_at, run_carried, run_of, same_or_other, select_by, select_of, Some}
+use Terms.{SpiState, SpiTable, subst, sym, true, unit_at, UnitAgrees, words_are, ℕ}
 use Rattle.spi_starting.specs.laws.bookkeeping.UnitsGoOn.{going_else, going_here, going_now}
 use Rattle.spi_starting.specs.laws.bookkeeping.RanState.{channels, first_chip, first_going, first_run, ran_state}
 use Rattle.spi_starting.specs.laws.ToStart.{ToStart}
@@ -57,8 +58,8 @@ module _ (st : ToStart) (word received : ℕ) (t : IsTurned st.d st.chip st.s st
   run_is = ap (λ ws. Some (record { sequence = p.sequence; words = ws; received = []; transfer = run.transfer })) (sym (words_are d s (channels d below owner acted chip w s u h p word received)))
 
   -- what the units do, on the chip as the word begins
-  pub units_now : (n : ℕ) → n < 2 → UnitAgrees d (unit_at later.serials n) (run_at after n) (now n)
-  units_now n lt = by (same_or_other n u)
+  pub units_now : (n : ℕ) → n < 2 → is_sync_unit d n ≡ false → UnitAgrees d (unit_at later.serials n) (run_at after n) (now n)
+  units_now n lt async = by (same_or_other n u)
     where
       own : UnitAgrees d (unit_at later.serials u) (run_at after u) (now u)
       own =
@@ -70,4 +71,17 @@ module _ (st : ToStart) (word received : ℕ) (t : IsTurned st.d st.chip st.s st
       by (inl e) = subst (λ k. UnitAgrees d (unit_at later.serials k) (run_at after k) (now k)) (sym e) own
       by (inr ne) =
           subst (λ g. UnitAgrees d (unit_at later.serials n) (run_at after n) g) (sym (going_else st word received n ne))
-          (subst (λ x. UnitAgrees d x (run_at after n) (h.going n)) (sym (unit_else n ne)) (subst (λ r. UnitAgrees d (unit_at chip.serials n) r (h.going n)) (sym (item-other None s.units u n (Some run) ne)) (h.units n lt)))
+          (subst (λ x. UnitAgrees d x (run_at after n) (h.going n)) (sym (unit_else n ne)) (subst (λ r. UnitAgrees d (unit_at chip.serials n) r (h.going n)) (sym (item-other None s.units u n (Some run) ne)) (h.units n lt async)))
+
+  -- a unit that carries out a sequence for a call is another one
+  pub other_one : (n : ℕ) → is_sync_unit d n ≡ true → n ≢ u
+  other_one n sync e = let f = sym sync ∙ ap (is_sync_unit d) e ∙ h.right.0.2 in cc
+
+  pub carried_now : (n : ℕ) → n < 2 → is_sync_unit d n ≡ true → CarriesAgrees d (unit_at later.serials n) (run_carried (carried_at after n)) (now n)
+  carried_now n lt sync =
+      let ne = other_one n sync in
+      subst (λ g. CarriesAgrees d (unit_at later.serials n) (run_carried (carried_at after n)) g) (sym (going_else st word received n ne))
+      (subst (λ x. CarriesAgrees d x (run_carried (carried_at s n)) (h.going n)) (sym (unit_else n ne)) (h.sends n lt sync))
+
+  pub select_now : (n : ℕ) → is_sync_unit d n ≡ true → (unit_at later.serials n).select ≡ (unit_at chip.serials n).select
+  select_now n sync = ap (λ x. x.select) (unit_else n (other_one n sync))

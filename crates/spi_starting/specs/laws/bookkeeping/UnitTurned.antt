@@ -4,17 +4,18 @@
 -- Used by services.StartRight.
 use Rattle.std.proofs.Common.{◌≡◌, ◌≢◌, ◌+◌, ◌<◌, ◌||◌, ◌∷◌, ◌∙◌, ◌⊎◌}
 use Rattle.spi_starting.specs.Terms
-use Terms.{Answer, ap, AreOwed, arith, Call, Chip, chip_after, cleared_of, clears, Contains, Destination, FitsSpi}
-use Terms.{get_or-set_other, get_or-set_same, Going, going_run, has_bit, holds_back, holds_changed, holds_debt, idle}
-use Terms.{inl, inr, is_for, is_owed, length, length-set, None, Option, Origin, other_number, Pending, place_of}
-use Terms.{placed_of, refl, Reservations, run_at, same_or_other, Serial, SerialSelect, SerialWidth, set_up_word}
-use Terms.{slice_index, slice_index_or, slice_set, Some, Source, SpiRepresents, SpiState, SpiTable, stands-move}
-use Terms.{StandsIn, subst, sym, true, unit_at, UnitAgrees, view, WordsAgree, World, Write, ℕ}
+use Terms.{Answer, ap, AreOwed, arith, Call, carried_at, CarriesAgrees, Chip, chip_after, cleared_of, clears, Contains}
+use Terms.{Destination, false, FitsSpi, get_or-set_other, get_or-set_same, Going, going_run, has_bit, held_word}
+use Terms.{holds_back, holds_changed, holds_debt, idle, inl, inr, is_for, is_owed, is_sync_unit, length, length-set}
+use Terms.{None, Option, Origin, other_number, Pending, place_of, placed_of, refl, Reservations, run_at, run_carried}
+use Terms.{same_or_other, sends_as, Serial, SerialSelect, SerialWidth, set_up_word, slice_index, slice_index_or}
+use Terms.{slice_set, Some, Source, SpiRepresents, SpiState, SpiTable, stands-move, StandsIn, subst, sym, true}
+use Terms.{unit_at, UnitAgrees, view, WordsAgree, World, Write, ℕ}
 use Rattle.spi_starting.specs.laws.bookkeeping.RanState.{debt_of}
 
 module _ (d : SpiTable) (held : Reservations) (chip : Chip) (w : World) (s : SpiState) (h : SpiRepresents d held chip w s) (u : ℕ) (free : h.going u ≡ None) (x : Serial) (word : x.word ≡ (unit_at chip.serials u).word) where
-  turned_unit : (lt : u < 2) (n : ℕ) → n < 2 → UnitAgrees d (slice_index_or (slice_set chip.serials.units u x) n idle) (run_at s n) (h.going n)
-  turned_unit lt n few = by (same_or_other n u)
+  turned_unit : (lt : u < 2) (n : ℕ) → n < 2 → is_sync_unit d n ≡ false → UnitAgrees d (slice_index_or (slice_set chip.serials.units u x) n idle) (run_at s n) (h.going n)
+  turned_unit lt n few async = by (same_or_other n u)
     where
       own : UnitAgrees d (unit_at chip.serials u) (run_at s u) None → UnitAgrees d x (run_at s u) None
       own a = (word ∙ a.0, a.1)
@@ -23,8 +24,25 @@ module _ (d : SpiTable) (held : Reservations) (chip : Chip) (w : World) (s : Spi
       by (inl e) =
           subst (λ k. UnitAgrees d (slice_index_or (slice_set chip.serials.units u x) k idle) (run_at s k) (h.going k)) (sym e)
           (subst (λ y. UnitAgrees d y (run_at s u) (h.going u)) (sym (get_or-set_same chip.serials.units u x idle (let size = h.size in omega (arith, lt, size))))
-          (subst (λ g. UnitAgrees d x (run_at s u) g) (sym free) (own (subst (λ g. UnitAgrees d (unit_at chip.serials u) (run_at s u) g) free (h.units u lt)))))
-      by (inr ne) = subst (λ y. UnitAgrees d y (run_at s n) (h.going n)) (sym (get_or-set_other chip.serials.units u n x idle ne)) (h.units n few)
+          (subst (λ g. UnitAgrees d x (run_at s u) g) (sym free) (own (subst (λ g. UnitAgrees d (unit_at chip.serials u) (run_at s u) g) free (h.units u lt (subst (λ k. is_sync_unit d k ≡ false) e async))))))
+      by (inr ne) = subst (λ y. UnitAgrees d y (run_at s n) (h.going n)) (sym (get_or-set_other chip.serials.units u n x idle ne)) (h.units n few async)
+
+  turned_carried : (lt : u < 2) (n : ℕ) → n < 2 → is_sync_unit d n ≡ true → CarriesAgrees d (slice_index_or (slice_set chip.serials.units u x) n idle) (run_carried (carried_at s n)) (h.going n)
+  turned_carried lt n few sync = by (same_or_other n u)
+    where
+      own : CarriesAgrees d (unit_at chip.serials u) (run_carried (carried_at s u)) None → CarriesAgrees d x (run_carried (carried_at s u)) None
+      own a = (word ∙ a.0, a.1)
+
+      by : (n ≡ u) ⊎ (n ≢ u) → CarriesAgrees d (slice_index_or (slice_set chip.serials.units u x) n idle) (run_carried (carried_at s n)) (h.going n)
+      by (inl e) =
+          subst (λ k. CarriesAgrees d (slice_index_or (slice_set chip.serials.units u x) k idle) (run_carried (carried_at s k)) (h.going k)) (sym e)
+          (subst (λ y. CarriesAgrees d y (run_carried (carried_at s u)) (h.going u)) (sym (get_or-set_same chip.serials.units u x idle (let size = h.size in omega (arith, lt, size))))
+          (subst (λ g. CarriesAgrees d x (run_carried (carried_at s u)) g) (sym free) (own (subst (λ g. CarriesAgrees d (unit_at chip.serials u) (run_carried (carried_at s u)) g) free (h.sends u lt (subst (λ k. is_sync_unit d k ≡ true) e sync))))))
+      by (inr ne) = subst (λ y. CarriesAgrees d y (run_carried (carried_at s n)) (h.going n)) (sym (get_or-set_other chip.serials.units u n x idle ne)) (h.sends n few sync)
+
+  -- a unit that isn't free is another one
+  turned_select : (n : ℕ) (g : Going) → h.going n ≡ Some g → (slice_index_or (slice_set chip.serials.units u x) n idle).select ≡ (unit_at chip.serials n).select
+  turned_select n g is = ap (λ y. y.select) (get_or-set_other chip.serials.units u n x idle (λ e. let f = sym free ∙ ap h.going (sym e) ∙ is in cc))
 
   -- the chip with this unit, and the same words
   pub turned_agrees : u < 2 → (c : Chip) → StandsIn c w → c.words ≡ chip.words → c.wiring ≡ chip.wiring → c.control ≡ chip.control → c.serials.units ≡ slice_set chip.serials.units u x → SpiRepresents d held c w s
@@ -36,7 +54,10 @@ module _ (d : SpiTable) (held : Reservations) (chip : Chip) (w : World) (s : Spi
     sound = h.sound;
     going = h.going;
     nexts = h.nexts;
-    units = λ n few. subst (λ xs. UnitAgrees d (slice_index_or xs n idle) (run_at s n) (h.going n)) (sym units) (turned_unit lt n few);
+    units = λ n few async. subst (λ xs. UnitAgrees d (slice_index_or xs n idle) (run_at s n) (h.going n)) (sym units) (turned_unit lt n few async);
+    sends = λ n few sync. subst (λ xs. CarriesAgrees d (slice_index_or xs n idle) (run_carried (carried_at s n)) (h.going n)) (sym units) (turned_carried lt n few sync);
+    sending = sends_as d chip c w w h.going h.going s s (λ n g few sync is. refl) (λ n g few sync is. ap (λ xs. (slice_index_or xs n idle).select) units ∙ turned_select n g is) (λ n g i y k few sync is there known. ap (λ ws. slice_index ws (held_word (placed_of d y.channel))) words) (λ n o knows. knows) held h.sending;
+    carriers = h.carriers;
     words = subst (λ ws. WordsAgree d held h.going (λ k. slice_index ws k) (view s)) (sym words) h.words;
     set_ups = λ on b k known external. ap (λ ws. slice_index ws (set_up_word (placed_of d b))) words ∙ h.set_ups on b k known external;
     sizes = h.sizes;
@@ -55,11 +76,11 @@ module _ (d : SpiTable) (fits : FitsSpi d) (below : Reservations) (owner : Origi
     where
       by : (g : Option Going) → h.going u ≡ g → g ≡ None
       by None f = refl
-      by (Some g) f = absurd (let run = going_run d fits held chip w s h u g h.right.0.0 f in let no = sym e ∙ run.1 in cc)
+      by (Some g) f = absurd (let run = going_run d fits held chip w s h u g h.right.0.0 h.right.0.2 f in let no = sym e ∙ run.1 in cc)
 
   -- the debt is paid, and the unit cleared, where it runs a job or none waits
   pub paid : ((q : Pending) → h.going u ≡ None → Contains s.pending q → is_for d u q ≡ true → ⊥) → SpiRepresents d (cleared_of u owner acted ∷ below) chip w s
-  paid none = clears d below chip w s u owner acted fits (holds_changed d held below chip w s h (holds_back d below held (holds_debt d (debt_of u owner acted) u below refl)) h.right.1 owed) (λ q free there for. none q (goes_none free) there for)
+  paid none = clears d below chip w s u owner acted fits (holds_changed d held below chip w s h (holds_back d below held (holds_debt d (debt_of u owner acted) u below refl)) h.right.1 h.sending.1 h.carriers owed) (λ q free there for. none q (goes_none free) there for)
     where
       owed : AreOwed d below h.going s
       owed n q lt free there for = by (same_or_other n u)

@@ -30,7 +30,7 @@ use Rattle.spi_sequences.specs.declared.service.start.Started.TheVariants as sta
 
 -- ---- what its frame may do
 
-below_two : (u : ℕ) → u < 2 → nat_lt u 2 ≡ true
+pub below_two : (u : ℕ) → u < 2 → nat_lt u 2 ≡ true
 below_two u lt = grind (arith, nat_tests)
 
 module _ (d : SpiTable) (fits : FitsSpi d) (u : ℕ) (few : u < 2) where
@@ -60,7 +60,7 @@ module _ (d : SpiTable) (fits : FitsSpi d) (u : ℕ) (few : u < 2) where
       below (suc (suc (suc zero))) lt = omega (arith, at, len, some, size)
       below (suc (suc (suc (suc e)))) lt = absurd (omega (arith, lt))
 
-  may_find : (b : ℕ) (k : Channel) → channel_of d b ≡ Some k → (p : Find) → LooksAt d b k p → may d (find_move p) ≡ true
+  pub may_find : (b : ℕ) (k : Channel) → channel_of d b ≡ Some k → (p : Find) → LooksAt d b k p → may d (find_move p) ≡ true
   may_find b k known (finds.Newest x) (is, internal) = subst (λ z. may d (Load (control_word z Sent)) ≡ true) (sym is) (may_store d fits (control_word (placed_of d b) Sent) 0 (own_banks d fits b k known internal Sent (control_word (placed_of d b) Sent) (own-control (trio_of (placed_of d b) Sent))))
   may_find b k known (finds.SetUp x) is = subst (λ z. may d (Load (set_up_word z)) ≡ true) (sym is) (may_store d fits (set_up_word (placed_of d b)) 0 (own_set_up d fits b k known))
   may_find b k known (finds.Bank x i e) (is, internal, at, lt) = subst (λ z. may d (Load (bank_word z Sent e i)) ≡ true) (sym is) (subst (λ n. may d (Load (bank_word (placed_of d b) Sent e n)) ≡ true) (sym at) (may_bank b k known internal e lt))
@@ -71,7 +71,7 @@ module _ (d : SpiTable) (fits : FitsSpi d) (u : ℕ) (few : u < 2) where
   may_find b k known (finds.Pinned x i) is = absurd is
   may_find b k known (finds.Held x i) is = absurd is
 
-  or_may : (made : Move) → may d made ≡ true → is_shared made || may d made ≡ true
+  pub or_may : (made : Move) → may d made ≡ true → is_shared made || may d made ≡ true
   or_may made e = by (is_shared made)
     where
       by : (q : Bool) → q || may d made ≡ true
@@ -299,7 +299,7 @@ module _ (d : SpiTable) (u : ℕ) (f f1 : Seen) (s s1 : SpiState) (words : f1.0 
   place_kept start.Stand at = absurd at
 
 module _ (d : SpiTable) (u : ℕ) where
-  words_kept : (chip : Chip) (order : Order) → is_fill order ≡ false → word_of (happened chip order) ≡ word_of chip
+  pub words_kept : (chip : Chip) (order : Order) → is_fill order ≡ false → word_of (happened chip order) ≡ word_of chip
   words_kept chip order e = memories (word_of (happened chip order)) (word_of chip) (λ k. by order e k)
     where
       by : (order : Order) → is_fill order ≡ false → (k : ℕ) → word_of (happened chip order) k ≡ word_of chip k
@@ -311,10 +311,10 @@ module _ (d : SpiTable) (u : ℕ) where
   same_turn x o false = (refl, refl)
 
   -- a fault on the wire leaves what a unit selects, and its width
-  abbrev SameTurn : Serial → Serial → Type 0
+  abbrev pub SameTurn : Serial → Serial → Type 0
   SameTurn x z = (z.select ≡ x.select) × (z.width ≡ x.width)
 
-  turns_kept : (chip : Chip) (n : ℕ) → length chip.serials.units ≡ 2 → u < 2 → SameTurn (unit_at chip.serials u) (unit_at (serials.after_fault chip.serials n) u)
+  pub turns_kept : (chip : Chip) (n : ℕ) → length chip.serials.units ≡ 2 → u < 2 → SameTurn (unit_at chip.serials u) (unit_at (serials.after_fault chip.serials n) u)
   turns_kept chip n size few = by n (same_or_other u n)
     where
       by : (n : ℕ) → (u ≡ n) ⊎ (u ≢ n) → SameTurn (unit_at chip.serials u) (unit_at (serials.after_fault chip.serials n) u)

@@ -1,23 +1,23 @@
 -- The first word of a job begins: what its window owes after that.
 -- From bookkeeping.RanState, service_outline: Words, services.StartWords, words.PinnedBanks and 3 more.
 -- Used by services.StartRight.
-use Rattle.std.proofs.Common.{◌≡◌, ◌≢◌, ◌<◌, ◌==◌, [], ◌∷◌, ◌∙◌, if◌then◌else◌}
+use Rattle.std.proofs.Common.{◌≡◌, ◌≢◌, ◌<◌, [], ◌∷◌, ◌∙◌, if◌then◌else◌}
 use Rattle.spi_starting.specs.Terms
-use Terms.{after_start, Answer, any_in, ap, arith, BanksAgree, bit_or, Bool, Channel, channel_of, channels_of, Chip}
-use Terms.{chip_after, choice, choice_next, choosing_next, Chosen, cleared_of, CommitsAfter, DiffersIn, entries_of}
-use Terms.{false, FrameRole, from_order, get_contained, HasWords, holds-agree, is_some, IsPart, Job, job_of}
-use Terms.{length_after, List, MARKS, may_store, named_own, nat_lt, nat_tests, Next, next-ends, next_gave, next_job}
-use Terms.{next_on, NEXTS, None, none, not_first, not_true, number_of, one_owed, Option, order_there, order_word}
-use Terms.{own_first, own_order, PartTo, Pending, PendingWrites, placed_of, prepare_at, ranks_in, refl, Reservations}
-use Terms.{same_number, search_of, Sent, SerialData, settles_part, slice_get, Some, spi_owing, SpiRepresents, SpiState}
-use Terms.{SpiTable, stands-agree, stands-move, start_chooses, Started, started_bit, StartPlace, Store, stored_other}
-use Terms.{stored_same, subst, sym, to_order, trio_of, true, unit_owed, Units, unless_done, uses_channel, view, waiting}
-use Terms.{where_owed, word_of, Write, ℕ}
-use Rattle.spi_starting.specs.laws.{words.AlongWords.{before, upto}, services.StartWords.{from_place, prepare_owes}}
-use Rattle.spi_starting.specs.laws.{services.StartWords.{starting}, words.PinnedBanks.{none_pinned, none_prepares}}
+use Terms.{after_start, all_pending, Answer, ap, arith, bit_or, Bool, Channel, channel_of}
+use Terms.{channels_of, Chip, chip_after, choice, choice_next, choosing_next, Chosen, cleared_of, CommitsAfter}
+use Terms.{DiffersIn, entries_of, false, FrameRole, from_order, HasWords, holds-agree, is_some, IsPart}
+use Terms.{Job, job_of, length_after, List, MARKS, may_store, named_own, nat_lt, nat_tests, Next, next-ends, next_gave}
+use Terms.{next_job, next_on, NEXTS, None, none, not_first, not_true, number_of, one_owed, Option, order_there}
+use Terms.{order_word, own_first, own_order, PartTo, Pending, PendingWrites, placed_of, prepare_at, ranks_in, refl}
+use Terms.{Reservations, search_of, Sent, SerialData, settles_part, slice_get, Some, spi_owing}
+use Terms.{SpiRepresents, SpiState, SpiTable, stands-move, start_chooses, Started, started_bit}
+use Terms.{StartPlace, Store, stored_other, stored_same, subst, sym, to_order, trio_of, true, unit_owed, Units}
+use Terms.{unless_done, view, waiting, where_owed, word_of, Write, ℕ}
+use Rattle.spi_starting.specs.laws.{words.ReadyWords.{before, from_none, upto}, services.StartWords.{from_first, prepare_owes}}
+use Rattle.spi_starting.specs.laws.{services.StartWords.{starting}, words.PinnedBanks.{sent_before}}
 use Rattle.spi_starting.specs.laws.{words.PinnedBanks.{the_job}, bookkeeping.RanState.{Along, SentAt, debt_of}}
 use Rattle.spi_starting.specs.laws.{bookkeeping.RanState.{first_chip, ran_state}, bookkeeping.UnitBegun.{IsTurned}}
-use Rattle.spi_starting.specs.laws.{ToStart.{ToStart}}
+use Rattle.spi_starting.specs.laws.{ToBegin.{of_start}, ToStart.{ToStart}}
 use Rattle.word_shapes.specs.Order as order
 use Rattle.word_shapes.specs.PriorityQueue as ranked
 use Rattle.word_shapes.specs.TripleBuffer as trio
@@ -66,7 +66,7 @@ module _ (st : ToStart) (next : next_on st.d st.u st.s.pending ≡ Some st.p) (w
   few = h.right.0.0
 
   abbrev job : (k : Job) × (job_of d (next_job d p) ≡ Some k)
-  job = the_job st
+  job = the_job (of_start st)
 
   abbrev left_by : StartPlace → StartPlace × Started → Option PendingWrites
   left_by x z = unless_done (after_start (starting d errand u x) z).1.done (unit_owed (after_start (starting d errand u x) z).0)
@@ -91,7 +91,7 @@ module _ (st : ToStart) (next : next_on st.d st.u st.s.pending ≡ Some st.p) (w
   chosen_is : order.chosen (choice ranks (entries_of d (view s) u)) (entries_of d (view s) u) ≡ waiting p.sequence false (entries_of d (view s) u)
   chosen_is =
       ap (λ n. order.chosen n (entries_of d (view s) u)) (choice_next d fits held chip w s h h.right.0.1 u few free ∙ ap number_of next)
-      ∙ ap (λ b. if b then waiting p.sequence false (entries_of d (view s) u) else entries_of d (view s) u) (small p.sequence (h.sound.entries p there).number)
+      ∙ ap (λ b. if b then waiting p.sequence false (entries_of d (view s) u) else entries_of d (view s) u) (small p.sequence (h.sound.entries p (all_pending (view s) p there)).number)
     where
       small : (n : ℕ) → n < 8 → nat_lt n none ≡ true
       small n lt = grind (arith, nat_tests)
@@ -108,24 +108,18 @@ module _ (st : ToStart) (next : next_on st.d st.u st.s.pending ≡ Some st.p) (w
     same : (i : ℕ) → own i ≡ false → i ≢ MARKS → word_of marked i ≡ word_of chip i
     same i away ne = stored_other c MARKS mark 0 i ne ∙ differs.others i away
 
-    sends_now : (n b : ℕ) (k : Channel) → slice_get cs n ≡ Some b → channel_of d b ≡ Some k → k.internal ≡ true → SentAt d held s b k (word_of marked) (nat_lt n 0)
+    sends_now : (n b : ℕ) (k : Channel) → slice_get cs n ≡ Some b → channel_of d b ≡ Some k → k.internal ≡ true → SentAt d held s b k (word_of marked) (upto 0 0 n k.length)
     sends_now n b k here known internal =
-        subst (λ q. SentAt d held s b k (word_of marked) q) (sym (none_before n))
-        (was.sent, record { newest = was.written (none_prepares st); put = was.writes; free = none_pinned st b k known internal uses }, stands-agree (trio_of (placed_of d b) Sent) (word_of chip) (word_of marked) was.sent kept was.sends)
+        subst (λ q. SentAt d held s b k (word_of marked) q) (sym (from_none 0 n ∙ none_before n))
+        (sent_before (of_start st) (word_of marked) n b k here known internal kept)
       where
-        was : BanksAgree d held h.going (word_of chip) (view s) b k
-        was = h.words.banks b k known internal
-
         none_before : (n : ℕ) → nat_lt n 0 ≡ false
         none_before n = grind (arith, nat_tests)
-
-        uses : uses_channel d b (next_job d p) ≡ true
-        uses = any_in (λ x. x == b) cs b (get_contained cs n b here) (same_number b)
 
         kept : (i : ℕ) → trio.own_of (trio_of (placed_of d b) Sent) i ≡ true → word_of chip i ≡ word_of marked i
         kept i mine = sym (same i (not_true (own i) (λ e. let f = sym mine ∙ not_first d fits b k known internal Sent i (let high = to_order u i e in omega (arith, high, few)) in cc)) (λ e. let f = sym mine ∙ ap (trio.own_of (trio_of (placed_of d b) Sent)) e ∙ not_first d fits b k known internal Sent MARKS (omega arith) in cc))
 
-    along : Along d below owner acted chip w s u h p word received (upto 0) (before 0) marked
+    along : Along d below owner acted chip w s u h p word received (upto 0 0) (before 0) marked
     along = record {
       rest = ap (λ (x : Chip). record x { words = marked.words }) differs.rest;
       whole = length_after c (Store MARKS mark) 0 ∙ differs.whole;
@@ -142,7 +136,7 @@ module _ (st : ToStart) (next : next_on st.d st.u st.s.pending ≡ Some st.p) (w
     marks_owed : Settling (start.Mark chose) c
     marks_owed =
         one_owed (spi_owing d) Done (at (start.Mark chose)) c (Some (at (prepare_at d chose.run 0))) (may_store d fits MARKS mark (own_first d MARKS (omega arith) (omega arith))) tt (ap (λ q. where_owed q (at (prepare_at d chose.run 0))) (prepare_owes d chose.run 0))
-        (from_place st word received turned errand 4 0 (omega arith) marked along)
+        (from_first st word received turned errand marked along)
 
   -- what is owed once the word has begun
   pub begun_owes : Settling (start.Choose chose (nexts.Look (search_of u) ranks)) later

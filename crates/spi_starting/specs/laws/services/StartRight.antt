@@ -3,20 +3,22 @@
 -- Used by spi_driver: services.StartPart.
 use Rattle.std.proofs.Common.{◌≡◌, ◌%◌, ◌^◌, ◌<◌, ◌≤◌, ◌==◌, [], ◌∷◌, ◌∙◌, if◌then◌else◌}
 use Rattle.spi_starting.specs.Terms
-use Terms.{Answer, ap, apart_agrees, arith, as_begun, Begun, Bool, by_two, Call, Channel, channel_at_place, channel_of}
-use Terms.{Chip, chip_after, choice, choice_next, choosing_front, Chosen, chosen_by, cleared_of, CommitsAfter, Contains}
-use Terms.{control_word, Ends, ends-then, entries_of, Entry, Event, false, Find, find_gave, find_move, finding_first}
-use Terms.{first_word, FitsSpi, FrameRole, Front, front-ends, front_gave, front_left, front_move, gave, get_or-set_same}
-use Terms.{Going, going_free, happens, has_channel, has_ended, idle, is_for, is_off, is_some, IsChosen, IsFirst, IsFree}
-use Terms.{job_at_place, job_of, job_place, length, List, Load, LooksAt, MARKS, Mask, masked, masked_by, Memory, min}
-use Terms.{Move, nat_lt, nat_tests, next_at, next_by, next_job, next_on, NEXTS, None, number_in, number_of, Option}
-use Terms.{or_none, order_word, Origin, other_number, outcome_with, outgoing, part_at, Pending, placed_of, ranks_in}
-use Terms.{refl, Reservations, run_at, RunAgrees, running_word, Search, search_move, search_of, Seen, select_by}
-use Terms.{select_of, selects, SendsRight, Sent, SerialData, SerialSelect, SerialWidth, set_up_word, slice_index_or}
-use Terms.{Some, source_word, spi_bare, spi_owing, SpiRepresents, SpiState, SpiTable, StandsAt, Start, start_by}
-use Terms.{start_finds, start_found, start_looks, start_move, start_owes, start_place, start_takes, Started, StartPlace}
-use Terms.{Starts, subst, suc, sym, Taken, tells_nothing, true, unit_at, unit_named, unit_number, Units, value_of, view}
-use Terms.{will_give, word_of, World, Write, zero, ℕ}
+use Terms.{is_sync_unit, sent_by, sent_word, start_of}
+use Terms.{all_pending, Answer, ap, apart_agrees, arith, as_begun, Begun, Bool, by_two, Call, Channel}
+use Terms.{channel_at_place, channel_of, Chip, chip_after, choice, choice_next, choosing_front, Chosen, chosen_by}
+use Terms.{cleared_of, CommitsAfter, Contains, control_word, Ends, ends-then, entries_of, Entry, Event, false, Find}
+use Terms.{find_gave, find_move, finding_first, first_word, FitsSpi, FrameRole, Front, front-ends, front_gave}
+use Terms.{front_left, front_move, gave, get_or-set_same, Going, going_free, happens, has_channel, has_ended, idle}
+use Terms.{is_for, is_off, is_some, IsChosen, IsFirst, IsFree, job_at_place, job_of, job_place, length, List, Load}
+use Terms.{LooksAt, MARKS, Mask, masked, masked_by, Memory, min, Move, nat_lt, nat_tests, next_at, next_by, next_job}
+use Terms.{next_on, NEXTS, None, number_in, number_of, Option, or_none, order_word, Origin, other_number, outcome_with}
+use Terms.{outgoing, part_at, Pending, placed_of, ranks_in, refl, Reservations, run_at, RunAgrees, running_word}
+use Terms.{Search, search_move, search_of, Seen, select_by, select_of, selects, SendsRight, Sent, SerialData}
+use Terms.{SerialSelect, SerialWidth, set_up_word, slice_index_or, Some, source_word, spi_bare, spi_owing}
+use Terms.{SpiRepresents, SpiState, SpiTable, StandsAt, Start, start_by, start_finds, start_found, start_looks}
+use Terms.{start_move, start_owes, start_place, start_takes, Started, StartPlace, Starts, subst, suc, sym, Taken}
+use Terms.{tells_nothing, true, unit_at, unit_named, unit_number, Units, value_of, view, will_give, word_of, World}
+use Terms.{Write, zero, ℕ}
 use Rattle.spi_starting.specs.laws.{services.StartBegun.{begun_owes, choosing}, services.StartWords.{starting}}
 use Rattle.spi_starting.specs.laws.{bookkeeping.ChosenNext.{first_placed, first_there, next_there, none_for}}
 use Rattle.spi_starting.specs.laws.{words.FirstWord.{first_is, found, mod_again}, bookkeeping.RanState.{debt_of}}
@@ -59,6 +61,9 @@ module _ (d : SpiTable) (fits : FitsSpi d) (errand : FrameRole) (below : Reserva
 
   on : is_off s.mode ≡ false
   on = h.right.0.1
+
+  async : is_sync_unit d u ≡ false
+  async = h.right.0.2
 
   abbrev foot : Chip → Seen
   foot c = (spi_bare d).foot c
@@ -109,7 +114,7 @@ module _ (d : SpiTable) (fits : FitsSpi d) (errand : FrameRole) (below : Reserva
       there = next_there d u s.pending q e
 
       number : q.sequence < 8
-      number = (h.sound.entries q there.0).number
+      number = (h.sound.entries q (all_pending (view s) q there.0)).number
 
       small : (n : ℕ) → n < 8 → nat_lt n 8 ≡ true
       small n lt = grind (arith, nat_tests)
@@ -118,7 +123,7 @@ module _ (d : SpiTable) (fits : FitsSpi d) (errand : FrameRole) (below : Reserva
       found_so = chosen_by d (word_of chip NEXTS) (word_of chip MARKS) q.sequence
 
       job : found_so.run.job ≡ next_job d q
-      job = ap (job_at_place d q.sequence) ((h.words.on on).sequences.pending q there.0).next ∙ job_place d fits q.sequence q.next (h.sound.entries q there.0).next
+      job = ap (job_at_place d q.sequence) ((h.words.on on).sequences.pending q there.0).next ∙ job_place d fits q.sequence q.next (h.sound.entries q (all_pending (view s) q there.0)).next
 
       first : (b : ℕ) × (k : Channel) × IsFirst d q b k
       first = first_there d fits u q there.1
@@ -259,7 +264,9 @@ module _ (d : SpiTable) (fits : FitsSpi d) (errand : FrameRole) (below : Reserva
     startable = ap (λ b. if b then None else next_by d s u (run_at s u)) on ∙ ap (next_by d s u) free ∙ next
 
     start_is : (by : Option Call) → happens d w s (Starts (unit_named u) by y) ≡ Some (outcome_with begun_state tells_nothing (Some (as_begun d u (Some q) (first_word d s q))))
-    start_is by = ap (λ o. start_by d w s o y (next_at d s o)) (by_unit (λ n. unit_number (unit_named n) ≡ Some n) refl refl) ∙ ap (start_by d w s (Some u) y) startable
+    start_is by =
+        ap (λ o. start_of d w s o by y) (by_unit (λ n. unit_number (unit_named n) ≡ Some n) refl refl)
+        ∙ ap (λ q. if q then sent_word d w s u y (sent_by by) else start_by d w s (Some u) y (next_at d s (Some u))) async ∙ ap (start_by d w s (Some u) y) startable
 
     -- what is sent is of the width already
     sent_masked : outgoing (unit_at chip.serials u) x ≡ (first_word d s q).sent

@@ -1,28 +1,27 @@
 -- What a start owes its window after its first word has begun, and the agreement after that.
--- From bookkeeping.RanState, words.AlongWords, bookkeeping.ChosenNext, service_outline: Words and 6 more.
+-- From bookkeeping.RanState, words.ReadyWords, services.ReadyOwed, bookkeeping.ChosenNext and 6 more.
 -- Used by services.StartBegun, services.StartAround, services.StartRight.
-use Rattle.std.proofs.Common.{◌≡◌, ◌≢◌, ◌+◌, ◌<◌, ◌≤◌, ◌==◌, ◌&&◌, [], ◌∷◌, ◌∙◌, ◌⊎◌, if◌then◌else◌}
+use Rattle.std.proofs.Common.{◌≡◌, ◌≢◌, ◌+◌, ◌<◌, ◌&&◌, [], ◌∷◌, ◌∙◌, ◌⊎◌, if◌then◌else◌}
 use Rattle.spi_starting.specs.Terms
 use Terms.{after_start, Answer, ap, AreThere, arith, as_read, Bool, Channel, channel_at, channel_at_place}
 use Terms.{channel_number, channel_of, channels_of, Chip, chip_after, cleared_of, clears, CommitsAfter, control_word}
-use Terms.{differs_by_store, DiffersIn, false, FrameRole, from_order, get_contained, Handler, has_channel, held_is}
-use Terms.{held_word, inl, inr, is_past, is_some, is_to_begin, IsPart, Job, job_of, length, List, list_of, lt_itself}
-use Terms.{lt_next, Main, may_store, named_own, nat_le, nat_lt, nat_tests, next_job, None, one_owed, Option, or_none}
-use Terms.{own_banks, own_first, own_held, own_low, own_set_up, packed, packed_run, PartTo, PendingWrites, pin-ends}
-use Terms.{pinning, pinning_of, Placed, placed_by, placed_of, position_word, prepare_at, prepare_by, prepared}
-use Terms.{prepared_with, preparing, refl, release-ends, releasing, releasing_of, Reservations, Rest, Running}
-use Terms.{running_word, same_number, Sent, set_up_or, set_up_word, settles_part, SetUp, slice_get, slice_get_within}
-use Terms.{Some, some_is, spi_owing, SpiRepresents, SpiState, SpiTable, start_owes, start_prepares, start_releases}
-use Terms.{Started, StartPlace, Store, stored_other, stored_same, subst, suc, sym, Take, take_gave, taking, Transmit}
-use Terms.{trio_fits, trio_of, TripleBuffer, true, unit_over, unit_owed, UnitBody, UnitPlace, Units, unless_done}
-use Terms.{where_owed, word_of, WORDS, zero, ℕ}
-use Rattle.spi_starting.specs.laws.{words.UnitWords.{ran_agrees}, words.AlongWords.{along_first, along_held}}
-use Rattle.spi_starting.specs.laws.{words.AlongWords.{along_sent, before, lt_else, upto}}
-use Rattle.spi_starting.specs.laws.{bookkeeping.ChosenNext.{count_is, first_there, number_at}}
-use Rattle.spi_starting.specs.laws.{bookkeeping.UnitsGoOn.{run_here}, words.PinnedBanks.{the_job}}
-use Rattle.spi_starting.specs.laws.{words.QuietWords.{channel_there, quiet_set_up}, bookkeeping.RanState.{Along, Ran}}
+use Terms.{false, FrameRole, from_order, Handler, has_channel, held_is, holds-agree, in_order, inl, inr, is_some}
+use Terms.{is_sync_unit, is_to_begin, IsPart, Job, job_of, length, List, list_of, Main, main_over, MARKS, may_store}
+use Terms.{named_own, nat_le, nat_lt, nat_tests, next_job, None, one_owed, Option, or_none, order_word, own_banks}
+use Terms.{own_first, own_low, packed, packed_run, PartTo, PendingWrites, pinning, Placed, placed_by, placed_of}
+use Terms.{position_word, Prepare, prepare_at, prepare_by, prepare_ends, prepare_left, prepared, prepared_with, refl}
+use Terms.{release-ends, releasing, releasing_of, Reservations, Rest, Running, running_word, Sent, set_up_or}
+use Terms.{set_up_word, settles_part, slice_get, Some, some_is, spi_owing, SpiRepresents, SpiState, SpiTable}
+use Terms.{start_owes, start_prepares, start_releases, Started, StartPlace, Store, stored_other, stored_same, subst}
+use Terms.{suc, sym, Take, take_gave, taking, Transmit, trio_fits, trio_of, TripleBuffer, true, unit_over, unit_owed}
+use Terms.{UnitBody, UnitPlace, Units, unless_done, where_owed, word_of, zero, ℕ}
+use Rattle.spi_starting.specs.laws.{words.UnitWords.{ran_agrees}, bookkeeping.ChosenNext.{first_there, number_at}}
+use Rattle.spi_starting.specs.laws.{words.ReadyWords.{before, beside_first, beside_quiet, from_none, Ready, ready_first}}
+use Rattle.spi_starting.specs.laws.{words.ReadyWords.{ready_sent, upto}, bookkeeping.UnitsGoOn.{run_here}, words.PinnedBanks.{the_job}}
+use Rattle.spi_starting.specs.laws.{services.ReadyOwed.{OwesReady, ready_at, ready_by, ready_from, ready_next}}
+use Rattle.spi_starting.specs.laws.{words.QuietWords.{quiet_set_up}, bookkeeping.RanState.{Along, Ran}}
 use Rattle.spi_starting.specs.laws.{bookkeeping.RanState.{SentAt, debt_of, first_place, ran_state, sent_by}}
-use Rattle.spi_starting.specs.laws.{bookkeeping.UnitBegun.{IsTurned}, ToStart.{ToStart}}
+use Rattle.spi_starting.specs.laws.{bookkeeping.UnitBegun.{IsTurned}, ToBegin.{of_start}, ToStart.{ToStart}}
 use Rattle.word_shapes.specs.Playing as playing
 use Rattle.word_shapes.specs.TripleBuffer as trio
 use Rattle.word_shapes.specs.declared.take.Take.TheVariants as takes
@@ -38,7 +37,11 @@ starting d e u x = record { table = d; errand = e; unit = u; place = units.Start
 
 -- after the last move the window owes nothing
 pub over_owes : (k : UnitBody) (x : UnitPlace) (e : FrameRole) (u : ℕ) → unless_done (unit_over k x e u).1.done (unit_owed (unit_over k x e u).0) ≡ None
-over_owes k x Main zero = refl
+over_owes k x Main zero = by (is_sync_unit k.table 1)
+  where
+    by : (sync : Bool) → unless_done (main_over k x sync).1.done (unit_owed (main_over k x sync).0) ≡ None
+    by true = refl
+    by false = refl
 over_owes k x Main (suc u) = refl
 over_owes k x Rest u = refl
 over_owes k x Handler u = refl
@@ -77,7 +80,10 @@ begins_some k e = grind (arith, nat_tests)
 begins_none : (k : ℕ) → nat_le k 1 ≡ true → is_to_begin first_place 0 k ≡ false
 begins_none k e = grind (arith, nat_tests)
 
-module _ (st : ToStart) (word received : ℕ) (turned : IsTurned st.d st.chip st.s st.u st.p) (errand : FrameRole) where
+-- ---- from the chip where the order and the marks have the start
+
+module _ (st : ToStart) (word received : ℕ) (turned : IsTurned st.d st.chip st.s st.u st.p) (errand : FrameRole) (c0 : Chip)
+    (a0 : Along st.d st.below st.owner st.acted st.chip st.w st.s st.u st.h st.p word received (upto 0 0) (before 0) c0) where
   open st use {d, fits, below, owner, acted, chip, w, s, u, h, p, there, for, free}
 
   abbrev held : Reservations
@@ -98,9 +104,6 @@ module _ (st : ToStart) (word received : ℕ) (turned : IsTurned st.d st.chip st
   abbrev Done : Chip → Type 0
   Done c = SpiRepresents d (cleared_of u owner acted ∷ below) c w after
 
-  abbrev On : ((place length : ℕ) → Bool) → (ℕ → Bool) → Chip → Type 0
-  On f g c = Along d below owner acted chip w s u h p word received f g c
-
   abbrev Settling : StartPlace → Chip → Type 0
   Settling x c = CommitsAfter (spi_owing d) (Some (at x)) c Done
 
@@ -108,7 +111,21 @@ module _ (st : ToStart) (word received : ℕ) (turned : IsTurned st.d st.chip st
   few = h.right.0.0
 
   abbrev job : (k : Job) × (job_of d (next_job d p) ≡ Some k)
-  job = the_job st
+  job = the_job (of_start st)
+
+  abbrev On : ((place length : ℕ) → Bool) → (ℕ → Bool) → Chip → Type 0
+  On f g c = Ready d fits u few (next_job d p) job.0 job.1 held s c0 f g c
+
+  along_of : (f : (place length : ℕ) → Bool) (g : ℕ → Bool) (c : Chip) → On f g c → Along d below owner acted chip w s u h p word received f g c
+  along_of f g c a = record {
+    rest = a.rest ∙ ap (λ (x : Chip). record x { words = c.words }) a0.rest;
+    whole = a.whole;
+    quiet = λ i is. a.beside i (beside_quiet d u (next_job d p) i is) ∙ a0.quiet i is;
+    order = holds-agree (record { at = order_word u }) (word_of c0) (word_of c) _ (λ j mine. let range = in_order u j few mine in let low = from_order u j mine in sym (a.beside j (beside_first d fits u few (next_job d p) job.0 job.1 held s c0 j range.1 (λ e. omega (arith, low, e)) (λ e. omega (arith, low, e))))) a0.order;
+    marks = a.beside MARKS (beside_first d fits u few (next_job d p) job.0 job.1 held s c0 MARKS (omega arith) (λ e. omega (arith, e)) (λ e. omega (arith, e))) ∙ a0.marks;
+    sends = a.sends;
+    holds = a.holds;
+  }
 
   -- what is owed after a step of the start
   abbrev left_by : StartPlace → StartPlace × Started → Option PendingWrites
@@ -130,14 +147,14 @@ module _ (st : ToStart) (word received : ℕ) (turned : IsTurned st.d st.chip st
       third = chip_after second (Store (position_word u) 0) 0
 
       a2 : On (is_to_begin first_place) (λ n. true) second
-      a2 = along_first d fits below owner acted chip w s u few h p word received job.0 job.1 c (is_to_begin first_place) (λ n. true) (running_word u) (packed_run r) a (omega (arith, few)) (λ i is. is.2) (λ i mine e. let low = from_order u i mine in omega (arith, low, e)) (λ e. omega (arith, e))
+      a2 = ready_first d fits u few (next_job d p) job.0 job.1 held s c0 c (is_to_begin first_place) (λ n. true) (running_word u) (packed_run r) a (omega (arith, few)) (λ i is. is.0)
 
       a3 : On (is_to_begin first_place) (λ n. true) third
-      a3 = along_first d fits below owner acted chip w s u few h p word received job.0 job.1 second (is_to_begin first_place) (λ n. true) (position_word u) 0 a2 (omega (arith, few)) (λ i is. is.3) (λ i mine e. let low = from_order u i mine in omega (arith, low, e)) (λ e. omega (arith, e))
+      a3 = ready_first d fits u few (next_job d p) job.0 job.1 held s c0 second (is_to_begin first_place) (λ n. true) (position_word u) 0 a2 (omega (arith, few)) (λ i is. is.1)
 
       ran : Ran d below owner acted chip w s u h p word received third
       ran = record {
-        along = a3;
+        along = along_of (is_to_begin first_place) (λ n. true) third a3;
         running = stored_other second (position_word u) 0 0 (running_word u) (λ e. omega (arith, e)) ∙ stored_same c (running_word u) (packed_run r) 0 (omega (arith, few)) a.whole;
         position = stored_same second (position_word u) 0 0 (omega (arith, few)) a2.whole;
       }
@@ -166,22 +183,9 @@ module _ (st : ToStart) (word received : ℕ) (turned : IsTurned st.d st.chip st
       fits = λ z c. tt;
     }
 
-    module _ (n : ℕ) where
-      pin_steps : (y : Take) (v : ℕ) (o : Option Answer) → (take_gave y v).ended ≡ o → PartTo taking (spi_owing d) (λ z. at (start.Prepare r n (prepares.Pin z))) (λ xs. Some (at (next_place d r n))) y v o
-      pin_steps y v None e = ap (λ q. left_by (start.Prepare r n (prepares.Pin y)) (start_prepares d r n (prepares.Pin y) v q)) (ap is_some e)
-      pin_steps y v (Some x) e = ap (λ q. left_by (start.Prepare r n (prepares.Pin y)) (start_prepares d r n (prepares.Pin y) v q)) (ap is_some e) ∙ goes_on (next_place d r n) (next_owes d r n)
-
-      pin_part : IsPart taking (trio.own_of side) (spi_owing d) (λ z. at (start.Prepare r n (prepares.Pin z))) (λ xs. Some (at (next_place d r n)))
-      pin_part = record {
-        moves = λ z. refl;
-        steps = λ z v. pin_steps z v (take_gave z v).ended refl;
-        named = named_own d fits (trio.own_of side) (λ j own. own_banks d fits b k known internal Sent j own);
-        fits = λ z c. tt;
-      }
-
   -- ---- the end of the pin of the first channel
 
-  module _ (n : ℕ) (c : Chip) (a : On (upto n) (before n) c) (all : (i b : ℕ) → slice_get cs i ≡ Some b → nat_lt i n ≡ true) (b : ℕ) (first : slice_get cs 0 ≡ Some b) (k : Channel) (known : channel_of d b ≡ Some k) where
+  module _ (n : ℕ) (c : Chip) (a : On (upto 0 n) (before n) c) (all : (i b : ℕ) → slice_get cs i ≡ Some b → nat_lt i n ≡ true) (b : ℕ) (first : slice_get cs 0 ≡ Some b) (k : Channel) (known : channel_of d b ≡ Some k) where
     same : (placed_of d b).channel ≡ k
     same = has_channel d fits b k known
 
@@ -193,10 +197,8 @@ module _ (st : ToStart) (word received : ℕ) (turned : IsTurned st.d st.chip st
     run_next long = record {
       rest = a.rest;
       whole = a.whole;
-      quiet = a.quiet;
-      order = a.order;
-      marks = a.marks;
-      sends = λ i b1 x here is inner. subst (λ q. SentAt d held s b1 x (word_of c) q) (all i b1 here ∙ sym (begins i b1 x here is inner)) (a.sends i b1 x here is inner);
+      beside = a.beside;
+      sends = λ i b1 x here is inner. subst (λ q. SentAt d held s b1 x (word_of c) q) (from_none n i ∙ all i b1 here ∙ sym (begins i b1 x here is inner)) (a.sends i b1 x here is inner);
       holds = λ i b1 x here is outer now. a.holds i b1 x here is outer (all i b1 here);
     }
       where
@@ -209,7 +211,7 @@ module _ (st : ToStart) (word received : ℕ) (turned : IsTurned st.d st.chip st
         settles_part taking (trio.own_of (trio_of (placed_of d b) Sent)) (spi_owing d) (λ z. at (start.Release r z)) (λ xs. Some (at (start.Run r))) (release_part b k known internal) (side_there b k known internal)
         (λ m words. (words ≡ []) × trio.Stands (trio_of (placed_of d b) Sent) m x.0) Done 2 (takes.Release (control_word (placed_of d b) Sent)) c a.whole
         (subst (λ z. playing.Ends taking (trio.own_of (trio_of (placed_of d b) Sent)) 2 (takes.Release (control_word (placed_of d b) Sent)) (word_of c) (λ m words. (words ≡ []) × trio.Stands (trio_of (placed_of d b) Sent) m z)) unpinned (release-ends (trio_of (placed_of d b) Sent) (word_of c) (pinning x.0) (trio_fits d fits b k known internal Sent) pinned))
-        (λ c1 words differs stands. runs_owed c1 (along_sent d fits below owner acted chip w s u few h p word received job.0 job.1 0 b k first known c c1 (upto n) (is_to_begin first_place) (before n) (λ n. true) internal differs a (subst (λ q. SentAt d held s b k (word_of c1) q) (sym (begins_none k.length short)) (x.0, x.1, stands.1)) others ready))
+        (λ c1 words differs stands. runs_owed c1 (ready_sent d fits u few (next_job d p) job.0 job.1 held s c0 0 b k first known c c1 (upto 0 n) (is_to_begin first_place) (before n) (λ n. true) internal differs a (subst (λ q. SentAt d held s b k (word_of c1) q) (sym (begins_none k.length short)) (x.0, x.1, stands.1)) others ready))
       where
         x : SentAt d held s b k (word_of c) (nat_lt 0 n)
         x = a.sends 0 b k first known internal
@@ -220,9 +222,9 @@ module _ (st : ToStart) (word received : ℕ) (turned : IsTurned st.d st.chip st
         unpinned : releasing (pinning x.0) ≡ x.0
         unpinned = ap (λ o. record x.0 { take = o }) (sym x.1.free)
 
-        others : (i len a : ℕ) → slice_get cs i ≡ Some a → i ≢ 0 → nat_lt i n ≡ is_to_begin first_place i len
+        others : (i len a : ℕ) → slice_get cs i ≡ Some a → i ≢ 0 → upto 0 n i len ≡ is_to_begin first_place i len
         others zero len b1 here ne = absurd (ne refl)
-        others (suc i) len b1 here ne = all (suc i) b1 here ∙ sym (begins_later i len)
+        others (suc i) len b1 here ne = from_none n (suc i) ∙ all (suc i) b1 here ∙ sym (begins_later i len)
 
         ready : (i a : ℕ) → slice_get cs i ≡ Some a → i ≢ 0 → true ≡ true → nat_lt i n ≡ true
         ready i b1 here ne e = all i b1 here
@@ -245,96 +247,41 @@ module _ (st : ToStart) (word received : ℕ) (turned : IsTurned st.d st.chip st
         subst (λ o. Settling (prepared_with r (placed_by d o)) c) (sym (number_at d (next_job d p) job.0 job.1 0 ∙ first))
         (subst (λ (z : Channel). Settling (if z.internal && nat_le z.length 1 then start.Release r (releasing_of (placed_of d b) Sent) else start.Run r) c) (sym same) (finished_by k.internal (nat_le k.length 1) refl refl))
 
-  -- ---- a channel is made ready
-
-  module _ (n b : ℕ) (k : Channel) (here : slice_get cs n ≡ Some b) (known : channel_of d b ≡ Some k) (c : Chip) (a : On (upto n) (before n) c) (onward : (c1 : Chip) → On (upto (suc n)) (before (suc n)) c1 → Settling (next_place d r n) c1) where
-    earlier : (i a : ℕ) → slice_get cs i ≡ Some a → i ≢ n → before (suc n) i ≡ true → before n i ≡ true
-    earlier i b1 is ne e = sym (lt_else i n ne) ∙ e
-
-    pinned_owed : k.internal ≡ true → Settling (start.Prepare r n (prepares.Pin (pinning_of (placed_of d b) Sent))) c
-    pinned_owed internal =
-        settles_part taking (trio.own_of (trio_of (placed_of d b) Sent)) (spi_owing d) (λ z. at (start.Prepare r n (prepares.Pin z))) (λ xs. Some (at (next_place d r n))) (pin_part b k known internal n) (side_there b k known internal)
-        (λ m words. (words ≡ x.0.bank ∷ []) × trio.Stands (trio_of (placed_of d b) Sent) m (pinning x.0)) Done 2 (takes.Pin (control_word (placed_of d b) Sent)) c a.whole (pin-ends (trio_of (placed_of d b) Sent) (word_of c) x.0 (trio_fits d fits b k known internal Sent) x.1.free stands)
-        (λ c1 words differs now. onward c1 (along_sent d fits below owner acted chip w s u few h p word received job.0 job.1 n b k here known c c1 (upto n) (upto (suc n)) (before n) (before (suc n)) internal differs a (subst (λ q. SentAt d held s b k (word_of c1) q) (sym (lt_next n)) (x.0, x.1, now.1)) (λ i len a is ne. sym (lt_else i n ne)) earlier))
-      where
-        x : SentAt d held s b k (word_of c) (nat_lt n n)
-        x = a.sends n b k here known internal
-
-        stands : trio.Stands (trio_of (placed_of d b) Sent) (word_of c) x.0
-        stands = subst (λ q. trio.Stands (trio_of (placed_of d b) Sent) (word_of c) (sent_by q x.0)) (lt_itself n) x.2
-
-    held_owed : k.internal ≡ false → Settling (start.Prepare r n (prepares.Load (placed_of d b))) c
-    held_owed external =
-        one_owed (spi_owing d) Done (at (start.Prepare r n (prepares.Load (placed_of d b)))) c (Some (at (start.Prepare r n (prepares.Hold (placed_of d b) read)))) (may_store d fits (set_up_word (placed_of d b)) 0 (own_set_up d fits b k known)) tt refl
-        (one_owed (spi_owing d) Done (at (start.Prepare r n (prepares.Hold (placed_of d b) read))) c (Some (at (next_place d r n))) (may_store d fits (held_word (placed_of d b)) (packed read) (own_held d fits b k known)) tt (goes_on (next_place d r n) (next_owes d r n))
-        (onward later (along_held d fits below owner acted chip w s u few h p word received job.0 job.1 n b k here known c later (upto n) (upto (suc n)) (before n) (before (suc n)) external differs a holding (λ i len ne. sym (lt_else i n ne)) earlier)))
-      where
-        read : SetUp
-        read = or_none (word_of c (set_up_word (placed_of d b))) (placed_of d b).channel
-
-        later : Chip
-        later = chip_after c (Store (held_word (placed_of d b)) (packed read)) 0
-
-        differs : DiffersIn (λ i. i == held_word (placed_of d b)) c later
-        differs = differs_by_store (λ i. i == held_word (placed_of d b)) c (held_word (placed_of d b)) (packed read) a.whole (same_number (held_word (placed_of d b)))
-
-        there_word : held_word (placed_of d b) < WORDS
-        there_word = let low = own_low d fits (held_word (placed_of d b)) (own_held d fits b k known) in omega (arith, low)
-
-        holding : word_of later (held_word (placed_of d b)) ≡ packed (as_read (set_up_or k (channel_at s b).set_up))
-        holding =
-            stored_same c (held_word (placed_of d b)) (packed read) 0 there_word a.whole
-            ∙ ap (λ v. packed (or_none v (placed_of d b).channel)) (a.quiet (set_up_word (placed_of d b)) (quiet_set_up d fits u few (next_job d p) job.0 job.1 b k known))
-            ∙ held_is d fits held chip w s h (h.right.0.1) b k known external
-
-    prepared_owed : Settling (start.Prepare r n (preparing (placed_of d b))) c
-    prepared_owed = subst (λ (z : Channel). Settling (start.Prepare r n (if z.internal then prepares.Pin (pinning_of (placed_of d b) Sent) else prepares.Load (placed_of d b))) c) (sym (has_channel d fits b k known)) (by k.internal refl)
-      where
-        by : (q : Bool) → k.internal ≡ q → Settling (start.Prepare r n (if q then prepares.Pin (pinning_of (placed_of d b) Sent) else prepares.Load (placed_of d b))) c
-        by true e = pinned_owed e
-        by false e = held_owed e
-
   -- ---- all of them
 
-  four_at_most : length cs ≤ 4
-  four_at_most = let f = (fits.jobs (next_job d p) job.0 job.1).few in let count = count_is d fits (next_job d p) job.0 job.1 in omega (arith, f, count)
+  abbrev each : ℕ → Prepare → PendingWrites
+  each i y = at (start.Prepare r i y)
 
-  none_past : (xs : List ℕ) (i : ℕ) → length xs ≤ i → slice_get xs i ≡ None
-  none_past [] i le = refl
-  none_past (x ∷ xs) zero le = absurd (omega (arith, le))
-  none_past (x ∷ xs) (suc i) le = none_past xs i (omega (arith, le))
+  abbrev last : PendingWrites
+  last = at (prepared d r)
 
-  next_is : (n m : ℕ) → n + suc m ≡ 4 → prepare_at d r (suc n) ≡ next_place d r n
-  next_is n m four = by (nat_lt n 3) refl
+  place_is : (i : ℕ) (o : Option ℕ) → at (prepare_by d r i o) ≡ ready_by d (next_job d p) each last i o
+  place_is i None = refl
+  place_is i (Some c) = refl
+
+  next_is : (i : ℕ) → at (next_place d r i) ≡ ready_next d (next_job d p) each last i
+  next_is i = by (nat_lt i 3)
     where
-      by : (q : Bool) → nat_lt n 3 ≡ q → prepare_at d r (suc n) ≡ (if q then prepare_at d r (n + 1) else prepared d r)
-      by true e = ap (λ i. prepare_at d r i) (omega arith)
-      by false e = ap (λ o. prepare_by d r (suc n) o) (number_at d (next_job d p) job.0 job.1 (suc n) ∙ none_past cs (suc n) (let le = is_past n 3 e in let most = four_at_most in omega (arith, le, most)))
+      by : (q : Bool) → at (if q then prepare_at d r (i + 1) else prepared d r) ≡ (if q then ready_at d (next_job d p) each last (i + 1) else last)
+      by true = place_is (i + 1) (channel_number (list_of d r.job) (i + 1))
+      by false = refl
 
-  -- at this place there is a channel, or none any more
-  from_with : (n : ℕ) (c : Chip) → On (upto n) (before n) c → ((b : ℕ) → slice_get cs n ≡ Some b → (c1 : Chip) → On (upto (suc n)) (before (suc n)) c1 → Settling (next_place d r n) c1) → Settling (prepare_at d r n) c
-  from_with n c a onward = by (slice_get cs n) refl
+  owes : OwesReady d (next_job d p) each last
+  owes = record { moves = λ i y. refl; lefts = λ i y v. lefts i y v (prepare_ends y v) }
     where
-      past : (xs : List ℕ) (i n b : ℕ) → n ≤ i → slice_get xs n ≡ None → slice_get xs i ≡ Some b → ⊥
-      past [] i n b le e f = cc
-      past (x ∷ xs) i zero b le e f = cc
-      past (x ∷ xs) zero (suc n) b le e f = omega (arith, le)
-      past (x ∷ xs) (suc i) (suc n) b le e f = past xs i n b (omega (arith, le)) e f
+      lefts : (i : ℕ) (y : Prepare) (v : ℕ) (q : Bool) → left_by (start.Prepare r i y) (start_prepares d r i y v q) ≡ Some (if q then ready_next d (next_job d p) each last i else each i (prepare_left y v))
+      lefts i y v true = goes_on (next_place d r i) (next_owes d r i) ∙ ap (λ z. Some z) (next_is i)
+      lefts i y v false = refl
 
-      all_before : slice_get cs n ≡ None → (i b : ℕ) → slice_get cs i ≡ Some b → nat_lt i n ≡ true
-      all_before none i b is = split (nat_lt i n) refl
-        where
-          split : (q : Bool) → nat_lt i n ≡ q → nat_lt i n ≡ true
-          split true e = e
-          split false e = absurd (past cs i n b (is_past i n e) none is)
+  -- from the first channel on
+  pub from_first : Settling (prepare_at d r 0) c0
+  from_first =
+      subst (λ x. CommitsAfter (spi_owing d) (Some x) c0 Done) (sym (place_is 0 (channel_number (list_of d r.job) 0)))
+      (ready_from d fits u few (next_job d p) job.0 job.1 held s c0 each last owes 0 Done set_ups (λ n c a all. let f = first_there d fits u p for in finished n c a all f.0 f.2.at f.1 f.2.known) 4 0 refl refl c0 ready)
+    where
+      set_ups : (b : ℕ) (k : Channel) → channel_of d b ≡ Some k → k.internal ≡ false → packed (or_none (word_of c0 (set_up_word (placed_of d b))) (placed_of d b).channel) ≡ packed (as_read (set_up_or k (channel_at s b).set_up))
+      set_ups b k known external =
+          ap (λ v. packed (or_none v (placed_of d b).channel)) (a0.quiet (set_up_word (placed_of d b)) (quiet_set_up d fits u few (next_job d p) job.0 job.1 b k known)) ∙ held_is d fits held chip w s h h.right.0.1 b k known external
 
-      by : (o : Option ℕ) → slice_get cs n ≡ o → Settling (prepare_at d r n) c
-      by None e = subst (λ o. Settling (prepare_by d r n o) c) (sym (number_at d (next_job d p) job.0 job.1 n ∙ e)) (let f = first_there d fits u p for in finished n c a (all_before e) f.0 f.2.at f.1 f.2.known)
-      by (Some b) e =
-          subst (λ o. Settling (prepare_by d r n o) c) (sym (number_at d (next_job d p) job.0 job.1 n ∙ e))
-          (let known = channel_there d fits u few (next_job d p) job.0 job.1 b (get_contained cs n b e) in prepared_owed n b known.1 e known.2 c a (onward b e))
-
-  -- from the channel at this place on
-  pub from_place : (m n : ℕ) → n + m ≡ 4 → (c : Chip) → On (upto n) (before n) c → Settling (prepare_at d r n) c
-  from_place zero n four c a = from_with n c a (λ b e c1 a1. absurd (let lt = slice_get_within cs n b e in let most = four_at_most in omega (arith, lt, most, four)))
-  from_place (suc m) n four c a = from_with n c a (λ b e c1 a1. subst (λ x. Settling x c1) (next_is n m four) (from_place m (suc n) (omega (arith, four)) c1 a1))
+      ready : On (upto 0 0) (before 0) c0
+      ready = record { rest = refl; whole = a0.whole; beside = λ i is. refl; sends = a0.sends; holds = a0.holds }

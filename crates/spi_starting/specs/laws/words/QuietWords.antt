@@ -1,5 +1,5 @@
 -- The words that the start of a job may change, and that all others stand apart from them.
--- Used by words.UnitWords, services.StartWords, words.PinnedBanks, bookkeeping.RanState, words.AlongWords.
+-- Used by words.UnitWords, services.StartWords, words.PinnedBanks, bookkeeping.RanState, words.ReadyWords.
 use Rattle.std.proofs.Common.{◌≡◌, ◌≢◌, ◌+◌, ◌<◌, ◌≤◌, ◌==◌, ◌∙◌, ◌⊎◌}
 use Rattle.spi_starting.specs.Terms
 use Terms.{any_in, ap, arith, Channel, channel_of, channels_of, Contains, false, FitsSpi, held_word, inl, inr, IsWordOf}

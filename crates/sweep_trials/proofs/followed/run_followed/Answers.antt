@@ -25,13 +25,16 @@ pub loop-preserved : goal.loop-preserved
 loop-preserved g c =
     let found = c.in-Some.found in
     let u = rw (c.in-Some.is, c.deref-in-loop-2.ensures.value, c.deref-in-loop-3.ensures.value) at c.in_ok-found.ensures in
-    grows_more (g.R.Runs.is_seen c.args.bench.now.runs.now) c.args.bench.now.following.calls.now c.args.start.items c.loop.directives.items c.in_ok-next.next.items c.in_ok-seen.seen found.directive found.made found.reaction found.steps.items (rw (c.deref-in-loop.ensures.value, c.in_ok-flat.ensures.script, c.deref.ensures.value) at c.in_ok-seen.ensures) u (rw c.deref-in-loop-4.ensures.value at c.in_ok-next.ensures) c.loop.invariant
+    grows_more (g.R.Runs.is_seen c.args.bench.now.runs.now) c.args.bench.now.following.calls.now c.args.start.items c.loop.directives.items c.in_ok-next.next.items c.in_ok-seen.seen found.directive found.made found.reaction found.steps.items (rw (c.deref-in-loop.ensures.value, c.in_ok-flat.ensures.script, c.deref.ensures.value) at c.in_ok-seen.ensures.seen) u (rw c.deref-in-loop-4.ensures.value at c.in_ok-next.ensures) c.loop.invariant
 
-pub returns-in_default : goal.returns-in_default
-returns-in_default g c = record {
+pub returns-in_default-clause-seen : goal.returns-in_default-clause-seen
+returns-in_default-clause-seen g c = record {
   grown = c.loop.invariant;
   script = grind (arith, common_steps);
   lines = grind (arith, common_steps);
-  run = rw c.deref-in-loop.ensures.value at c.in_ok-seen.ensures;
+  run = rw c.deref-in-loop.ensures.value at c.in_ok-seen.ensures.seen;
   followed = rw (c.in_default.is, c.deref-in-loop-2.ensures.value, c.deref-in-loop-3.ensures.value) at c.in_ok-found.ensures;
 }
+
+pub returns-in_default-clause-named : goal.returns-in_default-clause-named
+returns-in_default-clause-named g c = c.in_ok-seen.ensures.named

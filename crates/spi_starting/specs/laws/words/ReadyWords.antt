@@ -1,21 +1,35 @@
--- What a move of the window leaves of the words on the way.
--- From bookkeeping.RanState, words.QuietWords.
--- Used by services.StartWords, services.StartBegun.
-use Rattle.std.proofs.Common.{◌≡◌, ◌≢◌, ◌+◌, ◌<◌, ◌≤◌, ◌==◌, ◌∷◌, ◌∙◌, ◌⊎◌}
+-- The channels of a job are made ready, move by move: what each move leaves of the words on the way, whichever frame makes it.
+-- From words.QuietWords, bookkeeping.RanState.
+-- Used by services.ReadyOwed, services.StartWords, services.StartBegun.
+use Rattle.std.proofs.Common.{◌≡◌, ◌≢◌, ◌+◌, ◌<◌, ◌==◌, ◌&&◌, ◌∙◌, ◌⊎◌}
 use Rattle.spi_starting.specs.Terms
-use Terms.{Answer, ap, arith, as_read, Bool, Call, Channel, channel_at, channel_of, channels_of, Chip, chip_after}
-use Terms.{differs_by_store, DiffersIn, false, FitsSpi, get_contained, held_word, holds-agree, in_order, inl, inr, Job}
-use Terms.{job_of, List, MARKS, nat_lt, nat_tests, next_job, not_first, not_held, not_of_other, of_banks, of_held}
-use Terms.{of_one, Option, order_word, Origin, other_number, packed, past_the_first, Pending, placed_of, Reservations}
-use Terms.{same_number, same_or_other, Sent, set_up_or, slice_get, Some, some_is, SpiRepresents, SpiState, SpiTable}
-use Terms.{stands-agree, STATE, Store, subst, suc, sym, trio_of, true, word_of, World, ℕ}
-use Rattle.spi_starting.specs.laws.{words.QuietWords.{IsQuiet}, bookkeeping.RanState.{Along, SentAt, debt_of, sent_by}}
-use Rattle.word_shapes.specs.PriorityQueue as ranked
+use Terms.{ap, arith, as_read, Bool, Channel, channel_at, channel_of, channels_of, Chip, chip_after, Contains}
+use Terms.{differs_by_store, DiffersIn, false, FitsSpi, get_contained, HasWords, held_word, inl, inr, Job}
+use Terms.{job_of, List, nat_le, nat_lt, nat_tests, not_first, not_held, not_of_other, of_banks, of_held, of_one}
+use Terms.{other_number, packed, past_the_first, placed_of, position_word, Reservations, running_word, same_number}
+use Terms.{same_or_other, Sent, set_up_or, slice_get, Some, some_is, SpiState, SpiTable, stands-agree, STATE, Store}
+use Terms.{subst, suc, sym, trio_of, true, word_of, ℕ}
+use Rattle.spi_starting.specs.laws.{bookkeeping.RanState.{SentAt, sent_by}, words.QuietWords.{IsQuiet}}
 use Rattle.word_shapes.specs.TripleBuffer as trio
 
--- the places before this one
-abbrev pub upto : ℕ → (place length : ℕ) → Bool
-upto n i len = nat_lt i n
+-- not a word of what the unit runs, nor of what is sent and held of a channel of its job
+abbrev pub IsBeside : SpiTable → (unit job : ℕ) → ℕ → Type 0
+IsBeside d u j i =
+    (i ≢ running_word u) × (i ≢ position_word u)
+    × ((b : ℕ) (x : Channel) → Contains (channels_of d j) b → channel_of d b ≡ Some x → (x.internal ≡ true → trio.own_of (trio_of (placed_of d b) Sent) i ≡ false) × (i ≢ held_word (placed_of d b)))
+
+pub beside_quiet : (d : SpiTable) (u j i : ℕ) → IsQuiet d u j i → IsBeside d u j i
+beside_quiet d u j i is = (is.2, is.3, is.4)
+
+-- the places before this one, from the first that is made ready on
+abbrev pub upto : (least n : ℕ) → (place length : ℕ) → Bool
+upto m n i len = nat_le m i && nat_lt i n
+
+pub from_none : (n i : ℕ) → (nat_le 0 i && nat_lt i n) ≡ nat_lt i n
+from_none n i = ap (λ q. q && nat_lt i n) (all i)
+  where
+    all : (i : ℕ) → nat_le 0 i ≡ true
+    all i = grind (arith, nat_tests)
 
 abbrev pub before : ℕ → (place : ℕ) → Bool
 before n i = nat_lt i n
@@ -23,39 +37,44 @@ before n i = nat_lt i n
 pub lt_else : (i n : ℕ) → i ≢ n → nat_lt i (suc n) ≡ nat_lt i n
 lt_else i n ne = grind (arith, nat_tests)
 
-module _ (d : SpiTable) (fits : FitsSpi d) (below : Reservations) (owner : Origin Call) (acted : Option Answer) (chip : Chip) (w : World) (s : SpiState) (u : ℕ) (few : u < 2) (h : SpiRepresents d (debt_of u owner acted ∷ below) chip w s) (p : Pending) (word received : ℕ) (job : Job) (is_job : job_of d (next_job d p) ≡ Some job) where
-  abbrev held : Reservations
-  held = debt_of u owner acted ∷ below
-
+module _ (d : SpiTable) (fits : FitsSpi d) (u : ℕ) (few : u < 2) (number : ℕ) (job : Job) (is_job : job_of d number ≡ Some job) (held : Reservations) (s : SpiState) (base : Chip) where
   abbrev cs : List ℕ
-  cs = channels_of d (next_job d p)
+  cs = channels_of d number
 
-  abbrev On : ((place length : ℕ) → Bool) → (ℕ → Bool) → Chip → Type 0
-  On f g c = Along d below owner acted chip w s u h p word received f g c
+  -- these places of the job have their banks pinned, by the lengths of their channels, and at these the set-up is held
+  pub record Ready (pinned : (place length : ℕ) → Bool) (holding : ℕ → Bool) (c : Chip) : Type 0 where
+    pub rest : c ≡ record base { words = c.words }
+    pub whole : HasWords c
+    pub beside : (i : ℕ) → IsBeside d u number i → word_of c i ≡ word_of base i
+    pub sends : (n b : ℕ) (k : Channel) → slice_get cs n ≡ Some b → channel_of d b ≡ Some k → k.internal ≡ true → SentAt d held s b k (word_of c) (pinned n k.length)
+    pub holds : (n b : ℕ) (k : Channel) → slice_get cs n ≡ Some b → channel_of d b ≡ Some k → k.internal ≡ false → holding n ≡ true → word_of c (held_word (placed_of d b)) ≡ packed (as_read (set_up_or k (channel_at s b).set_up))
+
+  -- the other ones of the first words
+  pub beside_first : (i : ℕ) → i < STATE + 64 → i ≢ running_word u → i ≢ position_word u → IsBeside d u number i
+  beside_first i lt running position =
+      (running, position, λ b x at f. (λ inner. not_first d fits b x f inner Sent i lt, λ e. let past = past_the_first d b x (held_word (placed_of d b)) (fits.channels b x f) (of_held d fits b x f) in omega (arith, past, e, lt)))
 
   -- banks stay where their words do
   pub sent_kept : (own : ℕ → Bool) (c c1 : Chip) → DiffersIn own c c1 → (b : ℕ) (k : Channel) (q : Bool) → ((j : ℕ) → trio.own_of (trio_of (placed_of d b) Sent) j ≡ true → own j ≡ false) → SentAt d held s b k (word_of c) q → SentAt d held s b k (word_of c1) q
   sent_kept own c c1 differs b k q apart (x, is, stands) = (x, is, stands-agree (trio_of (placed_of d b) Sent) (word_of c) (word_of c1) (sent_by q x) (λ j mine. sym (differs.others j (apart j mine))) stands)
 
   -- what a move leaves that changes none of the other words
-  pub along_on : (own : ℕ → Bool) (c c1 : Chip) (f f1 : (place length : ℕ) → Bool) (g g1 : ℕ → Bool) → DiffersIn own c c1 → On f g c → ((i : ℕ) → IsQuiet d u (next_job d p) i → own i ≡ false) → ((i : ℕ) → ranked.own_of (record { at = order_word u }) i ≡ true → own i ≡ false) → own MARKS ≡ false
+  pub ready_on : (own : ℕ → Bool) (c c1 : Chip) (f f1 : (place length : ℕ) → Bool) (g g1 : ℕ → Bool) → DiffersIn own c c1 → Ready f g c → ((i : ℕ) → IsBeside d u number i → own i ≡ false)
       → ((n b : ℕ) (k : Channel) → slice_get cs n ≡ Some b → channel_of d b ≡ Some k → k.internal ≡ true → SentAt d held s b k (word_of c1) (f1 n k.length))
       → ((n b : ℕ) (k : Channel) → slice_get cs n ≡ Some b → channel_of d b ≡ Some k → k.internal ≡ false → g1 n ≡ true → word_of c1 (held_word (placed_of d b)) ≡ packed (as_read (set_up_or k (channel_at s b).set_up)))
-      → On f1 g1 c1
-  along_on own c c1 f f1 g g1 differs a quiet order marks sends holds = record {
+      → Ready f1 g1 c1
+  ready_on own c c1 f f1 g g1 differs a beside sends holds = record {
     rest = differs.rest ∙ ap (λ (x : Chip). record x { words = c1.words }) a.rest;
     whole = differs.whole;
-    quiet = λ i is. differs.others i (quiet i is) ∙ a.quiet i is;
-    order = holds-agree (record { at = order_word u }) (word_of c) (word_of c1) _ (λ j mine. sym (differs.others j (order j mine))) a.order;
-    marks = differs.others MARKS marks ∙ a.marks;
+    beside = λ i is. differs.others i (beside i is) ∙ a.beside i is;
     sends = sends;
     holds = holds;
   }
 
   -- a store into one of the first words
-  pub along_first : (c : Chip) (f : (place length : ℕ) → Bool) (g : ℕ → Bool) (j v : ℕ) → On f g c → j < STATE + 64 → ((i : ℕ) → IsQuiet d u (next_job d p) i → i ≢ j) → ((i : ℕ) → ranked.own_of (record { at = order_word u }) i ≡ true → i ≢ j) → MARKS ≢ j → On f g (chip_after c (Store j v) 0)
-  along_first c f g j v a lt quiet order marks =
-      along_on own c (chip_after c (Store j v) 0) f f g g differs a (λ i is. other_number i j (quiet i is)) (λ i mine. other_number i j (order i mine)) (other_number MARKS j marks)
+  pub ready_first : (c : Chip) (f : (place length : ℕ) → Bool) (g : ℕ → Bool) (j v : ℕ) → Ready f g c → j < STATE + 64 → ((i : ℕ) → IsBeside d u number i → i ≢ j) → Ready f g (chip_after c (Store j v) 0)
+  ready_first c f g j v a lt beside =
+      ready_on own c (chip_after c (Store j v) 0) f f g g differs a (λ i is. other_number i j (beside i is))
       (λ n b k at known internal. sent_kept own c (chip_after c (Store j v) 0) differs b k (f n k.length) (λ i mine. other_number i j (λ e. let past = past_the_first d b k i (fits.channels b k known) (of_banks d fits b k known internal Sent i mine) in omega (arith, past, e, lt))) (a.sends n b k at known internal))
       (λ n b k at known external ready. differs.others (held_word (placed_of d b)) (other_number (held_word (placed_of d b)) j (λ e. let past = past_the_first d b k (held_word (placed_of d b)) (fits.channels b k known) (of_held d fits b k known) in omega (arith, past, e, lt))) ∙ a.holds n b k at known external ready)
     where
@@ -68,7 +87,7 @@ module _ (d : SpiTable) (fits : FitsSpi d) (below : Reservations) (owner : Origi
   -- ---- a channel at its place
 
   one_at : (n m b : ℕ) → slice_get cs n ≡ Some b → slice_get cs m ≡ Some b → n ≡ m
-  one_at n m b at too = (fits.jobs (next_job d p) job is_job).once n m b at too
+  one_at n m b at too = (fits.jobs number job is_job).once n m b at too
 
   module _ (n b : ℕ) (k : Channel) (at : slice_get cs n ≡ Some b) (known : channel_of d b ≡ Some k) (c c1 : Chip) where
     -- another place has another channel
@@ -83,17 +102,14 @@ module _ (d : SpiTable) (fits : FitsSpi d) (below : Reservations) (owner : Origi
         let same : a ≡ b = some_is a b (sym here ∙ ap (slice_get cs) e ∙ at) in
         (same, some_is x k (sym is ∙ ap (channel_of d) same ∙ known))
 
-    quiet_trio : k.internal ≡ true → (i : ℕ) → IsQuiet d u (next_job d p) i → trio.own_of (trio_of (placed_of d b) Sent) i ≡ false
-    quiet_trio internal i is = (is.4 b k (get_contained cs n b at) known).0 internal
-
-    order_trio : k.internal ≡ true → (i : ℕ) → ranked.own_of (record { at = order_word u }) i ≡ true → trio.own_of (trio_of (placed_of d b) Sent) i ≡ false
-    order_trio internal i mine = let range = in_order u i few mine in not_first d fits b k known internal Sent i range.1
+    beside_trio : k.internal ≡ true → (i : ℕ) → IsBeside d u number i → trio.own_of (trio_of (placed_of d b) Sent) i ≡ false
+    beside_trio internal i is = (is.2 b k (get_contained cs n b at) known).0 internal
 
     -- its banks are changed
-    pub along_sent : (f f1 : (place length : ℕ) → Bool) (g g1 : ℕ → Bool) → k.internal ≡ true → DiffersIn (trio.own_of (trio_of (placed_of d b) Sent)) c c1 → On f g c → SentAt d held s b k (word_of c1) (f1 n k.length)
-        → ((i len : ℕ) (a : ℕ) → slice_get cs i ≡ Some a → i ≢ n → f i len ≡ f1 i len) → ((i a : ℕ) → slice_get cs i ≡ Some a → i ≢ n → g1 i ≡ true → g i ≡ true) → On f1 g1 c1
-    along_sent f f1 g g1 internal differs a sent others ready =
-        along_on (trio.own_of (trio_of (placed_of d b) Sent)) c c1 f f1 g g1 differs a (quiet_trio internal) (order_trio internal) (not_first d fits b k known internal Sent MARKS (omega arith)) sends holds
+    pub ready_sent : (f f1 : (place length : ℕ) → Bool) (g g1 : ℕ → Bool) → k.internal ≡ true → DiffersIn (trio.own_of (trio_of (placed_of d b) Sent)) c c1 → Ready f g c → SentAt d held s b k (word_of c1) (f1 n k.length)
+        → ((i len : ℕ) (a : ℕ) → slice_get cs i ≡ Some a → i ≢ n → f i len ≡ f1 i len) → ((i a : ℕ) → slice_get cs i ≡ Some a → i ≢ n → g1 i ≡ true → g i ≡ true) → Ready f1 g1 c1
+    ready_sent f f1 g g1 internal differs a sent others ready =
+        ready_on (trio.own_of (trio_of (placed_of d b) Sent)) c c1 f f1 g g1 differs a (beside_trio internal) sends holds
       where
         sends : (i a : ℕ) (x : Channel) → slice_get cs i ≡ Some a → channel_of d a ≡ Some x → x.internal ≡ true → SentAt d held s a x (word_of c1) (f1 i x.length)
         sends i a1 x here is inner = by (same_or_other i n)
@@ -114,17 +130,12 @@ module _ (d : SpiTable) (fits : FitsSpi d) (below : Reservations) (owner : Origi
             by (inr ne) = differs.others (held_word (placed_of d a1)) (not_held d fits b k known internal Sent a1 x is) ∙ a.holds i a1 x here is outer (ready i a1 here ne now)
 
     -- its set-up is held
-    pub along_held : (f f1 : (place length : ℕ) → Bool) (g g1 : ℕ → Bool) → k.internal ≡ false → DiffersIn (λ i. i == held_word (placed_of d b)) c c1 → On f g c → word_of c1 (held_word (placed_of d b)) ≡ packed (as_read (set_up_or k (channel_at s b).set_up))
-        → ((i len : ℕ) → i ≢ n → f i len ≡ f1 i len) → ((i a : ℕ) → slice_get cs i ≡ Some a → i ≢ n → g1 i ≡ true → g i ≡ true) → On f1 g1 c1
-    along_held f f1 g g1 external differs a holding others ready =
-        along_on (λ i. i == held_word (placed_of d b)) c c1 f f1 g g1 differs a
-        (λ i is. other_number i (held_word (placed_of d b)) (is.4 b k (get_contained cs n b at) known).1)
-        (λ i mine. other_number i (held_word (placed_of d b)) (λ e. let range = in_order u i few mine in let high = range.1 in let gone = past in omega (arith, gone, e, high)))
-        (other_number MARKS (held_word (placed_of d b)) (λ e. let gone = past in omega (arith, gone, e))) sends holds
+    pub ready_held : (f f1 : (place length : ℕ) → Bool) (g g1 : ℕ → Bool) → k.internal ≡ false → DiffersIn (λ i. i == held_word (placed_of d b)) c c1 → Ready f g c → word_of c1 (held_word (placed_of d b)) ≡ packed (as_read (set_up_or k (channel_at s b).set_up))
+        → ((i len : ℕ) → i ≢ n → f i len ≡ f1 i len) → ((i a : ℕ) → slice_get cs i ≡ Some a → i ≢ n → g1 i ≡ true → g i ≡ true) → Ready f1 g1 c1
+    ready_held f f1 g g1 external differs a holding others ready =
+        ready_on (λ i. i == held_word (placed_of d b)) c c1 f f1 g g1 differs a
+        (λ i is. other_number i (held_word (placed_of d b)) (is.2 b k (get_contained cs n b at) known).1) sends holds
       where
-        past : STATE + 64 ≤ held_word (placed_of d b)
-        past = past_the_first d b k (held_word (placed_of d b)) (fits.channels b k known) (of_held d fits b k known)
-
         sends : (i a : ℕ) (x : Channel) → slice_get cs i ≡ Some a → channel_of d a ≡ Some x → x.internal ≡ true → SentAt d held s a x (word_of c1) (f1 i x.length)
         sends i a1 x here is inner = by (same_or_other i n)
           where

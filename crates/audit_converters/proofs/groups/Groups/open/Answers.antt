@@ -1,0 +1,8 @@
+use Rattle.audit_converters.proofs.Terms.{ap, Kept, no_marks, no_rounds, refl, untouched_groups, within_blank, ◌∙◌}
+use Rattle.audit_converters.proofs.groups.Groups.open.Goals as goal
+
+pub invariant_of-self : goal.invariant_of-self
+invariant_of-self c = (refl, refl, refl, c.self.invariant.3, within_blank 16 c.self.inside.events)
+
+pub returns-clause-is : goal.returns-clause-is
+returns-clause-is c s h = record { initialised = refl; groups = untouched_groups; units = no_rounds; marks = no_marks; requests = ap (λ (k : Kept). k.requests) c.self.view_is ∙ h.requests }

@@ -1,0 +1,21 @@
+//! The machine of the converter groups as a program: what each call, each start and abort, each serving, each pulse and a
+//! reset do to its state, and what they tell.
+#![tactic(auto)]
+
+mod calls;
+mod checks;
+mod converters;
+mod group;
+mod groups;
+mod options;
+mod results;
+mod rounds;
+mod samples;
+mod servings;
+mod triggers;
+mod truths;
+mod turns;
+mod values;
+
+pub use converters::Converters;
+pub use samples::Samples;

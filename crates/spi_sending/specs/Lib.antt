@@ -1,0 +1,3 @@
+pub mod Sending
+pub mod Terms
+pub mod laws

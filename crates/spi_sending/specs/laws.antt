@@ -1,0 +1,3 @@
+pub mod bookkeeping
+pub mod hardware
+pub mod services

@@ -1,0 +1,17 @@
+pub mod SendAround
+pub mod SendBegins
+pub mod SendBegun
+pub mod SendFirst
+pub mod SendFree
+pub mod SendFuel
+pub mod SendFurther
+pub mod SendGoesOn
+pub mod SendKeeps
+pub mod SendLast
+pub mod SendOwed
+pub mod SendReady
+pub mod SendRight
+pub mod SendStarts
+pub mod SendSteps
+pub mod SendWindows
+pub mod WindowsRight

@@ -1,0 +1,461 @@
+-- The sequence ends, with its last word or with one that failed: the event, and the moves that the last window owes after it.
+-- From bookkeeping.HeldWord, bookkeeping.SentBeside, services.SendFurther, services.SendWindows, spi_serving: services.JobLeft and 3
+-- more.
+-- Used by services.SendSteps.
+use Rattle.std.proofs.Common.{◌≡◌, ◌≢◌, ◌+◌, ◌-◌, ◌<◌, ◌≤◌, ◌==◌, ◌&&◌, ◌||◌, ◌∷◌, ◌∙◌, ◌⊎◌, if◌then◌else◌}
+use Rattle.spi_sending.specs.Terms
+use Terms.{act_of, after_last, all_carried, all_of, AllSend, AnswerName, answers, ap, AreCarried, AreOwed, arith}
+use Terms.{Arrived, aside_high, asked_unit, at_left, banks_held, begun, Bool, both_outside, both_told, Call, Called}
+use Terms.{carried_at, carried_for, CarriesAgrees, Carrying, ChannelState, Chip, commit_by, commit_ends, CommitsTo}
+use Terms.{Contains, DiffersIn, drop, ended_sound, ended_view, ended_words, ends_here, ENotOk, entries_of}
+use Terms.{entry_carried, EOk, error_of_sending, FAILED, failed_word, false, first_internal, first_pinned, first_told}
+use Terms.{FitsSpi, freed_as, fresh_history, given_back, Going, going_here, going_left, going_other, has_ended}
+use Terms.{has_further, held_word, holds_debt, HoldsLike, inl, inr, is_below, is_left, is_off, is_owed, is_sent}
+use Terms.{is_sync_unit, is_told, IsAside, IsEnding, IsFilled, IsLast, IsOfSequence, IsSending, IsServed}
+use Terms.{IsSoundState, IsTold, item-other, item-same, job_code, job_result, job_word, jobs_in, jobs_list, jobs_of}
+use Terms.{keep_ends, keep_of, last_is, last_like, last_stored, Leaves, leaves_begun, Leaving, left_at, LeftAt}
+use Terms.{length, List, list_any, MARKS, may_end, may_store, named, nat_lt, nat_tests, next_job, next_small, NEXTS}
+use Terms.{None, not, not_order, not_sent, not_true, of_held, one_job, one_owed, one_place, Option, order_before}
+use Terms.{order_left, order_word, Origin, other_free, other_number, others_differ, outcome, owed_left, OwesEnds}
+use Terms.{own_first, past_the_first, Pending, placed_of, Position, refl, release_by, release_last, Reservations}
+use Terms.{result_by, right_like, Run, run_at, run_carried, RunsBy, RunsNext, same_number, same_or_other}
+use Terms.{sending_ends, Sends, sends_on, sent, Sequence, sequence_code, sequence_of, sequence_result_by}
+use Terms.{sequence_word, sequences_as, SequencesAgree, serve_commits, serve_keeps_last, serve_owes, serve_releases}
+use Terms.{serve_takes, ServePlace, slice_index_or, Some, sound_as, spi_owing, SpiJobOk, SpiRepresents, SpiSeqOk}
+use Terms.{SpiSeqPending, SpiState, SpiTable, start_owed, STATE, subst, sym, sync_owed, take_gave, told_first}
+use Terms.{told_other, told_second, ToServe, true, UnderWay, unit_at, unit_of_sequence, UnitAgrees, View, view}
+use Terms.{with_item, word_of, World, ℕ}
+use Rattle.spi_sending.specs.Sending.{device_at, EndsWith, IsSender, sent_answer}
+use Rattle.spi_sending.specs.laws.bookkeeping.CarriedOut as carried_out
+use Rattle.spi_sending.specs.laws.bookkeeping.HeldWord as held_word_laws
+use Rattle.spi_sending.specs.laws.{bookkeeping.HeldWord.{like_through, sending_of, sends_alike}, bookkeeping.SentBeside.{sends_beside}}
+use Rattle.spi_sending.specs.laws.{services.SendAround.{body}}
+use Rattle.spi_sending.specs.laws.{services.SendWindows.{asks, SequenceEnds}}
+use Rattle.spi_serving.specs.laws.services.FreedUnit as freed
+use Rattle.spi_serving.specs.laws.services.JobLeft as left
+use Rattle.spi_serving.specs.laws.bookkeeping.JobEnd as job_ends
+use Rattle.spi_serving.specs.laws.bookkeeping.JobEnd.{jobs_count}
+use Rattle.chip_units.specs.Serials as serials
+use Rattle.word_shapes.specs.PriorityQueue as ranked
+use Rattle.spi_sequences.specs.Refinement.{IsLast as IsLastResult}
+use Rattle.spi_sequences.specs.declared.service.serve.SequenceNext.TheVariants as courses
+use Rattle.spi_sequences.specs.declared.service.serve.ServePlace.TheVariants as serve
+use Rattle.spi_sequences.specs.declared.service.sync.SyncPlace.TheVariants as place
+
+-- ---- the moves of the end, as the frame owes them
+
+pub sent_ends : (d : SpiTable) (q u n : ℕ) (at : Position) (bs : List ℕ) → OwesEnds d u (λ z. Sends (body d q u n at bs (place.Serve z)))
+sent_ends d q u n at bs = record { moves = λ z. refl; lefts = lefts }
+  where
+    Left : ServePlace → Type 0
+    Left z = sync_owed (body d q u n at bs (place.Serve z)) ≡ Some (Sends (body d q u n at bs (place.Serve z)))
+
+    -- places of the end owe moves in either frame
+    releases : (l : Leaving) (o : Option ℕ) → Left (release_by d l o)
+    releases l None = refl
+    releases l (Some i) = refl
+
+    commits : (l : Leaving) (o : Option ℕ) → Left (commit_by d l o)
+    commits l None = refl
+    commits l (Some i) = refl
+
+    lefts : (z : ServePlace) (v : ℕ) → IsEnding z → serve_owes (serve_takes d u z v).0 ≡ true → owed_left (Sends (body d q u n at bs (place.Serve z))) v ≡ Some (Sends (body d q u n at bs (place.Serve (serve_takes d u z v).0)))
+    lefts (serve.Free r c) v i o = by r.served.failed
+      where
+        l : Leaving
+        l = record { served = r.served; taker = r.taker; course = c }
+
+        by : (b : Bool) → Left (if b then release_last d l (4 - r.served.at.channel) else serve.KeepLast l (keep_of d r))
+        by true = releases l (first_pinned d r.served (4 - r.served.at.channel))
+        by false = refl
+    lefts (serve.Release l m t) v i o = by (has_ended (take_gave t v))
+      where
+        by : (b : Bool) → Left (serve_releases d l m t v b).0
+        by true = releases l (first_pinned d l.served (3 - m))
+        by false = refl
+    lefts (serve.KeepLast l k) v i o = by (keep_ends k)
+      where
+        by : (b : Bool) → Left (serve_keeps_last d l k b).0
+        by true = commits l (first_internal d l.served 4)
+        by false = refl
+    lefts (serve.Commit l m c) v i o = by (commit_ends c v)
+      where
+        by : (b : Bool) → Left (serve_commits d l m c v b).0
+        by true = commits l (first_internal d l.served (3 - m))
+        by false = refl
+    lefts _ v i o = absurd i
+
+-- the result of a job, and of a sequence that ends with it
+last_result : (b : Bool) → IsLastResult (result_by b)
+last_result true = tt
+last_result false = tt
+
+told_result : (b : Bool) → failed_word b ≡ job_code (result_by b)
+told_result true = refl
+told_result false = refl
+
+ends_named : (b : Bool) → IsOfSequence (sequence_result_by b)
+ends_named true = tt
+ends_named false = tt
+
+ends_over : (b : Bool) → sequence_result_by b ≡ SpiSeqPending → ⊥
+ends_over true e = cc
+ends_over false e = cc
+
+ends_code : (b : Bool) → (if b then FAILED else 0) ≡ sequence_code (sequence_result_by b)
+ends_code true = refl
+ends_code false = refl
+
+below_so : (a b : ℕ) → a < b → nat_lt a b ≡ true
+below_so a b lt = grind (arith, nat_tests)
+
+module _ (d : SpiTable) (fits : FitsSpi d) (below : Reservations) (chip : Chip) (w : World) (s : SpiState) (q u n : ℕ) (at : Position) (bs : List ℕ) (a : Arrived) (x y : ℕ) (is : IsSender d d q u bs below (Called (asks q)) fresh_history)
+    (h : SpiRepresents d (sending_of u q n at bs (Some a.served.failed) (device_at d q n) ∷ below) chip w s)
+    (i : IsLast d (word_of chip) s w.now u a) (ends : EndsWith (body d q u n at bs (place.Serve (serve.Acknowledge a (courses.Ends x)))) a x) where
+  abbrev device : ℕ
+  device = device_at d q n
+
+  abbrev held : Reservations
+  held = sending_of u q n at bs (Some a.served.failed) device ∷ below
+
+  abbrev says : IsSending d chip w h.going s u q n at bs (Some a.served.failed) device
+  says = h.sending.0
+
+  abbrev few : u < 2
+  few = says.few
+
+  on : is_off s.mode ≡ false
+  on = h.right.0.1
+
+  abbrev by : IsServed d (word_of chip) s w.now u a.served
+  by = left.served d fits held chip w s h u few a i y
+
+  abbrev run : Run
+  run = by.done.run
+
+  abbrev under : UnderWay d held chip w s h u run
+  under = left.under d fits held chip w s h u few a i y
+
+  abbrev pub st : ToServe
+  st = left.st d fits held chip w s h u few a i y
+
+  abbrev its : Pending
+  its = under.job.pending
+
+  abbrev failed : Bool
+  failed = run.transfer.failed
+
+  -- ---- its job is the one that the frame sends
+
+  sequence_is : its.sequence ≡ q
+  sequence_is = carried_out.sequence_is d fits below chip w s u q n at bs (Some a.served.failed) device h run by.done.is under
+
+  next_is : its.next ≡ n
+  next_is = carried_out.next_is d fits below chip w s u q n at bs (Some a.served.failed) device h run by.done.is under
+
+  begun_is : (view s).begun u ≡ Some its
+  begun_is = carried_out.begun_is d fits below chip w s u q n at bs (Some a.served.failed) device h run by.done.is under
+
+  abbrev carrying : Carrying
+  carrying = record { entry = its; run = run }
+
+  carried_is : carried_at s u ≡ Some carrying
+  carried_is = carried_out.carried_is d fits below chip w s u q n at bs (Some a.served.failed) device h run by.done.is under
+
+  -- ---- the event
+
+  carried_there : carried_for d s q ≡ Some carrying
+  carried_there = carried_out.carried_there d fits below chip w s u q n at bs (Some a.served.failed) device h run by.done.is under is on
+
+  none_further : failed ≡ false → has_further d its ≡ false
+  none_further good = by_count (nat_lt (n + 1) (jobs_list d q).count) refl
+    where
+      few_jobs : (o : Option Sequence) → sequence_of d q ≡ o → (jobs_in o).count ≤ 16
+      few_jobs None e = omega arith
+      few_jobs (Some k) e = (fits.sequences q k e).few
+
+      ended : nat_lt n 15 && nat_lt (n + 1) (jobs_list d q).count ≡ false
+      ended = ends.1 (sym by.done.failed ∙ good)
+
+      by_count : (b : Bool) → nat_lt (n + 1) (jobs_list d q).count ≡ b → has_further d its ≡ false
+      by_count true e =
+          let more = is_below (n + 1) (jobs_list d q).count e in
+          let most = few_jobs (sequence_of d q) refl in
+          let small = below_so n 15 (omega (arith, more, most)) in
+          absurd (let f = sym ended ∙ ap (λ z. z && nat_lt (n + 1) (jobs_list d q).count) small ∙ e in cc)
+      by_count false e = ap (λ z. nat_lt (z + 1) (length (jobs_of d its.sequence))) next_is ∙ ap (λ z. nat_lt (n + 1) (length (jobs_of d z))) sequence_is ∙ ap (nat_lt (n + 1)) (sym (jobs_count d fits q)) ∙ e
+
+  may_so : may_end d w carrying ≡ true
+  may_so = ap (λ b. b && not (sends_on d carrying)) by.done.done ∙ ap (λ b. not (b || (not failed && has_further d its))) (ends_here d fits held chip w s h u few a i) ∙ ap not (none_more failed refl)
+    where
+      none_more : (b : Bool) → failed ≡ b → (not failed && has_further d its) ≡ false
+      none_more true e = ap (λ b. not b && has_further d its) e
+      none_more false e = ap (λ b. not b && has_further d its) e ∙ none_further e
+
+  abbrev cs : List ChannelState
+  cs = (after_last s run failed).channels
+
+  abbrev results : List AnswerName
+  results = with_item SpiJobOk s.job_results (next_job d its) (result_by failed)
+
+  abbrev ended_with : AnswerName
+  ended_with = sequence_result_by failed
+
+  -- the machine's state after it
+  abbrev pub state1 : SpiState
+  state1 = record s { channels = cs; carried = with_item None s.carried u None; sequence_results = with_item SpiSeqOk s.sequence_results its.sequence ended_with; job_results = given_back d its (its.next + 1) results }
+
+  answer_is : named (if failed then ENotOk else EOk) ≡ sent_answer x
+  answer_is = ap (λ b. named (if b then ENotOk else EOk)) by.done.failed ∙ each a.served.failed ∙ ap sent_answer (sym ends.0)
+    where
+      each : (b : Bool) → named (if b then ENotOk else EOk) ≡ sent_answer (if b then FAILED else 0)
+      each true = refl
+      each false = refl
+
+  pub act_is : act_of d w s (asks q) ≡ Some (outcome state1 (answers (sent_answer x)))
+  act_is =
+      ap (sending_ends d w s q) carried_there
+      ∙ ap (λ b. if b then (if may_end d w carrying then Some (sent d s (unit_of_sequence d q) carrying failed) else None) else not_sent s q (error_of_sending d s q)) (ap (λ z. z == q) sequence_is ∙ same_number q)
+      ∙ ap (λ b. if b then Some (sent d s (unit_of_sequence d q) carrying failed) else None) may_so ∙ ap (λ v. Some (sent d s v carrying failed)) (sym is.unit)
+      ∙ ap (λ (z : SpiState). Some (outcome (record z { carried = with_item None z.carried u None; sequence_results = with_item SpiSeqOk s.sequence_results its.sequence ended_with; job_results = given_back d its (its.next + 1) results }) (answers (named (if failed then ENotOk else EOk))))) (last_is s run failed)
+      ∙ ap (λ v. Some (outcome state1 (answers v))) answer_is
+
+  -- ---- the words and registers after its moves
+
+  like : IsFilled cs s
+  like = last_like s run failed
+
+  abbrev owner : Origin Call
+  owner = Called (asks q)
+
+  abbrev chip1 : Chip
+  chip1 = left.chip1 d fits held chip w s h u few a i y
+
+  abbrev pub Done : Chip → Type 0
+  Done c = SpiRepresents d below c w state1
+
+  all : Contains (all_of (view s)) its
+  all = all_carried (view s) u its few begun_is
+
+  within : its.next < length (jobs_of d its.sequence)
+  within = (h.sound.entries its all).next
+
+  abbrev begun1 : ℕ → Option Pending
+  begun1 = (view state1).begun
+
+  begun_here : begun1 u ≡ None
+  begun_here = ap entry_carried (item-same None s.carried u None)
+
+  begun_other : (m : ℕ) → m ≢ u → begun1 m ≡ (view s).begun m
+  begun_other m ne = ap entry_carried (item-other None s.carried u m None ne)
+
+  leaves : Leaves (view s) its (view s).pending begun1
+  leaves = leaves_begun d (view s) h.sound u its begun_is begun1 begun_here begun_other
+
+  -- of the jobs that were left its own alone has run
+  abbrev later : ℕ → Bool
+  later j = list_any (λ k. k == j) (drop (its.next + 1) (jobs_of d its.sequence))
+
+  own_left : is_left d (next_job d its) its ≡ true
+  own_left = left_at (jobs_of d its.sequence) its.next its.next (next_job d its) within (omega arith) refl
+
+  own_run : later (next_job d its) ≡ false
+  own_run = not_true (later (next_job d its)) (λ e. by_left (at_left (jobs_of d its.sequence) (its.next + 1) (next_job d its) e))
+    where
+      by_left : LeftAt (jobs_of d its.sequence) (its.next + 1) (next_job d its) → ⊥
+      by_left z = let same = one_place d fits its.sequence z.place its.next z.within within z.is in let from = z.from in omega (arith, same, from)
+
+  is_own : (j : ℕ) → is_left d j its ≡ true → later j ≡ false → j ≡ next_job d its
+  is_own j there none = by_left (at_left (jobs_of d its.sequence) its.next j there)
+    where
+      greater : (m k : ℕ) → m ≤ k → k ≢ m → m + 1 ≤ k
+      greater m k le other = grind arith
+
+      by_left : LeftAt (jobs_of d its.sequence) its.next j → j ≡ next_job d its
+      by_left z = split (same_or_other z.place its.next)
+        where
+          split : (z.place ≡ its.next) ⊎ (z.place ≢ its.next) → j ≡ next_job d its
+          split (inl e) = sym z.is ∙ ap (λ m. slice_index_or (jobs_of d its.sequence) m 0) e
+          split (inr ne) = absurd (let from = z.from in let past : its.next + 1 ≤ z.place = greater its.next z.place from ne in let f = sym none ∙ left_at (jobs_of d its.sequence) (its.next + 1) z.place j z.within past z.is in cc)
+
+  ran : (j : ℕ) → is_left d j its ≡ true → later j ≡ false → IsLastResult (job_result results j)
+  ran j there none = subst (λ k. IsLastResult (job_result results k)) (sym (is_own j there none)) (subst (λ z. IsLastResult z) (sym (item-same SpiJobOk s.job_results (next_job d its) (result_by failed))) (last_result failed))
+
+  unrun : (j : ℕ) → is_left d j its ≡ false → job_result results j ≡ job_result s.job_results j
+  unrun j none = item-other SpiJobOk s.job_results (next_job d its) j (result_by failed) (λ e. let f = sym none ∙ ap (λ k. is_left d k its) e ∙ own_left in cc)
+
+  next_le : its.next ≤ its.next + 1
+  next_le = omega arith
+
+  idle_off : is_off s.mode ≡ true → (m : ℕ) → (view s).idle m ≡ true
+  idle_off e = absurd (let f = sym on ∙ e in cc)
+
+  -- the view after it
+  abbrev view1 : View
+  view1 = ended_view d fits (view s) h.sound its all (its.next + 1) next_le results ran unrun (view s).pending begun1 leaves (view s).running (view s).idle ended_with (ends_named failed) (ends_over failed) (λ m ne. refl) h.sound.few h.sound.carries.idle idle_off
+
+  sound : IsSoundState d (view state1)
+  sound = sound_as d view1 s.mode (view state1).written (view state1).received (view state1).sources (λ e. absurd (let f = sym on ∙ e in cc)) (λ e m. absurd (let f = sym on ∙ e in cc))
+      (ended_sound d fits (view s) h.sound its all (its.next + 1) next_le results ran unrun (view s).pending begun1 leaves (view s).running (view s).idle ended_with (ends_named failed) (ends_over failed) (λ m ne. refl) h.sound.few h.sound.carries.idle idle_off)
+
+  nexts : (m : ℕ) → m < 2 → RunsNext d (view state1) m (going_left st m)
+  nexts m lt = by_unit (same_or_other m u)
+    where
+      other : m ≢ u → (o : Option Going) → h.going m ≡ o → RunsNext d (view s) m o → RunsNext d (view state1) m o
+      other ne None e r = tt
+      other ne (Some k) e r = (leaves.stays k.pending r.0 (others_differ st m k lt ne e), split (is_sync_unit d m) r.1, r.2)
+        where
+          split : (b : Bool) → RunsBy b (view s) m k.pending → RunsBy b (view state1) m k.pending
+          split true begun = begun_other m ne ∙ begun
+          split false asked = asked
+
+      by_unit : (m ≡ u) ⊎ (m ≢ u) → RunsNext d (view state1) m (going_left st m)
+      by_unit (inl e) = subst (λ k. RunsNext d (view state1) k (going_left st k)) (sym e) (subst (λ o. RunsNext d (view state1) u o) (sym (going_here h.going u None)) tt)
+      by_unit (inr ne) = subst (λ o. RunsNext d (view state1) m o) (sym (going_other h.going u None m ne)) (other ne (h.going m) refl (h.nexts m lt))
+
+  owed : AreOwed d below (going_left st) state1
+  owed m z lt free there mine = by_unit (same_or_other m u)
+    where
+      by_unit : (m ≡ u) ⊎ (m ≢ u) → is_owed m below ≡ true
+      by_unit (inl e) = absurd (let f = sym (asked_unit d fits (view s) h.sound m z there mine) ∙ ap (is_sync_unit d) e ∙ says.sync in cc)
+      by_unit (inr ne) = h.owed m z lt (other_free st m ne free) there mine
+
+  -- each of the other sequences is that of a frame below
+  carriers : AreCarried (view state1) below
+  carriers m p begun =
+      let r = leaves.carried m p begun in
+      sym (ap (λ b. b || list_any (λ z. is_sent p.sequence z.what) below) (other_number q p.sequence (λ e. r.1 (sym e ∙ sym sequence_is)))) ∙ h.carriers m p r.0
+
+  other_one : (m : ℕ) → is_sync_unit d m ≡ false → m ≢ u
+  other_one m async e = let f = sym async ∙ ap (is_sync_unit d) e ∙ says.sync in absurd (cc)
+
+  abbrev owing : Reservations
+  owing = start_owed u owner None ∷ held
+
+  -- what is held of channels is that of the frames below
+  held_alike : HoldsLike d owing below
+  held_alike = like_through d held owing below (holds_debt d (start_owed u owner None) u held refl) (like_through d below held below (sends_alike d below u q n at bs (Some a.served.failed) device) (record { puts = λ sources c r. refl; takes = λ c. refl; prepares = refl; readied = refl; stored = refl }))
+
+  -- ---- its results are told
+
+  abbrev leaving : Leaving
+  leaving = record { served = a.served; taker = a.taker; course = courses.Ends x }
+
+  job_is : a.served.run.job ≡ next_job d its
+  job_is = job_ends.job_is d fits held chip w s h u few a i y
+
+  run_sequence : a.served.run.sequence ≡ its.sequence
+  run_sequence = job_ends.sequence_is d fits held chip w s h u few a i y
+
+  job_few : a.served.run.job < 16
+  job_few = subst (λ j. j < 16) (sym job_is) (next_small d fits held chip w s h its all)
+
+  number : a.served.run.sequence < 8
+  number = subst (λ z. z < 8) (sym run_sequence) (h.sound.entries its all).number
+
+  abbrev result : ℕ
+  result = job_word a.served.run.job
+
+  abbrev ending : ℕ
+  ending = sequence_word a.served.run.sequence
+
+  aside : IsAside result
+  aside = aside_high result (omega arith) (let lt = job_few in omega (arith, lt))
+
+  beside : IsAside ending
+  beside = aside_high ending (omega arith) (let lt = number in omega (arith, lt))
+
+  apart : result ≢ ending
+  apart f = let lt = job_few in omega (arith, f, lt)
+
+  was : SequencesAgree d (word_of chip) (view s)
+  was = (h.words.on on).sequences
+
+  module _ (c : Chip) (l : freed.Left st owner None cs like c) where
+    abbrev second : Chip
+    second = both_told w u few c l.outside result aside (failed_word a.served.failed) ending beside x apart
+
+    differs : DiffersIn (ranked.own_of (record { at = order_word u })) second second
+    differs = record { rest = refl; whole = (both_outside w u few c l.outside result aside (failed_word a.served.failed) ending beside x apart).all.words; others = λ j out. refl }
+
+    t : IsTold w c second
+    t = is_told w u few c l.outside result aside (failed_word a.served.failed) ending beside x apart second differs
+
+    other : (j : ℕ) → ranked.own_of (record { at = order_word u }) j ≡ false → j ≢ result → j ≢ ending → word_of second j ≡ word_of c j
+    other j out na nb = told_other w u few c l.outside result aside (failed_word a.served.failed) ending beside x apart second differs j out na nb
+
+    low_same : (j : ℕ) → STATE < j → j < STATE + 8 → word_of second j ≡ word_of chip j
+    low_same j low lt = other j (not_order u j (λ z. omega (arith, z, lt)) (λ z. omega (arith, z, lt)) (λ z. omega (arith, z, lt))) (λ z. omega (arith, z, lt)) (λ z. omega (arith, z, lt)) ∙ l.first j (omega (arith, low)) (omega (arith, lt)) (λ z. omega (arith, z, lt))
+
+    high_same : (j : ℕ) → STATE + 24 ≤ j → j < STATE + 64 → j ≢ result → j ≢ ending → word_of second j ≡ word_of chip j
+    high_same j le lt na nb = other j (not_order u j (λ z. omega (arith, z, le, few)) (λ z. omega (arith, z, le, few)) (λ z. omega (arith, z, le, few))) na nb ∙ l.first j (omega (arith, le)) lt (λ z. omega (arith, z, le, few))
+
+    told : word_of second (sequence_word its.sequence) ≡ sequence_code ended_with
+    told =
+        ap (λ z. word_of second (sequence_word z)) (sym run_sequence) ∙ told_second w u few c l.outside result aside (failed_word a.served.failed) ending beside x apart second differs
+        ∙ ends.0 ∙ ap (λ b. if b then FAILED else 0) (sym by.done.failed) ∙ ends_code failed
+
+    result_told : word_of second (job_word (next_job d its)) ≡ job_code (job_result results (next_job d its))
+    result_told =
+        ap (λ j. word_of second (job_word j)) (sym job_is) ∙ told_first w u few c l.outside result aside (failed_word a.served.failed) ending beside x apart second differs ∙ ap failed_word (sym by.done.failed) ∙ told_result failed
+        ∙ ap job_code (sym (item-same SpiJobOk s.job_results (next_job d its) (result_by failed)))
+
+    orders : (m : ℕ) → m < 2 → ranked.Holds (record { at = order_word m }) (word_of second) (entries_of d view1 m)
+    orders m lt = order_before w u few c l.outside result aside (failed_word a.served.failed) ending beside x apart m lt (entries_of d (view s) m) (order_left st owner None cs like c l m lt)
+
+    job_same : (j : ℕ) → j < 16 → (is_left d j its && not (later j)) ≡ false → word_of second (job_word j) ≡ word_of chip (job_word j)
+    job_same j lt unless = high_same (job_word j) (omega arith) (omega (arith, lt)) (λ z. let same = job_is in own (omega (arith, z, same))) (λ z. omega (arith, z, lt))
+      where
+        own : j ≡ next_job d its → ⊥
+        own e = let z = sym unless ∙ ap (λ k. is_left d k its && not (later k)) e ∙ ap (λ b. b && not (later (next_job d its))) own_left ∙ ap not own_run in cc
+
+    sequences : SequencesAgree d (word_of second) (view state1)
+    sequences = sequences_as d view1 s.mode (view state1).written (view state1).received (view state1).sources (word_of second)
+        (ended_words d fits (view s) h.sound its all (its.next + 1) next_le results ran unrun (view s).pending begun1 leaves (view s).running (view s).idle ended_with (ends_named failed) (ends_over failed) (λ m ne. refl) h.sound.few h.sound.carries.idle idle_off (word_of chip) (word_of second) was
+        (λ m lt ne. high_same (sequence_word m) (omega arith) (omega (arith, lt)) (λ z. let lt1 = job_few in omega (arith, z, lt1)) (λ z. let same = run_sequence in ne (omega (arith, z, same)))) told
+        (low_same NEXTS (omega arith) (omega arith)) (low_same MARKS (omega arith) (omega arith)) job_same
+        (λ j lt there none. subst (λ k. word_of second (job_word k) ≡ job_code (job_result results k)) (sym (is_own j there none)) result_told) orders)
+
+    unit_now : (m : ℕ) → m < 2 → is_sync_unit d m ≡ false → UnitAgrees d (unit_at second.serials m) (run_at state1 m) (going_left st m)
+    unit_now m lt async =
+        let ne = other_one m async in
+        subst (λ z. UnitAgrees d (unit_at z.serials m) (run_at s m) (going_left st m)) (sym t.rest)
+        (subst (λ z. UnitAgrees d z (run_at s m) (going_left st m)) (sym (l.others m ne))
+        (subst (λ o. UnitAgrees d (unit_at chip.serials m) (run_at s m) o) (sym (going_other h.going u None m ne)) (h.units m lt async)))
+
+    carried_now : (m : ℕ) → m < 2 → is_sync_unit d m ≡ true → (m ≡ u) ⊎ (m ≢ u) → CarriesAgrees d (unit_at second.serials m) (run_carried (carried_at state1 m)) (going_left st m)
+    carried_now m lt sync (inl e) =
+        subst (λ k. CarriesAgrees d (unit_at second.serials k) (run_carried (carried_at state1 k)) (going_left st k)) (sym e)
+        (subst (λ z. CarriesAgrees d (unit_at z.serials u) (run_carried (carried_at state1 u)) (going_left st u)) (sym t.rest)
+        (subst (λ o. CarriesAgrees d (unit_at c.serials u) (run_carried o) (going_left st u)) (sym (item-same None s.carried u None))
+        (subst (λ o. CarriesAgrees d (unit_at c.serials u) None o) (sym (going_here h.going u None)) l.unit)))
+    carried_now m lt sync (inr ne) =
+        subst (λ z. CarriesAgrees d (unit_at z.serials m) (run_carried (carried_at state1 m)) (going_left st m)) (sym t.rest)
+        (subst (λ z. CarriesAgrees d z (run_carried (carried_at state1 m)) (going_left st m)) (sym (l.others m ne))
+        (subst (λ o. CarriesAgrees d (unit_at chip.serials m) (run_carried o) (going_left st m)) (sym (item-other None s.carried u m None ne))
+        (subst (λ o. CarriesAgrees d (unit_at chip.serials m) (run_carried (carried_at s m)) o) (sym (going_other h.going u None m ne)) (h.sends m lt sync))))
+
+    sending_now : AllSend d second w (going_left st) state1 below
+    sending_now = sends_beside d q u says.job chip second w h.going (going_left st) s state1 says.is says.sequence (λ m ne. going_other h.going u None m ne) (λ m ne. ap (λ z. (unit_at z.serials m).select) t.rest ∙ ap (λ z. z.select) (l.others m ne))
+        (λ m g j z k ne lt e there known. t.above (held_word (placed_of d z.channel)) (past_the_first d z.channel k (held_word (placed_of d z.channel)) (fits.channels z.channel k known) (of_held d fits z.channel k known))
+        ∙ l.held_away z.channel k known (λ j1 y1 there1 same. ne (one_job d fits held chip w s h under.on u m under.job g few lt under.is e j1 j y1 z there1 there (sym same)))) (λ m ne. item-other None s.carried u m None ne) below is.alone h.sending.1
+
+    represents : Done second
+    represents = freed_as st owner None cs like c second l t state1 refl refl below (right_like d s cs like.source below h.right.1) unit_now (λ m lt sync. carried_now m lt sync (same_or_other m u)) sending_now carriers
+        (λ m k agrees. banks_held d owing below (going_left st) (word_of second) (view state1) m k held_alike agrees) sound nexts sequences owed
+
+    result_owes : (j : ℕ) × CommitsTo (spi_owing d) j (Sends (body d q u n at bs (place.Serve (serve.Result leaving)))) c Done
+    result_owes =
+        one_owed (spi_owing d) Done (Sends (body d q u n at bs (place.Serve (serve.Result leaving)))) c (Some (Sends (body d q u n at bs (place.Serve (serve.End a.served x))))) (may_store d fits result (failed_word a.served.failed) (own_first d result (omega arith) (let lt = job_few in omega (arith, lt)))) tt refl
+        (one_owed (spi_owing d) Done (Sends (body d q u n at bs (place.Serve (serve.End a.served x)))) first None (may_store d fits ending x (own_first d ending (omega arith) (let lt = number in omega (arith, lt)))) tt refl represents)
+      where
+        first : Chip
+        first = first_told w u few c l.outside result aside (failed_word a.served.failed) ending beside x apart
+
+  pub sequence_ends : SequenceEnds d below (asks q) chip1 w s x (body d q u n at bs (place.Serve (serve.Free a (courses.Ends x))))
+  sequence_ends = record {
+    state = state1;
+    is = act_is;
+    owes = left.left_owes d fits held chip w s h u few a i y (λ z. Sends (body d q u n at bs (place.Serve z))) (sent_ends d q u n at bs) owner None (courses.Ends x) state1 like
+        (λ good. last_stored st run by.done.done (by.done.failed ∙ good) (ends_here d fits held chip w s h u few a i) state1 refl) (λ f. ap (λ b. (after_last s run b).channels) (by.done.failed ∙ f)) Done (λ c l. result_owes c l);
+  }

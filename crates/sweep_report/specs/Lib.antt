@@ -1,0 +1,4 @@
+pub mod Json
+pub mod Page
+pub mod Place
+pub mod Table

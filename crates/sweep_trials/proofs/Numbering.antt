@@ -1,0 +1,39 @@
+-- The pairs of one first place more.
+use Rattle.std.proofs.Common.{◌≡◌, ℕ, ◌+◌, ◌-◌, ◌≤◌, List, [], ◌∷◌, ◌++◌, Option, Result, Ok, Err, Some, IfOk, inl, inr, length, length-append, refl, sym, subst, ◌∙◌, arith}
+use Rattle.std.specs.Prelude.{slice_get, vec_len}
+use Rattle.std.proofs.lemmas.List.Sums.{sum_by_push}
+use Rattle.std.proofs.lemmas.Option.{same_Some}
+use Rattle.mcal_base.specs.declared.directive.Directive.{Directive}
+use Rattle.bench_sweep.proofs.Differing.{get_of_more}
+use Rattle.sweep_trials.specs.Shown.{IsInnerAt, IsPairAt, IsSeenAt}
+use Rattle.sweep_trials.specs.declared.followed.Followed.{Followed}
+use Rattle.sweep_trials.specs.declared.opened.Opened.{Opened}
+use Rattle.sweep_trials.specs.declared.reactions.Following.{Following}
+use Rattle.sweep_trials.specs.declared.seen.Seen.{Seen}
+
+-- a pair of the first place
+pub pair_first : (of_run : List Directive → Seen → Type 0) (following : Following) (placed : List Directive) (o : Opened) (number : ℕ) → IsPairAt of_run following placed o number 0 number
+pair_first of_run following placed o number = record { before = []; each = λ i inner g. absurd (cc); count = refl; numbered = omega arith }
+
+-- a pair that is behind those of a first place
+pub pair_on : (of_run : List Directive → Seen → Type 0) (following : Following) (placed : List Directive) (o : Opened) (number first left count : ℕ) (inner : Opened) → IsPairAt of_run following placed o number first left → IsInnerAt of_run following o placed first inner → count ≡ vec_len inner.all → count ≤ left → IsPairAt of_run following placed o number (first + 1) (left - count)
+pair_on of_run following placed o number first left count inner p at c l =
+    let all : List Opened = p.before ++ inner ∷ [] in
+    record {
+      before = all;
+      each = λ i x g. elim (get_of_more p.before inner i x g) [
+        | inl h ↦ p.each i x h
+        | inr h ↦ subst (λ (y : Opened). IsInnerAt of_run following o placed i y) (sym h.1) (subst (λ (j : ℕ). IsInnerAt of_run following o placed j inner) (sym (h.0 ∙ p.count)) at)
+      ];
+      count = let one : length all ≡ length p.before + 1 = length-append p.before (inner ∷ []) in omega (arith, one, p.count);
+      numbered = omega (arith, sum_by_push (λ (y : Opened). vec_len y.all) p.before inner, p.numbered, c, l);
+    }
+
+-- the run of a pair
+pub pair_seen : {E : Type 0} (of_run : List Directive → Seen → Type 0) (following : Following) (placed second_placed behind : List Directive) (o inner : Opened) (first second : ℕ) (r : Result Followed E) → IsInnerAt of_run following o placed first inner → IfOk r (λ found. IsSeenAt of_run following second_placed behind inner second found)
+    → IfOk r (λ found. (x : Opened) × IsInnerAt of_run following o placed first x × IsSeenAt of_run following second_placed behind x second found)
+pair_seen of_run following placed second_placed behind o inner first second (Ok found) at seen = (inner, at, seen)
+pair_seen of_run following placed second_placed behind o inner first second (Err e) at seen = tt
+
+pub same_second : (P : ℕ → Type 0) (now : Option ℕ) (second other : ℕ) → now ≡ Some second → P second → now ≡ Some other → P other
+same_second P now second other e p f = subst P (same_Some second other (sym e ∙ f)) p
